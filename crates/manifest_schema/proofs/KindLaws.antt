@@ -1,0 +1,241 @@
+-- Each kind keeps the laws, where the kinds that it is made of do.
+use Rattle.std.proofs.Common.{◌≡◌, ℕ, zero, suc, ℤ, Bool, true, false, ◌⊎◌, inl, inr, List, [], ◌∷◌, Option, Some, IsTrue, refl, sym, ap, ◌∙◌, true≢false}
+use Rattle.std.proofs.lemmas.Bool.{false≢true}
+use Rattle.std.proofs.lemmas.Option.{none-some, same_Some}
+use Rattle.toml.specs.Data.{Data, string, integer, boolean, array, table, Items, no_items, item, Members, no_members, member, get_item}
+use Rattle.manifest_schema.specs.Paths.{Text, Path, Cause, Faults}
+use Rattle.manifest_schema.specs.Kinds
+use Rattle.manifest_schema.specs.Kinds.{reads_text, not_text, text, reads_flag, not_flag, flag, within, reads_whole, not_whole, whole, reads_truth, not_truth, truth, reads_choice, not_choice, choice, reads_items, reads_list, faulty_item, faulty_list, written_items, good_items, list_of, Entries, reads_entries, reads_map, has_entry, faulty_entry, faulty_map, written_entries, good_entries, map_of, Inheritable, inherited, local, inherits, reads_inh, faulty_inh, written_inh, good_inh, inh, reads_split, faulty_split, written_split, good_split, split, metadata, tree_of}
+use Rattle.manifest_schema.specs.Lawful.{IsLawful, ReadsNoTable, IsSplit}
+
+-- TEXT
+text_single : (d : Data) (x y : List ℕ) → reads_text d x → reads_text d y → x ≡ y
+text_single (string s) x y a b = sym a ∙ b
+text_single _ x y a b = absurd a
+
+text_apart : (d : Data) (p : Path) (c : Cause) (x : List ℕ) → not_text d p c → reads_text d x → ⊥
+text_apart (string s) p c x f a = f
+text_apart _ p c x f a = a
+
+pub text_lawful : IsLawful text
+text_lawful = record { single = text_single; apart = text_apart; well = λ d x a. tt; back = λ x g. refl }
+
+-- BOOLEAN
+boolean_single : (d : Data) (x y : Bool) → reads_flag d x → reads_flag d y → x ≡ y
+boolean_single (boolean s) x y a b = sym a ∙ b
+boolean_single _ x y a b = absurd a
+
+boolean_apart : (d : Data) (p : Path) (c : Cause) (x : Bool) → not_flag d p c → reads_flag d x → ⊥
+boolean_apart (boolean s) p c x f a = f
+boolean_apart _ p c x f a = a
+
+pub flag_lawful : IsLawful flag
+flag_lawful = record { single = boolean_single; apart = boolean_apart; well = λ d x a. tt; back = λ x g. refl }
+
+-- WHOLE
+whole_single : (low high : ℤ) (d : Data) (x y : ℤ) → reads_whole low high d x → reads_whole low high d y → x ≡ y
+whole_single low high (integer z) x y a b = sym a.0 ∙ b.0
+whole_single low high _ x y a b = absurd a
+
+whole_apart : (low high : ℤ) (d : Data) (p : Path) (c : Cause) (x : ℤ) → not_whole low high d p c → reads_whole low high d x → ⊥
+whole_apart low high (integer z) p c x f a = true≢false (sym a.1 ∙ f.0)
+whole_apart low high _ p c x f a = a
+
+whole_well : (low high : ℤ) (d : Data) (x : ℤ) → reads_whole low high d x → IsTrue (within low high x)
+whole_well low high (integer z) x a = ap (within low high) (sym a.0) ∙ a.1
+whole_well low high _ x a = absurd a
+
+pub whole_lawful : (low high : ℤ) → IsLawful (whole low high)
+whole_lawful low high = record { single = whole_single low high; apart = whole_apart low high; well = whole_well low high; back = λ x g. (refl, g) }
+
+-- TRUE
+truth_single : (d : Data) (x y : Unit {0}) → reads_truth d x → reads_truth d y → x ≡ y
+truth_single d x y a b = refl
+
+truth_apart : (d : Data) (p : Path) (c : Cause) (x : Unit {0}) → not_truth d p c → reads_truth d x → ⊥
+truth_apart (boolean true) p c x f a = f
+truth_apart (boolean false) p c x f a = a
+truth_apart _ p c x f a = a
+
+pub truth_lawful : IsLawful truth
+truth_lawful = record { single = truth_single; apart = truth_apart; well = λ d x a. tt; back = λ x g. tt }
+
+-- A CHOICE
+module _ {A : Type 0} (meaning : Data → Option A) where
+  choice_single : (d : Data) (x y : A) → reads_choice meaning d x → reads_choice meaning d y → x ≡ y
+  choice_single d x y a b = same_Some x y (sym a ∙ b)
+
+  choice_apart : (d : Data) (p : Path) (c : Cause) (x : A) → not_choice meaning d p c → reads_choice meaning d x → ⊥
+  choice_apart (string s) p c x f a = none-some x (sym f.0 ∙ a)
+  choice_apart _ p c x f a = none-some x (sym f.0 ∙ a)
+
+pub choice_lawful : {A : Type 0} (meaning : Data → Option A) (written : A → Data) → ((x : A) → meaning (written x) ≡ Some x) → IsLawful (choice meaning written)
+choice_lawful meaning written back = record { single = choice_single meaning; apart = choice_apart meaning; well = λ d x a. tt; back = λ x g. back x }
+
+-- A LIST
+module _ {A : Type 0} {K : Kinds.Kind A} (L : IsLawful K) where
+  items_single : (ds : Items) (xs ys : List A) → reads_items K ds xs → reads_items K ds ys → xs ≡ ys
+  items_single no_items [] [] a b = refl
+  items_single no_items [] (y ∷ ys) a b = absurd b
+  items_single no_items (x ∷ xs) ys a b = absurd a
+  items_single (item d ds) (x ∷ xs) (y ∷ ys) a b = λ i. L.single d x y a.0 b.0 i ∷ items_single ds xs ys a.1 b.1 i
+  items_single (item d ds) (x ∷ xs) [] a b = absurd b
+  items_single (item d ds) [] ys a b = absurd a
+
+  list_single : (d : Data) (xs ys : List A) → reads_list K d xs → reads_list K d ys → xs ≡ ys
+  list_single (array ds) xs ys a b = items_single ds xs ys a b
+  list_single _ xs ys a b = absurd a
+
+  item_read : (ds : Items) (xs : List A) (i : ℕ) (d : Data) → reads_items K ds xs → get_item i ds ≡ Some d → (x : A) × K.reads d x
+  item_read no_items xs zero d a e = absurd (none-some d e)
+  item_read no_items xs (suc i) d a e = absurd (none-some d e)
+  item_read (item d ds) [] i e a here = absurd a
+  item_read (item d ds) (x ∷ xs) zero e a here = (x, rw (← same_Some d e here) a.0)
+  item_read (item d ds) (x ∷ xs) (suc i) e a there = item_read ds xs i e a.1 there
+
+  list_apart : (d : Data) (p : Path) (c : Cause) (xs : List A) → faulty_list K d p c → reads_list K d xs → ⊥
+  list_apart (array ds) p c xs f a =
+      let (x, r) = item_read ds xs f.0 f.1 a f.2 in
+      L.apart f.1 f.3.0 c x f.3.2 r
+  list_apart _ p c xs f a = a
+
+  items_well : (ds : Items) (xs : List A) → reads_items K ds xs → good_items K xs
+  items_well no_items [] a = tt
+  items_well no_items (x ∷ xs) a = absurd a
+  items_well (item d ds) [] a = absurd a
+  items_well (item d ds) (x ∷ xs) a = (L.well d x a.0, items_well ds xs a.1)
+
+  list_well : (d : Data) (xs : List A) → reads_list K d xs → good_items K xs
+  list_well (array ds) xs a = items_well ds xs a
+  list_well _ xs a = absurd a
+
+  items_back : (xs : List A) → good_items K xs → reads_items K (written_items K xs) xs
+  items_back [] g = tt
+  items_back (x ∷ xs) g = (L.back x g.0, items_back xs g.1)
+
+  pub list_lawful : IsLawful (list_of K)
+  list_lawful = record { single = list_single; apart = list_apart; well = list_well; back = items_back }
+
+-- A MAP
+module _ {A : Type 0} {K : Kinds.Kind A} (L : IsLawful K) where
+  pub entries_single : (ms : Members) (xs ys : Entries A) → reads_entries K ms xs → reads_entries K ms ys → xs ≡ ys
+  entries_single no_members [] [] a b = refl
+  entries_single no_members [] (y ∷ ys) a b = absurd b
+  entries_single no_members (x ∷ xs) ys a b = absurd a
+  entries_single (member k d ms) (x ∷ xs) (y ∷ ys) a b = λ i. ((sym a.0 ∙ b.0) i, L.single d x.1 y.1 a.1 b.1 i) ∷ entries_single ms xs ys a.2 b.2 i
+  entries_single (member k d ms) (x ∷ xs) [] a b = absurd b
+  entries_single (member k d ms) [] ys a b = absurd a
+
+  pub entry_read : (ms : Members) (xs : Entries A) (k : Text) (d : Data) → reads_entries K ms xs → has_entry k d ms → (x : A) × K.reads d x
+  entry_read no_members xs k d a e = absurd e
+  entry_read (member l e ms) [] k d a found = absurd a
+  entry_read (member l e ms) (x ∷ xs) k d a found = elim found [ inl here ↦ (x.1, rw here.1 a.1) | inr there ↦ entry_read ms xs k d a.2 there ]
+
+  pub entry_apart : (ms : Members) (p : Path) (c : Cause) (xs : Entries A) → faulty_entry K ms p c → reads_entries K ms xs → ⊥
+  entry_apart ms p c xs f a =
+      let (x, r) = entry_read ms xs f.0 f.1 a f.2 in
+      L.apart f.1 f.3.0 c x f.3.2 r
+
+  pub entries_well : (ms : Members) (xs : Entries A) → reads_entries K ms xs → good_entries K xs
+  entries_well no_members [] a = tt
+  entries_well no_members (x ∷ xs) a = absurd a
+  entries_well (member k d ms) [] a = absurd a
+  entries_well (member k d ms) (x ∷ xs) a = (L.well d x.1 a.1, entries_well ms xs a.2)
+
+  pub entries_back : (xs : Entries A) → good_entries K xs → reads_entries K (written_entries K xs) xs
+  entries_back [] g = tt
+  entries_back (x ∷ xs) g = (refl, L.back x.1 g.0, entries_back xs g.1)
+
+  map_single : (d : Data) (xs ys : Entries A) → reads_map K d xs → reads_map K d ys → xs ≡ ys
+  map_single (table ms) xs ys a b = entries_single ms xs ys a b
+  map_single _ xs ys a b = absurd a
+
+  map_apart : (d : Data) (p : Path) (c : Cause) (xs : Entries A) → faulty_map K d p c → reads_map K d xs → ⊥
+  map_apart (table ms) p c xs f a = entry_apart ms p c xs f a
+  map_apart _ p c xs f a = a
+
+  map_well : (d : Data) (xs : Entries A) → reads_map K d xs → good_entries K xs
+  map_well (table ms) xs a = entries_well ms xs a
+  map_well _ xs a = absurd a
+
+  pub map_lawful : IsLawful (map_of K)
+  map_lawful = record { single = map_single; apart = map_apart; well = map_well; back = entries_back }
+
+-- WHAT MAY BE INHERITED
+module _ {A : Type 0} {K : Kinds.Kind A} (L : IsLawful K) (N : ReadsNoTable K) where
+  inherits_no_other : (d : Data) (x : A) → K.reads d x → inherits d ≡ true → ⊥
+  inherits_no_other (table ms) x a e = N.no_table ms x a
+  inherits_no_other _ x a e = false≢true e
+
+  inh_single : (d : Data) (x y : Inheritable A) → reads_inh K d x → reads_inh K d y → x ≡ y
+  inh_single d inherited inherited a b = refl
+  inh_single d inherited (local y) a b = absurd (inherits_no_other d y b a)
+  inh_single d (local x) inherited a b = absurd (inherits_no_other d x a b)
+  inh_single d (local x) (local y) a b = ap local (L.single d x y a b)
+
+  inh_apart : (d : Data) (p : Path) (c : Cause) (x : Inheritable A) → faulty_inh K d p c → reads_inh K d x → ⊥
+  inh_apart (table ms) p c inherited f a = true≢false (sym a ∙ f.0)
+  inh_apart (table ms) p c (local x) f a = N.no_table ms x a
+  inh_apart d p c inherited f a = false≢true a
+  inh_apart d p c (local x) f a = L.apart d p c x f a
+
+  inh_well : (d : Data) (x : Inheritable A) → reads_inh K d x → good_inh K x
+  inh_well d inherited a = tt
+  inh_well d (local x) a = L.well d x a
+
+  inh_back : (x : Inheritable A) → good_inh K x → reads_inh K (written_inh K x) x
+  inh_back inherited g = refl
+  inh_back (local x) g = L.back x g
+
+  pub inh_lawful : IsLawful (inh K)
+  inh_lawful = record { single = inh_single; apart = inh_apart; well = inh_well; back = inh_back }
+
+-- ONE OF TWO KINDS
+module _ {A B : Type 0} {K : Kinds.Kind A} {M : Kinds.Kind B} (k : IsLawful K) (m : IsLawful M) where
+  split_single : (t : Bool) (d : Data) (x y : A ⊎ B) → reads_split K M t d x → reads_split K M t d y → x ≡ y
+  split_single true d (inl x) (inl y) a b = ap inl (k.single d x y a b)
+  split_single true d (inl x) (inr y) a b = absurd b
+  split_single true d (inr x) y a b = absurd a
+  split_single false d (inr x) (inr y) a b = ap inr (m.single d x y a b)
+  split_single false d (inr x) (inl y) a b = absurd b
+  split_single false d (inl x) y a b = absurd a
+
+  split_apart : (t : Bool) (d : Data) (p : Path) (c : Cause) (x : A ⊎ B) → faulty_split K M t d p c → reads_split K M t d x → ⊥
+  split_apart true d p c (inl x) f a = k.apart d p c x f a
+  split_apart true d p c (inr x) f a = a
+  split_apart false d p c (inl x) f a = a
+  split_apart false d p c (inr x) f a = m.apart d p c x f a
+
+  split_well : (t : Bool) (d : Data) (x : A ⊎ B) → reads_split K M t d x → good_split K M x
+  split_well true d (inl x) a = k.well d x a
+  split_well true d (inr x) a = absurd a
+  split_well false d (inl x) a = absurd a
+  split_well false d (inr x) a = m.well d x a
+
+  split_back : (test : Data → Bool) → ((x : A) → K.good x → test (K.written x) ≡ true) → ((x : B) → M.good x → test (M.written x) ≡ false)
+      → (x : A ⊎ B) → good_split K M x → reads_split K M (test (written_split K M x)) (written_split K M x) x
+  split_back test p q (inl x) g = rw (p x g) (k.back x g)
+  split_back test p q (inr x) g = rw (q x g) (m.back x g)
+
+  pub split_lawful : {C : Type 0} {test : Data → Bool} {side : C → A ⊎ B} → IsSplit test K M side → IsLawful (split test K M side)
+  split_lawful {test = test} {side = side} s = record {
+    single = λ d x y a b. s.tied x y (split_single (test d) d (side x) (side y) a b);
+    apart = λ d p c x f a. split_apart (test d) d p c (side x) f a;
+    well = λ d x a. split_well (test d) d (side x) a;
+    back = λ x g. split_back test s.first s.second (side x) g;
+  }
+
+-- METADATA
+pub metadata_lawful : {M : Type 0} {reads : Data → M → Type 0} {faulty : Data → Faults} {tree : M → Data} {good : M → Type 0}
+    → ((d : Data) (x y : M) → reads d x → reads d y → tree x ≡ tree y) → ((d : Data) (p : Path) (c : Cause) (x : M) → faulty d p c → reads d x → ⊥)
+    → ((d : Data) (x : M) → reads d x → good x) → ((x : M) → good x → reads (tree x) x) → IsLawful (metadata reads faulty tree good)
+metadata_lawful {reads = reads} single apart well back = record {
+  single = λ d x y a b. sym a.2 ∙ single d a.0 b.0 a.1 b.1 ∙ b.2;
+  apart = λ d p c x f a. apart d p c a.0 f a.1;
+  well = λ d x a. (a.0, well d a.0 a.1, a.2);
+  back = λ x g. (g.0, rw (← g.2) (back g.0 g.1), g.2);
+}
+
+-- the metadata of a lawful kind
+pub tree_lawful : {A : Type 0} {K : Kinds.Kind A} → IsLawful K → IsLawful (tree_of K)
+tree_lawful {K = K} L = metadata_lawful (λ d x y a b. ap K.written (L.single d x y a b)) L.apart L.well L.back

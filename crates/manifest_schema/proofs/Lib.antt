@@ -1,0 +1,10 @@
+pub mod KeptLaws
+pub mod KindLaws
+pub mod TableLaws
+pub mod NeedLaws
+pub mod FormLaws
+pub mod Totals
+pub mod ChoiceLaws
+pub mod RowLaws
+pub mod ManifestLaws
+pub mod MeaningLaws

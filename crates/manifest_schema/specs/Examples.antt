@@ -1,0 +1,64 @@
+-- Small forms for the worked examples, and tables of one or two entries.
+use Rattle.std.specs.Prelude.{Bool, true, [], ◌∷◌, Option, Some, None, codes}
+use Rattle.toml.specs.Data.{Data, Members, no_members, member}
+use Rattle.manifest_schema.specs.Paths.{Text, Path, key}
+use Rattle.manifest_schema.specs.Slots.{only, both}
+use Rattle.manifest_schema.specs.Kinds.{Entries, text, flag}
+use Rattle.manifest_schema.specs.Needs.{optional, default, lenient_optional}
+use Rattle.manifest_schema.specs.Forms.{Rows, row, no_more, others, ◌⨾◌}
+use Rattle.manifest_schema.specs.Contents.{InheritedDependency, DependencyDetail, Package, Workspace, Manifest}
+
+-- a table of one entry, and of two in the order of their keys
+abbrev pub one_entry : Text → Data → Members
+one_entry k d = member k d no_members
+
+abbrev pub two_entries : Text → Data → Text → Data → Members
+two_entries k d l e = member k d (member l e no_members)
+
+-- a dependency that the workspace lends, and nothing else
+abbrev pub lent : InheritedDependency
+lent = record { features = None; «optional» = None }
+
+-- a dependency of this version, and nothing else
+abbrev pub of_version : Text → DependencyDetail
+of_version v = record { version = Some v }
+
+-- a package of this name, and nothing else
+abbrev pub named : Text → Package
+named n = record { name = n; edition = None; version = None; metadata = None }
+
+-- a workspace without members
+abbrev pub no_workspace_members : Workspace
+no_workspace_members = record { members = []; metadata = None }
+
+-- a manifest with nothing in it
+abbrev pub nothing_in_it : Manifest
+nothing_in_it = record { «package» = None; workspace = None; dependencies = None }
+
+-- a manifest of this package, and nothing else
+abbrev pub only_package : Package → Manifest
+only_package p = record nothing_in_it { «package» = Some p }
+
+-- a text under `a-b` or `a_b`
+abbrev pub spelled_rows : Rows (Option Text)
+spelled_rows = row (λ x. x) (both (codes "a-b") (codes "a_b")) (optional text) ⨾ no_more
+
+-- a text under `a`, None where it does not fit
+abbrev pub lenient_rows : Rows (Option Text)
+lenient_rows = row (λ x. x) (only (codes "a")) (lenient_optional text) ⨾ no_more
+
+-- a boolean under `a`, true where it is absent, not written where it is true
+abbrev pub default_rows : Rows Bool
+default_rows = row (λ x. x) (only (codes "a")) (default flag true (λ b. b)) ⨾ no_more
+
+-- a boolean under `a`, and texts under all other keys
+pub record Rest : Type 0 where
+  pub here : Option Bool
+  pub others : Entries Text
+
+abbrev pub rest_rows : Rows Rest
+rest_rows = row (λ x. x.here) (only (codes "a")) (optional flag) ⨾ others (λ x. x.others) text
+
+-- the path of one key
+abbrev pub at_key : Text → Path
+at_key k = key k ∷ []

@@ -1,0 +1,116 @@
+-- Forms: a record is read from a table by a list of rows, one for each field.
+use Rattle.std.specs.Prelude.{ℕ, zero, suc, Bool, true, false, not, ◌&&◌, ◌⊎◌, List, [], ◌∷◌, IsTrue}
+use Rattle.toml.specs.Data.{Data, table, Members, no_members}
+use Rattle.manifest_schema.specs.Paths.{Text, wrong_kind, Faults, itself}
+use Rattle.manifest_schema.specs.Slots.{Spellings, only, both, first, at, put_some, is_among, without}
+use Rattle.manifest_schema.specs.Kinds.{Kind, Entries, reads_entries, faulty_entry, written_entries, good_entries}
+use Rattle.manifest_schema.specs.Needs.{Need}
+
+-- A row: where the field's content stands in the record, its spellings, and its need with its kind.
+pub record Row (A : Type 0) : Type 1 where
+  pub content : Type 0
+  pub get : A → content
+  pub spellings : Spellings
+  pub need : Need content
+
+abbrev pub row : {A C : Type 0} → (A → C) → Spellings → Need C → Row A
+row {C = C} get names need = record { content = C; get = get; spellings = names; need = need }
+
+-- The rows of a form. It ends with no more rows, and all other keys are free, or with the map of all other keys.
+infixr 40 ◌⨾◌
+pub data Rows (A : Type 0) : Type 1 where
+  no_more : Rows A
+  others : {B : Type 0} → (A → Entries B) → Kind B → Rows A
+  ◌⨾◌ : Row A → Rows A → Rows A
+
+-- THE NAMED KEYS
+abbrev pub spell : Spellings → List Text → List Text
+spell (only k) ks = k ∷ ks
+spell (both k l) ks = k ∷ l ∷ ks
+
+-- all spellings of a form
+abbrev pub spelled : {A : Type 0} → Rows A → List Text
+spelled (r ⨾ rs) = spell r.spellings (spelled rs)
+spelled _ = []
+
+-- these spellings differ from each other and from the keys
+abbrev pub differ : Spellings → List Text → Bool
+differ (only k) ks = not (is_among ks k)
+differ (both k l) ks = not (is_among (l ∷ ks) k) && not (is_among ks l)
+
+-- all spellings of the form differ
+abbrev pub distinct : {A : Type 0} → Rows A → Bool
+distinct (r ⨾ rs) = differ r.spellings (spelled rs) && distinct rs
+distinct _ = true
+
+-- THE CONTENTS OF A RECORD, one after the other
+abbrev pub Fields : {A : Type 0} → Rows A → Type 0
+Fields (r ⨾ rs) = r.content × Fields rs
+Fields (others {B = B} get K) = Entries B
+Fields no_more = Unit {0}
+
+abbrev pub gets : {A : Type 0} (rows : Rows A) → A → Fields rows
+gets (r ⨾ rs) x = (r.get x, gets rs x)
+gets (others get K) x = get x
+gets no_more x = tt
+
+-- WHAT A TABLE MEANS BY A FORM: each row is met by what the table holds under its spellings
+abbrev pub fits_beside : {A : Type 0} → List Text → (rows : Rows A) → Members → Fields rows → Type 0
+fits_beside named (r ⨾ rs) ms t = r.need.meets (at r.spellings ms) t.0 × fits_beside named rs ms t.1
+fits_beside named (others get K) ms t = reads_entries K (without named ms) t
+fits_beside named no_more ms t = Unit {0}
+
+abbrev pub fits : {A : Type 0} → Rows A → Members → A → Type 0
+fits rows ms x = fits_beside (spelled rows) rows ms (gets rows x)
+
+-- a fault of the table: a fault of some row, or of one of the other keys
+abbrev pub unfit_beside : {A : Type 0} → List Text → Rows A → Members → Faults
+unfit_beside named (r ⨾ rs) ms p c = r.need.faulty r.spellings (at r.spellings ms) p c ⊎ unfit_beside named rs ms p c
+unfit_beside named (others get K) ms p c = faulty_entry K (without named ms) p c
+unfit_beside named no_more ms p c = ⊥
+
+abbrev pub unfit : {A : Type 0} → Rows A → Members → Faults
+unfit rows = unfit_beside (spelled rows) rows
+
+-- WHAT IS WRITTEN: each row under its first spelling, beside the map of all other keys
+abbrev pub written_rows : {A : Type 0} (rows : Rows A) → Fields rows → Members
+written_rows (r ⨾ rs) t = put_some (first r.spellings) (r.need.written t.0) (written_rows rs t.1)
+written_rows (others get K) t = written_entries K t
+written_rows no_more t = no_members
+
+-- WHAT IS WELL-FORMED: each content, and no entry of the map has the key of a row
+abbrev pub none_named : {B : Type 0} → List Text → Entries B → Bool
+none_named named [] = true
+none_named named (e ∷ es) = not (is_among named e.0) && none_named named es
+
+abbrev pub good_beside : {A : Type 0} → List Text → (rows : Rows A) → Fields rows → Type 0
+good_beside named (r ⨾ rs) t = r.need.good t.0 × good_beside named rs t.1
+good_beside named (others get K) t = IsTrue (none_named named t) × good_entries K t
+good_beside named no_more t = Unit {0}
+
+abbrev pub good_rows : {A : Type 0} → Rows A → A → Type 0
+good_rows rows x = good_beside (spelled rows) rows (gets rows x)
+
+-- THE KIND OF A FORM
+abbrev pub reads_form : {A : Type 0} → Rows A → Data → A → Type 0
+reads_form rows (table ms) x = fits rows ms x
+reads_form rows _ x = ⊥
+
+abbrev pub faulty_form : {A : Type 0} → Rows A → Data → Faults
+faulty_form rows (table ms) p c = unfit rows ms p c
+faulty_form rows _ p c = itself wrong_kind p c
+
+abbrev pub form : {A : Type 0} → Rows A → Kind A
+form rows = record { reads = reads_form rows; faulty = faulty_form rows; written = λ x. table (written_rows rows (gets rows x)); good = good_rows rows }
+
+-- PARTS OF A FORM, for a record that is read or written in several steps
+-- the first n rows fit
+abbrev pub first_fit : {A : Type 0} → ℕ → Rows A → Members → A → Type 0
+first_fit (suc n) (r ⨾ rs) ms x = r.need.meets (at r.spellings ms) (r.get x) × first_fit n rs ms x
+first_fit _ _ ms x = Unit {0}
+
+-- the members with what is written of some rows put above them: the n rows that follow the first k
+abbrev pub written_part : {A : Type 0} → ℕ → ℕ → Rows A → A → Members → Members
+written_part (suc k) n (r ⨾ rs) x ms = written_part k n rs x ms
+written_part zero (suc n) (r ⨾ rs) x ms = put_some (first r.spellings) (r.need.written (r.get x)) (written_part zero n rs x ms)
+written_part _ _ _ x ms = ms

@@ -1,0 +1,265 @@
+-- Kinds of values: what a value means, which faults it has, what is written, and what is well-formed.
+use Rattle.std.specs.Prelude.{◌≡◌, ℕ, ℤ, Bool, true, false, ◌&&◌, ◌⊎◌, List, [], ◌∷◌, Option, Some, None, IsTrue, IsFalse, codes, int_le, Float}
+use Rattle.std.proofs.Common.{inl, inr}
+use Rattle.toml.specs.Data.{Data, string, integer, float, boolean, array, table, Items, no_items, item, Members, no_members, member, get_item, get}
+use Rattle.manifest_schema.specs.Paths.{Text, Cause, wrong_kind, not_a_choice, out_of_range, not_true, holds_float, metadata_fault, key, index, Path, Faults, itself, behind}
+
+-- A kind of values that stand for an A.
+pub record Kind (A : Type 0) : Type 1 where
+  -- the value means this
+  pub reads : Data → A → Type 0
+  -- the value does not fit, for this cause at this path inside it
+  pub faulty : Data → Faults
+  -- the value that is written
+  pub written : A → Data
+  -- it is well-formed: it can be written and read back
+  pub good : A → Type 0
+
+-- everything of the type is well-formed
+abbrev pub any_good : {A : Type 0} → A → Type 0
+any_good x = Unit {0}
+
+-- TEXT
+abbrev pub reads_text : Data → Text → Type 0
+reads_text (string s) x = s ≡ x
+reads_text _ x = ⊥
+
+abbrev pub not_text : Data → Faults
+not_text (string s) p c = ⊥
+not_text _ p c = itself wrong_kind p c
+
+abbrev pub text : Kind Text
+text = record { reads = reads_text; faulty = not_text; written = string; good = any_good }
+
+-- BOOLEAN
+abbrev pub reads_flag : Data → Bool → Type 0
+reads_flag (boolean b) x = b ≡ x
+reads_flag _ x = ⊥
+
+abbrev pub not_flag : Data → Faults
+not_flag (boolean b) p c = ⊥
+not_flag _ p c = itself wrong_kind p c
+
+abbrev pub flag : Kind Bool
+flag = record { reads = reads_flag; faulty = not_flag; written = boolean; good = any_good }
+
+-- A WHOLE NUMBER from low to high, both included
+abbrev pub within : ℤ → ℤ → ℤ → Bool
+within low high z = int_le low z && int_le z high
+
+abbrev pub reads_whole : ℤ → ℤ → Data → ℤ → Type 0
+reads_whole low high (integer z) x = (z ≡ x) × IsTrue (within low high z)
+reads_whole low high _ x = ⊥
+
+abbrev pub not_whole : ℤ → ℤ → Data → Faults
+not_whole low high (integer z) p c = IsFalse (within low high z) × itself out_of_range p c
+not_whole low high _ p c = itself wrong_kind p c
+
+abbrev pub whole : ℤ → ℤ → Kind ℤ
+whole low high = record { reads = reads_whole low high; faulty = not_whole low high; written = integer; good = λ x. IsTrue (within low high x) }
+
+-- THE BOOLEAN TRUE
+abbrev pub reads_truth : Data → Unit {0} → Type 0
+reads_truth (boolean true) x = Unit {0}
+reads_truth _ x = ⊥
+
+abbrev pub not_truth : Data → Faults
+not_truth (boolean true) p c = ⊥
+not_truth (boolean false) p c = itself not_true p c
+not_truth _ p c = itself wrong_kind p c
+
+abbrev pub truth : Kind (Unit {0})
+truth = record { reads = reads_truth; faulty = not_truth; written = λ x. boolean true; good = any_good }
+
+-- A CHOICE of texts, or of texts and booleans: each word has one meaning, and each meaning one written word
+abbrev pub reads_choice : {A : Type 0} → (Data → Option A) → Data → A → Type 0
+reads_choice meaning d x = meaning d ≡ Some x
+
+abbrev pub not_choice : {A : Type 0} → (Data → Option A) → Data → Faults
+not_choice meaning (string s) p c = (meaning (string s) ≡ None) × itself not_a_choice p c
+not_choice meaning d p c = (meaning d ≡ None) × itself wrong_kind p c
+
+abbrev pub choice : {A : Type 0} → (Data → Option A) → (A → Data) → Kind A
+choice meaning written = record { reads = reads_choice meaning; faulty = not_choice meaning; written = written; good = any_good }
+
+-- A LIST of values of one kind
+abbrev pub reads_items : {A : Type 0} → Kind A → Items → List A → Type 0
+reads_items K no_items [] = Unit {0}
+reads_items K (item d ds) (x ∷ xs) = K.reads d x × reads_items K ds xs
+reads_items K _ _ = ⊥
+
+abbrev pub reads_list : {A : Type 0} → Kind A → Data → List A → Type 0
+reads_list K (array ds) xs = reads_items K ds xs
+reads_list K _ xs = ⊥
+
+-- a fault of an item, behind its index
+abbrev pub faulty_item : {A : Type 0} → Kind A → Items → Faults
+faulty_item K ds p c = (i : ℕ) × (d : Data) × (get_item i ds ≡ Some d) × behind (index i) (K.faulty d) p c
+
+abbrev pub faulty_list : {A : Type 0} → Kind A → Data → Faults
+faulty_list K (array ds) p c = faulty_item K ds p c
+faulty_list K _ p c = itself wrong_kind p c
+
+abbrev pub written_items : {A : Type 0} → Kind A → List A → Items
+written_items K [] = no_items
+written_items K (x ∷ xs) = item (K.written x) (written_items K xs)
+
+abbrev pub good_items : {A : Type 0} → Kind A → List A → Type 0
+good_items K [] = Unit {0}
+good_items K (x ∷ xs) = K.good x × good_items K xs
+
+abbrev pub list_of : {A : Type 0} → Kind A → Kind (List A)
+list_of K = record { reads = reads_list K; faulty = faulty_list K; written = λ xs. array (written_items K xs); good = good_items K }
+
+-- A MAP: a table whose values are of one kind, by its entries in the order of their keys
+abbrev pub Entries : Type 0 → Type 0
+Entries A = List (Text × A)
+
+abbrev pub reads_entries : {A : Type 0} → Kind A → Members → Entries A → Type 0
+reads_entries K no_members [] = Unit {0}
+reads_entries K (member k d ms) (e ∷ es) = (k ≡ e.0) × K.reads d e.1 × reads_entries K ms es
+reads_entries K _ _ = ⊥
+
+abbrev pub reads_map : {A : Type 0} → Kind A → Data → Entries A → Type 0
+reads_map K (table ms) es = reads_entries K ms es
+reads_map K _ es = ⊥
+
+-- the table has this entry
+abbrev pub has_entry : Text → Data → Members → Type 0
+has_entry k d no_members = ⊥
+has_entry k d (member l e ms) = ((k ≡ l) × (d ≡ e)) ⊎ has_entry k d ms
+
+-- a fault of an entry, behind its key
+abbrev pub faulty_entry : {A : Type 0} → Kind A → Members → Faults
+faulty_entry K ms p c = (k : Text) × (d : Data) × has_entry k d ms × behind (key k) (K.faulty d) p c
+
+abbrev pub faulty_map : {A : Type 0} → Kind A → Data → Faults
+faulty_map K (table ms) p c = faulty_entry K ms p c
+faulty_map K _ p c = itself wrong_kind p c
+
+abbrev pub written_entries : {A : Type 0} → Kind A → Entries A → Members
+written_entries K [] = no_members
+written_entries K (e ∷ es) = member e.0 (K.written e.1) (written_entries K es)
+
+abbrev pub good_entries : {A : Type 0} → Kind A → Entries A → Type 0
+good_entries K [] = Unit {0}
+good_entries K (e ∷ es) = K.good e.1 × good_entries K es
+
+abbrev pub map_of : {A : Type 0} → Kind A → Kind (Entries A)
+map_of K = record { reads = reads_map K; faulty = faulty_map K; written = λ es. table (written_entries K es); good = good_entries K }
+
+-- KEPT: any value without a float, as it is
+abbrev mutual
+  pub plain : Data → Bool
+  plain (float x) = false
+  plain (array ds) = plain_items ds
+  plain (table ms) = plain_members ms
+  plain _ = true
+
+  pub plain_items : Items → Bool
+  plain_items no_items = true
+  plain_items (item d ds) = plain d && plain_items ds
+
+  pub plain_members : Members → Bool
+  plain_members no_members = true
+  plain_members (member k d ms) = plain d && plain_members ms
+
+-- the path leads to a float
+abbrev pub float_at : Path → Data → Type 0
+float_at [] (float x) = Unit {0}
+float_at (index i ∷ p) (array ds) = (d : Data) × (get_item i ds ≡ Some d) × float_at p d
+float_at (key k ∷ p) (table ms) = (d : Data) × has_entry k d ms × float_at p d
+float_at _ _ = ⊥
+
+abbrev pub reads_kept : Data → Data → Type 0
+reads_kept d x = (d ≡ x) × IsTrue (plain d)
+
+abbrev pub float_in : Data → Faults
+float_in d p c = float_at p d × (c ≡ holds_float)
+
+abbrev pub kept : Kind Data
+kept = record { reads = reads_kept; faulty = float_in; written = λ x. x; good = λ x. IsTrue (plain x) }
+
+-- WHAT MAY BE INHERITED from the workspace: a table whose `workspace` is the boolean true, or a value of its own
+pub data Inheritable (A : Type 0) : Type 0 where
+  inherited : Inheritable A
+  local : A → Inheritable A
+
+abbrev pub is_truth : Option Data → Bool
+is_truth (Some (boolean b)) = b
+is_truth _ = false
+
+-- the value is a table whose `workspace` is the boolean true
+abbrev pub inherits : Data → Bool
+inherits d = is_truth (get (codes "workspace") d)
+
+abbrev pub reads_inh : {A : Type 0} → Kind A → Data → Inheritable A → Type 0
+reads_inh K d inherited = IsTrue (inherits d)
+reads_inh K d (local x) = K.reads d x
+
+abbrev pub faulty_inh : {A : Type 0} → Kind A → Data → Faults
+faulty_inh K (table ms) p c = IsFalse (inherits (table ms)) × itself wrong_kind p c
+faulty_inh K d p c = K.faulty d p c
+
+abbrev pub written_inh : {A : Type 0} → Kind A → Inheritable A → Data
+written_inh K inherited = table (member (codes "workspace") (boolean true) no_members)
+written_inh K (local x) = K.written x
+
+abbrev pub good_inh : {A : Type 0} → Kind A → Inheritable A → Type 0
+good_inh K inherited = Unit {0}
+good_inh K (local x) = K.good x
+
+abbrev pub inh : {A : Type 0} → Kind A → Kind (Inheritable A)
+inh K = record { reads = reads_inh K; faulty = faulty_inh K; written = written_inh K; good = good_inh K }
+
+-- ONE OF TWO KINDS: K where the test of the value holds, else L; `side` tells of which of the two a C is
+abbrev pub reads_split : {A B : Type 0} → Kind A → Kind B → Bool → Data → A ⊎ B → Type 0
+reads_split K L true d (inl a) = K.reads d a
+reads_split K L false d (inr b) = L.reads d b
+reads_split K L _ d _ = ⊥
+
+abbrev pub faulty_split : {A B : Type 0} → Kind A → Kind B → Bool → Data → Faults
+faulty_split K L true = K.faulty
+faulty_split K L false = L.faulty
+
+abbrev pub written_split : {A B : Type 0} → Kind A → Kind B → A ⊎ B → Data
+written_split K L (inl a) = K.written a
+written_split K L (inr b) = L.written b
+
+abbrev pub good_split : {A B : Type 0} → Kind A → Kind B → A ⊎ B → Type 0
+good_split K L (inl a) = K.good a
+good_split K L (inr b) = L.good b
+
+abbrev pub split : {A B C : Type 0} → (Data → Bool) → Kind A → Kind B → (C → A ⊎ B) → Kind C
+split test K L side = record {
+  reads = λ d x. reads_split K L (test d) d (side x);
+  faulty = λ d. faulty_split K L (test d) d;
+  written = λ x. written_split K L (side x);
+  good = λ x. good_split K L (side x);
+}
+
+-- the tests
+abbrev pub is_text : Data → Bool
+is_text (string s) = true
+is_text _ = false
+
+abbrev pub is_flag : Data → Bool
+is_flag (boolean b) = true
+is_flag _ = false
+
+-- METADATA: what a metadata type names, each of its values by its written tree
+abbrev pub metadata : {M : Type 0} → (Data → M → Type 0) → (Data → Faults) → (M → Data) → (M → Type 0) → Kind Data
+metadata {M} reads faulty written good = record {
+  reads = λ d x. (m : M) × reads d m × (written m ≡ x);
+  faulty = faulty;
+  written = λ x. x;
+  good = λ x. (m : M) × good m × (written m ≡ x);
+}
+
+-- the metadata of a kind: each value of the kind by its written tree
+abbrev pub tree_of : {A : Type 0} → Kind A → Kind Data
+tree_of K = metadata K.reads K.faulty K.written K.good
+
+-- no metadata at all: every value is refused, and nothing is well-formed
+abbrev pub nothing : Kind (Unit {0})
+nothing = record { reads = λ d x. ⊥; faulty = λ d. itself metadata_fault; written = λ x. table no_members; good = λ x. ⊥ }

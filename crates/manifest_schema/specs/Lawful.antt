@@ -1,0 +1,77 @@
+-- The laws of kinds, needs and forms.
+use Rattle.std.specs.Prelude.{◌≡◌, ◌⊎◌, Bool, true, false, [], refl}
+use Rattle.std.proofs.Common.{inr}
+use Rattle.toml.specs.Data.{Data, Members, table}
+use Rattle.manifest_schema.specs.Paths.{Text, Cause, metadata_fault, Path, Faults}
+use Rattle.manifest_schema.specs.Slots.{Spellings, Slot, slot}
+use Rattle.manifest_schema.specs.Kinds.{Kind, nothing}
+use Rattle.manifest_schema.specs.Needs.{Need}
+use Rattle.manifest_schema.specs.Forms.{Rows, no_more, others, ◌⨾◌, Fields, gets}
+
+-- THE FOUR LAWS of a kind
+pub record IsLawful {A : Type 0} (K : Kind A) : Type 0 where
+  -- a value has at most one reading
+  pub single : (d : Data) (x y : A) → K.reads d x → K.reads d y → x ≡ y
+  -- a value with a fault has none
+  pub apart : (d : Data) (p : Path) (c : Cause) (x : A) → K.faulty d p c → K.reads d x → ⊥
+  -- what is read is well-formed
+  pub well : (d : Data) (x : A) → K.reads d x → K.good x
+  -- what is written of a well-formed one is read back
+  pub back : (x : A) → K.good x → K.reads (K.written x) x
+
+-- the same of a need
+pub record IsLawfulNeed {C : Type 0} (n : Need C) : Type 0 where
+  pub single : (s : Slot) (x y : C) → n.meets s x → n.meets s y → x ≡ y
+  pub apart : (names : Spellings) (s : Slot) (p : Path) (c : Cause) (x : C) → n.faulty names s p c → n.meets s x → ⊥
+  pub well : (s : Slot) (x : C) → n.meets s x → n.good x
+  pub back : (k : Text) (x : C) → n.good x → n.meets (slot k (n.written x)) x
+
+-- the rows of a form keep them
+abbrev pub AreLawful : {A : Type 0} → Rows A → Type 0
+AreLawful (r ⨾ rs) = IsLawfulNeed r.need × AreLawful rs
+AreLawful (others get K) = IsLawful K
+AreLawful no_more = Unit {0}
+
+-- the record is the contents of its rows, no more and no less
+pub record IsBuilt {A : Type 0} (rows : Rows A) : Type 0 where
+  pub build : Fields rows → A
+  pub all : (x : A) → build (gets rows x) ≡ x
+  pub each : (t : Fields rows) → gets rows (build t) ≡ t
+
+-- A VALUE HAS A READING OR A FAULT
+abbrev pub ReadOrFaulty : {A : Type 0} → (A → Type 0) → Faults → Type 0
+ReadOrFaulty {A} R F = ((x : A) × R x) ⊎ ((p : Path) × (c : Cause) × F p c)
+
+pub record IsTotal {A : Type 0} (K : Kind A) : Type 0 where
+  pub total : (d : Data) → ReadOrFaulty (K.reads d) (K.faulty d)
+
+pub record IsTotalNeed {C : Type 0} (n : Need C) : Type 0 where
+  pub total : (names : Spellings) (s : Slot) → ReadOrFaulty (n.meets s) (n.faulty names s)
+
+abbrev pub AreTotal : {A : Type 0} → Rows A → Type 0
+AreTotal (r ⨾ rs) = IsTotalNeed r.need × AreTotal rs
+AreTotal (others get K) = IsTotal K
+AreTotal no_more = Unit {0}
+
+-- WHAT THE COMBINATORS ASK
+-- the default is well-formed, and what is skipped is the default
+pub record IsDefault {B : Type 0} (K : Kind B) (e : B) (skipped : B → Bool) : Type 0 where
+  pub well : K.good e
+  pub skips : (x : B) → skipped x ≡ true → x ≡ e
+
+-- no table is read: what may be inherited asks this of the kind of its own value
+pub record ReadsNoTable {A : Type 0} (K : Kind A) : Type 0 where
+  pub no_table : (ms : Members) (x : A) → K.reads (table ms) x → ⊥
+
+-- the two sides are told apart, by their contents and by what is written of them
+pub record IsSplit {A B C : Type 0} (test : Data → Bool) (K : Kind A) (M : Kind B) (side : C → A ⊎ B) : Type 0 where
+  pub tied : (x y : C) → side x ≡ side y → x ≡ y
+  pub first : (x : A) → K.good x → test (K.written x) ≡ true
+  pub second : (x : B) → M.good x → test (M.written x) ≡ false
+
+-- THE KIND THAT READS NOTHING keeps the laws: each value has its fault
+pub nothing_laws : IsLawful nothing
+nothing_laws = record { single = λ d x y a b. absurd a; apart = λ d p c x f a. a; well = λ d x a. a; back = λ x g. absurd g }
+
+pub nothing_told : IsTotal nothing
+nothing_told = record { total = λ d. inr ([], metadata_fault, (refl, refl)) }

@@ -1,0 +1,12 @@
+pub mod Paths
+pub mod PathTexts
+pub mod Slots
+pub mod Kinds
+pub mod Needs
+pub mod Forms
+pub mod Lawful
+pub mod Contents
+pub mod Choices
+pub mod ManifestForms
+pub mod Meaning
+pub mod Examples

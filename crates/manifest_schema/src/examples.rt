@@ -1,0 +1,106 @@
+//! Worked examples of the definitions, on literals: what Cargo's reference says of each table, held against what
+//! the definitions say. The functions do nothing; their contracts are the examples.
+
+ghost use Rattle.std.specs.Prelude.{◌≡◌, pos, true, false, [], ◌∷◌, Some, None, codes};
+ghost use Rattle.toml.specs.Data.{string, integer, boolean, table, no_members, member};
+ghost use Rattle.manifest_schema.specs.Paths.{two_spellings, missing, not_a_choice, wrong_kind};
+ghost use Rattle.manifest_schema.specs.Kinds.{kept, inherited, local};
+ghost use Rattle.manifest_schema.specs.Forms.{form};
+ghost use Rattle.manifest_schema.specs.Contents.{by_workspace, detailed, simple, e2021};
+ghost use Rattle.manifest_schema.specs.Choices.{edition};
+ghost use Rattle.manifest_schema.specs.ManifestForms.{package_rows, dependency};
+ghost use Rattle.manifest_schema.specs.Meaning.{means, unmeant, rewritten};
+ghost use Rattle.manifest_schema.specs.Examples.{one_entry, two_entries, lent, of_version, named, no_workspace_members, nothing_in_it, only_package, spelled_rows, lenient_rows, default_rows, rest_rows, at_key};
+
+/// A key that no row has is ignored, and is not written.
+#[tactic(auto, unfolding(crate::specs::ManifestForms::package_rows, crate::specs::Slots::put_some))]
+pub fn unlisted_key()
+    ensures reads { (form (package_rows kept)).reads (table (two_entries (codes "name") (string (codes "p")) (codes "zzz") (integer (pos 1))))
+        (named (codes "p")) }
+    ensures written { (form (package_rows kept)).written (named (codes "p"))
+        ≡ table (one_entry (codes "name") (string (codes "p"))) }
+{}
+
+/// `workspace = true` beside `version`: the workspace lends the dependency, and `version` is ignored.
+#[tactic(auto, unfolding(crate::specs::ManifestForms::inherited_rows, crate::specs::Slots::put_some))]
+pub fn lent_dependency()
+    ensures reads { dependency.reads (table (two_entries (codes "version") (integer (pos 3)) (codes "workspace") (boolean true)))
+        (by_workspace lent) }
+    ensures written { dependency.written (by_workspace lent)
+        ≡ table (one_entry (codes "workspace") (boolean true)) }
+{}
+
+/// `workspace = false` beside `version`: the dependency is the member's own, and `workspace` is ignored.
+#[tactic(auto, unfolding(crate::specs::ManifestForms::detailed_rows, crate::specs::Slots::put_some))]
+pub fn own_dependency()
+    ensures reads { dependency.reads (table (two_entries (codes "version") (string (codes "1")) (codes "workspace") (boolean false)))
+        (detailed (of_version (codes "1"))) }
+    ensures written { dependency.written (detailed (of_version (codes "1")))
+        ≡ table (one_entry (codes "version") (string (codes "1"))) }
+{}
+
+/// Either spelling is read, the first one is written, and both are a clash that is told under the first.
+#[tactic(auto, unfolding(crate::specs::Slots::put_some))]
+pub fn second_spelling()
+    ensures reads { (form spelled_rows).reads (table (one_entry (codes "a_b") (string (codes "x")))) (Some (codes "x")) }
+    ensures written { (form spelled_rows).written (Some (codes "x")) ≡ table (one_entry (codes "a-b") (string (codes "x"))) }
+    ensures faulty { (form spelled_rows).faulty (table (two_entries (codes "a-b") (string (codes "x")) (codes "a_b") (string (codes "x"))))
+        (at_key (codes "a-b")) two_spellings }
+{}
+
+/// A value that does not fit a lenient row counts as absent.
+pub fn lenient_row()
+    ensures { (form lenient_rows).reads (table (one_entry (codes "a") (integer (pos 1)))) None }
+{}
+
+/// A default is read where the key is absent, and is not written.
+#[tactic(auto, unfolding(crate::specs::Slots::put_some))]
+pub fn default_row()
+    ensures reads { (form default_rows).reads (table no_members) true }
+    ensures written { (form default_rows).written true ≡ table no_members }
+    ensures other { (form default_rows).written false ≡ table (one_entry (codes "a") (boolean false)) }
+{}
+
+/// All keys that no row names are entries of the map, in the order of the keys.
+#[tactic(auto, unfolding(crate::specs::Slots::put_some))]
+pub fn other_keys()
+    ensures reads { (form rest_rows).reads (table (two_entries (codes "a") (boolean true) (codes "b") (string (codes "x"))))
+        (record { here = Some true; others = (codes "b", codes "x") ∷ [] }) }
+    ensures written { (form rest_rows).written (record { here = Some true; others = (codes "Z", codes "x") ∷ [] })
+        ≡ table (two_entries (codes "Z") (string (codes "x")) (codes "a") (boolean true)) }
+{}
+
+/// Without `package` and `workspace` the package is `project`, or else the whole table.
+#[tactic(auto, unfolding(crate::specs::ManifestForms::package_rows, crate::specs::ManifestForms::manifest_rows))]
+pub fn old_headers()
+    ensures project { means kept kept (one_entry (codes "project") (table (one_entry (codes "name") (string (codes "p")))))
+        (only_package (named (codes "p"))) }
+    ensures top { means kept kept (one_entry (codes "name") (string (codes "p")))
+        (only_package (named (codes "p"))) }
+    ensures nothing { unmeant kept kept no_members (at_key (codes "name")) missing }
+{}
+
+/// With a `workspace` beside it, `project` is a key that no row has.
+#[tactic(auto, unfolding(crate::specs::ManifestForms::workspace_rows, crate::specs::ManifestForms::manifest_rows))]
+pub fn workspace_beside_project()
+    ensures { means kept kept (two_entries (codes "project") (table no_members) (codes "workspace") (table no_members))
+        (record nothing_in_it { workspace = Some no_workspace_members }) }
+{}
+
+/// What is written of a manifest has its keys in order, whatever the order of the rows.
+#[tactic(auto, unfolding(crate::specs::ManifestForms::package_rows, crate::specs::ManifestForms::manifest_rows, crate::specs::Slots::put_some))]
+pub fn written_in_order()
+    ensures { rewritten kept kept (record nothing_in_it {
+      «package» = Some (record (named (codes "p")) { edition = Some (local e2021); version = Some inherited });
+      dependencies = Some ((codes "a", simple (codes "1")) ∷ []);
+    })
+        ≡ two_entries (codes "dependencies") (table (one_entry (codes "a") (string (codes "1"))))
+        (codes "package") (table (member (codes "edition") (string (codes "2021"))
+        (two_entries (codes "name") (string (codes "p")) (codes "version") (table (one_entry (codes "workspace") (boolean true)))))) }
+{}
+
+/// An edition is one of its texts.
+pub fn unknown_edition()
+    ensures text { edition.faulty (string (codes "2020")) [] not_a_choice }
+    ensures number { edition.faulty (integer (pos 2021)) [] wrong_kind }
+{}

@@ -1,0 +1,125 @@
+//! Kinds and forms that keep the laws, and the laws of what is made of them.
+
+ghost use Rattle.std.specs.Prelude.{◌≡◌, ℤ, Bool, IsTrue, refl};
+ghost use Rattle.toml.specs.Data.{Data};
+ghost use Rattle.manifest_schema.specs.Kinds.{Kind, text, flag, whole, truth, choice, kept, list_of, map_of, inh, tree_of, nothing};
+ghost use Rattle.manifest_schema.specs.Needs.{required, optional, default, lenient_optional, lenient_default};
+ghost use Rattle.manifest_schema.specs.Forms.{Rows, no_more, form, distinct};
+ghost use Rattle.manifest_schema.specs.Lawful.{IsLawful, IsLawfulNeed, AreLawful, IsBuilt, IsTotal, IsTotalNeed, AreTotal, IsDefault, ReadsNoTable, nothing_laws, nothing_told};
+
+use std::marker::Brand;
+
+/// A kind that keeps the laws.
+pub trait LawfulKind {
+    ghost Content: { Type 0 };
+
+    ghost kind: { Kind Content };
+
+    ghost lawful: { IsLawful kind };
+}
+
+/// A lawful kind whose every value has a reading or a fault.
+pub trait TotalKind: LawfulKind {
+    ghost total: { IsTotal Self.kind };
+}
+
+/// A form whose rows keep the laws, and whose spellings all differ.
+pub trait LawfulForm {
+    ghost Record: { Type 0 };
+
+    ghost rows: { Rows Record };
+
+    ghost lawful: { AreLawful rows };
+
+    ghost built: { IsBuilt rows };
+
+    ghost differ: { IsTrue (distinct rows) };
+}
+
+/// A lawful form whose every row is met or has a fault.
+pub trait TotalForm: LawfulForm {
+    ghost total: { AreTotal Self.rows };
+}
+
+/// The kind that reads nothing.
+impl LawfulKind for Brand {
+    ghost Content = { Unit {0} };
+
+    ghost kind = { nothing };
+
+    ghost lawful = { nothing_laws };
+}
+
+impl TotalKind for Brand {
+    ghost total = { nothing_told };
+}
+
+/// The form without rows.
+impl LawfulForm for Brand {
+    ghost Record = { Unit {0} };
+
+    ghost rows = { no_more };
+
+    ghost lawful = { tt };
+
+    ghost built = { record { build = λ t. t; all = λ x. refl; each = λ t. refl } };
+
+    ghost differ = { refl };
+}
+
+impl TotalForm for Brand {
+    ghost total = { tt };
+}
+
+/// Texts, booleans, the boolean true, whole numbers and kept values keep the laws.
+pub fn simple_kinds_are_lawful()
+    ensures text_is { IsLawful text × IsTotal text }
+    ensures flag_is { IsLawful flag × IsTotal flag }
+    ensures truth_is { IsLawful truth × IsTotal truth }
+    ensures kept_is { IsLawful kept × IsTotal kept }
+    ensures whole_is { (low high : ℤ) → IsLawful (whole low high) × IsTotal (whole low high) }
+{}
+
+/// What is made of a lawful kind keeps the laws: lists, maps, what may be inherited, and metadata.
+pub fn made_kinds_are_lawful<K: LawfulKind>()
+    ensures list_is { IsLawful (list_of K.kind) }
+    ensures map_is { IsLawful (map_of K.kind) }
+    ensures inh_is { ReadsNoTable K.kind → IsLawful (inh K.kind) }
+    ensures tree_is { IsLawful (tree_of K.kind) }
+{}
+
+/// What is made of a kind whose every value has a reading or a fault is such a kind.
+pub fn made_kinds_are_total<K: TotalKind>()
+    ensures list_is { IsTotal (list_of K.kind) }
+    ensures map_is { IsTotal (map_of K.kind) }
+    ensures inh_is { IsTotal (inh K.kind) }
+    ensures tree_is { IsTotal (tree_of K.kind) }
+{}
+
+/// The needs of a field keep the laws.
+pub fn needs_are_lawful<K: LawfulKind>()
+    ensures required_is { IsLawfulNeed (required K.kind) }
+    ensures optional_is { IsLawfulNeed (optional K.kind) }
+    ensures default_is { (e : K.Content) (skipped : K.Content → Bool) → IsDefault K.kind e skipped → IsLawfulNeed (default K.kind e skipped) }
+    ensures lenient_optional_is { IsLawfulNeed (lenient_optional K.kind) }
+    ensures lenient_default_is { (e : K.Content) → K.kind.good e → IsLawfulNeed (lenient_default K.kind e) }
+{}
+
+/// Every slot meets the need of a field or has a fault, where every value of its kind has a reading or a fault.
+pub fn needs_are_total<K: TotalKind>()
+    ensures required_is { IsTotalNeed (required K.kind) }
+    ensures optional_is { IsTotalNeed (optional K.kind) }
+    ensures default_is { (e : K.Content) (skipped : K.Content → Bool) → IsTotalNeed (default K.kind e skipped) }
+    ensures lenient_optional_is { IsTotalNeed (lenient_optional K.kind) }
+    ensures lenient_default_is { (e : K.Content) → IsTotalNeed (lenient_default K.kind e) }
+{}
+
+/// A form keeps the laws of a kind.
+pub fn form_is_lawful<F: LawfulForm>()
+    ensures { IsLawful (form F.rows) }
+{}
+
+/// Every value has a reading by a form or a fault.
+pub fn form_is_total<F: TotalForm>()
+    ensures { IsTotal (form F.rows) }
+{}

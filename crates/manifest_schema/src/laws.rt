@@ -1,0 +1,44 @@
+//! What is promised of the meaning of a table, for every kind of metadata of a package and of a workspace.
+//!
+//! The parameters `P` and `W` stand for the two kinds of metadata. Each function returns at once: it is there for
+//! its contract, a law of the definitions.
+
+ghost use Rattle.manifest_schema.specs.Kinds.{tree_of};
+ghost use Rattle.manifest_schema.specs.Meaning.{MeansOne, WrittenIsRead, AcceptedIsWellFormed, RewrittenMeansTheSame, SameExactly, FaultyMeansNothing, AcceptedOrFaulty};
+
+use crate::kinds::{LawfulKind, TotalKind};
+
+/// A table means at most one manifest.
+pub fn means_one<P: LawfulKind, W: LawfulKind>()
+    ensures { MeansOne (tree_of P.kind) (tree_of W.kind) }
+{}
+
+/// What is written of a well-formed manifest is read as that manifest.
+pub fn written_is_read<P: LawfulKind, W: LawfulKind>()
+    ensures { WrittenIsRead (tree_of P.kind) (tree_of W.kind) }
+{}
+
+/// What a table means is well-formed, and has a package or a workspace.
+pub fn accepted_is_well_formed<P: LawfulKind, W: LawfulKind>()
+    ensures { AcceptedIsWellFormed (tree_of P.kind) (tree_of W.kind) }
+{}
+
+/// The rewritten table of an accepted table means the same manifest.
+pub fn rewritten_means_the_same<P: LawfulKind, W: LawfulKind>()
+    ensures { RewrittenMeansTheSame (tree_of P.kind) (tree_of W.kind) }
+{}
+
+/// Two accepted tables mean one manifest exactly if their rewritten tables are equal.
+pub fn same_exactly<P: LawfulKind, W: LawfulKind>()
+    ensures { SameExactly (tree_of P.kind) (tree_of W.kind) }
+{}
+
+/// A table with a fault means nothing.
+pub fn faulty_means_nothing<P: LawfulKind, W: LawfulKind>()
+    ensures { FaultyMeansNothing (tree_of P.kind) (tree_of W.kind) }
+{}
+
+/// A table means a manifest or has a fault, where each value has a reading or a fault as metadata.
+pub fn accepted_or_faulty<P: TotalKind, W: TotalKind>()
+    ensures { AcceptedOrFaulty (tree_of P.kind) (tree_of W.kind) }
+{}
