@@ -1,5 +1,5 @@
 -- Forms: a record is read from a table by a list of rows, one for each field.
-use Rattle.std.specs.Prelude.{ℕ, zero, suc, Bool, true, false, not, ◌&&◌, ◌⊎◌, List, [], ◌∷◌, IsTrue}
+use Rattle.std.specs.Prelude.{ℕ, zero, suc, Bool, true, not, ◌&&◌, ◌⊎◌, List, [], ◌∷◌, IsTrue}
 use Rattle.toml.specs.Data.{Data, table, Members, no_members}
 use Rattle.manifest_schema.specs.Paths.{Text, wrong_kind, Faults, itself}
 use Rattle.manifest_schema.specs.Slots.{Spellings, only, both, first, at, put_some, is_among, without}

@@ -1,8 +1,8 @@
 -- Kinds of values: what a value means, which faults it has, what is written, and what is well-formed.
-use Rattle.std.specs.Prelude.{◌≡◌, ℕ, ℤ, Bool, true, false, ◌&&◌, ◌⊎◌, List, [], ◌∷◌, Option, Some, None, IsTrue, IsFalse, codes, int_le, Float}
+use Rattle.std.specs.Prelude.{◌≡◌, ℕ, ℤ, Bool, true, false, ◌&&◌, ◌⊎◌, List, [], ◌∷◌, Option, Some, None, IsTrue, IsFalse, codes, int_le}
 use Rattle.std.proofs.Common.{inl, inr}
 use Rattle.toml.specs.Data.{Data, string, integer, float, boolean, array, table, Items, no_items, item, Members, no_members, member, get_item, get}
-use Rattle.manifest_schema.specs.Paths.{Text, Cause, wrong_kind, not_a_choice, out_of_range, not_true, holds_float, metadata_fault, key, index, Path, Faults, itself, behind}
+use Rattle.manifest_schema.specs.Paths.{Text, wrong_kind, not_a_choice, out_of_range, not_true, holds_float, metadata_fault, key, index, Path, Faults, itself, behind}
 
 -- A kind of values that stand for an A.
 pub record Kind (A : Type 0) : Type 1 where

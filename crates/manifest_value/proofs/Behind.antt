@@ -1,0 +1,16 @@
+-- Faults one step further out.
+use Rattle.manifest_schema.specs.Paths.{Path, Step, Cause as SchemaCause, behind}
+use Rattle.manifest_value.specs.Faults.{FaultIn, IsBehind, path_of}
+use Rattle.manifest_value.specs.declared.fault.ReadFault.{ReadFault}
+use Rattle.manifest_value.specs.declared.fault.ReadFault.TheVariants.{Schema, Memory}
+
+pub fault_weaker : (P Q : Path → SchemaCause → Type 0) (f : ReadFault) → ((p : Path) (c : SchemaCause) → P p c → Q p c) → FaultIn P f → FaultIn Q f
+fault_weaker P Q (Schema f) w h = w _ _ h
+fault_weaker P Q (Memory e) w h = tt
+
+-- the fault g is f one step further out
+pub fault_behind : (P : Path → SchemaCause → Type 0) (s : Step) (f g : ReadFault) → FaultIn P f → IsBehind s f g → FaultIn (behind s P) g
+fault_behind P s (Memory e) (Memory e') h k = tt
+fault_behind P s (Memory e) (Schema g) h k = absurd k
+fault_behind P s (Schema f) (Memory e) h k = tt
+fault_behind P s (Schema f) (Schema g) h k = (path_of f.path, k.0, rw k.1 h)

@@ -1,0 +1,75 @@
+-- A map that is made of another, entry by entry.
+use Rattle.std.proofs.Common.{◌≡◌, ℕ, List, [], ◌∷◌, ◌++◌, map, String, Global, Less, Greater, nat_cmp, string_bytes, refl, ap, ◌∙◌, inl, inr, get_or, drop, length, arith}
+use Rattle.std.proofs.lemmas.Cmp.{nat_list_cmp_total}
+use Rattle.std.specs.Cmp.Lexicographic.{slice_cmp}
+use Rattle.std.specs.List.{AllByRecursion}
+use Rattle.std.specs.Ordering.{ordering_reverse}
+use Rattle.std.specs.BTreeMap.{insert_entry}
+use Rattle.std.specs.List.Sorted.{IsStrictlySortedBy}
+use Rattle.std.specs.Map.{keys_of}
+use Rattle.std.specs.String.{string_cmp}
+use Rattle.toml.specs.Data.{Data, Members}
+use Rattle.toml.specs.declared.value.Value.{Value}
+use Rattle.toml.specs.View.{view, members_view}
+use Rattle.manifest_schema.specs.Kinds.{Kind, reads_entries, written_entries, has_entry, faulty_entry}
+use Rattle.manifest_schema.specs.Paths.{behind, key}
+use Rattle.manifest_value.specs.Entries.{entries_content}
+use Rattle.manifest_value.specs.Faults.{FaultIn}
+use Rattle.manifest_value.specs.declared.fault.ReadFault.{ReadFault}
+use Rattle.manifest_value.proofs.Behind.{fault_weaker}
+
+-- the texts of the keys
+abbrev pub texts : {X : Type 0} → List (String Global × X) → List (List ℕ)
+texts es = map (λ e. string_bytes e.0) es
+
+key_below : {X : Type 0} (first : String Global × X) (es : List (String Global × X)) (e : String Global × X) (more : List (String Global × X))
+    → AllByRecursion (λ y. string_cmp first.0 y ≡ Less) (keys_of (es ++ e ∷ more)) → string_cmp first.0 e.0 ≡ Less
+key_below first [] e more h = h.0
+key_below first (x ∷ es) e more h = key_below first es e more h.1
+
+-- A key that is above the keys before it goes last.
+pub insert_last : {X Y : Type 0} (es : List (String Global × X)) (done : List (String Global × Y)) (e : String Global × Y) (more : List (String Global × Y)) (name : String Global) (v : X)
+    → texts es ≡ texts done → string_bytes name ≡ string_bytes e.0 → IsStrictlySortedBy string_cmp (keys_of (done ++ e ∷ more))
+    → insert_entry string_cmp es name v ≡ es ++ (name, v) ∷ []
+unfolding IsStrictlySortedBy
+insert_last [] done e more name v same named h = refl
+insert_last (x ∷ es) [] e more name v same named h = absurd (omega (arith, ap length same))
+insert_last (x ∷ es) (first ∷ done) e more name v same named h =
+    let heads : string_bytes x.0 ≡ string_bytes first.0 = ap (λ ks. get_or ks 0 (string_bytes x.0)) same in
+    let tails : texts es ≡ texts done = ap (drop 1) same in
+    let above : slice_cmp nat_cmp (string_bytes name) (string_bytes x.0) ≡ Greater =
+    rw (heads, named) (nat_list_cmp_total.antisymm (string_bytes e.0) (string_bytes first.0) ∙ ap ordering_reverse (key_below first done e more h.0)) in
+    rw above (ap (λ t. x ∷ t) (insert_last es done e more name v tails named h.1))
+
+pub texts-last : {X : Type 0} (es : List (String Global × X)) (e : String Global × X) → texts (es ++ e ∷ []) ≡ texts es ++ string_bytes e.0 ∷ []
+texts-last [] e = refl
+texts-last (x ∷ es) e = ap (λ t. string_bytes x.0 ∷ t) (texts-last es e)
+
+pub has_entry_within : (done : List (String Global × Value)) (e : String Global × Value) (more : List (String Global × Value)) → has_entry (string_bytes e.0) (view e.1) (members_view (done ++ e ∷ more))
+has_entry_within [] e more = inl (refl, refl)
+has_entry_within (d ∷ done) e more = inr (has_entry_within done e more)
+
+-- a fault of a value is a fault of the entries that have it
+pub entry_fault : {A : Type 0} (K : Kind A) (ms : Members) (k : List ℕ) (d : Data) (f : ReadFault) → has_entry k d ms → FaultIn (behind (key k) (K.faulty d)) f → FaultIn (faulty_entry K ms) f
+entry_fault K ms k d f within h = fault_weaker (behind (key k) (K.faulty d)) (faulty_entry K ms) f (λ p c q. (k, d, within, q)) h
+
+-- one more entry is read
+pub entries_last : {A X : Type 0} (K : Kind A) (f : X → A) (done : List (String Global × Value)) (e : String Global × Value) (all : List (String Global × X)) (x : String Global × X)
+    → reads_entries K (members_view done) (entries_content f all) → string_bytes e.0 ≡ string_bytes x.0 → K.reads (view e.1) (f x.1)
+    → reads_entries K (members_view (done ++ e ∷ [])) (entries_content f (all ++ x ∷ []))
+entries_last K f [] e [] x h named is = (named, is, tt)
+entries_last K f [] e (y ∷ all) x h named is = absurd h
+entries_last K f (d ∷ done) e [] x h named is = absurd h
+entries_last K f (d ∷ done) e (y ∷ all) x h named is = (h.0, h.1, entries_last K f done e all x h.2 named is)
+
+-- one more entry is written
+pub written_last : {A X : Type 0} (K : Kind A) (f : X → A) (all : List (String Global × Value)) (done : List (String Global × X)) (x : String Global × Value) (e : String Global × X)
+    → members_view all ≡ written_entries K (entries_content f done) → string_bytes x.0 ≡ string_bytes e.0 → view x.1 ≡ K.written (f e.1)
+    → members_view (all ++ x ∷ []) ≡ written_entries K (entries_content f (done ++ e ∷ []))
+written_last K f [] [] x e h named is = cc
+written_last K f [] (d ∷ done) x e h named is = cc
+written_last K f (y ∷ all) [] x e h named is = cc
+written_last K f (y ∷ all) (d ∷ done) x e h named is =
+    let tails : members_view all ≡ written_entries K (entries_content f done) = cc in
+    let rest = written_last K f all done x e tails named is in
+    cc

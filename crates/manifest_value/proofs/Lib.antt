@@ -1,0 +1,4 @@
+pub mod Behind
+pub mod ItemLemmas
+pub mod InsertLemmas
+pub mod EntryLemmas

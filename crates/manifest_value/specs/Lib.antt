@@ -1,0 +1,10 @@
+pub use Rattle.manifest_schema.specs.Paths
+pub use Rattle.manifest_schema.specs.PathTexts
+pub use Rattle.manifest_schema.specs.Slots
+pub use Rattle.manifest_schema.specs.Kinds
+pub use Rattle.manifest_schema.specs.Needs
+pub use Rattle.manifest_schema.specs.Forms
+pub use Rattle.manifest_schema.specs.Lawful
+pub mod Faults
+pub mod Found
+pub mod Entries

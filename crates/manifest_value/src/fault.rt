@@ -1,0 +1,96 @@
+//! Where a value does not fit, and why.
+
+ghost use Rattle.manifest_schema.specs.Paths.{no_fault, itself};
+ghost use Rattle.manifest_value.specs.Faults.{FaultIn, IsSchema, IsBehind, step_of, cause_of};
+
+use std::alloc::{AllocError, AllocFailed, Global};
+
+/// One step from a value to a value inside it: to the entry of a table, or to the item of a list.
+#[derive(Debug, PartialEq, Eq, Drop)]
+pub enum Step {
+    Key(String),
+    Index(usize),
+}
+
+/// The steps from the value that was handed in.
+#[derive(Debug, PartialEq, Eq, Drop)]
+pub struct KeyPath {
+    pub steps: Vec<Step>,
+}
+
+/// Why a value, or its absence, does not fit.
+#[derive(Clone, Copy, Debug, PartialEq, Eq)]
+pub enum Cause {
+    /// The value is of another kind.
+    WrongKind,
+    /// A required key is absent.
+    Missing,
+    /// A table has a key by both of its spellings.
+    TwoSpellings,
+    /// The text is none of the choice.
+    NotAChoice,
+    /// The whole number is out of range.
+    OutOfRange,
+    /// The boolean is not true.
+    NotTrue,
+    /// A float stands there.
+    HoldsFloat,
+    /// The metadata type refuses the value.
+    Metadata,
+}
+
+/// The value at the path, or its absence, has the cause.
+#[derive(Debug, PartialEq, Eq, Drop)]
+pub struct SchemaFault {
+    pub path: KeyPath,
+    pub cause: Cause,
+}
+
+/// What a reader refuses with.
+#[derive(Debug, PartialEq, Eq, Drop)]
+pub enum ReadFault {
+    Schema(SchemaFault),
+    Memory(AllocError),
+}
+
+impl From<AllocError> for ReadFault {
+    ghost from_gives = { λ e f. FaultIn no_fault f };
+
+    fn from(refused: AllocError) -> ReadFault {
+        ReadFault::Memory(refused)
+    }
+}
+
+impl<T: Drop> From<AllocFailed<T>> for ReadFault {
+    ghost from_gives = { λ e f. FaultIn no_fault f };
+
+    fn from(refused: AllocFailed<T>) -> ReadFault {
+        ReadFault::Memory(AllocError::from(refused))
+    }
+}
+
+/// The fault at the value itself.
+pub fn here(alloc: Global, cause: Cause) -> ReadFault
+    ensures fault { FaultIn (itself (cause_of cause)) result }
+    ensures schema { IsSchema result }
+{
+    ReadFault::Schema(SchemaFault {
+        path: KeyPath {
+            steps: Vec::new(alloc),
+        },
+        cause,
+    })
+}
+
+/// The fault as it is seen one step further out, or want of memory where the step finds no room.
+pub fn prefixed(step: Step, fault: ReadFault) -> ReadFault
+    ensures { IsBehind (step_of step) fault result }
+{
+    match fault {
+        ReadFault::Memory(refused) => ReadFault::Memory(refused),
+        ReadFault::Schema(mut fault) => match fault.path.steps.insert(0, step) {
+            Ok(()) => ReadFault::Schema(fault),
+            Err(_) => ReadFault::Memory(AllocError),
+        },
+    }
+}

@@ -1,0 +1,14 @@
+//! Reading `toml`'s values into types, and writing them: key paths and faults, the trait by which a type names what
+//! it holds and which values it reads, readers and writers of std's types, and the rows of a form.
+#![tactic(auto)]
+
+pub mod fault;
+pub mod maps;
+pub mod metadata;
+pub mod rows;
+pub mod schema;
+pub mod slots;
+
+pub use fault::{Cause, KeyPath, ReadFault, SchemaFault, Step};
+pub use metadata::Metadata;
+pub use schema::Schema;

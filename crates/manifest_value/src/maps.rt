@@ -1,0 +1,62 @@
+//! Maps by a text.
+ghost use Rattle.std.specs.Prelude.{◌≡◌, IfOk, IfErr};
+ghost use Rattle.toml.specs.View.{view, table_view};
+ghost use Rattle.manifest_value.specs.Faults.{FaultIn};
+ghost use Rattle.manifest_value.specs.Entries.{entries_content};
+ghost use Rattle.manifest_schema.specs.Kinds.{Entries, map_of, reads_entries, written_entries, faulty_entry};
+ghost use Rattle.manifest_schema.proofs.KindLaws.{map_lawful};
+
+use crate::fault::{Cause, ReadFault, here};
+use crate::rows::read_under;
+use crate::schema::Schema;
+use std::alloc::{AllocError, Global};
+use std::collections::BTreeMap;
+use toml::{Table, Value};
+
+/// The entries of a table, each of one kind.
+fn entries_of<T: Schema>(alloc: Global, table: &Table) -> Result<BTreeMap<String, T>, ReadFault>
+    ensures ok { IfOk result (λ m. reads_entries T.kind (table_view table.now) (entries_content T.content m.entries)) }
+    ensures fault { IfErr result (FaultIn (faulty_entry T.kind (table_view table.now))) }
+{
+    let mut all = BTreeMap::new(alloc);
+    for (key, value) in table.iter() {
+        let x = read_under::<T>(alloc, value, key.as_str())?;
+        let name = String::from_str(alloc, key.as_str())?;
+        drop(all.insert(name, x)?);
+    }
+    Ok(all)
+}
+
+/// The table of a map.
+fn entries_table<T: Schema>(alloc: Global, map: &BTreeMap<String, T>) -> Result<Table, AllocError>
+    ensures { IfOk result (λ t. table_view t ≡ written_entries T.kind (entries_content T.content map.now.entries)) }
+{
+    let mut all = Table::new(alloc);
+    for (key, x) in map.iter() {
+        let value = x.to_value(alloc)?;
+        let name = String::from_str(alloc, key.as_str())?;
+        drop(all.insert(name, value)?);
+    }
+    Ok(all)
+}
+
+impl<T: Schema> Schema for BTreeMap<String, T> {
+    ghost Content = { Entries T.Content };
+
+    ghost content = { λ m. entries_content T.content m.entries };
+
+    ghost kind = { map_of T.kind };
+
+    fn from_value(alloc: Global, value: &Value) -> Result<BTreeMap<String, T>, ReadFault> {
+        match value {
+            Value::Table(table) => entries_of(alloc, table),
+            _ => Err(here(alloc, Cause::WrongKind)),
+        }
+    }
+
+    fn to_value(&self, alloc: Global) -> Result<Value, AllocError> {
+        Ok(Value::Table(entries_table(alloc, self)?))
+    }
+
+    ghost lawful = { map_lawful T.lawful };
+}

@@ -1,0 +1,91 @@
+//! Metadata of any type.
+ghost use Rattle.std.specs.Prelude.{◌≡◌, ◌↔◌, IsTrue, IfOk, IfErr, OnOk, option_map, option_copied};
+ghost use Rattle.toml.specs.View.{view, table_view};
+ghost use Rattle.manifest_value.specs.Faults.{FaultIn};
+ghost use Rattle.manifest_schema.specs.Slots.{at, spellings_of, put_some};
+ghost use Rattle.manifest_schema.specs.Kinds.{plain, tree_of, nothing};
+ghost use Rattle.manifest_schema.specs.Lawful.{nothing_laws};
+ghost use Rattle.manifest_schema.specs.Needs.{meets_optional, faulty_free, written_some};
+
+use crate::fault::{Cause, ReadFault, here};
+use crate::rows::{optional, put_optional};
+use crate::schema::Schema;
+use std::alloc::{AllocError, Global};
+use toml::{Table, Value};
+
+/// A type whose well-formed values are written without floats.
+pub trait Metadata: Schema {
+    fn is_well_formed(&self) -> bool
+        ensures { IsTrue result ↔ Self.kind.good (Self.content self.now) };
+
+    ghost without_floats: { (x : Self.Content) → Self.kind.good x → IsTrue (plain (Self.kind.written x)) };
+}
+
+/// A row of metadata that may be absent.
+pub fn optional_tree<M: Metadata>(
+    alloc: Global,
+    table: &Table,
+    first: &'static str,
+    second: Option<&'static str>,
+) -> Result<Option<M>, ReadFault>
+    ensures ok { IfOk result (λ o. meets_optional (tree_of M.kind) (at (spellings_of first.now (option_copied second.entry)) (table_view table.now)) (option_map (λ m. M.kind.written (M.content m)) o)) }
+    ensures fault { let spellings = spellings_of first.now (option_copied second.entry) in
+        IfErr result (FaultIn (faulty_free spellings (tree_of M.kind) (at spellings (table_view table.now)))) }
+{
+    optional(alloc, table, first, second)
+}
+
+/// Puts a row of metadata into the table where it is there.
+#[tactic(auto, unfolding(manifest_schema::specs::Slots::put_some))]
+pub fn put_tree<M: Metadata>(
+    alloc: Global,
+    table: &mut Table,
+    first: &'static str,
+    value: &Option<M>,
+) -> Result<(), AllocError>
+    ensures { OnOk result (table_view table.new ≡ put_some first.now (written_some (tree_of M.kind) (option_map (λ m. M.kind.written (M.content m)) value.now)) (table_view table.old)) }
+{
+    put_optional(alloc, table, first, value)
+}
+
+/// Reads a row of metadata that may be absent into its place.
+pub fn fill_tree<M: Metadata>(
+    alloc: Global,
+    table: &Table,
+    first: &'static str,
+    second: Option<&'static str>,
+    place: &mut Option<M>,
+) -> Result<(), ReadFault>
+    ensures ok { OnOk result (meets_optional (tree_of M.kind) (at (spellings_of first.now (option_copied second.entry)) (table_view table.now)) (option_map (λ m. M.kind.written (M.content m)) place.new)) }
+    ensures fault { let spellings = spellings_of first.now (option_copied second.entry) in
+        IfErr result (FaultIn (faulty_free spellings (tree_of M.kind) (at spellings (table_view table.now)))) }
+{
+    *place = optional_tree(alloc, table, first, second)?;
+    Ok(())
+}
+
+impl Schema for () {
+    ghost Content = { Unit {0} };
+
+    ghost content = { λ u. tt };
+
+    ghost kind = { nothing };
+
+    fn from_value(alloc: Global, _value: &Value) -> Result<(), ReadFault> {
+        Err(here(alloc, Cause::Metadata))
+    }
+
+    fn to_value(&self, alloc: Global) -> Result<Value, AllocError> {
+        Ok(Value::Table(Table::new(alloc)))
+    }
+
+    ghost lawful = { nothing_laws };
+}
+
+impl Metadata for () {
+    fn is_well_formed(&self) -> bool {
+        false
+    }
+
+    ghost without_floats = { λ x g. absurd g };
+}

@@ -1,0 +1,177 @@
+//! Rows of a form.
+ghost use Rattle.std.specs.Prelude.{◌≡◌, List, ℕ, IfOk, IfErr, OnOk, Option, Some, option_map, option_copied};
+ghost use Rattle.toml.specs.View.{view, table_view};
+ghost use Rattle.manifest_value.specs.Faults.{FaultIn, cause_of};
+ghost use Rattle.manifest_schema.specs.Paths.{itself, behind, key};
+ghost use Rattle.manifest_schema.specs.Slots.{at, spellings_of, put_some};
+ghost use Rattle.manifest_schema.specs.Needs.{meets_required, meets_optional, meets_default, faulty_required, faulty_free, written_some, written_unless};
+
+use crate::fault::{Cause, ReadFault, Step, here, prefixed};
+use crate::schema::Schema;
+use crate::slots::{Slot, slot_at};
+use std::alloc::{AllocError, Global};
+use toml::{Table, Value};
+
+/// A fault at a key of the table.
+#[tactic(auto, using(crate::proofs::Behind::fault_behind))]
+fn at_key(alloc: Global, word: &str, cause: Cause) -> ReadFault
+    ensures { FaultIn (behind (key word.now) (itself (cause_of cause))) result }
+{
+    match String::from_str(alloc, word) {
+        Ok(word) => prefixed(Step::Key(word), here(alloc, cause)),
+        Err(e) => ReadFault::Memory(e),
+    }
+}
+
+/// The value under a key, with the key before the path of a fault.
+#[tactic(auto, using(crate::proofs::Behind::fault_behind))]
+pub fn read_under<T: Schema>(alloc: Global, value: &Value, word: &str) -> Result<T, ReadFault>
+    ensures ok { IfOk result (λ x. T.kind.reads (view value.now) (T.content x)) }
+    ensures fault { IfErr result (FaultIn (behind (key word.now) (T.kind.faulty (view value.now)))) }
+{
+    match T::from_value(alloc, value) {
+        Ok(x) => Ok(x),
+        Err(f) => match String::from_str(alloc, word) {
+            Ok(word) => Err(prefixed(Step::Key(word), f)),
+            Err(e) => {
+                drop(f);
+                Err(ReadFault::Memory(e))
+            }
+        },
+    }
+}
+
+/// A row that must be there.
+pub fn required<T: Schema>(
+    alloc: Global,
+    table: &Table,
+    first: &'static str,
+    second: Option<&'static str>,
+) -> Result<T, ReadFault>
+    ensures ok { IfOk result (λ x. meets_required T.kind (at (spellings_of first.now (option_copied second.entry)) (table_view table.now)) (T.content x)) }
+    ensures fault { let spellings = spellings_of first.now (option_copied second.entry) in
+        IfErr result (FaultIn (faulty_required spellings T.kind (at spellings (table_view table.now)))) }
+{
+    match slot_at(table, first, second) {
+        Slot::Absent => Err(at_key(alloc, first, Cause::Missing)),
+        Slot::Clash => Err(at_key(alloc, first, Cause::TwoSpellings)),
+        Slot::One { spelling, value } => read_under(alloc, value, spelling),
+    }
+}
+
+/// A row that may be absent.
+pub fn optional<T: Schema>(
+    alloc: Global,
+    table: &Table,
+    first: &'static str,
+    second: Option<&'static str>,
+) -> Result<Option<T>, ReadFault>
+    ensures ok { IfOk result (λ o. meets_optional T.kind (at (spellings_of first.now (option_copied second.entry)) (table_view table.now)) (option_map T.content o)) }
+    ensures fault { let spellings = spellings_of first.now (option_copied second.entry) in
+        IfErr result (FaultIn (faulty_free spellings T.kind (at spellings (table_view table.now)))) }
+{
+    match slot_at(table, first, second) {
+        Slot::Absent => Ok(None),
+        Slot::Clash => Err(at_key(alloc, first, Cause::TwoSpellings)),
+        Slot::One { spelling, value } => Ok(Some(read_under(alloc, value, spelling)?)),
+    }
+}
+
+/// A row with a value that stands for its absence.
+pub fn or_default<T: Schema>(
+    alloc: Global,
+    table: &Table,
+    first: &'static str,
+    second: Option<&'static str>,
+    default: T,
+) -> Result<T, ReadFault>
+    ensures ok { IfOk result (λ x. meets_default (T.content default) T.kind (at (spellings_of first.now (option_copied second.entry)) (table_view table.now)) (T.content x)) }
+    ensures fault { let spellings = spellings_of first.now (option_copied second.entry) in
+        IfErr result (FaultIn (faulty_free spellings T.kind (at spellings (table_view table.now)))) }
+{
+    match slot_at(table, first, second) {
+        Slot::Absent => Ok(default),
+        Slot::Clash => Err(at_key(alloc, first, Cause::TwoSpellings)),
+        Slot::One { spelling, value } => read_under(alloc, value, spelling),
+    }
+}
+
+/// Reads a row that may be absent into its place.
+pub fn fill<T: Schema>(
+    alloc: Global,
+    table: &Table,
+    first: &'static str,
+    second: Option<&'static str>,
+    place: &mut Option<T>,
+) -> Result<(), ReadFault>
+    ensures ok { OnOk result (meets_optional T.kind (at (spellings_of first.now (option_copied second.entry)) (table_view table.now)) (option_map T.content place.new)) }
+    ensures fault { let spellings = spellings_of first.now (option_copied second.entry) in
+        IfErr result (FaultIn (faulty_free spellings T.kind (at spellings (table_view table.now)))) }
+{
+    *place = optional(alloc, table, first, second)?;
+    Ok(())
+}
+
+/// Reads a row into its place, where the value that stands for its absence is.
+pub fn fill_default<T: Schema>(
+    alloc: Global,
+    table: &Table,
+    first: &'static str,
+    second: Option<&'static str>,
+    place: &mut T,
+) -> Result<(), ReadFault>
+    ensures ok { OnOk result (meets_default (T.content place.old) T.kind (at (spellings_of first.now (option_copied second.entry)) (table_view table.now)) (T.content place.new)) }
+    ensures fault { let spellings = spellings_of first.now (option_copied second.entry) in
+        IfErr result (FaultIn (faulty_free spellings T.kind (at spellings (table_view table.now)))) }
+{
+    if let Some(x) = optional(alloc, table, first, second)? {
+        *place = x;
+    }
+    Ok(())
+}
+
+/// Puts a row into the table.
+pub fn put_row<T: Schema>(
+    alloc: Global,
+    table: &mut Table,
+    first: &'static str,
+    value: &T,
+) -> Result<(), AllocError>
+    ensures { OnOk result (table_view table.new ≡ put_some first.now (Some (T.kind.written (T.content value.now))) (table_view table.old)) }
+{
+    let _old = table.insert(String::from_str(alloc, first)?, value.to_value(alloc)?)?;
+    Ok(())
+}
+
+/// Puts a row into the table where it is there.
+#[tactic(auto, unfolding(manifest_schema::specs::Slots::put_some))]
+pub fn put_optional<T: Schema>(
+    alloc: Global,
+    table: &mut Table,
+    first: &'static str,
+    value: &Option<T>,
+) -> Result<(), AllocError>
+    ensures { OnOk result (table_view table.new ≡ put_some first.now (written_some T.kind (option_map T.content value.now)) (table_view table.old)) }
+{
+    match value {
+        Some(x) => put_row(alloc, table, first, x),
+        None => Ok(()),
+    }
+}
+
+/// Puts a row into the table, unless its value stands for its absence.
+#[tactic(auto, unfolding(manifest_schema::specs::Slots::put_some))]
+pub fn put_unless<T: Schema>(
+    alloc: Global,
+    table: &mut Table,
+    first: &'static str,
+    skipped: bool,
+    value: &T,
+) -> Result<(), AllocError>
+    ensures { OnOk result (table_view table.new ≡ put_some first.now (written_unless T.kind skipped (T.content value.now)) (table_view table.old)) }
+{
+    if skipped {
+        return Ok(());
+    }
+    put_row(alloc, table, first, value)
+}

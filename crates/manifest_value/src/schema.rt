@@ -1,0 +1,121 @@
+//! Types that are read from a value and written as one.
+
+ghost use Rattle.std.specs.Prelude.{◌≡◌, ℕ, Bool, List, map, IfOk, IfErr, string_bytes};
+ghost use Rattle.toml.specs.View.{view};
+ghost use Rattle.manifest_schema.specs.Paths.{behind, index};
+ghost use Rattle.manifest_schema.specs.Kinds.{Kind, text, flag, list_of};
+ghost use Rattle.manifest_schema.specs.Lawful.{IsLawful};
+ghost use Rattle.manifest_schema.proofs.KindLaws.{text_lawful, flag_lawful, list_lawful};
+ghost use Rattle.manifest_value.specs.Faults.{FaultIn};
+
+use crate::fault::{Cause, ReadFault, Step, here, prefixed};
+use std::alloc::{AllocError, Global};
+use toml::Value;
+
+/// A type that stands in a field of a manifest.
+///
+/// It names its content (what it holds, apart from where that lies in memory) and its kind: which values are read
+/// as which content, which faults a value has, and what is written.
+pub trait Schema: Sized + Drop {
+    ghost Content: { Type 0 };
+
+    ghost content: { Self → Content };
+
+    ghost kind: { Kind Content };
+
+    /// The one reading of the value, or a fault that it has, or want of memory.
+    fn from_value(alloc: Global, value: &Value) -> Result<Self, ReadFault>
+        ensures ok { IfOk result (λ x. kind.reads (view value.now) (content x)) }
+        ensures fault { IfErr result (FaultIn (kind.faulty (view value.now))) };
+
+    /// The value that is written.
+    fn to_value(&self, alloc: Global) -> Result<Value, AllocError>
+        ensures { IfOk result (λ v. view v ≡ kind.written (content self.now)) };
+
+    ghost lawful: { IsLawful kind };
+}
+
+impl Schema for String {
+    ghost Content = { List ℕ };
+
+    ghost content = { string_bytes };
+
+    ghost kind = { text };
+
+    fn from_value(alloc: Global, value: &Value) -> Result<String, ReadFault> {
+        match value {
+            Value::String(s) => Ok(String::from_str(alloc, s.as_str())?),
+            _ => Err(here(alloc, Cause::WrongKind)),
+        }
+    }
+
+    fn to_value(&self, alloc: Global) -> Result<Value, AllocError> {
+        Value::string(alloc, self.as_str())
+    }
+
+    ghost lawful = { text_lawful };
+}
+
+impl Schema for bool {
+    ghost Content = { Bool };
+
+    ghost content = { λ b. b };
+
+    ghost kind = { flag };
+
+    fn from_value(alloc: Global, value: &Value) -> Result<bool, ReadFault> {
+        match value {
+            Value::Boolean(b) => Ok(*b),
+            _ => Err(here(alloc, Cause::WrongKind)),
+        }
+    }
+
+    fn to_value(&self, _alloc: Global) -> Result<Value, AllocError> {
+        Ok(Value::Boolean(*self))
+    }
+
+    ghost lawful = { flag_lawful };
+}
+
+/// One item of a list, with its index before the path of a fault.
+#[tactic(auto, using(crate::proofs::Behind::fault_behind))]
+fn read_item<T: Schema>(alloc: Global, value: &Value, i: usize) -> Result<T, ReadFault>
+    ensures ok { IfOk result (λ x. T.kind.reads (view value.now) (T.content x)) }
+    ensures fault { IfErr result (FaultIn (behind (index i) (T.kind.faulty (view value.now)))) }
+{
+    match T::from_value(alloc, value) {
+        Ok(x) => Ok(x),
+        Err(fault) => Err(prefixed(Step::Index(i), fault)),
+    }
+}
+
+impl<T: Schema> Schema for Vec<T> {
+    ghost Content = { List T.Content };
+
+    ghost content = { λ v. map T.content v.items };
+
+    ghost kind = { list_of T.kind };
+
+    fn from_value(alloc: Global, value: &Value) -> Result<Vec<T>, ReadFault> {
+        match value {
+            Value::Array(items) => {
+                let mut out = Vec::new(alloc);
+                for (i, item) in items.iter().enumerate() {
+                    out.push(read_item::<T>(alloc, item, i)?)?;
+                }
+                Ok(out)
+            }
+            _ => Err(here(alloc, Cause::WrongKind)),
+        }
+    }
+
+    fn to_value(&self, alloc: Global) -> Result<Value, AllocError> {
+        let mut out = Vec::new(alloc);
+        for x in self {
+            out.push(x.to_value(alloc)?)?;
+        }
+        Ok(Value::Array(out))
+    }
+
+    ghost lawful = { list_lawful T.lawful };
+}

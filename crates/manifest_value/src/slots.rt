@@ -1,0 +1,55 @@
+//! What a table holds under the spellings of a field.
+
+ghost use Rattle.std.specs.Prelude.{◌≡◌, option_map, option_copied};
+ghost use Rattle.toml.specs.Data.{get_member};
+ghost use Rattle.toml.specs.View.{view, table_view};
+ghost use Rattle.manifest_schema.specs.Slots.{at, spellings_of};
+ghost use Rattle.manifest_value.specs.Found.{slot_view};
+
+use toml::{Table, Value};
+
+/// What stands under the spellings of a field: nothing, a value under the spelling that is present, or values under
+/// both spellings.
+#[derive(Drop)]
+pub enum Slot<'a> {
+    Absent,
+    One {
+        spelling: &'static str,
+        value: &'a Value,
+    },
+    Clash,
+}
+
+/// The value under a key.
+pub fn find<'a>(table: &'a Table, key: &str) -> Option<&'a Value>
+    ensures { option_map (λ v. view v.now) result ≡ get_member key.now (table_view table.now) }
+{
+    table.get(key)
+}
+
+/// What stands under the spellings of a field.
+pub fn slot_at<'a>(table: &'a Table, first: &'static str, second: Option<&'static str>) -> Slot<'a>
+    ensures { slot_view result ≡ at (spellings_of first.now (option_copied second.entry)) (table_view table.now) }
+{
+    match second {
+        None => match find(table, first) {
+            None => Slot::Absent,
+            Some(value) => Slot::One {
+                spelling: first,
+                value,
+            },
+        },
+        Some(word) => match (find(table, first), find(table, word)) {
+            (None, None) => Slot::Absent,
+            (Some(value), None) => Slot::One {
+                spelling: first,
+                value,
+            },
+            (None, Some(value)) => Slot::One {
+                spelling: word,
+                value,
+            },
+            (Some(_), Some(_)) => Slot::Clash,
+        },
+    }
+}
