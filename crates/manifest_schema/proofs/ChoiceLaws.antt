@@ -1,8 +1,8 @@
 -- The choices keep the laws: each word that is written is read back.
 use Rattle.std.proofs.Common.{refl}
 use Rattle.std.proofs.lemmas.Option.{none-some}
-use Rattle.manifest_schema.specs.Contents.{e2015, e2018, e2021, e2024}
-use Rattle.manifest_schema.specs.Choices.{edition}
+use Rattle.manifest_schema.specs.Contents.{e2015, e2018, e2021, e2024, v1, v2, v3, forbid, deny, warn, allow, no_status, actively_developed, passively_maintained, as_is, experimental, looking_for_maintainer, deprecated, strip_none, strip_debuginfo, strip_symbols}
+use Rattle.manifest_schema.specs.Choices.{edition, resolver, level, status, strip}
 use Rattle.manifest_schema.specs.Lawful.{IsLawful, IsTotal, ReadsNoTable}
 use Rattle.manifest_schema.proofs.KindLaws.{choice_lawful}
 use Rattle.manifest_schema.proofs.Totals.{choice_total}
@@ -13,6 +13,38 @@ edition_lawful = choice_lawful _ _ (elim [ e2015 ↦ refl | e2018 ↦ refl | e20
 pub edition_total : IsTotal edition
 edition_total = choice_total _ _
 
--- none of these reads a table
+-- it reads no table
 pub edition_no_table : ReadsNoTable edition
 edition_no_table = record { no_table = λ ms x a. none-some x a }
+
+pub resolver_lawful : IsLawful resolver
+resolver_lawful = choice_lawful _ _ (elim [ v1 ↦ refl | v2 ↦ refl | v3 ↦ refl ])
+
+pub resolver_total : IsTotal resolver
+resolver_total = choice_total _ _
+
+pub level_lawful : IsLawful level
+level_lawful = choice_lawful _ _ (elim [ forbid ↦ refl | deny ↦ refl | warn ↦ refl | allow ↦ refl ])
+
+pub level_total : IsTotal level
+level_total = choice_total _ _
+
+pub status_lawful : IsLawful status
+status_lawful = choice_lawful _ _ (elim [
+  | no_status ↦ refl
+  | actively_developed ↦ refl
+  | passively_maintained ↦ refl
+  | as_is ↦ refl
+  | experimental ↦ refl
+  | looking_for_maintainer ↦ refl
+  | deprecated ↦ refl
+])
+
+pub status_total : IsTotal status
+status_total = choice_total _ _
+
+pub strip_lawful : IsLawful strip
+strip_lawful = choice_lawful _ _ (elim [ strip_none ↦ refl | strip_debuginfo ↦ refl | strip_symbols ↦ refl ])
+
+pub strip_total : IsTotal strip
+strip_total = choice_total _ _

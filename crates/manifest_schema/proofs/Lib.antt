@@ -6,5 +6,6 @@ pub mod FormLaws
 pub mod Totals
 pub mod ChoiceLaws
 pub mod RowLaws
+pub mod PartLaws
 pub mod ManifestLaws
 pub mod MeaningLaws

@@ -47,7 +47,7 @@ headers : (K W : Kind Data) (ms : Members) (m : Manifest) → fits (manifest_row
 unfolding manifest_rows
 headers K W ms m a =
     ap₂ (λ a b. a || b) (present (form (package_rows K)) (codes "package") (get_member (codes "package") ms) m.package a.0)
-    (present (form (workspace_rows W)) (codes "workspace") (get_member (codes "workspace") ms) m.workspace a.1.0)
+    (present (form (workspace_rows W)) (codes "workspace") (get_member (codes "workspace") ms) m.workspace a.1.1.0)
 
 means_by_headed : (K W : Kind Data) (h : Bool) (ms : Members) (m : Manifest) → h ≡ has_header ms → means_by K W h ms m → is_headed m ≡ true
 means_by_headed K W true ms m e a = sym (headers K W ms m a) ∙ sym e

@@ -21,19 +21,88 @@ lent = record { features = None; «optional» = None }
 
 -- a dependency of this version, and nothing else
 abbrev pub of_version : Text → DependencyDetail
-of_version v = record { version = Some v }
+of_version v = record {
+  version = Some v;
+  registry = None;
+  registry_index = None;
+  path = None;
+  git = None;
+  branch = None;
+  tag = None;
+  rev = None;
+  features = None;
+  «optional» = None;
+  default_features = None;
+  «package» = None;
+}
 
 -- a package of this name, and nothing else
 abbrev pub named : Text → Package
-named n = record { name = n; edition = None; version = None; metadata = None }
+named n = record {
+  name = n;
+  edition = None;
+  version = None;
+  build = None;
+  workspace = None;
+  authors = None;
+  links = None;
+  description = None;
+  homepage = None;
+  documentation = None;
+  readme = None;
+  keywords = None;
+  categories = None;
+  license = None;
+  license_file = None;
+  repository = None;
+  metadata = None;
+  rust_version = None;
+  exclude = None;
+  include = None;
+  default_run = None;
+  autolib = None;
+  autobins = None;
+  autoexamples = None;
+  autotests = None;
+  autobenches = None;
+  publish = None;
+  resolver = None;
+}
 
 -- a workspace without members
 abbrev pub no_workspace_members : Workspace
-no_workspace_members = record { members = []; metadata = None }
+no_workspace_members = record {
+  members = [];
+  default_members = None;
+  exclude = None;
+  resolver = None;
+  dependencies = None;
+  «package» = None;
+  metadata = None;
+  lints = None;
+}
 
 -- a manifest with nothing in it
 abbrev pub nothing_in_it : Manifest
-nothing_in_it = record { «package» = None; workspace = None; dependencies = None }
+nothing_in_it = record {
+  «package» = None;
+  cargo_features = None;
+  workspace = None;
+  dependencies = None;
+  dev_dependencies = None;
+  build_dependencies = None;
+  target = None;
+  features = None;
+  bin = [];
+  bench = [];
+  test = [];
+  example = [];
+  patch = None;
+  lib = None;
+  profile = None;
+  badges = None;
+  lints = None;
+}
 
 -- a manifest of this package, and nothing else
 abbrev pub only_package : Package → Manifest

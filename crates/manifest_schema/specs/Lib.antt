@@ -7,6 +7,7 @@ pub mod Forms
 pub mod Lawful
 pub mod Contents
 pub mod Choices
+pub mod PartForms
 pub mod ManifestForms
 pub mod Meaning
 pub mod Examples

@@ -8,7 +8,8 @@ ghost use Rattle.manifest_schema.specs.Kinds.{kept, inherited, local};
 ghost use Rattle.manifest_schema.specs.Forms.{form};
 ghost use Rattle.manifest_schema.specs.Contents.{by_workspace, detailed, simple, e2021};
 ghost use Rattle.manifest_schema.specs.Choices.{edition};
-ghost use Rattle.manifest_schema.specs.ManifestForms.{package_rows, dependency};
+ghost use Rattle.manifest_schema.specs.ManifestForms.{package_rows};
+ghost use Rattle.manifest_schema.specs.PartForms.{dependency};
 ghost use Rattle.manifest_schema.specs.Meaning.{means, unmeant, rewritten};
 ghost use Rattle.manifest_schema.specs.Examples.{one_entry, two_entries, lent, of_version, named, no_workspace_members, nothing_in_it, only_package, spelled_rows, lenient_rows, default_rows, rest_rows, at_key};
 
@@ -22,7 +23,7 @@ pub fn unlisted_key()
 {}
 
 /// `workspace = true` beside `version`: the workspace lends the dependency, and `version` is ignored.
-#[tactic(auto, unfolding(crate::specs::ManifestForms::inherited_rows, crate::specs::Slots::put_some))]
+#[tactic(auto, unfolding(crate::specs::PartForms::inherited_rows, crate::specs::Slots::put_some))]
 pub fn lent_dependency()
     ensures reads { dependency.reads (table (two_entries (codes "version") (integer (pos 3)) (codes "workspace") (boolean true)))
         (by_workspace lent) }
@@ -31,7 +32,7 @@ pub fn lent_dependency()
 {}
 
 /// `workspace = false` beside `version`: the dependency is the member's own, and `workspace` is ignored.
-#[tactic(auto, unfolding(crate::specs::ManifestForms::detailed_rows, crate::specs::Slots::put_some))]
+#[tactic(auto, unfolding(crate::specs::PartForms::detailed_rows, crate::specs::Slots::put_some))]
 pub fn own_dependency()
     ensures reads { dependency.reads (table (two_entries (codes "version") (string (codes "1")) (codes "workspace") (boolean false)))
         (detailed (of_version (codes "1"))) }

@@ -1,0 +1,474 @@
+-- The forms of the parts of a manifest keep the laws.
+use Rattle.std.proofs.Common.{◌≡◌, true, ◌⊎◌, inl, inr, [], ◌∷◌, Some, None, codes, refl, sym, ap, ◌∙◌}
+use Rattle.toml.specs.Data.{boolean, get_member}
+use Rattle.manifest_schema.specs.Paths.{Text}
+use Rattle.manifest_schema.specs.Slots.{put_some}
+use Rattle.manifest_schema.specs.Kinds.{list_of, map_of, is_truth}
+use Rattle.manifest_schema.specs.Forms.{form, gets, good_rows, written_rows}
+use Rattle.manifest_schema.specs.Lawful.{IsLawful, AreLawful, IsBuilt, IsTotal, AreTotal}
+use Rattle.manifest_schema.specs.Contents.{InheritedDependency, DependencyDetail, Dependency, simple, by_workspace, detailed, Level, forbid, deny, warn, allow, LintConfig, Lint, lint_level, lint_config, no_status}
+use Rattle.manifest_schema.specs.PartForms.{texts, inherited_rows, detailed_rows, dependency_table, dependency_side, dependency, lint_rows, lint_side, lint, product_rows, badge_rows, maintenance_rows, badges_rows, profile_rows, profiles_rows, lints_rows, platform_rows}
+use Rattle.manifest_schema.proofs.KindLaws.{text_lawful, list_lawful, map_lawful, split_lawful}
+use Rattle.manifest_schema.proofs.TableLaws.{get-put_same}
+use Rattle.manifest_schema.proofs.FormLaws.{form_lawful, written_none}
+use Rattle.manifest_schema.proofs.Totals.{text_total, list_total, map_total, split_total, form_total}
+use Rattle.manifest_schema.proofs.ChoiceLaws.{level_lawful, level_total}
+use Rattle.manifest_schema.proofs.RowLaws.{row_laws, row_totals, texts_lawful, texts_total}
+
+-- INHERITED DEPENDENCY
+inherited_built : IsBuilt inherited_rows
+unfolding inherited_rows
+inherited_built = record {
+  build = λ t. record {
+    features = t.1.0;
+    «optional» = t.1.1.0;
+  };
+  all = λ x. refl;
+  each = λ t. refl;
+}
+
+inherited_are_lawful : AreLawful inherited_rows
+unfolding inherited_rows
+inherited_are_lawful = search row_laws
+
+inherited_are_total : AreTotal inherited_rows
+unfolding inherited_rows
+inherited_are_total = search row_totals
+
+pub inherited_lawful : IsLawful (form inherited_rows)
+unfolding inherited_rows
+inherited_lawful = form_lawful inherited_rows inherited_are_lawful inherited_built refl
+
+pub inherited_total : IsTotal (form inherited_rows)
+inherited_total = form_total inherited_rows inherited_built inherited_are_total
+
+-- DETAILED DEPENDENCY
+detailed_built : IsBuilt detailed_rows
+unfolding detailed_rows
+detailed_built = record {
+  build = λ t. record {
+    version = t.0;
+    registry = t.1.0;
+    registry_index = t.1.1.0;
+    path = t.1.1.1.0;
+    git = t.1.1.1.1.0;
+    branch = t.1.1.1.1.1.0;
+    tag = t.1.1.1.1.1.1.0;
+    rev = t.1.1.1.1.1.1.1.0;
+    features = t.1.1.1.1.1.1.1.1.0;
+    «optional» = t.1.1.1.1.1.1.1.1.1.0;
+    default_features = t.1.1.1.1.1.1.1.1.1.1.0;
+    «package» = t.1.1.1.1.1.1.1.1.1.1.1.0;
+  };
+  all = λ x. refl;
+  each = λ t. refl;
+}
+
+detailed_are_lawful : AreLawful detailed_rows
+unfolding detailed_rows
+detailed_are_lawful = search row_laws
+
+detailed_are_total : AreTotal detailed_rows
+unfolding detailed_rows
+detailed_are_total = search row_totals
+
+pub detailed_lawful : IsLawful (form detailed_rows)
+unfolding detailed_rows
+detailed_lawful = form_lawful detailed_rows detailed_are_lawful detailed_built refl
+
+pub detailed_total : IsTotal (form detailed_rows)
+detailed_total = form_total detailed_rows detailed_built detailed_are_total
+
+-- DEPENDENCY
+dependency_from : Text ⊎ (InheritedDependency ⊎ DependencyDetail) → Dependency
+dependency_from (inl s) = simple s
+dependency_from (inr (inl i)) = by_workspace i
+dependency_from (inr (inr d)) = detailed d
+
+dependency-from_side : (x : Dependency) → dependency_from (dependency_side x) ≡ x
+unfolding dependency_from
+dependency-from_side (simple s) = refl
+dependency-from_side (by_workspace i) = refl
+dependency-from_side (detailed d) = refl
+
+dependency-side_from : (y : Text ⊎ (InheritedDependency ⊎ DependencyDetail)) → dependency_side (dependency_from y) ≡ y
+unfolding dependency_from
+dependency-side_from (inl s) = refl
+dependency-side_from (inr (inl i)) = refl
+dependency-side_from (inr (inr d)) = refl
+
+-- an inherited dependency is written with `workspace = true`, a detailed one without
+workspace_written : (x : InheritedDependency) → get_member (codes "workspace") (written_rows inherited_rows (gets inherited_rows x)) ≡ Some (boolean true)
+unfolding inherited_rows put_some
+workspace_written x = search get-put_same
+
+no_workspace_written : (x : DependencyDetail) → good_rows detailed_rows x → get_member (codes "workspace") (written_rows detailed_rows (gets detailed_rows x)) ≡ None
+unfolding detailed_rows
+no_workspace_written x g = written_none (codes "workspace" ∷ []) detailed_rows (gets detailed_rows x) (codes "workspace") refl refl g
+
+dependency_table_lawful : IsLawful dependency_table
+dependency_table_lawful = split_lawful inherited_lawful detailed_lawful (record {
+  tied = λ x y e. e;
+  first = λ x g. ap is_truth (workspace_written x);
+  second = λ x g. ap is_truth (no_workspace_written x g);
+})
+
+pub dependency_lawful : IsLawful dependency
+dependency_lawful = split_lawful text_lawful dependency_table_lawful (record {
+  tied = λ x y e. sym (dependency-from_side x) ∙ ap dependency_from e ∙ dependency-from_side y;
+  first = λ x g. refl;
+  second = elim [ inl i ↦ λ g. refl | inr d ↦ λ g. refl ];
+})
+
+dependency_table_total : IsTotal dependency_table
+dependency_table_total = split_total inherited_total detailed_total _ (λ x. x) (λ x. x) (λ y. refl)
+
+pub dependency_total : IsTotal dependency
+dependency_total = split_total text_total dependency_table_total _ dependency_side dependency_from dependency-side_from
+
+pub dependencies_lawful : IsLawful (map_of dependency)
+dependencies_lawful = map_lawful dependency_lawful
+
+pub dependencies_total : IsTotal (map_of dependency)
+dependencies_total = map_total dependency_total
+
+-- LINT
+lint_built : IsBuilt lint_rows
+unfolding lint_rows
+lint_built = record {
+  build = λ t. record {
+    level = t.0;
+    priority = t.1.0;
+  };
+  all = λ x. refl;
+  each = λ t. refl;
+}
+
+lint_are_lawful : AreLawful lint_rows
+unfolding lint_rows
+lint_are_lawful = search row_laws
+
+lint_are_total : AreTotal lint_rows
+unfolding lint_rows
+lint_are_total = search row_totals
+
+pub lint_config_lawful : IsLawful (form lint_rows)
+unfolding lint_rows
+lint_config_lawful = form_lawful lint_rows lint_are_lawful lint_built refl
+
+pub lint_config_total : IsTotal (form lint_rows)
+lint_config_total = form_total lint_rows lint_built lint_are_total
+
+lint_from : Level ⊎ LintConfig → Lint
+lint_from (inl l) = lint_level l
+lint_from (inr c) = lint_config c
+
+lint-from_side : (x : Lint) → lint_from (lint_side x) ≡ x
+unfolding lint_from
+lint-from_side (lint_level l) = refl
+lint-from_side (lint_config c) = refl
+
+lint-side_from : (y : Level ⊎ LintConfig) → lint_side (lint_from y) ≡ y
+unfolding lint_from
+lint-side_from (inl l) = refl
+lint-side_from (inr c) = refl
+
+pub lint_lawful : IsLawful lint
+lint_lawful = split_lawful level_lawful lint_config_lawful (record {
+  tied = λ x y e. sym (lint-from_side x) ∙ ap lint_from e ∙ lint-from_side y;
+  first = elim [ forbid ↦ λ g. refl | deny ↦ λ g. refl | warn ↦ λ g. refl | allow ↦ λ g. refl ];
+  second = λ x g. refl;
+})
+
+pub lint_total : IsTotal lint
+lint_total = split_total level_total lint_config_total _ lint_side lint_from lint-side_from
+
+lint_map_lawful : IsLawful (map_of lint)
+lint_map_lawful = map_lawful lint_lawful
+
+lint_map_total : IsTotal (map_of lint)
+lint_map_total = map_total lint_total
+
+pub lint_maps_lawful : IsLawful (map_of (map_of lint))
+lint_maps_lawful = map_lawful lint_map_lawful
+
+pub lint_maps_total : IsTotal (map_of (map_of lint))
+lint_maps_total = map_total lint_map_total
+
+-- PRODUCT
+product_built : IsBuilt product_rows
+unfolding product_rows
+product_built = record {
+  build = λ t. record {
+    path = t.0;
+    name = t.1.0;
+    test = t.1.1.0;
+    doctest = t.1.1.1.0;
+    bench = t.1.1.1.1.0;
+    doc = t.1.1.1.1.1.0;
+    plugin = t.1.1.1.1.1.1.0;
+    proc_macro = t.1.1.1.1.1.1.1.0;
+    harness = t.1.1.1.1.1.1.1.1.0;
+    edition = t.1.1.1.1.1.1.1.1.1.0;
+    required_features = t.1.1.1.1.1.1.1.1.1.1.0;
+    crate_type = t.1.1.1.1.1.1.1.1.1.1.1.0;
+  };
+  all = λ x. refl;
+  each = λ t. refl;
+}
+
+product_are_lawful : AreLawful product_rows
+unfolding product_rows
+product_are_lawful = search row_laws
+
+product_are_total : AreTotal product_rows
+unfolding product_rows
+product_are_total = search row_totals
+
+pub product_lawful : IsLawful (form product_rows)
+unfolding product_rows
+product_lawful = form_lawful product_rows product_are_lawful product_built refl
+
+pub product_total : IsTotal (form product_rows)
+product_total = form_total product_rows product_built product_are_total
+
+pub products_lawful : IsLawful (list_of (form product_rows))
+products_lawful = list_lawful product_lawful
+
+pub products_total : IsTotal (list_of (form product_rows))
+products_total = list_total product_total
+
+-- BADGES
+badge_built : IsBuilt badge_rows
+unfolding badge_rows
+badge_built = record {
+  build = λ t. record {
+    repository = t.0;
+    branch = t.1.0;
+    service = t.1.1.0;
+    id = t.1.1.1.0;
+    project_name = t.1.1.1.1.0;
+  };
+  all = λ x. refl;
+  each = λ t. refl;
+}
+
+badge_are_lawful : AreLawful badge_rows
+unfolding badge_rows
+badge_are_lawful = search row_laws
+
+badge_are_total : AreTotal badge_rows
+unfolding badge_rows
+badge_are_total = search row_totals
+
+pub badge_lawful : IsLawful (form badge_rows)
+unfolding badge_rows
+badge_lawful = form_lawful badge_rows badge_are_lawful badge_built refl
+
+pub badge_total : IsTotal (form badge_rows)
+badge_total = form_total badge_rows badge_built badge_are_total
+
+maintenance_built : IsBuilt maintenance_rows
+unfolding maintenance_rows
+maintenance_built = record {
+  build = λ t. record {
+    status = t.0;
+  };
+  all = λ x. refl;
+  each = λ t. refl;
+}
+
+maintenance_are_lawful : AreLawful maintenance_rows
+unfolding maintenance_rows
+maintenance_are_lawful = search row_laws
+
+maintenance_are_total : AreTotal maintenance_rows
+unfolding maintenance_rows
+maintenance_are_total = search row_totals
+
+pub maintenance_lawful : IsLawful (form maintenance_rows)
+unfolding maintenance_rows
+maintenance_lawful = form_lawful maintenance_rows maintenance_are_lawful maintenance_built refl
+
+pub maintenance_total : IsTotal (form maintenance_rows)
+maintenance_total = form_total maintenance_rows maintenance_built maintenance_are_total
+
+maintenance_good : (form maintenance_rows).good (record { status = no_status })
+unfolding maintenance_rows
+maintenance_good = (tt, tt)
+
+badges_built : IsBuilt badges_rows
+unfolding badges_rows
+badges_built = record {
+  build = λ t. record {
+    appveyor = t.0;
+    circle_ci = t.1.0;
+    gitlab = t.1.1.0;
+    travis_ci = t.1.1.1.0;
+    codecov = t.1.1.1.1.0;
+    coveralls = t.1.1.1.1.1.0;
+    is_it_maintained_issue_resolution = t.1.1.1.1.1.1.0;
+    is_it_maintained_open_issues = t.1.1.1.1.1.1.1.0;
+    maintenance = t.1.1.1.1.1.1.1.1.0;
+  };
+  all = λ x. refl;
+  each = λ t. refl;
+}
+
+badges_are_lawful : AreLawful badges_rows
+unfolding badges_rows
+badges_are_lawful = search (row_laws, badge_lawful, maintenance_lawful, maintenance_good)
+
+badges_are_total : AreTotal badges_rows
+unfolding badges_rows
+badges_are_total = search (row_totals, badge_lawful, badge_total, maintenance_lawful, maintenance_total)
+
+pub badges_lawful : IsLawful (form badges_rows)
+unfolding badges_rows
+badges_lawful = form_lawful badges_rows badges_are_lawful badges_built refl
+
+pub badges_total : IsTotal (form badges_rows)
+badges_total = form_total badges_rows badges_built badges_are_total
+
+-- PROFILES
+profile_built : IsBuilt profile_rows
+unfolding profile_rows
+profile_built = record {
+  build = λ t. record {
+    opt_level = t.0;
+    debug = t.1.0;
+    rpath = t.1.1.0;
+    inherits = t.1.1.1.0;
+    lto = t.1.1.1.1.0;
+    debug_assertions = t.1.1.1.1.1.0;
+    codegen_units = t.1.1.1.1.1.1.0;
+    panic = t.1.1.1.1.1.1.1.0;
+    incremental = t.1.1.1.1.1.1.1.1.0;
+    overflow_checks = t.1.1.1.1.1.1.1.1.1.0;
+    strip = t.1.1.1.1.1.1.1.1.1.1.0;
+    «package» = t.1.1.1.1.1.1.1.1.1.1.1.0;
+    split_debuginfo = t.1.1.1.1.1.1.1.1.1.1.1.1.0;
+    build_override = t.1.1.1.1.1.1.1.1.1.1.1.1.1.0;
+  };
+  all = λ x. refl;
+  each = λ t. refl;
+}
+
+profile_are_lawful : AreLawful profile_rows
+unfolding profile_rows
+profile_are_lawful = search row_laws
+
+profile_are_total : AreTotal profile_rows
+unfolding profile_rows
+profile_are_total = search row_totals
+
+pub profile_lawful : IsLawful (form profile_rows)
+unfolding profile_rows
+profile_lawful = form_lawful profile_rows profile_are_lawful profile_built refl
+
+pub profile_total : IsTotal (form profile_rows)
+profile_total = form_total profile_rows profile_built profile_are_total
+
+profiles_built : IsBuilt profiles_rows
+unfolding profiles_rows
+profiles_built = record {
+  build = λ t. record {
+    release = t.0;
+    dev = t.1.0;
+    test = t.1.1.0;
+    bench = t.1.1.1.0;
+    doc = t.1.1.1.1.0;
+    custom = t.1.1.1.1.1;
+  };
+  all = λ x. refl;
+  each = λ t. refl;
+}
+
+profiles_are_lawful : AreLawful profiles_rows
+unfolding profiles_rows
+profiles_are_lawful = search (row_laws, profile_lawful)
+
+profiles_are_total : AreTotal profiles_rows
+unfolding profiles_rows
+profiles_are_total = search (row_totals, profile_total)
+
+pub profiles_lawful : IsLawful (form profiles_rows)
+unfolding profiles_rows
+profiles_lawful = form_lawful profiles_rows profiles_are_lawful profiles_built refl
+
+pub profiles_total : IsTotal (form profiles_rows)
+profiles_total = form_total profiles_rows profiles_built profiles_are_total
+
+-- LINTS OF A MANIFEST
+lints_built : IsBuilt lints_rows
+unfolding lints_rows
+lints_built = record {
+  build = λ t. record {
+    workspace = t.0;
+    lints = t.1;
+  };
+  all = λ x. refl;
+  each = λ t. refl;
+}
+
+lints_are_lawful : AreLawful lints_rows
+unfolding lints_rows
+lints_are_lawful = search (row_laws, lint_map_lawful)
+
+lints_are_total : AreTotal lints_rows
+unfolding lints_rows
+lints_are_total = search (row_totals, lint_map_total)
+
+pub lints_lawful : IsLawful (form lints_rows)
+unfolding lints_rows
+lints_lawful = form_lawful lints_rows lints_are_lawful lints_built refl
+
+pub lints_total : IsTotal (form lints_rows)
+lints_total = form_total lints_rows lints_built lints_are_total
+
+-- PLATFORM
+platform_built : IsBuilt platform_rows
+unfolding platform_rows
+platform_built = record {
+  build = λ t. record {
+    dependencies = t.0;
+    dev_dependencies = t.1.0;
+    build_dependencies = t.1.1.0;
+  };
+  all = λ x. refl;
+  each = λ t. refl;
+}
+
+platform_are_lawful : AreLawful platform_rows
+unfolding platform_rows
+platform_are_lawful = search (row_laws, dependencies_lawful)
+
+platform_are_total : AreTotal platform_rows
+unfolding platform_rows
+platform_are_total = search (row_totals, dependencies_total)
+
+pub platform_lawful : IsLawful (form platform_rows)
+unfolding platform_rows
+platform_lawful = form_lawful platform_rows platform_are_lawful platform_built refl
+
+pub platform_total : IsTotal (form platform_rows)
+platform_total = form_total platform_rows platform_built platform_are_total
+
+pub platforms_lawful : IsLawful (map_of (form platform_rows))
+platforms_lawful = map_lawful platform_lawful
+
+pub platforms_total : IsTotal (map_of (form platform_rows))
+platforms_total = map_total platform_total
+
+-- OTHER MAPS
+pub features_lawful : IsLawful (map_of texts)
+features_lawful = map_lawful texts_lawful
+
+pub features_total : IsTotal (map_of texts)
+features_total = map_total texts_total
+
+pub patch_lawful : IsLawful (map_of (map_of dependency))
+patch_lawful = map_lawful dependencies_lawful
+
+pub patch_total : IsTotal (map_of (map_of dependency))
+patch_total = map_total dependencies_total
