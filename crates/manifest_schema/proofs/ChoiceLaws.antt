@@ -3,8 +3,8 @@ use Rattle.std.proofs.Common.{refl}
 use Rattle.std.proofs.lemmas.Option.{none-some}
 use Rattle.manifest_schema.specs.Contents.{e2015, e2018, e2021, e2024, v1, v2, v3, forbid, deny, warn, allow, no_status, actively_developed, passively_maintained, as_is, experimental, looking_for_maintainer, deprecated, strip_none, strip_debuginfo, strip_symbols}
 use Rattle.manifest_schema.specs.Choices.{edition, resolver, level, status, strip}
-use Rattle.manifest_schema.specs.Lawful.{IsLawful, IsTotal, ReadsNoTable}
-use Rattle.manifest_schema.proofs.KindLaws.{choice_lawful}
+use Rattle.manifest_schema.specs.Lawful.{IsLawful, IsTotal, IsPlain}
+use Rattle.manifest_schema.proofs.KindLaws.{choice_lawful, plain_from}
 use Rattle.manifest_schema.proofs.Totals.{choice_total}
 
 pub edition_lawful : IsLawful edition
@@ -13,9 +13,8 @@ edition_lawful = choice_lawful _ _ (elim [ e2015 ↦ refl | e2018 ↦ refl | e20
 pub edition_total : IsTotal edition
 edition_total = choice_total _ _
 
--- it reads no table
-pub edition_no_table : ReadsNoTable edition
-edition_no_table = record { no_table = λ ms x a. none-some x a }
+pub edition_plain : IsPlain edition
+edition_plain = plain_from edition_lawful (λ ms x a. none-some x a) (λ x. tt)
 
 pub resolver_lawful : IsLawful resolver
 resolver_lawful = choice_lawful _ _ (elim [ v1 ↦ refl | v2 ↦ refl | v3 ↦ refl ])

@@ -6,7 +6,7 @@ use Rattle.toml.specs.Data.{Data, string, integer, boolean, array, table, Items,
 use Rattle.manifest_schema.specs.Paths.{Text, Path, Cause, Faults}
 use Rattle.manifest_schema.specs.Kinds
 use Rattle.manifest_schema.specs.Kinds.{reads_text, not_text, text, reads_flag, not_flag, flag, within, reads_whole, not_whole, whole, reads_truth, not_truth, truth, reads_choice, not_choice, choice, reads_items, reads_list, faulty_item, faulty_list, written_items, good_items, list_of, Entries, reads_entries, reads_map, has_entry, faulty_entry, faulty_map, written_entries, good_entries, map_of, Inheritable, inherited, local, inherits, reads_inh, faulty_inh, written_inh, good_inh, inh, reads_split, faulty_split, written_split, good_split, split, metadata, tree_of}
-use Rattle.manifest_schema.specs.Lawful.{IsLawful, ReadsNoTable, IsSplit}
+use Rattle.manifest_schema.specs.Lawful.{IsLawful, IsPlain, IsSplit}
 
 -- TEXT
 text_single : (d : Data) (x y : List ℕ) → reads_text d x → reads_text d y → x ≡ y
@@ -161,8 +161,16 @@ module _ {A : Type 0} {K : Kinds.Kind A} (L : IsLawful K) where
   pub map_lawful : IsLawful (map_of K)
   map_lawful = record { single = map_single; apart = map_apart; well = map_well; back = entries_back }
 
+-- PLAIN: a kind that reads no table writes none
+pub plain_from : {A : Type 0} {K : Kinds.Kind A} → IsLawful K → ((ms : Members) (x : A) → K.reads (table ms) x → ⊥) → ((x : A) → K.good x) → IsPlain K
+plain_from {K = K} L none good = record {
+  no_table = none;
+  writes_no_table = λ ms x e. none ms x (rw e at (L.back x (good x)));
+  all_good = good;
+}
+
 -- WHAT MAY BE INHERITED
-module _ {A : Type 0} {K : Kinds.Kind A} (L : IsLawful K) (N : ReadsNoTable K) where
+module _ {A : Type 0} {K : Kinds.Kind A} (L : IsLawful K) (N : IsPlain K) where
   inherits_no_other : (d : Data) (x : A) → K.reads d x → inherits d ≡ true → ⊥
   inherits_no_other (table ms) x a e = N.no_table ms x a
   inherits_no_other _ x a e = false≢true e

@@ -5,14 +5,14 @@ use Rattle.manifest_schema.specs.Paths.{Text}
 use Rattle.manifest_schema.specs.Kinds
 use Rattle.manifest_schema.specs.Kinds.{text, flag, list_of, map_of, kept}
 use Rattle.manifest_schema.specs.Needs.{never}
-use Rattle.manifest_schema.specs.Lawful.{IsLawful, IsTotal, IsDefault, ReadsNoTable}
+use Rattle.manifest_schema.specs.Lawful.{IsLawful, IsTotal, IsDefault, IsPlain}
 use Rattle.manifest_schema.specs.Contents.{TextOrFlag, a_text, a_flag, Publish, publish_flag, registries}
 use Rattle.manifest_schema.specs.PartForms.{texts, text_or_flag, text_or_flag_side, publish, publish_side, codegen, priority, is_empty}
 use Rattle.manifest_schema.proofs.KeptLaws.{kept_lawful}
-use Rattle.manifest_schema.proofs.KindLaws.{text_lawful, flag_lawful, whole_lawful, truth_lawful, list_lawful, map_lawful, inh_lawful, split_lawful}
+use Rattle.manifest_schema.proofs.KindLaws.{text_lawful, flag_lawful, whole_lawful, truth_lawful, list_lawful, map_lawful, inh_lawful, split_lawful, plain_from}
 use Rattle.manifest_schema.proofs.NeedLaws.{required_lawful, optional_lawful, default_lawful, lenient_optional_lawful, lenient_default_lawful}
 use Rattle.manifest_schema.proofs.Totals.{text_total, flag_total, whole_total, truth_total, list_total, map_total, kept_total, inh_total, split_total, required_total, optional_total, default_total, lenient_optional_total, lenient_default_total}
-use Rattle.manifest_schema.proofs.ChoiceLaws.{edition_lawful, edition_no_table, edition_total, resolver_lawful, resolver_total, level_lawful, level_total, status_lawful, status_total, strip_lawful, strip_total}
+use Rattle.manifest_schema.proofs.ChoiceLaws.{edition_lawful, edition_plain, edition_total, resolver_lawful, resolver_total, level_lawful, level_total, status_lawful, status_total, strip_lawful, strip_total}
 
 -- TEXTS
 pub texts_lawful : IsLawful texts
@@ -21,11 +21,15 @@ texts_lawful = list_lawful text_lawful
 pub texts_total : IsTotal texts
 texts_total = list_total text_total
 
-pub text_no_table : ReadsNoTable text
-text_no_table = record { no_table = λ ms x a. a }
+pub text_plain : IsPlain text
+text_plain = plain_from text_lawful (λ ms x a. a) (λ x. tt)
 
-pub texts_no_table : ReadsNoTable texts
-texts_no_table = record { no_table = λ ms x a. a }
+texts_good : (xs : List Text) → texts.good xs
+texts_good [] = tt
+texts_good (x ∷ xs) = (tt, texts_good xs)
+
+pub texts_plain : IsPlain texts
+texts_plain = plain_from texts_lawful (λ ms x a. a) texts_good
 
 -- A TEXT OR A BOOLEAN
 text_or_flag_from : Bool ⊎ Text → TextOrFlag
@@ -52,8 +56,8 @@ text_or_flag_lawful = split_lawful flag_lawful text_lawful (record {
 pub text_or_flag_total : IsTotal text_or_flag
 text_or_flag_total = split_total flag_total text_total _ text_or_flag_side text_or_flag_from text_or_flag-side_from
 
-pub text_or_flag_no_table : ReadsNoTable text_or_flag
-text_or_flag_no_table = record { no_table = λ ms. elim [ a_text b ↦ λ a. a | a_flag s ↦ λ a. a ] }
+pub text_or_flag_plain : IsPlain text_or_flag
+text_or_flag_plain = plain_from text_or_flag_lawful (λ ms. elim [ a_text b ↦ λ a. a | a_flag s ↦ λ a. a ]) (elim [ a_text b ↦ tt | a_flag s ↦ tt ])
 
 -- PUBLISH
 publish_from : Bool ⊎ List Text → Publish
@@ -80,8 +84,8 @@ publish_lawful = split_lawful flag_lawful texts_lawful (record {
 pub publish_total : IsTotal publish
 publish_total = split_total flag_total texts_total _ publish_side publish_from publish-side_from
 
-pub publish_no_table : ReadsNoTable publish
-publish_no_table = record { no_table = λ ms. elim [ publish_flag b ↦ λ a. a | registries s ↦ λ a. a ] }
+pub publish_plain : IsPlain publish
+publish_plain = plain_from publish_lawful (λ ms. elim [ publish_flag b ↦ λ a. a | registries s ↦ λ a. a ]) (elim [ publish_flag b ↦ tt | registries s ↦ texts_good s ])
 
 -- NUMBERS, and maps of kept values
 pub codegen_lawful : IsLawful codegen
@@ -119,6 +123,6 @@ empty_to (x ∷ xs) h = absurd (false≢true h)
 pub unless_empty : {A : Type 0} {K : Kinds.Kind A} → IsDefault (list_of K) [] is_empty
 unless_empty = record { well = tt; skips = empty_to }
 
-pub ruleset row_laws = (required_lawful, optional_lawful, default_lawful, lenient_optional_lawful, lenient_default_lawful, never_skips, unless_true, unless_false, unless_empty, text_lawful, flag_lawful, truth_lawful, texts_lawful, text_or_flag_lawful, publish_lawful, codegen_lawful, priority_lawful, kept_lawful, kept_map_lawful, edition_lawful, resolver_lawful, level_lawful, status_lawful, strip_lawful, inh_lawful, text_no_table, texts_no_table, text_or_flag_no_table, publish_no_table, edition_no_table)
+pub ruleset row_laws = (required_lawful, optional_lawful, default_lawful, lenient_optional_lawful, lenient_default_lawful, never_skips, unless_true, unless_false, unless_empty, text_lawful, flag_lawful, truth_lawful, texts_lawful, text_or_flag_lawful, publish_lawful, codegen_lawful, priority_lawful, kept_lawful, kept_map_lawful, edition_lawful, resolver_lawful, level_lawful, status_lawful, strip_lawful, inh_lawful, text_plain, texts_plain, text_or_flag_plain, publish_plain, edition_plain)
 
 pub ruleset row_totals = (required_total, optional_total, default_total, lenient_optional_total, lenient_default_total, text_total, flag_total, truth_total, texts_total, text_or_flag_total, publish_total, codegen_total, priority_total, kept_total, kept_map_total, edition_total, resolver_total, level_total, status_total, strip_total, inh_total)

@@ -5,7 +5,7 @@ ghost use Rattle.toml.specs.Data.{Data};
 ghost use Rattle.manifest_schema.specs.Kinds.{Kind, text, flag, whole, truth, choice, kept, list_of, map_of, inh, tree_of, nothing};
 ghost use Rattle.manifest_schema.specs.Needs.{required, optional, default, lenient_optional, lenient_default};
 ghost use Rattle.manifest_schema.specs.Forms.{Rows, no_more, form, distinct};
-ghost use Rattle.manifest_schema.specs.Lawful.{IsLawful, IsLawfulNeed, AreLawful, IsBuilt, IsTotal, IsTotalNeed, AreTotal, IsDefault, ReadsNoTable, nothing_laws, nothing_told};
+ghost use Rattle.manifest_schema.specs.Lawful.{IsLawful, IsLawfulNeed, AreLawful, IsBuilt, IsTotal, IsTotalNeed, AreTotal, IsDefault, IsPlain, nothing_laws, nothing_told};
 
 use std::marker::Brand;
 
@@ -84,7 +84,7 @@ pub fn simple_kinds_are_lawful()
 pub fn made_kinds_are_lawful<K: LawfulKind>()
     ensures list_is { IsLawful (list_of K.kind) }
     ensures map_is { IsLawful (map_of K.kind) }
-    ensures inh_is { ReadsNoTable K.kind → IsLawful (inh K.kind) }
+    ensures inh_is { IsPlain K.kind → IsLawful (inh K.kind) }
     ensures tree_is { IsLawful (tree_of K.kind) }
 {}
 

@@ -3,12 +3,17 @@
 #![tactic(auto)]
 
 pub mod fault;
+pub mod lenient;
 pub mod maps;
 pub mod metadata;
+pub mod numbers;
+pub mod others;
+pub mod plain;
 pub mod rows;
 pub mod schema;
 pub mod slots;
 
 pub use fault::{Cause, KeyPath, ReadFault, SchemaFault, Step};
 pub use metadata::Metadata;
+pub use plain::Plain;
 pub use schema::Schema;

@@ -7,7 +7,7 @@ ghost use Rattle.manifest_schema.specs.Kinds.{Entries, map_of, reads_entries, wr
 ghost use Rattle.manifest_schema.proofs.KindLaws.{map_lawful};
 
 use crate::fault::{Cause, ReadFault, here};
-use crate::rows::read_under;
+use crate::others::others_of;
 use crate::schema::Schema;
 use std::alloc::{AllocError, Global};
 use std::collections::BTreeMap;
@@ -18,13 +18,7 @@ fn entries_of<T: Schema>(alloc: Global, table: &Table) -> Result<BTreeMap<String
     ensures ok { IfOk result (λ m. reads_entries T.kind (table_view table.now) (entries_content T.content m.entries)) }
     ensures fault { IfErr result (FaultIn (faulty_entry T.kind (table_view table.now))) }
 {
-    let mut all = BTreeMap::new(alloc);
-    for (key, value) in table.iter() {
-        let x = read_under::<T>(alloc, value, key.as_str())?;
-        let name = String::from_str(alloc, key.as_str())?;
-        drop(all.insert(name, x)?);
-    }
-    Ok(all)
+    others_of(alloc, table, &[])
 }
 
 /// The table of a map.
