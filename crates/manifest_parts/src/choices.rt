@@ -1,0 +1,298 @@
+//! Choices of one text among several.
+
+ghost use Rattle.std.specs.Prelude.{◌≡◌, IfOk, IfErr, option_map};
+ghost use Rattle.toml.specs.View.{view};
+ghost use Rattle.manifest_schema.specs.Contents;
+ghost use Rattle.manifest_schema.specs.Choices.{edition, edition_text, resolver, resolver_text, level, level_text, status, status_text, status_words, meaning_of};
+ghost use Rattle.manifest_schema.proofs.ChoiceLaws.{edition_lawful, edition_plain, resolver_lawful, level_lawful, status_lawful};
+ghost use Rattle.manifest_parts.specs.Parts.{edition_content, resolver_content, level_content, status_content};
+ghost use Rattle.manifest_parts.specs.Refusals.{RefusedIn};
+
+use crate::error::{Error, read};
+use manifest_value::fault::here;
+use manifest_value::{Cause, Plain, ReadFault, Schema};
+use std::alloc::{AllocError, Global};
+use toml::Value;
+
+/// A Rust edition. See the [Cargo reference](https://doc.rust-lang.org/cargo/reference/manifest.html#the-edition-field).
+#[derive(Clone, Copy, Debug, PartialEq, Eq, Hash)]
+pub enum Edition {
+    E2015,
+    E2018,
+    E2021,
+    E2024,
+}
+
+impl Edition {
+    /// The text that stands for it.
+    pub fn as_str(&self) -> &'static str
+        ensures { result.now ≡ edition_text (edition_content self.now) }
+    {
+        match self {
+            Edition::E2015 => "2015",
+            Edition::E2018 => "2018",
+            Edition::E2021 => "2021",
+            Edition::E2024 => "2024",
+        }
+    }
+
+    /// The one reading of the value: one of the texts. Refuses a value that is no text with `WrongKind`, and another
+    /// text with `NotAChoice`, both at the empty path.
+    pub fn from_value(alloc: Global, value: &Value) -> Result<Edition, Error>
+        ensures ok { IfOk result (λ x. edition.reads (view value.now) (edition_content x)) }
+        ensures refused { IfErr result (RefusedIn (edition.faulty (view value.now))) }
+    {
+        read(alloc, value)
+    }
+}
+
+impl Schema for Edition {
+    ghost Content = { Contents.Edition };
+
+    ghost content = { edition_content };
+
+    ghost kind = { edition };
+
+    fn from_value(alloc: Global, value: &Value) -> Result<Edition, ReadFault> {
+        match value {
+            Value::String(s) => match s.as_str() {
+                "2015" => Ok(Edition::E2015),
+                "2018" => Ok(Edition::E2018),
+                "2021" => Ok(Edition::E2021),
+                "2024" => Ok(Edition::E2024),
+                _ => Err(here(alloc, Cause::NotAChoice)),
+            },
+            _ => Err(here(alloc, Cause::WrongKind)),
+        }
+    }
+
+    fn to_value(&self, alloc: Global) -> Result<Value, AllocError> {
+        Value::string(alloc, self.as_str())
+    }
+
+    ghost lawful = { edition_lawful };
+}
+
+impl Plain for Edition {
+    ghost plain = { edition_plain };
+}
+
+/// 2015, the edition of a package that names none.
+impl Default for Edition {
+    ghost is_default = { λ x. edition_content x ≡ Contents.e2015 };
+
+    fn default() -> Edition {
+        Edition::E2015
+    }
+}
+
+/// The resolver of features. See the [Cargo reference](https://doc.rust-lang.org/cargo/reference/resolver.html#resolver-versions).
+#[derive(Clone, Copy, Debug, PartialEq, Eq, Hash)]
+pub enum Resolver {
+    V1,
+    V2,
+    V3,
+}
+
+impl Resolver {
+    /// The text that stands for it.
+    fn as_str(&self) -> &'static str
+        ensures { result.now ≡ resolver_text (resolver_content self.now) }
+    {
+        match self {
+            Resolver::V1 => "1",
+            Resolver::V2 => "2",
+            Resolver::V3 => "3",
+        }
+    }
+
+    /// The one reading of the value: one of the texts. Refuses a value that is no text with `WrongKind`, and another
+    /// text with `NotAChoice`, both at the empty path.
+    pub fn from_value(alloc: Global, value: &Value) -> Result<Resolver, Error>
+        ensures ok { IfOk result (λ x. resolver.reads (view value.now) (resolver_content x)) }
+        ensures refused { IfErr result (RefusedIn (resolver.faulty (view value.now))) }
+    {
+        read(alloc, value)
+    }
+}
+
+impl Schema for Resolver {
+    ghost Content = { Contents.Resolver };
+
+    ghost content = { resolver_content };
+
+    ghost kind = { resolver };
+
+    fn from_value(alloc: Global, value: &Value) -> Result<Resolver, ReadFault> {
+        match value {
+            Value::String(s) => match s.as_str() {
+                "1" => Ok(Resolver::V1),
+                "2" => Ok(Resolver::V2),
+                "3" => Ok(Resolver::V3),
+                _ => Err(here(alloc, Cause::NotAChoice)),
+            },
+            _ => Err(here(alloc, Cause::WrongKind)),
+        }
+    }
+
+    fn to_value(&self, alloc: Global) -> Result<Value, AllocError> {
+        Value::string(alloc, self.as_str())
+    }
+
+    ghost lawful = { resolver_lawful };
+}
+
+/// The first resolver.
+impl Default for Resolver {
+    ghost is_default = { λ x. resolver_content x ≡ Contents.v1 };
+
+    fn default() -> Resolver {
+        Resolver::V1
+    }
+}
+
+/// The level of a lint. See the [Cargo reference](https://doc.rust-lang.org/cargo/reference/manifest.html#the-lints-section).
+#[derive(Clone, Copy, Debug, PartialEq, Eq, Hash)]
+pub enum LintLevel {
+    Forbid,
+    Deny,
+    Warn,
+    Allow,
+}
+
+impl LintLevel {
+    /// The text that stands for it.
+    pub fn as_str(&self) -> &'static str
+        ensures { result.now ≡ level_text (level_content self.now) }
+    {
+        match self {
+            LintLevel::Forbid => "forbid",
+            LintLevel::Deny => "deny",
+            LintLevel::Warn => "warn",
+            LintLevel::Allow => "allow",
+        }
+    }
+
+    /// The one reading of the value: one of the texts. Refuses a value that is no text with `WrongKind`, and another
+    /// text with `NotAChoice`, both at the empty path.
+    pub fn from_value(alloc: Global, value: &Value) -> Result<LintLevel, Error>
+        ensures ok { IfOk result (λ x. level.reads (view value.now) (level_content x)) }
+        ensures refused { IfErr result (RefusedIn (level.faulty (view value.now))) }
+    {
+        read(alloc, value)
+    }
+}
+
+impl Schema for LintLevel {
+    ghost Content = { Contents.Level };
+
+    ghost content = { level_content };
+
+    ghost kind = { level };
+
+    fn from_value(alloc: Global, value: &Value) -> Result<LintLevel, ReadFault> {
+        match value {
+            Value::String(s) => match s.as_str() {
+                "forbid" => Ok(LintLevel::Forbid),
+                "deny" => Ok(LintLevel::Deny),
+                "warn" => Ok(LintLevel::Warn),
+                "allow" => Ok(LintLevel::Allow),
+                _ => Err(here(alloc, Cause::NotAChoice)),
+            },
+            _ => Err(here(alloc, Cause::WrongKind)),
+        }
+    }
+
+    fn to_value(&self, alloc: Global) -> Result<Value, AllocError> {
+        Value::string(alloc, self.as_str())
+    }
+
+    ghost lawful = { level_lawful };
+}
+
+/// How a package is maintained. See the [Cargo reference](https://doc.rust-lang.org/cargo/reference/manifest.html#the-badges-section).
+#[derive(Clone, Copy, Debug, PartialEq, Eq, Hash)]
+pub enum MaintenanceStatus {
+    None,
+    ActivelyDeveloped,
+    PassivelyMaintained,
+    AsIs,
+    Experimental,
+    LookingForMaintainer,
+    Deprecated,
+}
+
+impl MaintenanceStatus {
+    /// The text that stands for it.
+    fn as_str(&self) -> &'static str
+        ensures { result.now ≡ status_text (status_content self.now) }
+    {
+        match self {
+            MaintenanceStatus::None => "none",
+            MaintenanceStatus::ActivelyDeveloped => "actively-developed",
+            MaintenanceStatus::PassivelyMaintained => "passively-maintained",
+            MaintenanceStatus::AsIs => "as-is",
+            MaintenanceStatus::Experimental => "experimental",
+            MaintenanceStatus::LookingForMaintainer => "looking-for-maintainer",
+            MaintenanceStatus::Deprecated => "deprecated",
+        }
+    }
+
+    /// The one reading of the value: one of the texts. Refuses a value that is no text with `WrongKind`, and another
+    /// text with `NotAChoice`, both at the empty path.
+    pub fn from_value(alloc: Global, value: &Value) -> Result<MaintenanceStatus, Error>
+        ensures ok { IfOk result (λ x. status.reads (view value.now) (status_content x)) }
+        ensures refused { IfErr result (RefusedIn (status.faulty (view value.now))) }
+    {
+        read(alloc, value)
+    }
+}
+
+/// The status that a text stands for.
+fn status_of(text: &str) -> Option<MaintenanceStatus>
+    ensures { option_map status_content result ≡ meaning_of status_words text.now }
+{
+    match text {
+        "none" => Some(MaintenanceStatus::None),
+        "actively-developed" => Some(MaintenanceStatus::ActivelyDeveloped),
+        "passively-maintained" => Some(MaintenanceStatus::PassivelyMaintained),
+        "as-is" => Some(MaintenanceStatus::AsIs),
+        "experimental" => Some(MaintenanceStatus::Experimental),
+        "looking-for-maintainer" => Some(MaintenanceStatus::LookingForMaintainer),
+        "deprecated" => Some(MaintenanceStatus::Deprecated),
+        _ => None,
+    }
+}
+
+impl Schema for MaintenanceStatus {
+    ghost Content = { Contents.Status };
+
+    ghost content = { status_content };
+
+    ghost kind = { status };
+
+    fn from_value(alloc: Global, value: &Value) -> Result<MaintenanceStatus, ReadFault> {
+        match value {
+            Value::String(s) => match status_of(s.as_str()) {
+                Some(status) => Ok(status),
+                None => Err(here(alloc, Cause::NotAChoice)),
+            },
+            _ => Err(here(alloc, Cause::WrongKind)),
+        }
+    }
+
+    fn to_value(&self, alloc: Global) -> Result<Value, AllocError> {
+        Value::string(alloc, self.as_str())
+    }
+
+    ghost lawful = { status_lawful };
+}
+
+/// No status.
+impl Default for MaintenanceStatus {
+    ghost is_default = { λ x. status_content x ≡ Contents.no_status };
+
+    fn default() -> MaintenanceStatus {
+        MaintenanceStatus::None
+    }
+}

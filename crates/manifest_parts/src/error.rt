@@ -1,0 +1,87 @@
+//! Why a call refused.
+
+ghost use Rattle.std.specs.Prelude.{IfOk, IfErr};
+ghost use Rattle.toml.specs.View.{view};
+ghost use Rattle.manifest_parts.specs.Refusals.{RefusedIn, IsRefusal};
+
+use manifest_value::{ReadFault, Schema, SchemaFault};
+use std::alloc::{AllocError, Global};
+use std::io;
+use std::rc::Rc;
+use std::str::Utf8Error;
+use thiserror::Error;
+use toml::Value;
+
+/// Why a text is no manifest.
+#[derive(Debug, Drop, Error)]
+pub enum ParseFault {
+    /// `toml` refuses the text, or found no memory in it.
+    #[error("toml: {0}")]
+    Toml(Rc<toml::de::Error>),
+    /// The text is a document, and the cause stands in its table at the path.
+    #[error("schema")]
+    Schema(SchemaFault),
+}
+
+/// What a call refuses with.
+#[derive(Debug, Drop, Error)]
+pub enum Error {
+    /// The text is no manifest.
+    #[error("{0}")]
+    Parse(ParseFault),
+    /// A file or a listing could not be read or written.
+    #[error("io: {0}")]
+    Io(io::Error),
+    /// The bytes are not UTF-8.
+    #[error("utf8: {0}")]
+    Utf8(Utf8Error),
+    /// Anything else, by its text.
+    #[error("{0}")]
+    Other(String),
+    /// No memory was left.
+    #[error("memory")]
+    Memory(AllocError),
+}
+
+/// Reads a value by the kind of its type.
+pub fn read<T: Schema>(alloc: Global, value: &Value) -> Result<T, Error>
+    ensures ok { IfOk result (λ x. T.kind.reads (view value.now) (T.content x)) }
+    ensures refused { IfErr result (RefusedIn (T.kind.faulty (view value.now))) }
+{
+    match T::from_value(alloc, value) {
+        Ok(x) => Ok(x),
+        Err(fault) => Err(refusal(fault)),
+    }
+}
+
+/// The error that tells a reader's fault.
+pub fn refusal(fault: ReadFault) -> Error
+    ensures { IsRefusal fault result }
+{
+    match fault {
+        ReadFault::Schema(fault) => Error::Parse(ParseFault::Schema(fault)),
+        ReadFault::Memory(refused) => Error::Memory(refused),
+    }
+}
+
+impl From<io::Error> for Error {
+    ghost use Rattle.std.specs.Prelude.{◌≡◌};
+    ghost use Rattle.manifest_parts.specs.declared.error.Error.TheVariants.{Io};
+
+    ghost from_gives = { λ fault e. e ≡ Io fault };
+
+    fn from(fault: io::Error) -> Error {
+        Error::Io(fault)
+    }
+}
+
+impl From<Utf8Error> for Error {
+    ghost use Rattle.std.specs.Prelude.{◌≡◌};
+    ghost use Rattle.manifest_parts.specs.declared.error.Error.TheVariants.{Utf8};
+
+    ghost from_gives = { λ fault e. e ≡ Utf8 fault };
+
+    fn from(fault: Utf8Error) -> Error {
+        Error::Utf8(fault)
+    }
+}

@@ -1,0 +1,139 @@
+//! What the workspace may lend.
+
+ghost use Rattle.std.specs.Prelude.{◌≡◌, IfOk, IfErr};
+ghost use Rattle.toml.specs.View.{view, table_view};
+ghost use Rattle.toml.specs.Data.{table as data_table};
+ghost use Rattle.manifest_schema.specs.Kinds.{Inheritable, inh, inherits, truth};
+ghost use Rattle.manifest_schema.proofs.KindLaws.{inh_lawful, truth_lawful};
+ghost use Rattle.manifest_parts.specs.Parts.{inh_content};
+ghost use Rattle.manifest_parts.specs.Refusals.{RefusedIn};
+
+use crate::error::{Error, read};
+use manifest_value::fault::here;
+use manifest_value::rows::put_row;
+use manifest_value::slots::find;
+use manifest_value::{Cause, Plain, ReadFault, Schema};
+use std::alloc::{AllocError, Global};
+use toml::{Table, Value};
+
+/// The one value that stands for the boolean true.
+#[derive(Clone, Debug, PartialEq, Eq, Drop)]
+pub struct True;
+
+impl True {
+    /// The one reading of the value: the boolean true. Refuses false with `NotTrue`, and any other value with
+    /// `WrongKind`, both at the empty path.
+    pub fn from_value(alloc: Global, value: &Value) -> Result<True, Error>
+        ensures ok { IfOk result (λ x. truth.reads (view value.now) tt) }
+        ensures refused { IfErr result (RefusedIn (truth.faulty (view value.now))) }
+    {
+        read(alloc, value)
+    }
+}
+
+impl Schema for True {
+    ghost Content = { Unit {0} };
+
+    ghost content = { λ t. tt };
+
+    ghost kind = { truth };
+
+    fn from_value(alloc: Global, value: &Value) -> Result<True, ReadFault> {
+        match value {
+            Value::Boolean(b) => {
+                if *b {
+                    Ok(True)
+                } else {
+                    Err(here(alloc, Cause::NotTrue))
+                }
+            }
+            _ => Err(here(alloc, Cause::WrongKind)),
+        }
+    }
+
+    fn to_value(&self, _alloc: Global) -> Result<Value, AllocError> {
+        Ok(Value::Boolean(true))
+    }
+
+    ghost lawful = { truth_lawful };
+}
+
+impl Default for True {
+    fn default() -> True {
+        True
+    }
+}
+
+/// A value of the package's own, or the word that the workspace lends it. See the
+/// [Cargo reference](https://doc.rust-lang.org/cargo/reference/workspaces.html#the-package-table).
+#[derive(Debug, PartialEq, Eq, Drop)]
+pub enum MaybeInherited<T> {
+    /// `{ workspace = true }`.
+    Inherited { workspace: True },
+    /// The value itself.
+    Local(T),
+}
+
+impl<T: Plain> MaybeInherited<T> {
+    /// The one reading of the value: `Inherited` of a table whose `workspace` is the boolean true, else `Local` of the
+    /// type's own reading. Refuses any other table with `WrongKind` at the empty path, and else with the type's own
+    /// fault.
+    pub fn from_value(alloc: Global, value: &Value) -> Result<MaybeInherited<T>, Error>
+        ensures ok { IfOk result (λ x. (inh T.kind).reads (view value.now) (inh_content T.content x)) }
+        ensures refused { IfErr result (RefusedIn ((inh T.kind).faulty (view value.now))) }
+    {
+        read(alloc, value)
+    }
+}
+
+/// Whether the value is a table whose `workspace` is the boolean true.
+pub fn says_workspace(value: &Value) -> bool
+    ensures { result ≡ inherits (view value.now) }
+{
+    match value {
+        Value::Table(table) => has_workspace(table),
+        _ => false,
+    }
+}
+
+/// Whether the `workspace` of the table is the boolean true.
+pub fn has_workspace(table: &Table) -> bool
+    ensures { result ≡ inherits (data_table (table_view table.now)) }
+{
+    match find(table, "workspace") {
+        Some(Value::Boolean(b)) => *b,
+        _ => false,
+    }
+}
+
+impl<T: Plain> Schema for MaybeInherited<T> {
+    ghost Content = { Inheritable T.Content };
+
+    ghost content = { inh_content T.content };
+
+    ghost kind = { inh T.kind };
+
+    fn from_value(alloc: Global, value: &Value) -> Result<MaybeInherited<T>, ReadFault> {
+        if says_workspace(value) {
+            return Ok(MaybeInherited::Inherited { workspace: True });
+        }
+        match value {
+            Value::Table(_) => Err(here(alloc, Cause::WrongKind)),
+            _ => Ok(MaybeInherited::Local(T::from_value(alloc, value)?)),
+        }
+    }
+
+    #[tactic(auto, unfolding(manifest_schema::specs::Slots::put_some))]
+    fn to_value(&self, alloc: Global) -> Result<Value, AllocError> {
+        match self {
+            MaybeInherited::Inherited { workspace } => {
+                let mut out = Table::new(alloc);
+                put_row(alloc, &mut out, "workspace", workspace)?;
+                Ok(Value::Table(out))
+            }
+            MaybeInherited::Local(x) => x.to_value(alloc),
+        }
+    }
+
+    ghost lawful = { inh_lawful T.lawful T.plain };
+}

@@ -1,0 +1,117 @@
+//! A text or a boolean, and where a package may be published.
+
+ghost use Rattle.std.specs.Prelude.{◌≡◌, true, IfOk, IfErr};
+ghost use Rattle.toml.specs.View.{view};
+ghost use Rattle.manifest_schema.specs.Contents;
+ghost use Rattle.manifest_schema.specs.PartForms.{text_or_flag, publish};
+ghost use Rattle.manifest_schema.proofs.RowLaws.{text_or_flag_lawful, text_or_flag_plain, publish_lawful, publish_plain};
+ghost use Rattle.manifest_parts.specs.Parts.{text_or_flag_content, publish_content};
+ghost use Rattle.manifest_parts.specs.Refusals.{RefusedIn};
+
+use crate::error::{Error, read};
+use manifest_value::fault::here;
+use manifest_value::{Cause, Plain, ReadFault, Schema};
+use std::alloc::{AllocError, Global};
+use toml::Value;
+
+/// A text or a boolean.
+#[derive(Debug, PartialEq, Eq, Drop)]
+pub enum StringOrBool {
+    String(String),
+    Bool(bool),
+}
+
+impl StringOrBool {
+    /// The one reading of the value: a text or a boolean. Refuses any other with `WrongKind` at the empty path.
+    pub fn from_value(alloc: Global, value: &Value) -> Result<StringOrBool, Error>
+        ensures ok { IfOk result (λ x. text_or_flag.reads (view value.now) (text_or_flag_content x)) }
+        ensures refused { IfErr result (RefusedIn (text_or_flag.faulty (view value.now))) }
+    {
+        read(alloc, value)
+    }
+}
+
+impl Schema for StringOrBool {
+    ghost Content = { Contents.TextOrFlag };
+
+    ghost content = { text_or_flag_content };
+
+    ghost kind = { text_or_flag };
+
+    fn from_value(alloc: Global, value: &Value) -> Result<StringOrBool, ReadFault> {
+        match value {
+            Value::Boolean(b) => Ok(StringOrBool::Bool(*b)),
+            Value::String(s) => Ok(StringOrBool::String(String::from_str(alloc, s.as_str())?)),
+            _ => Err(here(alloc, Cause::WrongKind)),
+        }
+    }
+
+    fn to_value(&self, alloc: Global) -> Result<Value, AllocError> {
+        match self {
+            StringOrBool::Bool(b) => Ok(Value::Boolean(*b)),
+            StringOrBool::String(s) => Value::string(alloc, s.as_str()),
+        }
+    }
+
+    ghost lawful = { text_or_flag_lawful };
+}
+
+impl Plain for StringOrBool {
+    ghost plain = { text_or_flag_plain };
+}
+
+/// Whether a package may be published, or to which registries. See the
+/// [Cargo reference](https://doc.rust-lang.org/cargo/reference/manifest.html#the-publish-field).
+#[derive(Debug, PartialEq, Eq, Drop)]
+pub enum Publish {
+    Flag(bool),
+    Registry(Vec<String>),
+}
+
+impl Publish {
+    /// The one reading of the value: a boolean, or a list of texts. Refuses any other value with `WrongKind`, at the
+    /// item where an item is no text.
+    pub fn from_value(alloc: Global, value: &Value) -> Result<Publish, Error>
+        ensures ok { IfOk result (λ x. publish.reads (view value.now) (publish_content x)) }
+        ensures refused { IfErr result (RefusedIn (publish.faulty (view value.now))) }
+    {
+        read(alloc, value)
+    }
+}
+
+impl Schema for Publish {
+    ghost Content = { Contents.Publish };
+
+    ghost content = { publish_content };
+
+    ghost kind = { publish };
+
+    fn from_value(alloc: Global, value: &Value) -> Result<Publish, ReadFault> {
+        match value {
+            Value::Boolean(b) => Ok(Publish::Flag(*b)),
+            _ => Ok(Publish::Registry(Schema::from_value(alloc, value)?)),
+        }
+    }
+
+    fn to_value(&self, alloc: Global) -> Result<Value, AllocError> {
+        match self {
+            Publish::Flag(b) => Ok(Value::Boolean(*b)),
+            Publish::Registry(registries) => registries.to_value(alloc),
+        }
+    }
+
+    ghost lawful = { publish_lawful };
+}
+
+impl Plain for Publish {
+    ghost plain = { publish_plain };
+}
+
+/// A package may be published.
+impl Default for Publish {
+    ghost is_default = { λ x. publish_content x ≡ Contents.publish_flag true };
+
+    fn default() -> Publish {
+        Publish::Flag(true)
+    }
+}

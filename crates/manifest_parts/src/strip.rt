@@ -1,0 +1,75 @@
+//! What is stripped from a binary.
+
+ghost use Rattle.std.specs.Prelude.{◌≡◌, IfOk, IfErr};
+ghost use Rattle.toml.specs.View.{view};
+ghost use Rattle.manifest_schema.specs.Contents;
+ghost use Rattle.manifest_schema.specs.Choices.{strip};
+ghost use Rattle.manifest_schema.proofs.ChoiceLaws.{strip_lawful};
+ghost use Rattle.manifest_parts.specs.Parts.{strip_content};
+ghost use Rattle.manifest_parts.specs.Refusals.{RefusedIn};
+
+use crate::error::{Error, read};
+use manifest_value::fault::here;
+use manifest_value::{Cause, ReadFault, Schema};
+use std::alloc::{AllocError, Global};
+use toml::Value;
+
+/// What is stripped from a binary, from nothing to all symbols. See the
+/// [Cargo reference](https://doc.rust-lang.org/cargo/reference/profiles.html#strip).
+#[derive(Clone, Debug, PartialEq, Eq, PartialOrd, Ord, Drop)]
+pub enum StripSetting {
+    /// `false` or `"none"`.
+    None,
+    /// `"debuginfo"`.
+    Debuginfo,
+    /// `true` or `"symbols"`.
+    Symbols,
+}
+
+impl StripSetting {
+    /// The one reading of the value: a boolean, or one of the texts. Refuses another text with `NotAChoice`, and
+    /// another kind with `WrongKind`, both at the empty path.
+    pub fn from_value(alloc: Global, value: &Value) -> Result<StripSetting, Error>
+        ensures ok { IfOk result (λ x. strip.reads (view value.now) (strip_content x)) }
+        ensures refused { IfErr result (RefusedIn (strip.faulty (view value.now))) }
+    {
+        read(alloc, value)
+    }
+}
+
+impl Schema for StripSetting {
+    ghost Content = { Contents.Strip };
+
+    ghost content = { strip_content };
+
+    ghost kind = { strip };
+
+    fn from_value(alloc: Global, value: &Value) -> Result<StripSetting, ReadFault> {
+        match value {
+            Value::Boolean(b) => {
+                if *b {
+                    Ok(StripSetting::Symbols)
+                } else {
+                    Ok(StripSetting::None)
+                }
+            }
+            Value::String(s) => match s.as_str() {
+                "none" => Ok(StripSetting::None),
+                "symbols" => Ok(StripSetting::Symbols),
+                "debuginfo" => Ok(StripSetting::Debuginfo),
+                _ => Err(here(alloc, Cause::NotAChoice)),
+            },
+            _ => Err(here(alloc, Cause::WrongKind)),
+        }
+    }
+
+    fn to_value(&self, alloc: Global) -> Result<Value, AllocError> {
+        match self {
+            StripSetting::None => Ok(Value::Boolean(false)),
+            StripSetting::Debuginfo => Value::string(alloc, "debuginfo"),
+            StripSetting::Symbols => Ok(Value::Boolean(true)),
+        }
+    }
+
+    ghost lawful = { strip_lawful };
+}
