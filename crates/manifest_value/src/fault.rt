@@ -1,6 +1,6 @@
 //! Where a value does not fit, and why.
 
-ghost use Rattle.manifest_schema.specs.Paths.{no_fault, itself};
+ghost use Rattle.manifest_schema.specs.Paths.{no_fault, itself, key};
 ghost use Rattle.manifest_value.specs.Faults.{FaultIn, IsSchema, IsBehind, step_of, cause_of};
 
 use std::alloc::{AllocError, AllocFailed, Global};
@@ -92,5 +92,20 @@ pub fn prefixed(step: Step, fault: ReadFault) -> ReadFault
             Ok(()) => ReadFault::Schema(fault),
             Err(_) => ReadFault::Memory(AllocError),
         },
+    }
+}
+
+/// The fault as it is seen from the table that has the value at the key, or want of memory where the step finds no
+/// room.
+#[tactic(auto, using(crate::proofs::Behind::memory_behind))]
+pub fn under_key(alloc: Global, word: &str, fault: ReadFault) -> ReadFault
+    ensures { IsBehind (key word.now) fault result }
+{
+    match String::from_str(alloc, word) {
+        Ok(word) => prefixed(Step::Key(word), fault),
+        Err(refused) => {
+            drop(fault);
+            ReadFault::Memory(refused)
+        }
     }
 }

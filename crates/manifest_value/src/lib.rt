@@ -3,6 +3,7 @@
 #![tactic(auto)]
 
 pub mod fault;
+pub mod kept;
 pub mod lenient;
 pub mod maps;
 pub mod metadata;

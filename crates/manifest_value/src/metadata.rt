@@ -8,6 +8,7 @@ ghost use Rattle.manifest_schema.specs.Lawful.{nothing_laws};
 ghost use Rattle.manifest_schema.specs.Needs.{meets_optional, faulty_free, written_some};
 
 use crate::fault::{Cause, ReadFault, here};
+use crate::kept::holds_float;
 use crate::rows::{optional, put_optional};
 use crate::schema::Schema;
 use std::alloc::{AllocError, Global};
@@ -88,4 +89,13 @@ impl Metadata for () {
     }
 
     ghost without_floats = { λ x g. absurd g };
+}
+
+/// Any value without a float, as it is.
+impl Metadata for Value {
+    fn is_well_formed(&self) -> bool {
+        !holds_float(self)
+    }
+
+    ghost without_floats = { λ x g. g };
 }

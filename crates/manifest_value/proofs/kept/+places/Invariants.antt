@@ -1,0 +1,12 @@
+use Rattle.std.proofs.Common.{◌≡◌, ◌++◌, List, String, Global, drop}
+use Rattle.toml.specs.View.{items_view, members_view}
+use Rattle.toml.specs.declared.value.Value.{Value}
+use Rattle.manifest_schema.specs.Kinds.{plain_items, plain_members}
+use Rattle.manifest_value.proofs.kept.+places.Given as goal
+
+abbrev pub invariant-refuse_float_in_items-loop-i : goal.invariant-refuse_float_in_items-loop-i
+invariant-refuse_float_in_items-loop-i l = plain_items (items_view l.item-items) ≡ plain_items (items_view (drop l.i l.item-items))
+
+abbrev pub invariant-refuse_float_in_members-loop-key : goal.invariant-refuse_float_in_members-loop-key
+invariant-refuse_float_in_members-loop-key l = plain_members (members_view l.members.entries) ≡ plain_members (members_view l.key-iterator)
+    × (done : List (String Global × Value)) × (l.members.entries ≡ done ++ l.key-iterator)

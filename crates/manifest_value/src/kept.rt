@@ -1,0 +1,127 @@
+//! Values that are kept as they are.
+ghost use Rattle.std.specs.Prelude.{◌≡◌, not, IsTrue, IfOk, IfErr, OnOk};
+ghost use Rattle.toml.specs.Data.{Data, array, table};
+ghost use Rattle.toml.specs.View.{view, array_view, table_view};
+ghost use Rattle.manifest_schema.specs.Paths.{behind, index, key};
+ghost use Rattle.manifest_schema.specs.Kinds.{plain, plain_items, plain_members, float_in, kept as kept_kind};
+ghost use Rattle.manifest_schema.proofs.KeptLaws.{kept_lawful};
+ghost use Rattle.manifest_value.specs.Faults.{FaultIn};
+
+use crate::fault::{Cause, ReadFault, Step, here, prefixed, under_key};
+use crate::schema::Schema;
+use std::alloc::{AllocError, Global};
+use toml::{Table, Value};
+
+/// Whether a float stands anywhere in the value: the value itself, an item of a list, or an entry of a table, at any
+/// depth.
+#[cycle(floats)]
+pub fn holds_float(value: &Value) -> bool
+    ensures { result ≡ not (plain (view value.now)) }
+{
+    match value {
+        Value::Float(_) => true,
+        Value::Array(items) => items_hold_float(items),
+        Value::Table(members) => members_hold_float(members),
+        _ => false,
+    }
+}
+
+/// Whether a float stands in one of the items.
+#[cycle(floats)]
+fn items_hold_float(items: &Vec<Value>) -> bool
+    ensures { result ≡ not (plain_items (array_view items.now)) }
+{
+    for item in items {
+        if holds_float(item) {
+            return true;
+        }
+    }
+    false
+}
+
+/// Whether a float stands in one of the entries.
+#[cycle(floats)]
+fn members_hold_float(members: &Table) -> bool
+    ensures { result ≡ not (plain_members (table_view members.now)) }
+{
+    for (_key, member) in members.iter() {
+        if holds_float(member) {
+            return true;
+        }
+    }
+    false
+}
+
+/// Passes a value without floats, and refuses with the place of the first float that it meets: items by their
+/// indexes, entries in the order of their keys.
+#[cycle(places)]
+fn refuse_float(alloc: Global, value: &Value) -> Result<(), ReadFault>
+    ensures ok { OnOk result (IsTrue (plain (view value.now))) }
+    ensures fault { IfErr result (FaultIn (float_in (view value.now))) }
+{
+    match value {
+        Value::Float(_) => Err(here(alloc, Cause::HoldsFloat)),
+        Value::Array(items) => refuse_float_in_items(alloc, items),
+        Value::Table(members) => refuse_float_in_members(alloc, members),
+        _ => Ok(()),
+    }
+}
+
+/// Passes items without floats, and refuses with the place of the first float.
+#[cycle(places)]
+fn refuse_float_in_items(alloc: Global, items: &Vec<Value>) -> Result<(), ReadFault>
+    ensures ok { OnOk result (IsTrue (plain_items (array_view items.now))) }
+    ensures fault { IfErr result (FaultIn (float_in (array (array_view items.now)))) }
+{
+    for (i, item) in items.iter().enumerate() {
+        if let Err(fault) = refuse_float(alloc, item) {
+            return Err(prefixed(Step::Index(i), fault));
+        }
+    }
+    Ok(())
+}
+
+/// Passes entries without floats, and refuses with the place of the first float.
+#[cycle(places)]
+fn refuse_float_in_members(alloc: Global, members: &Table) -> Result<(), ReadFault>
+    ensures ok { OnOk result (IsTrue (plain_members (table_view members.now))) }
+    ensures fault { IfErr result (FaultIn (float_in (table (table_view members.now)))) }
+{
+    for (key, member) in members.iter() {
+        if let Err(fault) = refuse_float(alloc, member) {
+            return Err(under_key(alloc, key.as_str(), fault));
+        }
+    }
+    Ok(())
+}
+
+/// A copy of a value without floats.
+///
+/// Refuses a value in which a float stands, by the path from the value to the first float that is met, items by
+/// their indexes and entries in the order of their keys: in `{ a = [1, 2.5], b = 0.5 }` that is `a[1]`. Refuses with
+/// want of memory where the copy or the path finds no room.
+pub fn kept(alloc: Global, value: &Value) -> Result<Value, ReadFault>
+    ensures ok { IfOk result (λ v. kept_kind.reads (view value.now) (view v)) }
+    ensures fault { IfErr result (FaultIn (kept_kind.faulty (view value.now))) }
+{
+    refuse_float(alloc, value)?;
+    Ok(value.clone()?)
+}
+
+impl Schema for Value {
+    ghost Content = { Data };
+
+    ghost content = { view };
+
+    ghost kind = { kept_kind };
+
+    fn from_value(alloc: Global, value: &Value) -> Result<Value, ReadFault> {
+        kept(alloc, value)
+    }
+
+    fn to_value(&self, _alloc: Global) -> Result<Value, AllocError> {
+        self.clone()
+    }
+
+    ghost lawful = { kept_lawful };
+}
