@@ -3,3 +3,4 @@ pub use Rattle.manifest_schema.specs.Choices
 pub use Rattle.manifest_schema.specs.PartForms
 pub mod Refusals
 pub mod Parts
+pub mod Records

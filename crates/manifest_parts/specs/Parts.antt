@@ -1,10 +1,7 @@
 -- What the small types of the code hold.
-use Rattle.std.specs.Prelude.{List, ℕ, ℤ, pos, map, option_map, String, string_bytes}
-use Rattle.toml.specs.Data.{Data}
-use Rattle.toml.specs.View.{view}
+use Rattle.std.specs.Prelude.{map, string_bytes}
 use Rattle.manifest_schema.specs.Kinds.{Inheritable, inherited, local}
 use Rattle.manifest_schema.specs.Contents
-use Rattle.manifest_value.specs.Entries.{entries_content}
 use Rattle.manifest_parts.specs.declared.choices.Edition.{Edition}
 use Rattle.manifest_parts.specs.declared.choices.Resolver.{Resolver}
 use Rattle.manifest_parts.specs.declared.choices.LintLevel.{LintLevel}

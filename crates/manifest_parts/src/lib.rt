@@ -2,14 +2,45 @@
 //! profiles, badges and lints; and the error of every call.
 #![tactic(auto)]
 
+pub mod badges;
 pub mod choices;
+pub mod dependency;
 pub mod error;
 pub mod inherited;
+pub mod lints;
+pub mod product;
+pub mod profile;
 pub mod publish;
 pub mod strip;
+pub mod target;
 
+pub use badges::{Badge, Badges, Maintenance};
 pub use choices::{Edition, LintLevel, MaintenanceStatus, Resolver};
+pub use dependency::{Dependency, DependencyDetail, InheritedDependencyDetail};
 pub use error::{Error, ParseFault};
 pub use inherited::{MaybeInherited, True};
+pub use lints::{Lint, LintConfig, MaybeInheritedLintsSet};
+pub use product::Product;
+pub use profile::Profile;
 pub use publish::{Publish, StringOrBool};
+use std::collections::BTreeMap;
 pub use strip::StripSetting;
+pub use target::Target;
+
+/// Dependencies by name.
+pub type DepsSet = BTreeMap<String, Dependency>;
+
+/// Platforms by name or by `cfg`.
+pub type TargetDepsSet = BTreeMap<String, Target>;
+
+/// What each feature turns on.
+pub type FeatureSet = BTreeMap<String, Vec<String>>;
+
+/// Dependencies by the registry that they patch.
+pub type PatchSet = BTreeMap<String, DepsSet>;
+
+/// The lints of one tool.
+pub type ToolLintsSet = BTreeMap<String, Lint>;
+
+/// Lints by tool.
+pub type LintsSet = BTreeMap<String, ToolLintsSet>;

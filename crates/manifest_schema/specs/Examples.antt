@@ -6,7 +6,8 @@ use Rattle.manifest_schema.specs.Slots.{only, both}
 use Rattle.manifest_schema.specs.Kinds.{Entries, text, flag}
 use Rattle.manifest_schema.specs.Needs.{optional, default, lenient_optional}
 use Rattle.manifest_schema.specs.Forms.{Rows, row, no_more, others, ◌⨾◌}
-use Rattle.manifest_schema.specs.Contents.{InheritedDependency, DependencyDetail, Package, Workspace, Manifest}
+use Rattle.manifest_schema.specs.Contents.{InheritedDependency, DependencyDetail, Package, Manifest}
+use Rattle.manifest_schema.specs.Defaults.{no_detail, empty_manifest}
 
 -- a table of one entry, and of two in the order of their keys
 abbrev pub one_entry : Text → Data → Members
@@ -21,92 +22,11 @@ lent = record { features = None; «optional» = None }
 
 -- a dependency of this version, and nothing else
 abbrev pub of_version : Text → DependencyDetail
-of_version v = record {
-  version = Some v;
-  registry = None;
-  registry_index = None;
-  path = None;
-  git = None;
-  branch = None;
-  tag = None;
-  rev = None;
-  features = None;
-  «optional» = None;
-  default_features = None;
-  «package» = None;
-}
-
--- a package of this name, and nothing else
-abbrev pub named : Text → Package
-named n = record {
-  name = n;
-  edition = None;
-  version = None;
-  build = None;
-  workspace = None;
-  authors = None;
-  links = None;
-  description = None;
-  homepage = None;
-  documentation = None;
-  readme = None;
-  keywords = None;
-  categories = None;
-  license = None;
-  license_file = None;
-  repository = None;
-  metadata = None;
-  rust_version = None;
-  exclude = None;
-  include = None;
-  default_run = None;
-  autolib = None;
-  autobins = None;
-  autoexamples = None;
-  autotests = None;
-  autobenches = None;
-  publish = None;
-  resolver = None;
-}
-
--- a workspace without members
-abbrev pub no_workspace_members : Workspace
-no_workspace_members = record {
-  members = [];
-  default_members = None;
-  exclude = None;
-  resolver = None;
-  dependencies = None;
-  «package» = None;
-  metadata = None;
-  lints = None;
-}
-
--- a manifest with nothing in it
-abbrev pub nothing_in_it : Manifest
-nothing_in_it = record {
-  «package» = None;
-  cargo_features = None;
-  workspace = None;
-  dependencies = None;
-  dev_dependencies = None;
-  build_dependencies = None;
-  target = None;
-  features = None;
-  bin = [];
-  bench = [];
-  test = [];
-  example = [];
-  patch = None;
-  lib = None;
-  profile = None;
-  badges = None;
-  lints = None;
-}
+of_version v = record no_detail { version = Some v }
 
 -- a manifest of this package, and nothing else
 abbrev pub only_package : Package → Manifest
-only_package p = record nothing_in_it { «package» = Some p }
+only_package p = record empty_manifest { «package» = Some p }
 
 -- a text under `a-b` or `a_b`
 abbrev pub spelled_rows : Rows (Option Text)

@@ -6,6 +6,7 @@ pub mod Needs
 pub mod Forms
 pub mod Lawful
 pub mod Contents
+pub mod Defaults
 pub mod Choices
 pub mod PartForms
 pub mod ManifestForms

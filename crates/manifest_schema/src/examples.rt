@@ -11,7 +11,8 @@ ghost use Rattle.manifest_schema.specs.Choices.{edition};
 ghost use Rattle.manifest_schema.specs.ManifestForms.{package_rows};
 ghost use Rattle.manifest_schema.specs.PartForms.{dependency};
 ghost use Rattle.manifest_schema.specs.Meaning.{means, unmeant, rewritten};
-ghost use Rattle.manifest_schema.specs.Examples.{one_entry, two_entries, lent, of_version, named, no_workspace_members, nothing_in_it, only_package, spelled_rows, lenient_rows, default_rows, rest_rows, at_key};
+ghost use Rattle.manifest_schema.specs.Defaults.{named, empty_workspace, empty_manifest};
+ghost use Rattle.manifest_schema.specs.Examples.{one_entry, two_entries, lent, of_version, only_package, spelled_rows, lenient_rows, default_rows, rest_rows, at_key};
 
 /// A key that no row has is ignored, and is not written.
 #[tactic(auto, unfolding(crate::specs::ManifestForms::package_rows, crate::specs::Slots::put_some))]
@@ -85,13 +86,13 @@ pub fn old_headers()
 #[tactic(auto, unfolding(crate::specs::ManifestForms::workspace_rows, crate::specs::ManifestForms::manifest_rows))]
 pub fn workspace_beside_project()
     ensures { means kept kept (two_entries (codes "project") (table no_members) (codes "workspace") (table no_members))
-        (record nothing_in_it { workspace = Some no_workspace_members }) }
+        (record empty_manifest { workspace = Some empty_workspace }) }
 {}
 
 /// What is written of a manifest has its keys in order, whatever the order of the rows.
 #[tactic(auto, unfolding(crate::specs::ManifestForms::package_rows, crate::specs::ManifestForms::manifest_rows, crate::specs::Slots::put_some))]
 pub fn written_in_order()
-    ensures { rewritten kept kept (record nothing_in_it {
+    ensures { rewritten kept kept (record empty_manifest {
       «package» = Some (record (named (codes "p")) { edition = Some (local e2021); version = Some inherited });
       dependencies = Some ((codes "a", simple (codes "1")) ∷ []);
     })

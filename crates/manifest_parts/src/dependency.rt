@@ -1,0 +1,304 @@
+//! Dependencies.
+
+ghost use Rattle.std.specs.Prelude.{◌≡◌, None, IfOk, IfErr, OnOk};
+ghost use Rattle.toml.specs.Data.{table as data_table};
+ghost use Rattle.toml.specs.View.{view, table_view};
+ghost use Rattle.manifest_schema.specs.Forms.{form, written_part};
+ghost use Rattle.manifest_schema.specs.Contents;
+ghost use Rattle.manifest_schema.specs.Defaults.{no_detail};
+ghost use Rattle.manifest_schema.specs.PartForms.{inherited_rows, detailed_rows, dependency};
+ghost use Rattle.manifest_schema.proofs.PartLaws.{inherited_lawful, detailed_lawful, dependency_lawful};
+ghost use Rattle.manifest_value.specs.Faults.{FaultIn};
+ghost use Rattle.manifest_parts.specs.Records.{inherited_content, detail_content, dependency_content};
+ghost use Rattle.manifest_parts.specs.Refusals.{RefusedIn};
+
+use crate::error::{Error, read};
+use crate::inherited::{True, has_workspace};
+use manifest_value::fault::here;
+use manifest_value::rows::{optional, put_optional, put_row, required};
+use manifest_value::{Cause, ReadFault, Schema};
+use std::alloc::{AllocError, Global};
+use toml::{Table, Value};
+
+/// A dependency that the workspace lends, and what the member adds. See the
+/// [Cargo reference](https://doc.rust-lang.org/cargo/reference/specifying-dependencies.html#inheriting-a-dependency-from-a-workspace).
+#[derive(Debug, PartialEq, Eq, Drop)]
+pub struct InheritedDependencyDetail {
+    /// The word that the workspace lends it.
+    pub workspace: True,
+    /// The features that the member adds.
+    pub features: Option<Vec<String>>,
+    /// Whether the dependency is optional in the member.
+    pub optional: Option<bool>,
+}
+
+/// A dependency in detail. See the
+/// [Cargo reference](https://doc.rust-lang.org/cargo/reference/specifying-dependencies.html).
+#[derive(Debug, PartialEq, Eq, Drop)]
+pub struct DependencyDetail {
+    /// The versions that serve.
+    pub version: Option<String>,
+    /// The registry, by its name.
+    pub registry: Option<String>,
+    /// The index of the registry.
+    pub registry_index: Option<String>,
+    /// The folder, relative to the manifest.
+    pub path: Option<String>,
+    /// The repository.
+    pub git: Option<String>,
+    /// The branch of the repository.
+    pub branch: Option<String>,
+    /// The tag of the repository.
+    pub tag: Option<String>,
+    /// The revision of the repository.
+    pub rev: Option<String>,
+    /// The features that are turned on.
+    pub features: Option<Vec<String>>,
+    /// Whether the dependency is optional.
+    pub optional: Option<bool>,
+    /// Whether the default features are on.
+    pub default_features: Option<bool>,
+    /// The name of the package, where the key is another.
+    pub package: Option<String>,
+}
+
+/// A dependency: a version alone, a word that the workspace lends it, or in detail.
+#[derive(Debug, PartialEq, Eq, Drop)]
+pub enum Dependency {
+    /// The versions that serve, as in `a = "1"`.
+    Simple(String),
+    /// A table whose `workspace` is the boolean true.
+    Inherited(InheritedDependencyDetail),
+    /// Any other table.
+    Detailed(DependencyDetail),
+}
+
+impl InheritedDependencyDetail {
+    /// The one reading of the value by the form of an inherited dependency. Refuses a value that is no table with
+    /// `WrongKind`, and else with the fault of a row, its key path beginning at the table.
+    pub fn from_value(alloc: Global, value: &Value) -> Result<InheritedDependencyDetail, Error>
+        ensures ok { IfOk result (λ x. (form inherited_rows).reads (view value.now) (inherited_content x)) }
+        ensures refused { IfErr result (RefusedIn ((form inherited_rows).faulty (view value.now))) }
+    {
+        read(alloc, value)
+    }
+}
+
+impl DependencyDetail {
+    /// The one reading of the value by the form of a detailed dependency. Refuses a value that is no table with
+    /// `WrongKind`, and else with the fault of a row, its key path beginning at the table.
+    pub fn from_value(alloc: Global, value: &Value) -> Result<DependencyDetail, Error>
+        ensures ok { IfOk result (λ x. (form detailed_rows).reads (view value.now) (detail_content x)) }
+        ensures refused { IfErr result (RefusedIn ((form detailed_rows).faulty (view value.now))) }
+    {
+        read(alloc, value)
+    }
+}
+
+impl Dependency {
+    /// The one reading of the value: a text is `Simple`, a table whose `workspace` is the boolean true `Inherited`, any
+    /// other table `Detailed`. Refuses any other value with `WrongKind`, and else with the fault of a row.
+    pub fn from_value(alloc: Global, value: &Value) -> Result<Dependency, Error>
+        ensures ok { IfOk result (λ x. dependency.reads (view value.now) (dependency_content x)) }
+        ensures refused { IfErr result (RefusedIn (dependency.faulty (view value.now))) }
+    {
+        read(alloc, value)
+    }
+}
+
+/// Reads the rows of a table.
+#[tactic(auto, unfolding(manifest_schema::specs::PartForms::inherited_rows))]
+fn inherited_from(alloc: Global, table: &Table) -> Result<InheritedDependencyDetail, ReadFault>
+    ensures ok { IfOk result (λ x. (form inherited_rows).reads (data_table (table_view table.now)) (inherited_content x)) }
+    ensures fault { IfErr result (FaultIn ((form inherited_rows).faulty (data_table (table_view table.now)))) }
+{
+    Ok(InheritedDependencyDetail {
+        workspace: required(alloc, table, "workspace", None)?,
+        features: optional(alloc, table, "features", None)?,
+        optional: optional(alloc, table, "optional", None)?,
+    })
+}
+
+/// Reads the rows of a table.
+#[tactic(auto, unfolding(manifest_schema::specs::PartForms::detailed_rows))]
+fn detail_from(alloc: Global, table: &Table) -> Result<DependencyDetail, ReadFault>
+    ensures ok { IfOk result (λ x. (form detailed_rows).reads (data_table (table_view table.now)) (detail_content x)) }
+    ensures fault { IfErr result (FaultIn ((form detailed_rows).faulty (data_table (table_view table.now)))) }
+{
+    Ok(DependencyDetail {
+        version: optional(alloc, table, "version", None)?,
+        registry: optional(alloc, table, "registry", None)?,
+        registry_index: optional(alloc, table, "registry-index", Some("registry_index"))?,
+        path: optional(alloc, table, "path", None)?,
+        git: optional(alloc, table, "git", None)?,
+        branch: optional(alloc, table, "branch", None)?,
+        tag: optional(alloc, table, "tag", None)?,
+        rev: optional(alloc, table, "rev", None)?,
+        features: optional(alloc, table, "features", None)?,
+        optional: optional(alloc, table, "optional", None)?,
+        default_features: optional(alloc, table, "default-features", Some("default_features"))?,
+        package: optional(alloc, table, "package", None)?,
+    })
+}
+
+impl Schema for InheritedDependencyDetail {
+    ghost Content = { Contents.InheritedDependency };
+
+    ghost content = { inherited_content };
+
+    ghost kind = { form inherited_rows };
+
+    fn from_value(alloc: Global, value: &Value) -> Result<InheritedDependencyDetail, ReadFault> {
+        match value {
+            Value::Table(table) => inherited_from(alloc, table),
+            _ => Err(here(alloc, Cause::WrongKind)),
+        }
+    }
+
+    #[tactic(auto, unfolding(manifest_schema::specs::PartForms::inherited_rows))]
+    fn to_value(&self, alloc: Global) -> Result<Value, AllocError> {
+        let mut out = Table::new(alloc);
+        put_optional(alloc, &mut out, "optional", &self.optional)?;
+        put_optional(alloc, &mut out, "features", &self.features)?;
+        put_row(alloc, &mut out, "workspace", &self.workspace)?;
+        Ok(Value::Table(out))
+    }
+
+    ghost lawful = { inherited_lawful };
+}
+
+/// Writes rows 1 to 6, from the last to the first.
+#[tactic(auto, unfolding(manifest_schema::specs::PartForms::detailed_rows))]
+fn put_place(alloc: Global, out: &mut Table, x: &DependencyDetail) -> Result<(), AllocError>
+    ensures { OnOk result (table_view out.new ≡ written_part 0 6 detailed_rows (detail_content x.now) (table_view out.old)) }
+{
+    put_optional(alloc, out, "branch", &x.branch)?;
+    put_optional(alloc, out, "git", &x.git)?;
+    put_optional(alloc, out, "path", &x.path)?;
+    put_optional(alloc, out, "registry-index", &x.registry_index)?;
+    put_optional(alloc, out, "registry", &x.registry)?;
+    put_optional(alloc, out, "version", &x.version)?;
+    Ok(())
+}
+
+/// Writes rows 7 to 12, from the last to the first.
+#[tactic(auto, unfolding(manifest_schema::specs::PartForms::detailed_rows))]
+fn put_choice(alloc: Global, out: &mut Table, x: &DependencyDetail) -> Result<(), AllocError>
+    ensures { OnOk result (table_view out.new ≡ written_part 6 6 detailed_rows (detail_content x.now) (table_view out.old)) }
+{
+    put_optional(alloc, out, "package", &x.package)?;
+    put_optional(alloc, out, "default-features", &x.default_features)?;
+    put_optional(alloc, out, "optional", &x.optional)?;
+    put_optional(alloc, out, "features", &x.features)?;
+    put_optional(alloc, out, "rev", &x.rev)?;
+    put_optional(alloc, out, "tag", &x.tag)?;
+    Ok(())
+}
+
+impl Schema for DependencyDetail {
+    ghost Content = { Contents.DependencyDetail };
+
+    ghost content = { detail_content };
+
+    ghost kind = { form detailed_rows };
+
+    fn from_value(alloc: Global, value: &Value) -> Result<DependencyDetail, ReadFault> {
+        match value {
+            Value::Table(table) => detail_from(alloc, table),
+            _ => Err(here(alloc, Cause::WrongKind)),
+        }
+    }
+
+    #[tactic(auto, unfolding(manifest_schema::specs::PartForms::detailed_rows))]
+    fn to_value(&self, alloc: Global) -> Result<Value, AllocError> {
+        let mut out = Table::new(alloc);
+        put_choice(alloc, &mut out, self)?;
+        put_place(alloc, &mut out, self)?;
+        Ok(Value::Table(out))
+    }
+
+    ghost lawful = { detailed_lawful };
+}
+
+/// Reads a table, by whether its `workspace` is the boolean true.
+fn table_dependency(alloc: Global, table: &Table) -> Result<Dependency, ReadFault>
+    ensures ok { IfOk result (λ x. dependency.reads (data_table (table_view table.now)) (dependency_content x)) }
+    ensures fault { IfErr result (FaultIn (dependency.faulty (data_table (table_view table.now)))) }
+{
+    if has_workspace(table) {
+        match inherited_from(alloc, table) {
+            Ok(detail) => Ok(Dependency::Inherited(detail)),
+            Err(fault) => Err(fault),
+        }
+    } else {
+        match detail_from(alloc, table) {
+            Ok(detail) => Ok(Dependency::Detailed(detail)),
+            Err(fault) => Err(fault),
+        }
+    }
+}
+
+impl Schema for Dependency {
+    ghost Content = { Contents.Dependency };
+
+    ghost content = { dependency_content };
+
+    ghost kind = { dependency };
+
+    fn from_value(alloc: Global, value: &Value) -> Result<Dependency, ReadFault> {
+        match value {
+            Value::String(s) => Ok(Dependency::Simple(String::from_str(alloc, s.as_str())?)),
+            Value::Table(table) => table_dependency(alloc, table),
+            Value::Integer(_) => Err(here(alloc, Cause::WrongKind)),
+            Value::Float(_) => Err(here(alloc, Cause::WrongKind)),
+            Value::Boolean(_) => Err(here(alloc, Cause::WrongKind)),
+            Value::Datetime(_) => Err(here(alloc, Cause::WrongKind)),
+            Value::Array(_) => Err(here(alloc, Cause::WrongKind)),
+        }
+    }
+
+    fn to_value(&self, alloc: Global) -> Result<Value, AllocError> {
+        match self {
+            Dependency::Simple(s) => Value::string(alloc, s.as_str()),
+            Dependency::Inherited(detail) => detail.to_value(alloc),
+            Dependency::Detailed(detail) => detail.to_value(alloc),
+        }
+    }
+
+    ghost lawful = { dependency_lawful };
+}
+
+/// Nothing but the word that the workspace lends it.
+impl Default for InheritedDependencyDetail {
+    ghost is_default = { λ x. inherited_content x ≡ record { features = None; «optional» = None } };
+
+    fn default() -> InheritedDependencyDetail {
+        InheritedDependencyDetail {
+            workspace: True,
+            features: None,
+            optional: None,
+        }
+    }
+}
+
+/// No field at all.
+impl Default for DependencyDetail {
+    ghost is_default = { λ x. detail_content x ≡ no_detail };
+
+    fn default() -> DependencyDetail {
+        DependencyDetail {
+            version: None,
+            registry: None,
+            registry_index: None,
+            path: None,
+            git: None,
+            branch: None,
+            tag: None,
+            rev: None,
+            features: None,
+            optional: None,
+            default_features: None,
+            package: None,
+        }
+    }
+}

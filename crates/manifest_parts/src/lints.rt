@@ -1,0 +1,183 @@
+//! Lints.
+
+ghost use Rattle.std.specs.Prelude.{◌≡◌, IfOk, IfErr};
+ghost use Rattle.toml.specs.Data.{table as data_table};
+ghost use Rattle.toml.specs.View.{view, table_view};
+ghost use Rattle.manifest_schema.specs.Forms.{form};
+ghost use Rattle.manifest_schema.specs.Contents;
+ghost use Rattle.manifest_schema.specs.PartForms.{lint_rows, lint, lints_rows};
+ghost use Rattle.manifest_schema.proofs.PartLaws.{lint_config_lawful, lint_lawful, lints_lawful};
+ghost use Rattle.manifest_value.specs.Faults.{FaultIn};
+ghost use Rattle.manifest_parts.specs.Records.{lint_config_content, lint_content, lints_content};
+ghost use Rattle.manifest_parts.specs.Refusals.{RefusedIn};
+
+use crate::choices::LintLevel;
+use crate::error::{Error, read};
+use crate::inherited::True;
+use manifest_value::fault::here;
+use manifest_value::maps::entries_table;
+use manifest_value::others::others_of;
+use manifest_value::rows::{optional, or_default, put_optional, put_row, required};
+use manifest_value::{Cause, ReadFault, Schema};
+use std::alloc::{AllocError, Global};
+use std::collections::BTreeMap;
+use toml::{Table, Value};
+
+/// A lint's level and its priority. See the
+/// [Cargo reference](https://doc.rust-lang.org/cargo/reference/manifest.html#the-lints-section).
+#[derive(Clone, Debug, PartialEq, Eq, Drop)]
+pub struct LintConfig {
+    pub level: LintLevel,
+    /// Where levels overlap, the lint with the higher priority wins; 0 where none is given.
+    pub priority: i8,
+}
+
+/// A lint: a level, or a level with a priority.
+#[derive(Clone, Debug, PartialEq, Eq, Drop)]
+pub enum Lint {
+    Level(LintLevel),
+    Config(LintConfig),
+}
+
+/// The lints of a package, by tool and by lint, or the word that the workspace lends them. No tool may be named
+/// `workspace`.
+#[derive(Debug, PartialEq, Eq, Drop)]
+pub struct MaybeInheritedLintsSet {
+    pub workspace: Option<True>,
+    pub lints: BTreeMap<String, BTreeMap<String, Lint>>,
+}
+
+impl LintConfig {
+    /// The one reading of the value by the form of a lint. Refuses a value that is no table with `WrongKind`, and else
+    /// with the fault of a row.
+    pub fn from_value(alloc: Global, value: &Value) -> Result<LintConfig, Error>
+        ensures ok { IfOk result (λ x. (form lint_rows).reads (view value.now) (lint_config_content x)) }
+        ensures refused { IfErr result (RefusedIn ((form lint_rows).faulty (view value.now))) }
+    {
+        read(alloc, value)
+    }
+}
+
+impl Lint {
+    /// The one reading of the value: a text is a level, a table a level with a priority. Refuses any other value with
+    /// `WrongKind`, and else with the fault of the level or of a row.
+    pub fn from_value(alloc: Global, value: &Value) -> Result<Lint, Error>
+        ensures ok { IfOk result (λ x. lint.reads (view value.now) (lint_content x)) }
+        ensures refused { IfErr result (RefusedIn (lint.faulty (view value.now))) }
+    {
+        read(alloc, value)
+    }
+}
+
+impl MaybeInheritedLintsSet {
+    /// The one reading of the value by the form of lints: every key but `workspace` is a tool. Refuses a value that is no
+    /// table with `WrongKind`, and else with the fault of a row or of a tool.
+    pub fn from_value(alloc: Global, value: &Value) -> Result<MaybeInheritedLintsSet, Error>
+        ensures ok { IfOk result (λ x. (form lints_rows).reads (view value.now) (lints_content x)) }
+        ensures refused { IfErr result (RefusedIn ((form lints_rows).faulty (view value.now))) }
+    {
+        read(alloc, value)
+    }
+}
+
+/// Reads the rows of a table.
+#[tactic(auto, unfolding(manifest_schema::specs::PartForms::lint_rows))]
+fn lint_config_from(alloc: Global, table: &Table) -> Result<LintConfig, ReadFault>
+    ensures ok { IfOk result (λ x. (form lint_rows).reads (data_table (table_view table.now)) (lint_config_content x)) }
+    ensures fault { IfErr result (FaultIn ((form lint_rows).faulty (data_table (table_view table.now)))) }
+{
+    Ok(LintConfig {
+        level: required(alloc, table, "level", None)?,
+        priority: or_default(alloc, table, "priority", None, 0)?,
+    })
+}
+
+impl Schema for LintConfig {
+    ghost Content = { Contents.LintConfig };
+
+    ghost content = { lint_config_content };
+
+    ghost kind = { form lint_rows };
+
+    fn from_value(alloc: Global, value: &Value) -> Result<LintConfig, ReadFault> {
+        match value {
+            Value::Table(table) => lint_config_from(alloc, table),
+            _ => Err(here(alloc, Cause::WrongKind)),
+        }
+    }
+
+    #[tactic(auto, unfolding(manifest_schema::specs::PartForms::lint_rows))]
+    fn to_value(&self, alloc: Global) -> Result<Value, AllocError> {
+        let mut out = Table::new(alloc);
+        put_row(alloc, &mut out, "priority", &self.priority)?;
+        put_row(alloc, &mut out, "level", &self.level)?;
+        Ok(Value::Table(out))
+    }
+
+    ghost lawful = { lint_config_lawful };
+}
+
+impl Schema for Lint {
+    ghost Content = { Contents.Lint };
+
+    ghost content = { lint_content };
+
+    ghost kind = { lint };
+
+    fn from_value(alloc: Global, value: &Value) -> Result<Lint, ReadFault> {
+        match value {
+            Value::String(_) => Ok(Lint::Level(Schema::from_value(alloc, value)?)),
+            Value::Table(table) => Ok(Lint::Config(lint_config_from(alloc, table)?)),
+            Value::Integer(_) => Err(here(alloc, Cause::WrongKind)),
+            Value::Float(_) => Err(here(alloc, Cause::WrongKind)),
+            Value::Boolean(_) => Err(here(alloc, Cause::WrongKind)),
+            Value::Datetime(_) => Err(here(alloc, Cause::WrongKind)),
+            Value::Array(_) => Err(here(alloc, Cause::WrongKind)),
+        }
+    }
+
+    fn to_value(&self, alloc: Global) -> Result<Value, AllocError> {
+        match self {
+            Lint::Level(level) => level.to_value(alloc),
+            Lint::Config(config) => config.to_value(alloc),
+        }
+    }
+
+    ghost lawful = { lint_lawful };
+}
+
+/// Reads the rows of a table.
+#[tactic(auto, unfolding(manifest_schema::specs::PartForms::lints_rows))]
+fn lints_from(alloc: Global, table: &Table) -> Result<MaybeInheritedLintsSet, ReadFault>
+    ensures ok { IfOk result (λ x. (form lints_rows).reads (data_table (table_view table.now)) (lints_content x)) }
+    ensures fault { IfErr result (FaultIn ((form lints_rows).faulty (data_table (table_view table.now)))) }
+{
+    Ok(MaybeInheritedLintsSet {
+        workspace: optional(alloc, table, "workspace", None)?,
+        lints: others_of(alloc, table, &["workspace"])?,
+    })
+}
+
+impl Schema for MaybeInheritedLintsSet {
+    ghost Content = { Contents.Lints };
+
+    ghost content = { lints_content };
+
+    ghost kind = { form lints_rows };
+
+    fn from_value(alloc: Global, value: &Value) -> Result<MaybeInheritedLintsSet, ReadFault> {
+        match value {
+            Value::Table(table) => lints_from(alloc, table),
+            _ => Err(here(alloc, Cause::WrongKind)),
+        }
+    }
+
+    #[tactic(auto, unfolding(manifest_schema::specs::PartForms::lints_rows))]
+    fn to_value(&self, alloc: Global) -> Result<Value, AllocError> {
+        let mut out = entries_table(alloc, &self.lints)?;
+        put_optional(alloc, &mut out, "workspace", &self.workspace)?;
+        Ok(Value::Table(out))
+    }
+
+    ghost lawful = { lints_lawful };
+}

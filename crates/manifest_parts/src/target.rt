@@ -1,0 +1,97 @@
+//! What a manifest adds for one platform.
+
+ghost use Rattle.std.specs.Prelude.{◌≡◌, IfOk, IfErr};
+ghost use Rattle.toml.specs.Data.{table as data_table};
+ghost use Rattle.toml.specs.View.{view, table_view};
+ghost use Rattle.manifest_schema.specs.Forms.{form};
+ghost use Rattle.manifest_schema.specs.Contents;
+ghost use Rattle.manifest_schema.specs.PartForms.{platform_rows};
+ghost use Rattle.manifest_schema.proofs.PartLaws.{platform_lawful};
+ghost use Rattle.manifest_value.specs.Faults.{FaultIn};
+ghost use Rattle.manifest_parts.specs.Records.{platform_content};
+ghost use Rattle.manifest_parts.specs.Refusals.{RefusedIn};
+
+use crate::dependency::Dependency;
+use crate::error::{Error, read};
+use manifest_value::fault::here;
+use manifest_value::rows::{or_default, put_row};
+use manifest_value::{Cause, ReadFault, Schema};
+use std::alloc::{AllocError, Global};
+use std::collections::BTreeMap;
+use toml::{Table, Value};
+
+/// The dependencies that are added for one platform. See the
+/// [Cargo reference](https://doc.rust-lang.org/cargo/reference/specifying-dependencies.html#platform-specific-dependencies).
+#[derive(Debug, PartialEq, Eq, Drop)]
+pub struct Target {
+    pub dependencies: BTreeMap<String, Dependency>,
+    pub dev_dependencies: BTreeMap<String, Dependency>,
+    pub build_dependencies: BTreeMap<String, Dependency>,
+}
+
+impl Target {
+    /// The one reading of the value by the form of a platform. Refuses a value that is no table with `WrongKind`, and else
+    /// with the fault of a row.
+    pub fn from_value(alloc: Global, value: &Value) -> Result<Target, Error>
+        ensures ok { IfOk result (λ x. (form platform_rows).reads (view value.now) (platform_content x)) }
+        ensures refused { IfErr result (RefusedIn ((form platform_rows).faulty (view value.now))) }
+    {
+        read(alloc, value)
+    }
+}
+
+/// Reads the rows of a table.
+#[tactic(auto, unfolding(manifest_schema::specs::PartForms::platform_rows))]
+fn platform_from(alloc: Global, table: &Table) -> Result<Target, ReadFault>
+    ensures ok { IfOk result (λ x. (form platform_rows).reads (data_table (table_view table.now)) (platform_content x)) }
+    ensures fault { IfErr result (FaultIn ((form platform_rows).faulty (data_table (table_view table.now)))) }
+{
+    Ok(Target {
+        dependencies: or_default(alloc, table, "dependencies", None, BTreeMap::new(alloc))?,
+        dev_dependencies: or_default(
+            alloc,
+            table,
+            "dev-dependencies",
+            Some("dev_dependencies"),
+            BTreeMap::new(alloc),
+        )?,
+        build_dependencies: or_default(
+            alloc,
+            table,
+            "build-dependencies",
+            Some("build_dependencies"),
+            BTreeMap::new(alloc),
+        )?,
+    })
+}
+
+impl Schema for Target {
+    ghost Content = { Contents.Platform };
+
+    ghost content = { platform_content };
+
+    ghost kind = { form platform_rows };
+
+    fn from_value(alloc: Global, value: &Value) -> Result<Target, ReadFault> {
+        match value {
+            Value::Table(table) => platform_from(alloc, table),
+            _ => Err(here(alloc, Cause::WrongKind)),
+        }
+    }
+
+    #[tactic(auto, unfolding(manifest_schema::specs::PartForms::platform_rows))]
+    fn to_value(&self, alloc: Global) -> Result<Value, AllocError> {
+        let mut out = Table::new(alloc);
+        put_row(
+            alloc,
+            &mut out,
+            "build-dependencies",
+            &self.build_dependencies,
+        )?;
+        put_row(alloc, &mut out, "dev-dependencies", &self.dev_dependencies)?;
+        put_row(alloc, &mut out, "dependencies", &self.dependencies)?;
+        Ok(Value::Table(out))
+    }
+
+    ghost lawful = { platform_lawful };
+}
