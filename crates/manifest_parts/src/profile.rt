@@ -1,6 +1,6 @@
 //! A profile.
 
-ghost use Rattle.std.specs.Prelude.{◌≡◌, [], IfOk, IfErr, OnOk};
+ghost use Rattle.std.specs.Prelude.{◌≡◌, IfOk, IfErr, OnOk};
 ghost use Rattle.toml.specs.Data.{table as data_table};
 ghost use Rattle.toml.specs.View.{view, table_view};
 ghost use Rattle.manifest_schema.specs.Forms.{form, first_fit, written_part};
@@ -78,9 +78,9 @@ fn profile_from(alloc: Global, table: &Table) -> Result<Profile, ReadFault>
     }
 }
 
-/// Reads all rows of a profile whose maps are empty.
+/// Reads all rows.
 fn fill_profile(alloc: Global, table: &Table, x: &mut Profile) -> Result<(), ReadFault>
-    ensures ok { OnOk result ((profile_content x.old).package ≡ [] → first_fit 14 profile_rows (table_view table.now) (profile_content x.new)) }
+    ensures ok { OnOk result (first_fit 14 profile_rows (table_view table.now) (profile_content x.new)) }
     ensures fault { IfErr result (FaultIn ((form profile_rows).faulty (data_table (table_view table.now)))) }
 {
     fill_building(alloc, table, x)?;
@@ -92,7 +92,6 @@ fn fill_profile(alloc: Global, table: &Table, x: &mut Profile) -> Result<(), Rea
 #[tactic(auto, unfolding(manifest_schema::specs::PartForms::profile_rows))]
 fn fill_building(alloc: Global, table: &Table, x: &mut Profile) -> Result<(), ReadFault>
     ensures ok { OnOk result (first_fit 7 profile_rows (table_view table.now) (profile_content x.new)) }
-    ensures map { OnOk result ((profile_content x.new).package ≡ (profile_content x.old).package) }
     ensures fault { IfErr result (FaultIn ((form profile_rows).faulty (data_table (table_view table.now)))) }
 {
     fill(
@@ -126,7 +125,7 @@ fn fill_building(alloc: Global, table: &Table, x: &mut Profile) -> Result<(), Re
 /// Reads rows 8 to 14.
 #[tactic(auto, unfolding(manifest_schema::specs::PartForms::profile_rows))]
 fn fill_output(alloc: Global, table: &Table, x: &mut Profile) -> Result<(), ReadFault>
-    ensures ok { OnOk result ((profile_content x.old).package ≡ [] → first_fit 7 profile_rows (table_view table.now) (profile_content x.old) → first_fit 14 profile_rows (table_view table.now) (profile_content x.new)) }
+    ensures ok { OnOk result (first_fit 7 profile_rows (table_view table.now) (profile_content x.old) → first_fit 14 profile_rows (table_view table.now) (profile_content x.new)) }
     ensures fault { IfErr result (FaultIn ((form profile_rows).faulty (data_table (table_view table.now)))) }
 {
     fill(alloc, table, "panic", None, &mut x.panic)?;
@@ -139,7 +138,14 @@ fn fill_output(alloc: Global, table: &Table, x: &mut Profile) -> Result<(), Read
         &mut x.overflow_checks,
     )?;
     fill(alloc, table, "strip", None, &mut x.strip)?;
-    fill_default(alloc, table, "package", None, &mut x.package)?;
+    fill_default(
+        alloc,
+        table,
+        "package",
+        None,
+        BTreeMap::new(alloc),
+        &mut x.package,
+    )?;
     fill(
         alloc,
         table,

@@ -112,21 +112,20 @@ pub fn fill<T: Schema>(
     Ok(())
 }
 
-/// Reads a row into its place, where the value that stands for its absence is.
+/// Reads a row into its place, or else the value that stands for its absence.
 pub fn fill_default<T: Schema>(
     alloc: Global,
     table: &Table,
     first: &'static str,
     second: Option<&'static str>,
+    default: T,
     place: &mut T,
 ) -> Result<(), ReadFault>
-    ensures ok { OnOk result (meets_default (T.content place.old) T.kind (at (spellings_of first.now (option_copied second.entry)) (table_view table.now)) (T.content place.new)) }
+    ensures ok { OnOk result (meets_default (T.content default) T.kind (at (spellings_of first.now (option_copied second.entry)) (table_view table.now)) (T.content place.new)) }
     ensures fault { let spellings = spellings_of first.now (option_copied second.entry) in
         IfErr result (FaultIn (faulty_free spellings T.kind (at spellings (table_view table.now)))) }
 {
-    if let Some(x) = optional(alloc, table, first, second)? {
-        *place = x;
-    }
+    *place = or_default(alloc, table, first, second, default)?;
     Ok(())
 }
 
