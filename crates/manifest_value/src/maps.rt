@@ -22,7 +22,10 @@ fn entries_of<T: Schema>(alloc: Global, table: &Table) -> Result<BTreeMap<String
 }
 
 /// The table of a map.
-pub fn entries_table<T: Schema>(alloc: Global, map: &BTreeMap<String, T>) -> Result<Table, AllocError>
+pub fn entries_table<T: Schema>(
+    alloc: Global,
+    map: &BTreeMap<String, T>,
+) -> Result<Table, AllocError>
     ensures { IfOk result (λ t. table_view t ≡ written_entries T.kind (entries_content T.content map.now.entries)) }
 {
     let mut all = Table::new(alloc);

@@ -42,7 +42,7 @@ loop-key-preserved-then-not-is_named g c =
       done ++ e ∷ [],
       all ∙ sym (append_assoc done (e ∷ []) left),
       rw (members_view-last done c.in-Some.key.now c.in-Some.value.now, without-last_in names (members_view done) (string_bytes e.0) (view e.1) new, now)
-        (reads_last g.T.Schema.kind g.T.Schema.content (without names (members_view done)) c.loop-key.all.entries (string_bytes e.0) (view e.1) (c.in_ok-name.name, c.in_ok-x.x) read (sym named) c.in_ok-x.ensures.ok),
+          (reads_last g.T.Schema.kind g.T.Schema.content (without names (members_view done)) c.loop-key.all.entries (string_bytes e.0) (view e.1) (c.in_ok-name.name, c.in_ok-x.x) read (sym named) c.in_ok-x.ensures.ok),
     )
 
 pub loop-key-preserved : goal.loop-key-preserved

@@ -1,0 +1,23 @@
+//! Cargo manifests: read from bytes, and written as their one canonical table.
+#![tactic(auto)]
+
+pub mod manifest;
+pub mod package;
+pub mod profiles;
+pub mod workspace;
+
+pub use manifest::Manifest;
+pub use manifest_parts::{
+    Badge, Badges, Dependency, DependencyDetail, DepsSet, Edition, Error, FeatureSet,
+    InheritedDependencyDetail, Lint, LintConfig, LintLevel, LintsSet, Maintenance,
+    MaintenanceStatus, MaybeInherited, MaybeInheritedLintsSet, ParseFault, PatchSet, Product,
+    Profile, Publish, Resolver, StringOrBool, StripSetting, Target, TargetDepsSet, ToolLintsSet,
+    True,
+};
+pub use manifest_value::{
+    Cause, KeyPath, Metadata, Plain, ReadFault, Schema, SchemaFault, Step,
+};
+pub use package::Package;
+pub use profiles::Profiles;
+pub use toml::Value;
+pub use workspace::{Workspace, WorkspacePackage};

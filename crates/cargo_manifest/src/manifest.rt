@@ -1,0 +1,211 @@
+//! A manifest.
+
+ghost use Rattle.std.specs.Prelude.{◌≡◌, IfOk, IfErr, OnOk};
+ghost use Rattle.toml.specs.Data.{table as data_table};
+ghost use Rattle.toml.specs.View.{view, table_view};
+ghost use Rattle.manifest_schema.specs.Forms.{form, first_fit, written_part};
+ghost use Rattle.manifest_schema.specs.Kinds.{tree_of};
+ghost use Rattle.manifest_schema.specs.Contents;
+ghost use Rattle.manifest_schema.specs.ManifestForms.{manifest_rows};
+ghost use Rattle.manifest_schema.proofs.KindLaws.{tree_lawful};
+ghost use Rattle.manifest_schema.proofs.ManifestLaws.{manifest_lawful};
+ghost use Rattle.manifest_value.specs.Faults.{FaultIn};
+ghost use Rattle.manifest_parts.specs.Refusals.{RefusedIn};
+ghost use Rattle.cargo_manifest.specs.Whole.{manifest_content};
+use crate::package::Package;
+use crate::profiles::Profiles;
+use crate::workspace::Workspace;
+use manifest_parts::error::{Error, read};
+use manifest_parts::{Badges, DepsSet, FeatureSet, MaybeInheritedLintsSet, PatchSet, Product, TargetDepsSet};
+use manifest_value::fault::here;
+use manifest_value::rows::{fill, fill_default, put_optional, put_unless};
+use manifest_value::{Cause, Metadata, ReadFault, Schema};
+use std::alloc::{AllocError, Global};
+use toml::{Table, Value};
+
+/// What a `Cargo.toml` says; `P` and `W` are the types of the metadata of its package and of its workspace. See the
+/// [Cargo reference](https://doc.rust-lang.org/cargo/reference/manifest.html).
+#[derive(Debug, PartialEq, Drop)]
+pub struct Manifest<P = Value, W = Value> {
+    pub package: Option<Package<P>>,
+    pub cargo_features: Option<Vec<String>>,
+    pub workspace: Option<Workspace<W>>,
+    pub dependencies: Option<DepsSet>,
+    pub dev_dependencies: Option<DepsSet>,
+    pub build_dependencies: Option<DepsSet>,
+    pub target: Option<TargetDepsSet>,
+    pub features: Option<FeatureSet>,
+    pub bin: Vec<Product>,
+    pub bench: Vec<Product>,
+    pub test: Vec<Product>,
+    pub example: Vec<Product>,
+    pub patch: Option<PatchSet>,
+    pub lib: Option<Product>,
+    pub profile: Option<Profiles>,
+    pub badges: Option<Badges>,
+    pub lints: Option<MaybeInheritedLintsSet>,
+}
+
+impl<P: Metadata, W: Metadata> Manifest<P, W> {
+    /// The one reading of the value by the form of a manifest, without old headers. Refuses a value that is no table with
+    /// `WrongKind`, and else with the fault of a row, its key path beginning at the table.
+    pub fn from_value(alloc: Global, value: &Value) -> Result<Manifest<P, W>, Error>
+        ensures ok { IfOk result (λ x. (form (manifest_rows (tree_of P.kind) (tree_of W.kind))).reads (view value.now) (manifest_content (λ m. P.kind.written (P.content m)) (λ m. W.kind.written (W.content m)) x)) }
+        ensures refused { IfErr result (RefusedIn ((form (manifest_rows (tree_of P.kind) (tree_of W.kind))).faulty (view value.now))) }
+    {
+        read(alloc, value)
+    }
+}
+
+/// Reads the rows of a table.
+#[tactic(auto, unfolding(manifest_schema::specs::ManifestForms::manifest_rows))]
+pub(crate) fn manifest_from<P: Metadata, W: Metadata>(alloc: Global, table: &Table) -> Result<Manifest<P, W>, ReadFault>
+    ensures ok { IfOk result (λ x. (form (manifest_rows (tree_of P.kind) (tree_of W.kind))).reads (data_table (table_view table.now)) (manifest_content (λ m. P.kind.written (P.content m)) (λ m. W.kind.written (W.content m)) x)) }
+    ensures fault { IfErr result (FaultIn ((form (manifest_rows (tree_of P.kind) (tree_of W.kind))).faulty (data_table (table_view table.now)))) }
+{
+    let mut x = Manifest {
+        package: None,
+        cargo_features: None,
+        workspace: None,
+        dependencies: None,
+        dev_dependencies: None,
+        build_dependencies: None,
+        target: None,
+        features: None,
+        bin: Vec::new(alloc),
+        bench: Vec::new(alloc),
+        test: Vec::new(alloc),
+        example: Vec::new(alloc),
+        patch: None,
+        lib: None,
+        profile: None,
+        badges: None,
+        lints: None,
+    };
+    match fill_manifest(alloc, table, &mut x) {
+        Ok(()) => Ok(x),
+        Err(fault) => Err(fault),
+    }
+}
+
+/// Reads all rows.
+fn fill_manifest<P: Metadata, W: Metadata>(alloc: Global, table: &Table, x: &mut Manifest<P, W>) -> Result<(), ReadFault>
+    ensures ok { OnOk result (first_fit 17 (manifest_rows (tree_of P.kind) (tree_of W.kind)) (table_view table.now) (manifest_content (λ m. P.kind.written (P.content m)) (λ m. W.kind.written (W.content m)) x.new)) }
+    ensures fault { IfErr result (FaultIn ((form (manifest_rows (tree_of P.kind) (tree_of W.kind))).faulty (data_table (table_view table.now)))) }
+{
+    fill_header(alloc, table, x)?;
+    fill_features(alloc, table, x)?;
+    fill_settings(alloc, table, x)?;
+    Ok(())
+}
+
+/// Reads rows 1 to 6.
+#[tactic(auto, unfolding(manifest_schema::specs::ManifestForms::manifest_rows))]
+fn fill_header<P: Metadata, W: Metadata>(alloc: Global, table: &Table, x: &mut Manifest<P, W>) -> Result<(), ReadFault>
+    ensures ok { OnOk result (first_fit 6 (manifest_rows (tree_of P.kind) (tree_of W.kind)) (table_view table.now) (manifest_content (λ m. P.kind.written (P.content m)) (λ m. W.kind.written (W.content m)) x.new)) }
+    ensures fault { IfErr result (FaultIn ((form (manifest_rows (tree_of P.kind) (tree_of W.kind))).faulty (data_table (table_view table.now)))) }
+{
+    fill(alloc, table, "package", None, &mut x.package)?;
+    fill(alloc, table, "cargo-features", None, &mut x.cargo_features)?;
+    fill(alloc, table, "workspace", None, &mut x.workspace)?;
+    fill(alloc, table, "dependencies", None, &mut x.dependencies)?;
+    fill(alloc, table, "dev-dependencies", Some("dev_dependencies"), &mut x.dev_dependencies)?;
+    fill(alloc, table, "build-dependencies", Some("build_dependencies"), &mut x.build_dependencies)?;
+    Ok(())
+}
+
+/// Reads rows 7 to 12.
+#[tactic(auto, unfolding(manifest_schema::specs::ManifestForms::manifest_rows))]
+fn fill_features<P: Metadata, W: Metadata>(alloc: Global, table: &Table, x: &mut Manifest<P, W>) -> Result<(), ReadFault>
+    ensures ok { OnOk result (first_fit 6 (manifest_rows (tree_of P.kind) (tree_of W.kind)) (table_view table.now) (manifest_content (λ m. P.kind.written (P.content m)) (λ m. W.kind.written (W.content m)) x.old) → first_fit 12 (manifest_rows (tree_of P.kind) (tree_of W.kind)) (table_view table.now) (manifest_content (λ m. P.kind.written (P.content m)) (λ m. W.kind.written (W.content m)) x.new)) }
+    ensures fault { IfErr result (FaultIn ((form (manifest_rows (tree_of P.kind) (tree_of W.kind))).faulty (data_table (table_view table.now)))) }
+{
+    fill(alloc, table, "target", None, &mut x.target)?;
+    fill(alloc, table, "features", None, &mut x.features)?;
+    fill_default(alloc, table, "bin", None, Vec::new(alloc), &mut x.bin)?;
+    fill_default(alloc, table, "bench", None, Vec::new(alloc), &mut x.bench)?;
+    fill_default(alloc, table, "test", None, Vec::new(alloc), &mut x.test)?;
+    fill_default(alloc, table, "example", None, Vec::new(alloc), &mut x.example)?;
+    Ok(())
+}
+
+/// Reads rows 13 to 17.
+#[tactic(auto, unfolding(manifest_schema::specs::ManifestForms::manifest_rows))]
+fn fill_settings<P: Metadata, W: Metadata>(alloc: Global, table: &Table, x: &mut Manifest<P, W>) -> Result<(), ReadFault>
+    ensures ok { OnOk result (first_fit 12 (manifest_rows (tree_of P.kind) (tree_of W.kind)) (table_view table.now) (manifest_content (λ m. P.kind.written (P.content m)) (λ m. W.kind.written (W.content m)) x.old) → first_fit 17 (manifest_rows (tree_of P.kind) (tree_of W.kind)) (table_view table.now) (manifest_content (λ m. P.kind.written (P.content m)) (λ m. W.kind.written (W.content m)) x.new)) }
+    ensures fault { IfErr result (FaultIn ((form (manifest_rows (tree_of P.kind) (tree_of W.kind))).faulty (data_table (table_view table.now)))) }
+{
+    fill(alloc, table, "patch", None, &mut x.patch)?;
+    fill(alloc, table, "lib", None, &mut x.lib)?;
+    fill(alloc, table, "profile", None, &mut x.profile)?;
+    fill(alloc, table, "badges", None, &mut x.badges)?;
+    fill(alloc, table, "lints", None, &mut x.lints)?;
+    Ok(())
+}
+
+/// Writes rows 1 to 6, from the last to the first.
+#[tactic(auto, unfolding(manifest_schema::specs::ManifestForms::manifest_rows))]
+fn put_header<P: Metadata, W: Metadata>(alloc: Global, out: &mut Table, x: &Manifest<P, W>) -> Result<(), AllocError>
+    ensures { OnOk result (table_view out.new ≡ written_part 0 6 (manifest_rows (tree_of P.kind) (tree_of W.kind)) (manifest_content (λ m. P.kind.written (P.content m)) (λ m. W.kind.written (W.content m)) x.now) (table_view out.old)) }
+{
+    put_optional(alloc, out, "build-dependencies", &x.build_dependencies)?;
+    put_optional(alloc, out, "dev-dependencies", &x.dev_dependencies)?;
+    put_optional(alloc, out, "dependencies", &x.dependencies)?;
+    put_optional(alloc, out, "workspace", &x.workspace)?;
+    put_optional(alloc, out, "cargo-features", &x.cargo_features)?;
+    put_optional(alloc, out, "package", &x.package)?;
+    Ok(())
+}
+
+/// Writes rows 7 to 12, from the last to the first.
+#[tactic(auto, unfolding(manifest_schema::specs::ManifestForms::manifest_rows))]
+fn put_features<P: Metadata, W: Metadata>(alloc: Global, out: &mut Table, x: &Manifest<P, W>) -> Result<(), AllocError>
+    ensures { OnOk result (table_view out.new ≡ written_part 6 6 (manifest_rows (tree_of P.kind) (tree_of W.kind)) (manifest_content (λ m. P.kind.written (P.content m)) (λ m. W.kind.written (W.content m)) x.now) (table_view out.old)) }
+{
+    put_unless(alloc, out, "example", x.example.is_empty(), &x.example)?;
+    put_unless(alloc, out, "test", x.test.is_empty(), &x.test)?;
+    put_unless(alloc, out, "bench", x.bench.is_empty(), &x.bench)?;
+    put_unless(alloc, out, "bin", x.bin.is_empty(), &x.bin)?;
+    put_optional(alloc, out, "features", &x.features)?;
+    put_optional(alloc, out, "target", &x.target)?;
+    Ok(())
+}
+
+/// Writes rows 13 to 17, from the last to the first.
+#[tactic(auto, unfolding(manifest_schema::specs::ManifestForms::manifest_rows))]
+fn put_settings<P: Metadata, W: Metadata>(alloc: Global, out: &mut Table, x: &Manifest<P, W>) -> Result<(), AllocError>
+    ensures { OnOk result (table_view out.new ≡ written_part 12 5 (manifest_rows (tree_of P.kind) (tree_of W.kind)) (manifest_content (λ m. P.kind.written (P.content m)) (λ m. W.kind.written (W.content m)) x.now) (table_view out.old)) }
+{
+    put_optional(alloc, out, "lints", &x.lints)?;
+    put_optional(alloc, out, "badges", &x.badges)?;
+    put_optional(alloc, out, "profile", &x.profile)?;
+    put_optional(alloc, out, "lib", &x.lib)?;
+    put_optional(alloc, out, "patch", &x.patch)?;
+    Ok(())
+}
+
+impl<P: Metadata, W: Metadata> Schema for Manifest<P, W> {
+    ghost Content = { Contents.Manifest };
+
+    ghost content = { manifest_content (λ m. P.kind.written (P.content m)) (λ m. W.kind.written (W.content m)) };
+
+    ghost kind = { form (manifest_rows (tree_of P.kind) (tree_of W.kind)) };
+
+    fn from_value(alloc: Global, value: &Value) -> Result<Manifest<P, W>, ReadFault> {
+        match value {
+            Value::Table(table) => manifest_from(alloc, table),
+            _ => Err(here(alloc, Cause::WrongKind)),
+        }
+    }
+
+    #[tactic(auto, unfolding(manifest_schema::specs::ManifestForms::manifest_rows))]
+    fn to_value(&self, alloc: Global) -> Result<Value, AllocError> {
+        let mut out = Table::new(alloc);
+        put_settings(alloc, &mut out, self)?;
+        put_features(alloc, &mut out, self)?;
+        put_header(alloc, &mut out, self)?;
+        Ok(Value::Table(out))
+    }
+
+    ghost lawful = { manifest_lawful (tree_of P.kind) (tree_of W.kind) (tree_lawful P.lawful) (tree_lawful W.lawful) };
+}

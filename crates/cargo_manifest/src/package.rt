@@ -1,0 +1,252 @@
+//! The package of a manifest.
+
+ghost use Rattle.std.specs.Prelude.{◌≡◌, IfOk, IfErr, OnOk};
+ghost use Rattle.toml.specs.Data.{table as data_table};
+ghost use Rattle.toml.specs.View.{view, table_view};
+ghost use Rattle.manifest_schema.specs.Forms.{form, first_fit, written_part};
+ghost use Rattle.manifest_schema.specs.Kinds.{tree_of};
+ghost use Rattle.manifest_schema.specs.Contents;
+ghost use Rattle.manifest_schema.specs.ManifestForms.{package_rows};
+ghost use Rattle.manifest_schema.proofs.KindLaws.{tree_lawful};
+ghost use Rattle.manifest_schema.proofs.ManifestLaws.{package_lawful};
+ghost use Rattle.manifest_value.specs.Faults.{FaultIn};
+ghost use Rattle.manifest_parts.specs.Refusals.{RefusedIn};
+ghost use Rattle.cargo_manifest.specs.Whole.{package_content};
+use manifest_parts::error::{Error, read};
+use manifest_parts::{Edition, MaybeInherited, Publish, Resolver, StringOrBool};
+use manifest_value::fault::here;
+use manifest_value::metadata::{fill_tree, put_tree};
+use manifest_value::rows::{fill, put_optional, put_row, required};
+use manifest_value::{Cause, Metadata, ReadFault, Schema};
+use std::alloc::{AllocError, Global};
+use toml::{Table, Value};
+
+/// The package of a manifest; `M` is the type of its metadata. See the
+/// [Cargo reference](https://doc.rust-lang.org/cargo/reference/manifest.html#the-package-section).
+#[derive(Debug, PartialEq, Drop)]
+pub struct Package<M = Value> {
+    pub name: String,
+    pub edition: Option<MaybeInherited<Edition>>,
+    pub version: Option<MaybeInherited<String>>,
+    pub build: Option<StringOrBool>,
+    pub workspace: Option<String>,
+    pub authors: Option<MaybeInherited<Vec<String>>>,
+    pub links: Option<String>,
+    pub description: Option<MaybeInherited<String>>,
+    pub homepage: Option<MaybeInherited<String>>,
+    pub documentation: Option<MaybeInherited<String>>,
+    pub readme: Option<MaybeInherited<StringOrBool>>,
+    pub keywords: Option<MaybeInherited<Vec<String>>>,
+    pub categories: Option<MaybeInherited<Vec<String>>>,
+    pub license: Option<MaybeInherited<String>>,
+    pub license_file: Option<MaybeInherited<String>>,
+    pub repository: Option<MaybeInherited<String>>,
+    pub metadata: Option<M>,
+    pub rust_version: Option<MaybeInherited<String>>,
+    pub exclude: Option<MaybeInherited<Vec<String>>>,
+    pub include: Option<MaybeInherited<Vec<String>>>,
+    pub default_run: Option<String>,
+    pub autolib: Option<bool>,
+    pub autobins: Option<bool>,
+    pub autoexamples: Option<bool>,
+    pub autotests: Option<bool>,
+    pub autobenches: Option<bool>,
+    pub publish: Option<MaybeInherited<Publish>>,
+    pub resolver: Option<Resolver>,
+}
+
+impl<M: Metadata> Package<M> {
+    /// The one reading of the value by the form of a package. Refuses a value that is no table with
+    /// `WrongKind`, and else with the fault of a row, its key path beginning at the table.
+    pub fn from_value(alloc: Global, value: &Value) -> Result<Package<M>, Error>
+        ensures ok { IfOk result (λ x. (form (package_rows (tree_of M.kind))).reads (view value.now) (package_content (λ m. M.kind.written (M.content m)) x)) }
+        ensures refused { IfErr result (RefusedIn ((form (package_rows (tree_of M.kind))).faulty (view value.now))) }
+    {
+        read(alloc, value)
+    }
+}
+
+/// Reads the rows of a table.
+#[tactic(auto, unfolding(manifest_schema::specs::ManifestForms::package_rows))]
+pub(crate) fn package_from<M: Metadata>(alloc: Global, table: &Table) -> Result<Package<M>, ReadFault>
+    ensures ok { IfOk result (λ x. (form (package_rows (tree_of M.kind))).reads (data_table (table_view table.now)) (package_content (λ m. M.kind.written (M.content m)) x)) }
+    ensures fault { IfErr result (FaultIn ((form (package_rows (tree_of M.kind))).faulty (data_table (table_view table.now)))) }
+{
+    let mut x = Package {
+        name: required(alloc, table, "name", None)?,
+        edition: None,
+        version: None,
+        build: None,
+        workspace: None,
+        authors: None,
+        links: None,
+        description: None,
+        homepage: None,
+        documentation: None,
+        readme: None,
+        keywords: None,
+        categories: None,
+        license: None,
+        license_file: None,
+        repository: None,
+        metadata: None,
+        rust_version: None,
+        exclude: None,
+        include: None,
+        default_run: None,
+        autolib: None,
+        autobins: None,
+        autoexamples: None,
+        autotests: None,
+        autobenches: None,
+        publish: None,
+        resolver: None,
+    };
+    match fill_package(alloc, table, &mut x) {
+        Ok(()) => Ok(x),
+        Err(fault) => Err(fault),
+    }
+}
+
+/// Reads all rows but the first, which has been read.
+fn fill_package<M: Metadata>(alloc: Global, table: &Table, x: &mut Package<M>) -> Result<(), ReadFault>
+    ensures ok { OnOk result (first_fit 1 (package_rows (tree_of M.kind)) (table_view table.now) (package_content (λ m. M.kind.written (M.content m)) x.old) → first_fit 28 (package_rows (tree_of M.kind)) (table_view table.now) (package_content (λ m. M.kind.written (M.content m)) x.new)) }
+    ensures fault { IfErr result (FaultIn ((form (package_rows (tree_of M.kind))).faulty (data_table (table_view table.now)))) }
+{
+    fill_identity(alloc, table, x)?;
+    fill_description(alloc, table, x)?;
+    fill_build(alloc, table, x)?;
+    Ok(())
+}
+
+/// Reads rows 2 to 10.
+#[tactic(auto, unfolding(manifest_schema::specs::ManifestForms::package_rows))]
+fn fill_identity<M: Metadata>(alloc: Global, table: &Table, x: &mut Package<M>) -> Result<(), ReadFault>
+    ensures ok { OnOk result (first_fit 1 (package_rows (tree_of M.kind)) (table_view table.now) (package_content (λ m. M.kind.written (M.content m)) x.old) → first_fit 10 (package_rows (tree_of M.kind)) (table_view table.now) (package_content (λ m. M.kind.written (M.content m)) x.new)) }
+    ensures fault { IfErr result (FaultIn ((form (package_rows (tree_of M.kind))).faulty (data_table (table_view table.now)))) }
+{
+    fill(alloc, table, "edition", None, &mut x.edition)?;
+    fill(alloc, table, "version", None, &mut x.version)?;
+    fill(alloc, table, "build", None, &mut x.build)?;
+    fill(alloc, table, "workspace", None, &mut x.workspace)?;
+    fill(alloc, table, "authors", None, &mut x.authors)?;
+    fill(alloc, table, "links", None, &mut x.links)?;
+    fill(alloc, table, "description", None, &mut x.description)?;
+    fill(alloc, table, "homepage", None, &mut x.homepage)?;
+    fill(alloc, table, "documentation", None, &mut x.documentation)?;
+    Ok(())
+}
+
+/// Reads rows 11 to 19.
+#[tactic(auto, unfolding(manifest_schema::specs::ManifestForms::package_rows))]
+fn fill_description<M: Metadata>(alloc: Global, table: &Table, x: &mut Package<M>) -> Result<(), ReadFault>
+    ensures ok { OnOk result (first_fit 10 (package_rows (tree_of M.kind)) (table_view table.now) (package_content (λ m. M.kind.written (M.content m)) x.old) → first_fit 19 (package_rows (tree_of M.kind)) (table_view table.now) (package_content (λ m. M.kind.written (M.content m)) x.new)) }
+    ensures fault { IfErr result (FaultIn ((form (package_rows (tree_of M.kind))).faulty (data_table (table_view table.now)))) }
+{
+    fill(alloc, table, "readme", None, &mut x.readme)?;
+    fill(alloc, table, "keywords", None, &mut x.keywords)?;
+    fill(alloc, table, "categories", None, &mut x.categories)?;
+    fill(alloc, table, "license", None, &mut x.license)?;
+    fill(alloc, table, "license-file", None, &mut x.license_file)?;
+    fill(alloc, table, "repository", None, &mut x.repository)?;
+    fill_tree(alloc, table, "metadata", None, &mut x.metadata)?;
+    fill(alloc, table, "rust-version", None, &mut x.rust_version)?;
+    fill(alloc, table, "exclude", None, &mut x.exclude)?;
+    Ok(())
+}
+
+/// Reads rows 20 to 28.
+#[tactic(auto, unfolding(manifest_schema::specs::ManifestForms::package_rows))]
+fn fill_build<M: Metadata>(alloc: Global, table: &Table, x: &mut Package<M>) -> Result<(), ReadFault>
+    ensures ok { OnOk result (first_fit 19 (package_rows (tree_of M.kind)) (table_view table.now) (package_content (λ m. M.kind.written (M.content m)) x.old) → first_fit 28 (package_rows (tree_of M.kind)) (table_view table.now) (package_content (λ m. M.kind.written (M.content m)) x.new)) }
+    ensures fault { IfErr result (FaultIn ((form (package_rows (tree_of M.kind))).faulty (data_table (table_view table.now)))) }
+{
+    fill(alloc, table, "include", None, &mut x.include)?;
+    fill(alloc, table, "default-run", None, &mut x.default_run)?;
+    fill(alloc, table, "autolib", None, &mut x.autolib)?;
+    fill(alloc, table, "autobins", None, &mut x.autobins)?;
+    fill(alloc, table, "autoexamples", None, &mut x.autoexamples)?;
+    fill(alloc, table, "autotests", None, &mut x.autotests)?;
+    fill(alloc, table, "autobenches", None, &mut x.autobenches)?;
+    fill(alloc, table, "publish", None, &mut x.publish)?;
+    fill(alloc, table, "resolver", None, &mut x.resolver)?;
+    Ok(())
+}
+
+/// Writes rows 1 to 10, from the last to the first.
+#[tactic(auto, unfolding(manifest_schema::specs::ManifestForms::package_rows))]
+fn put_identity<M: Metadata>(alloc: Global, out: &mut Table, x: &Package<M>) -> Result<(), AllocError>
+    ensures { OnOk result (table_view out.new ≡ written_part 0 10 (package_rows (tree_of M.kind)) (package_content (λ m. M.kind.written (M.content m)) x.now) (table_view out.old)) }
+{
+    put_optional(alloc, out, "documentation", &x.documentation)?;
+    put_optional(alloc, out, "homepage", &x.homepage)?;
+    put_optional(alloc, out, "description", &x.description)?;
+    put_optional(alloc, out, "links", &x.links)?;
+    put_optional(alloc, out, "authors", &x.authors)?;
+    put_optional(alloc, out, "workspace", &x.workspace)?;
+    put_optional(alloc, out, "build", &x.build)?;
+    put_optional(alloc, out, "version", &x.version)?;
+    put_optional(alloc, out, "edition", &x.edition)?;
+    put_row(alloc, out, "name", &x.name)?;
+    Ok(())
+}
+
+/// Writes rows 11 to 19, from the last to the first.
+#[tactic(auto, unfolding(manifest_schema::specs::ManifestForms::package_rows))]
+fn put_description<M: Metadata>(alloc: Global, out: &mut Table, x: &Package<M>) -> Result<(), AllocError>
+    ensures { OnOk result (table_view out.new ≡ written_part 10 9 (package_rows (tree_of M.kind)) (package_content (λ m. M.kind.written (M.content m)) x.now) (table_view out.old)) }
+{
+    put_optional(alloc, out, "exclude", &x.exclude)?;
+    put_optional(alloc, out, "rust-version", &x.rust_version)?;
+    put_tree(alloc, out, "metadata", &x.metadata)?;
+    put_optional(alloc, out, "repository", &x.repository)?;
+    put_optional(alloc, out, "license-file", &x.license_file)?;
+    put_optional(alloc, out, "license", &x.license)?;
+    put_optional(alloc, out, "categories", &x.categories)?;
+    put_optional(alloc, out, "keywords", &x.keywords)?;
+    put_optional(alloc, out, "readme", &x.readme)?;
+    Ok(())
+}
+
+/// Writes rows 20 to 28, from the last to the first.
+#[tactic(auto, unfolding(manifest_schema::specs::ManifestForms::package_rows))]
+fn put_build<M: Metadata>(alloc: Global, out: &mut Table, x: &Package<M>) -> Result<(), AllocError>
+    ensures { OnOk result (table_view out.new ≡ written_part 19 9 (package_rows (tree_of M.kind)) (package_content (λ m. M.kind.written (M.content m)) x.now) (table_view out.old)) }
+{
+    put_optional(alloc, out, "resolver", &x.resolver)?;
+    put_optional(alloc, out, "publish", &x.publish)?;
+    put_optional(alloc, out, "autobenches", &x.autobenches)?;
+    put_optional(alloc, out, "autotests", &x.autotests)?;
+    put_optional(alloc, out, "autoexamples", &x.autoexamples)?;
+    put_optional(alloc, out, "autobins", &x.autobins)?;
+    put_optional(alloc, out, "autolib", &x.autolib)?;
+    put_optional(alloc, out, "default-run", &x.default_run)?;
+    put_optional(alloc, out, "include", &x.include)?;
+    Ok(())
+}
+
+impl<M: Metadata> Schema for Package<M> {
+    ghost Content = { Contents.Package };
+
+    ghost content = { package_content (λ m. M.kind.written (M.content m)) };
+
+    ghost kind = { form (package_rows (tree_of M.kind)) };
+
+    fn from_value(alloc: Global, value: &Value) -> Result<Package<M>, ReadFault> {
+        match value {
+            Value::Table(table) => package_from(alloc, table),
+            _ => Err(here(alloc, Cause::WrongKind)),
+        }
+    }
+
+    #[tactic(auto, unfolding(manifest_schema::specs::ManifestForms::package_rows))]
+    fn to_value(&self, alloc: Global) -> Result<Value, AllocError> {
+        let mut out = Table::new(alloc);
+        put_build(alloc, &mut out, self)?;
+        put_description(alloc, &mut out, self)?;
+        put_identity(alloc, &mut out, self)?;
+        Ok(Value::Table(out))
+    }
+
+    ghost lawful = { package_lawful (tree_of M.kind) (tree_lawful M.lawful) };
+}

@@ -1,0 +1,326 @@
+//! The workspace of a manifest, and the package fields that it lends.
+
+ghost use Rattle.std.specs.Prelude.{◌≡◌, IfOk, IfErr, OnOk};
+ghost use Rattle.toml.specs.Data.{table as data_table};
+ghost use Rattle.toml.specs.View.{view, table_view};
+ghost use Rattle.manifest_schema.specs.Forms.{form, first_fit, written_part};
+ghost use Rattle.manifest_schema.specs.Kinds.{tree_of};
+ghost use Rattle.manifest_schema.specs.Contents;
+ghost use Rattle.manifest_schema.specs.Defaults.{no_workspace_package};
+ghost use Rattle.manifest_schema.specs.ManifestForms.{workspace_package_rows, workspace_rows};
+ghost use Rattle.manifest_schema.proofs.KindLaws.{tree_lawful};
+ghost use Rattle.manifest_schema.proofs.ManifestLaws.{workspace_package_lawful, workspace_lawful};
+ghost use Rattle.manifest_value.specs.Faults.{FaultIn};
+ghost use Rattle.manifest_parts.specs.Refusals.{RefusedIn};
+ghost use Rattle.cargo_manifest.specs.Whole.{workspace_package_content, workspace_content};
+use manifest_parts::error::{Error, read};
+use manifest_parts::{DepsSet, Edition, LintsSet, Publish, Resolver, StringOrBool};
+use manifest_value::fault::here;
+use manifest_value::metadata::{fill_tree, put_tree};
+use manifest_value::rows::{fill, fill_default, put_optional, put_row};
+use manifest_value::{Cause, Metadata, ReadFault, Schema};
+use std::alloc::{AllocError, Global};
+use toml::{Table, Value};
+
+/// The package fields that a workspace lends. See the
+/// [Cargo reference](https://doc.rust-lang.org/cargo/reference/workspaces.html#the-package-table).
+#[derive(Debug, PartialEq, Eq, Drop)]
+pub struct WorkspacePackage {
+    pub edition: Option<Edition>,
+    pub version: Option<String>,
+    pub authors: Option<Vec<String>>,
+    pub description: Option<String>,
+    pub homepage: Option<String>,
+    pub documentation: Option<String>,
+    pub readme: Option<StringOrBool>,
+    pub keywords: Option<Vec<String>>,
+    pub categories: Option<Vec<String>>,
+    pub license: Option<String>,
+    pub license_file: Option<String>,
+    pub repository: Option<String>,
+    pub rust_version: Option<String>,
+    pub exclude: Option<Vec<String>>,
+    pub include: Option<Vec<String>>,
+    pub publish: Option<Publish>,
+}
+
+impl WorkspacePackage {
+    /// The one reading of the value by the form of a workspace's package. Refuses a value that is no table with
+    /// `WrongKind`, and else with the fault of a row, its key path beginning at the table.
+    pub fn from_value(alloc: Global, value: &Value) -> Result<WorkspacePackage, Error>
+        ensures ok { IfOk result (λ x. (form workspace_package_rows).reads (view value.now) (workspace_package_content x)) }
+        ensures refused { IfErr result (RefusedIn ((form workspace_package_rows).faulty (view value.now))) }
+    {
+        read(alloc, value)
+    }
+}
+
+/// Reads the rows of a table.
+#[tactic(auto, unfolding(manifest_schema::specs::ManifestForms::workspace_package_rows))]
+pub(crate) fn workspace_package_from(alloc: Global, table: &Table) -> Result<WorkspacePackage, ReadFault>
+    ensures ok { IfOk result (λ x. (form workspace_package_rows).reads (data_table (table_view table.now)) (workspace_package_content x)) }
+    ensures fault { IfErr result (FaultIn ((form workspace_package_rows).faulty (data_table (table_view table.now)))) }
+{
+    let mut x = WorkspacePackage {
+        edition: None,
+        version: None,
+        authors: None,
+        description: None,
+        homepage: None,
+        documentation: None,
+        readme: None,
+        keywords: None,
+        categories: None,
+        license: None,
+        license_file: None,
+        repository: None,
+        rust_version: None,
+        exclude: None,
+        include: None,
+        publish: None,
+    };
+    match fill_workspace_package(alloc, table, &mut x) {
+        Ok(()) => Ok(x),
+        Err(fault) => Err(fault),
+    }
+}
+
+/// Reads all rows.
+fn fill_workspace_package(alloc: Global, table: &Table, x: &mut WorkspacePackage) -> Result<(), ReadFault>
+    ensures ok { OnOk result (first_fit 16 workspace_package_rows (table_view table.now) (workspace_package_content x.new)) }
+    ensures fault { IfErr result (FaultIn ((form workspace_package_rows).faulty (data_table (table_view table.now)))) }
+{
+    fill_described(alloc, table, x)?;
+    fill_licensed(alloc, table, x)?;
+    Ok(())
+}
+
+/// Reads rows 1 to 8.
+#[tactic(auto, unfolding(manifest_schema::specs::ManifestForms::workspace_package_rows))]
+fn fill_described(alloc: Global, table: &Table, x: &mut WorkspacePackage) -> Result<(), ReadFault>
+    ensures ok { OnOk result (first_fit 8 workspace_package_rows (table_view table.now) (workspace_package_content x.new)) }
+    ensures fault { IfErr result (FaultIn ((form workspace_package_rows).faulty (data_table (table_view table.now)))) }
+{
+    fill(alloc, table, "edition", None, &mut x.edition)?;
+    fill(alloc, table, "version", None, &mut x.version)?;
+    fill(alloc, table, "authors", None, &mut x.authors)?;
+    fill(alloc, table, "description", None, &mut x.description)?;
+    fill(alloc, table, "homepage", None, &mut x.homepage)?;
+    fill(alloc, table, "documentation", None, &mut x.documentation)?;
+    fill(alloc, table, "readme", None, &mut x.readme)?;
+    fill(alloc, table, "keywords", None, &mut x.keywords)?;
+    Ok(())
+}
+
+/// Reads rows 9 to 16.
+#[tactic(auto, unfolding(manifest_schema::specs::ManifestForms::workspace_package_rows))]
+fn fill_licensed(alloc: Global, table: &Table, x: &mut WorkspacePackage) -> Result<(), ReadFault>
+    ensures ok { OnOk result (first_fit 8 workspace_package_rows (table_view table.now) (workspace_package_content x.old) → first_fit 16 workspace_package_rows (table_view table.now) (workspace_package_content x.new)) }
+    ensures fault { IfErr result (FaultIn ((form workspace_package_rows).faulty (data_table (table_view table.now)))) }
+{
+    fill(alloc, table, "categories", None, &mut x.categories)?;
+    fill(alloc, table, "license", None, &mut x.license)?;
+    fill(alloc, table, "license-file", None, &mut x.license_file)?;
+    fill(alloc, table, "repository", None, &mut x.repository)?;
+    fill(alloc, table, "rust-version", None, &mut x.rust_version)?;
+    fill(alloc, table, "exclude", None, &mut x.exclude)?;
+    fill(alloc, table, "include", None, &mut x.include)?;
+    fill(alloc, table, "publish", None, &mut x.publish)?;
+    Ok(())
+}
+
+/// Writes rows 1 to 8, from the last to the first.
+#[tactic(auto, unfolding(manifest_schema::specs::ManifestForms::workspace_package_rows))]
+fn put_described(alloc: Global, out: &mut Table, x: &WorkspacePackage) -> Result<(), AllocError>
+    ensures { OnOk result (table_view out.new ≡ written_part 0 8 workspace_package_rows (workspace_package_content x.now) (table_view out.old)) }
+{
+    put_optional(alloc, out, "keywords", &x.keywords)?;
+    put_optional(alloc, out, "readme", &x.readme)?;
+    put_optional(alloc, out, "documentation", &x.documentation)?;
+    put_optional(alloc, out, "homepage", &x.homepage)?;
+    put_optional(alloc, out, "description", &x.description)?;
+    put_optional(alloc, out, "authors", &x.authors)?;
+    put_optional(alloc, out, "version", &x.version)?;
+    put_optional(alloc, out, "edition", &x.edition)?;
+    Ok(())
+}
+
+/// Writes rows 9 to 16, from the last to the first.
+#[tactic(auto, unfolding(manifest_schema::specs::ManifestForms::workspace_package_rows))]
+fn put_licensed(alloc: Global, out: &mut Table, x: &WorkspacePackage) -> Result<(), AllocError>
+    ensures { OnOk result (table_view out.new ≡ written_part 8 8 workspace_package_rows (workspace_package_content x.now) (table_view out.old)) }
+{
+    put_optional(alloc, out, "publish", &x.publish)?;
+    put_optional(alloc, out, "include", &x.include)?;
+    put_optional(alloc, out, "exclude", &x.exclude)?;
+    put_optional(alloc, out, "rust-version", &x.rust_version)?;
+    put_optional(alloc, out, "repository", &x.repository)?;
+    put_optional(alloc, out, "license-file", &x.license_file)?;
+    put_optional(alloc, out, "license", &x.license)?;
+    put_optional(alloc, out, "categories", &x.categories)?;
+    Ok(())
+}
+
+impl Schema for WorkspacePackage {
+    ghost Content = { Contents.WorkspacePackage };
+
+    ghost content = { workspace_package_content };
+
+    ghost kind = { form workspace_package_rows };
+
+    fn from_value(alloc: Global, value: &Value) -> Result<WorkspacePackage, ReadFault> {
+        match value {
+            Value::Table(table) => workspace_package_from(alloc, table),
+            _ => Err(here(alloc, Cause::WrongKind)),
+        }
+    }
+
+    #[tactic(auto, unfolding(manifest_schema::specs::ManifestForms::workspace_package_rows))]
+    fn to_value(&self, alloc: Global) -> Result<Value, AllocError> {
+        let mut out = Table::new(alloc);
+        put_licensed(alloc, &mut out, self)?;
+        put_described(alloc, &mut out, self)?;
+        Ok(Value::Table(out))
+    }
+
+    ghost lawful = { workspace_package_lawful };
+}
+
+/// No field at all.
+impl Default for WorkspacePackage {
+    ghost is_default = { λ x. workspace_package_content x ≡ no_workspace_package };
+
+    fn default() -> WorkspacePackage {
+        WorkspacePackage {
+            edition: None,
+            version: None,
+            authors: None,
+            description: None,
+            homepage: None,
+            documentation: None,
+            readme: None,
+            keywords: None,
+            categories: None,
+            license: None,
+            license_file: None,
+            repository: None,
+            rust_version: None,
+            exclude: None,
+            include: None,
+            publish: None,
+        }
+    }
+}
+
+/// The workspace of a manifest; `M` is the type of its metadata. See the
+/// [Cargo reference](https://doc.rust-lang.org/cargo/reference/workspaces.html#the-workspace-section).
+#[derive(Debug, PartialEq, Eq, Drop)]
+pub struct Workspace<M = Value> {
+    pub members: Vec<String>,
+    pub default_members: Option<Vec<String>>,
+    pub exclude: Option<Vec<String>>,
+    pub resolver: Option<Resolver>,
+    pub dependencies: Option<DepsSet>,
+    pub package: Option<WorkspacePackage>,
+    pub metadata: Option<M>,
+    pub lints: Option<LintsSet>,
+}
+
+impl<M: Metadata> Workspace<M> {
+    /// The one reading of the value by the form of a workspace. Refuses a value that is no table with
+    /// `WrongKind`, and else with the fault of a row, its key path beginning at the table.
+    pub fn from_value(alloc: Global, value: &Value) -> Result<Workspace<M>, Error>
+        ensures ok { IfOk result (λ x. (form (workspace_rows (tree_of M.kind))).reads (view value.now) (workspace_content (λ m. M.kind.written (M.content m)) x)) }
+        ensures refused { IfErr result (RefusedIn ((form (workspace_rows (tree_of M.kind))).faulty (view value.now))) }
+    {
+        read(alloc, value)
+    }
+}
+
+/// Reads the rows of a table.
+#[tactic(auto, unfolding(manifest_schema::specs::ManifestForms::workspace_rows))]
+pub(crate) fn workspace_from<M: Metadata>(alloc: Global, table: &Table) -> Result<Workspace<M>, ReadFault>
+    ensures ok { IfOk result (λ x. (form (workspace_rows (tree_of M.kind))).reads (data_table (table_view table.now)) (workspace_content (λ m. M.kind.written (M.content m)) x)) }
+    ensures fault { IfErr result (FaultIn ((form (workspace_rows (tree_of M.kind))).faulty (data_table (table_view table.now)))) }
+{
+    let mut x = Workspace {
+        members: Vec::new(alloc),
+        default_members: None,
+        exclude: None,
+        resolver: None,
+        dependencies: None,
+        package: None,
+        metadata: None,
+        lints: None,
+    };
+    match fill_workspace(alloc, table, &mut x) {
+        Ok(()) => Ok(x),
+        Err(fault) => Err(fault),
+    }
+}
+
+/// Reads all rows.
+fn fill_workspace<M: Metadata>(alloc: Global, table: &Table, x: &mut Workspace<M>) -> Result<(), ReadFault>
+    ensures ok { OnOk result (first_fit 8 (workspace_rows (tree_of M.kind)) (table_view table.now) (workspace_content (λ m. M.kind.written (M.content m)) x.new)) }
+    ensures fault { IfErr result (FaultIn ((form (workspace_rows (tree_of M.kind))).faulty (data_table (table_view table.now)))) }
+{
+    fill_workspace_rows(alloc, table, x)?;
+    Ok(())
+}
+
+/// Reads rows 1 to 8.
+#[tactic(auto, unfolding(manifest_schema::specs::ManifestForms::workspace_rows))]
+fn fill_workspace_rows<M: Metadata>(alloc: Global, table: &Table, x: &mut Workspace<M>) -> Result<(), ReadFault>
+    ensures ok { OnOk result (first_fit 8 (workspace_rows (tree_of M.kind)) (table_view table.now) (workspace_content (λ m. M.kind.written (M.content m)) x.new)) }
+    ensures fault { IfErr result (FaultIn ((form (workspace_rows (tree_of M.kind))).faulty (data_table (table_view table.now)))) }
+{
+    fill_default(alloc, table, "members", None, Vec::new(alloc), &mut x.members)?;
+    fill(alloc, table, "default-members", Some("default_members"), &mut x.default_members)?;
+    fill(alloc, table, "exclude", None, &mut x.exclude)?;
+    fill(alloc, table, "resolver", None, &mut x.resolver)?;
+    fill(alloc, table, "dependencies", None, &mut x.dependencies)?;
+    fill(alloc, table, "package", None, &mut x.package)?;
+    fill_tree(alloc, table, "metadata", None, &mut x.metadata)?;
+    fill(alloc, table, "lints", None, &mut x.lints)?;
+    Ok(())
+}
+
+/// Writes rows 1 to 8, from the last to the first.
+#[tactic(auto, unfolding(manifest_schema::specs::ManifestForms::workspace_rows))]
+fn put_workspace_rows<M: Metadata>(alloc: Global, out: &mut Table, x: &Workspace<M>) -> Result<(), AllocError>
+    ensures { OnOk result (table_view out.new ≡ written_part 0 8 (workspace_rows (tree_of M.kind)) (workspace_content (λ m. M.kind.written (M.content m)) x.now) (table_view out.old)) }
+{
+    put_optional(alloc, out, "lints", &x.lints)?;
+    put_tree(alloc, out, "metadata", &x.metadata)?;
+    put_optional(alloc, out, "package", &x.package)?;
+    put_optional(alloc, out, "dependencies", &x.dependencies)?;
+    put_optional(alloc, out, "resolver", &x.resolver)?;
+    put_optional(alloc, out, "exclude", &x.exclude)?;
+    put_optional(alloc, out, "default-members", &x.default_members)?;
+    put_row(alloc, out, "members", &x.members)?;
+    Ok(())
+}
+
+impl<M: Metadata> Schema for Workspace<M> {
+    ghost Content = { Contents.Workspace };
+
+    ghost content = { workspace_content (λ m. M.kind.written (M.content m)) };
+
+    ghost kind = { form (workspace_rows (tree_of M.kind)) };
+
+    fn from_value(alloc: Global, value: &Value) -> Result<Workspace<M>, ReadFault> {
+        match value {
+            Value::Table(table) => workspace_from(alloc, table),
+            _ => Err(here(alloc, Cause::WrongKind)),
+        }
+    }
+
+    #[tactic(auto, unfolding(manifest_schema::specs::ManifestForms::workspace_rows))]
+    fn to_value(&self, alloc: Global) -> Result<Value, AllocError> {
+        let mut out = Table::new(alloc);
+        put_workspace_rows(alloc, &mut out, self)?;
+        Ok(Value::Table(out))
+    }
+
+    ghost lawful = { workspace_lawful (tree_of M.kind) (tree_lawful M.lawful) };
+}
