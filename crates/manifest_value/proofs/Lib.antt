@@ -3,3 +3,4 @@ pub mod ItemLemmas
 pub mod InsertLemmas
 pub mod EntryLemmas
 pub mod FloatLemmas
+pub mod TextLemmas

@@ -6,6 +6,7 @@ pub mod fault;
 pub mod kept;
 pub mod maps;
 pub mod metadata;
+pub mod path_text;
 pub mod rows;
 pub mod schema;
 pub mod slots;
