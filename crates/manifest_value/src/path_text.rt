@@ -1,5 +1,5 @@
 //! Causes and key paths as texts.
-ghost use Rattle.std.specs.Prelude.{◌≡◌, ◌<◌, ◌++◌, IfOk, OnOk, flat_map, string_bytes};
+ghost use Rattle.std.specs.Prelude.{◌≡◌, ◌++◌, IfOk, OnOk, flat_map, string_bytes};
 ghost use Rattle.std.specs.Char.{encode_utf8};
 ghost use Rattle.std.specs.List.{list_all};
 ghost use Rattle.manifest_schema.specs.PathTexts.{cause_text, is_bare, is_bare_key, escaped, quoted_byte, quoted, key_text, step_text, next_text, path_text};

@@ -6,7 +6,7 @@ ghost use Rattle.manifest_schema.specs.Paths.{itself, behind, key};
 ghost use Rattle.manifest_schema.specs.Slots.{at, spellings_of, put_some};
 ghost use Rattle.manifest_schema.specs.Needs.{meets_required, meets_optional, meets_default, faulty_required, faulty_free, written_some, written_unless};
 
-use crate::fault::{Cause, ReadFault, Step, here, prefixed};
+use crate::fault::{Cause, ReadFault, here, under_key};
 use crate::schema::Schema;
 use crate::slots::{Slot, slot_at};
 use std::alloc::{AllocError, Global};
@@ -17,10 +17,7 @@ use toml::{Table, Value};
 fn at_key(alloc: Global, word: &str, cause: Cause) -> ReadFault
     ensures { FaultIn (behind (key word.now) (itself (cause_of cause))) result }
 {
-    match String::from_str(alloc, word) {
-        Ok(word) => prefixed(Step::Key(word), here(alloc, cause)),
-        Err(e) => ReadFault::Memory(e),
-    }
+    under_key(alloc, word, here(alloc, cause))
 }
 
 /// The value under a key, with the key before the path of a fault.
@@ -31,13 +28,7 @@ pub fn read_under<T: Schema>(alloc: Global, value: &Value, word: &str) -> Result
 {
     match T::from_value(alloc, value) {
         Ok(x) => Ok(x),
-        Err(f) => match String::from_str(alloc, word) {
-            Ok(word) => Err(prefixed(Step::Key(word), f)),
-            Err(e) => {
-                drop(f);
-                Err(ReadFault::Memory(e))
-            }
-        },
+        Err(fault) => Err(under_key(alloc, word, fault)),
     }
 }
 

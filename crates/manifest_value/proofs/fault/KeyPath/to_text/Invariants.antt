@@ -1,4 +1,4 @@
-use Rattle.std.proofs.Common.{◌≡◌, ◌++◌, flat_map, map, take, string_bytes}
+use Rattle.std.proofs.Common.{◌≡◌, ◌++◌, flat_map, take, string_bytes}
 use Rattle.manifest_schema.specs.PathTexts.{next_text}
 use Rattle.manifest_value.specs.Faults.{step_of}
 use Rattle.manifest_value.proofs.fault.KeyPath.to_text.Given as goal
