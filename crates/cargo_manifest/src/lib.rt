@@ -14,9 +14,7 @@ pub use manifest_parts::{
     Profile, Publish, Resolver, StringOrBool, StripSetting, Target, TargetDepsSet, ToolLintsSet,
     True,
 };
-pub use manifest_value::{
-    Cause, KeyPath, Metadata, Plain, ReadFault, Schema, SchemaFault, Step,
-};
+pub use manifest_value::{Cause, KeyPath, Metadata, Plain, ReadFault, Schema, SchemaFault, Step};
 pub use package::Package;
 pub use profiles::Profiles;
 pub use toml::Value;

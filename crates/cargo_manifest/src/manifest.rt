@@ -12,13 +12,16 @@ ghost use Rattle.manifest_schema.proofs.ManifestLaws.{manifest_lawful};
 ghost use Rattle.manifest_value.specs.Faults.{FaultIn};
 ghost use Rattle.manifest_parts.specs.Refusals.{RefusedIn};
 ghost use Rattle.cargo_manifest.specs.Whole.{manifest_content};
+
 use crate::package::Package;
 use crate::profiles::Profiles;
 use crate::workspace::Workspace;
 use manifest_parts::error::{Error, read};
-use manifest_parts::{Badges, DepsSet, FeatureSet, MaybeInheritedLintsSet, PatchSet, Product, TargetDepsSet};
+use manifest_parts::{
+    Badges, DepsSet, FeatureSet, MaybeInheritedLintsSet, PatchSet, Product, TargetDepsSet,
+};
 use manifest_value::fault::here;
-use manifest_value::rows::{fill, fill_default, put_optional, put_unless};
+use manifest_value::rows::{fill, fill_default, put_nonempty, put_optional};
 use manifest_value::{Cause, Metadata, ReadFault, Schema};
 use std::alloc::{AllocError, Global};
 use toml::{Table, Value};
@@ -59,7 +62,10 @@ impl<P: Metadata, W: Metadata> Manifest<P, W> {
 
 /// Reads the rows of a table.
 #[tactic(auto, unfolding(manifest_schema::specs::ManifestForms::manifest_rows))]
-pub(crate) fn manifest_from<P: Metadata, W: Metadata>(alloc: Global, table: &Table) -> Result<Manifest<P, W>, ReadFault>
+pub(crate) fn manifest_from<P: Metadata, W: Metadata>(
+    alloc: Global,
+    table: &Table,
+) -> Result<Manifest<P, W>, ReadFault>
     ensures ok { IfOk result (λ x. (form (manifest_rows (tree_of P.kind) (tree_of W.kind))).reads (data_table (table_view table.now)) (manifest_content (λ m. P.kind.written (P.content m)) (λ m. W.kind.written (W.content m)) x)) }
     ensures fault { IfErr result (FaultIn ((form (manifest_rows (tree_of P.kind) (tree_of W.kind))).faulty (data_table (table_view table.now)))) }
 {
@@ -89,7 +95,11 @@ pub(crate) fn manifest_from<P: Metadata, W: Metadata>(alloc: Global, table: &Tab
 }
 
 /// Reads all rows.
-fn fill_manifest<P: Metadata, W: Metadata>(alloc: Global, table: &Table, x: &mut Manifest<P, W>) -> Result<(), ReadFault>
+fn fill_manifest<P: Metadata, W: Metadata>(
+    alloc: Global,
+    table: &Table,
+    x: &mut Manifest<P, W>,
+) -> Result<(), ReadFault>
     ensures ok { OnOk result (first_fit 17 (manifest_rows (tree_of P.kind) (tree_of W.kind)) (table_view table.now) (manifest_content (λ m. P.kind.written (P.content m)) (λ m. W.kind.written (W.content m)) x.new)) }
     ensures fault { IfErr result (FaultIn ((form (manifest_rows (tree_of P.kind) (tree_of W.kind))).faulty (data_table (table_view table.now)))) }
 {
@@ -101,7 +111,11 @@ fn fill_manifest<P: Metadata, W: Metadata>(alloc: Global, table: &Table, x: &mut
 
 /// Reads rows 1 to 6.
 #[tactic(auto, unfolding(manifest_schema::specs::ManifestForms::manifest_rows))]
-fn fill_header<P: Metadata, W: Metadata>(alloc: Global, table: &Table, x: &mut Manifest<P, W>) -> Result<(), ReadFault>
+fn fill_header<P: Metadata, W: Metadata>(
+    alloc: Global,
+    table: &Table,
+    x: &mut Manifest<P, W>,
+) -> Result<(), ReadFault>
     ensures ok { OnOk result (first_fit 6 (manifest_rows (tree_of P.kind) (tree_of W.kind)) (table_view table.now) (manifest_content (λ m. P.kind.written (P.content m)) (λ m. W.kind.written (W.content m)) x.new)) }
     ensures fault { IfErr result (FaultIn ((form (manifest_rows (tree_of P.kind) (tree_of W.kind))).faulty (data_table (table_view table.now)))) }
 {
@@ -109,14 +123,30 @@ fn fill_header<P: Metadata, W: Metadata>(alloc: Global, table: &Table, x: &mut M
     fill(alloc, table, "cargo-features", None, &mut x.cargo_features)?;
     fill(alloc, table, "workspace", None, &mut x.workspace)?;
     fill(alloc, table, "dependencies", None, &mut x.dependencies)?;
-    fill(alloc, table, "dev-dependencies", Some("dev_dependencies"), &mut x.dev_dependencies)?;
-    fill(alloc, table, "build-dependencies", Some("build_dependencies"), &mut x.build_dependencies)?;
+    fill(
+        alloc,
+        table,
+        "dev-dependencies",
+        Some("dev_dependencies"),
+        &mut x.dev_dependencies,
+    )?;
+    fill(
+        alloc,
+        table,
+        "build-dependencies",
+        Some("build_dependencies"),
+        &mut x.build_dependencies,
+    )?;
     Ok(())
 }
 
 /// Reads rows 7 to 12.
 #[tactic(auto, unfolding(manifest_schema::specs::ManifestForms::manifest_rows))]
-fn fill_features<P: Metadata, W: Metadata>(alloc: Global, table: &Table, x: &mut Manifest<P, W>) -> Result<(), ReadFault>
+fn fill_features<P: Metadata, W: Metadata>(
+    alloc: Global,
+    table: &Table,
+    x: &mut Manifest<P, W>,
+) -> Result<(), ReadFault>
     ensures ok { OnOk result (first_fit 6 (manifest_rows (tree_of P.kind) (tree_of W.kind)) (table_view table.now) (manifest_content (λ m. P.kind.written (P.content m)) (λ m. W.kind.written (W.content m)) x.old) → first_fit 12 (manifest_rows (tree_of P.kind) (tree_of W.kind)) (table_view table.now) (manifest_content (λ m. P.kind.written (P.content m)) (λ m. W.kind.written (W.content m)) x.new)) }
     ensures fault { IfErr result (FaultIn ((form (manifest_rows (tree_of P.kind) (tree_of W.kind))).faulty (data_table (table_view table.now)))) }
 {
@@ -125,13 +155,24 @@ fn fill_features<P: Metadata, W: Metadata>(alloc: Global, table: &Table, x: &mut
     fill_default(alloc, table, "bin", None, Vec::new(alloc), &mut x.bin)?;
     fill_default(alloc, table, "bench", None, Vec::new(alloc), &mut x.bench)?;
     fill_default(alloc, table, "test", None, Vec::new(alloc), &mut x.test)?;
-    fill_default(alloc, table, "example", None, Vec::new(alloc), &mut x.example)?;
+    fill_default(
+        alloc,
+        table,
+        "example",
+        None,
+        Vec::new(alloc),
+        &mut x.example,
+    )?;
     Ok(())
 }
 
 /// Reads rows 13 to 17.
 #[tactic(auto, unfolding(manifest_schema::specs::ManifestForms::manifest_rows))]
-fn fill_settings<P: Metadata, W: Metadata>(alloc: Global, table: &Table, x: &mut Manifest<P, W>) -> Result<(), ReadFault>
+fn fill_settings<P: Metadata, W: Metadata>(
+    alloc: Global,
+    table: &Table,
+    x: &mut Manifest<P, W>,
+) -> Result<(), ReadFault>
     ensures ok { OnOk result (first_fit 12 (manifest_rows (tree_of P.kind) (tree_of W.kind)) (table_view table.now) (manifest_content (λ m. P.kind.written (P.content m)) (λ m. W.kind.written (W.content m)) x.old) → first_fit 17 (manifest_rows (tree_of P.kind) (tree_of W.kind)) (table_view table.now) (manifest_content (λ m. P.kind.written (P.content m)) (λ m. W.kind.written (W.content m)) x.new)) }
     ensures fault { IfErr result (FaultIn ((form (manifest_rows (tree_of P.kind) (tree_of W.kind))).faulty (data_table (table_view table.now)))) }
 {
@@ -145,7 +186,11 @@ fn fill_settings<P: Metadata, W: Metadata>(alloc: Global, table: &Table, x: &mut
 
 /// Writes rows 1 to 6, from the last to the first.
 #[tactic(auto, unfolding(manifest_schema::specs::ManifestForms::manifest_rows))]
-fn put_header<P: Metadata, W: Metadata>(alloc: Global, out: &mut Table, x: &Manifest<P, W>) -> Result<(), AllocError>
+fn put_header<P: Metadata, W: Metadata>(
+    alloc: Global,
+    out: &mut Table,
+    x: &Manifest<P, W>,
+) -> Result<(), AllocError>
     ensures { OnOk result (table_view out.new ≡ written_part 0 6 (manifest_rows (tree_of P.kind) (tree_of W.kind)) (manifest_content (λ m. P.kind.written (P.content m)) (λ m. W.kind.written (W.content m)) x.now) (table_view out.old)) }
 {
     put_optional(alloc, out, "build-dependencies", &x.build_dependencies)?;
@@ -159,13 +204,17 @@ fn put_header<P: Metadata, W: Metadata>(alloc: Global, out: &mut Table, x: &Mani
 
 /// Writes rows 7 to 12, from the last to the first.
 #[tactic(auto, unfolding(manifest_schema::specs::ManifestForms::manifest_rows))]
-fn put_features<P: Metadata, W: Metadata>(alloc: Global, out: &mut Table, x: &Manifest<P, W>) -> Result<(), AllocError>
+fn put_features<P: Metadata, W: Metadata>(
+    alloc: Global,
+    out: &mut Table,
+    x: &Manifest<P, W>,
+) -> Result<(), AllocError>
     ensures { OnOk result (table_view out.new ≡ written_part 6 6 (manifest_rows (tree_of P.kind) (tree_of W.kind)) (manifest_content (λ m. P.kind.written (P.content m)) (λ m. W.kind.written (W.content m)) x.now) (table_view out.old)) }
 {
-    put_unless(alloc, out, "example", x.example.is_empty(), &x.example)?;
-    put_unless(alloc, out, "test", x.test.is_empty(), &x.test)?;
-    put_unless(alloc, out, "bench", x.bench.is_empty(), &x.bench)?;
-    put_unless(alloc, out, "bin", x.bin.is_empty(), &x.bin)?;
+    put_nonempty(alloc, out, "example", &x.example)?;
+    put_nonempty(alloc, out, "test", &x.test)?;
+    put_nonempty(alloc, out, "bench", &x.bench)?;
+    put_nonempty(alloc, out, "bin", &x.bin)?;
     put_optional(alloc, out, "features", &x.features)?;
     put_optional(alloc, out, "target", &x.target)?;
     Ok(())
@@ -173,7 +222,11 @@ fn put_features<P: Metadata, W: Metadata>(alloc: Global, out: &mut Table, x: &Ma
 
 /// Writes rows 13 to 17, from the last to the first.
 #[tactic(auto, unfolding(manifest_schema::specs::ManifestForms::manifest_rows))]
-fn put_settings<P: Metadata, W: Metadata>(alloc: Global, out: &mut Table, x: &Manifest<P, W>) -> Result<(), AllocError>
+fn put_settings<P: Metadata, W: Metadata>(
+    alloc: Global,
+    out: &mut Table,
+    x: &Manifest<P, W>,
+) -> Result<(), AllocError>
     ensures { OnOk result (table_view out.new ≡ written_part 12 5 (manifest_rows (tree_of P.kind) (tree_of W.kind)) (manifest_content (λ m. P.kind.written (P.content m)) (λ m. W.kind.written (W.content m)) x.now) (table_view out.old)) }
 {
     put_optional(alloc, out, "lints", &x.lints)?;

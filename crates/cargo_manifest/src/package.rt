@@ -12,6 +12,7 @@ ghost use Rattle.manifest_schema.proofs.ManifestLaws.{package_lawful};
 ghost use Rattle.manifest_value.specs.Faults.{FaultIn};
 ghost use Rattle.manifest_parts.specs.Refusals.{RefusedIn};
 ghost use Rattle.cargo_manifest.specs.Whole.{package_content};
+
 use manifest_parts::error::{Error, read};
 use manifest_parts::{Edition, MaybeInherited, Publish, Resolver, StringOrBool};
 use manifest_value::fault::here;
@@ -68,7 +69,10 @@ impl<M: Metadata> Package<M> {
 
 /// Reads the rows of a table.
 #[tactic(auto, unfolding(manifest_schema::specs::ManifestForms::package_rows))]
-pub(crate) fn package_from<M: Metadata>(alloc: Global, table: &Table) -> Result<Package<M>, ReadFault>
+pub(crate) fn package_from<M: Metadata>(
+    alloc: Global,
+    table: &Table,
+) -> Result<Package<M>, ReadFault>
     ensures ok { IfOk result (λ x. (form (package_rows (tree_of M.kind))).reads (data_table (table_view table.now)) (package_content (λ m. M.kind.written (M.content m)) x)) }
     ensures fault { IfErr result (FaultIn ((form (package_rows (tree_of M.kind))).faulty (data_table (table_view table.now)))) }
 {
@@ -109,7 +113,11 @@ pub(crate) fn package_from<M: Metadata>(alloc: Global, table: &Table) -> Result<
 }
 
 /// Reads all rows but the first, which has been read.
-fn fill_package<M: Metadata>(alloc: Global, table: &Table, x: &mut Package<M>) -> Result<(), ReadFault>
+fn fill_package<M: Metadata>(
+    alloc: Global,
+    table: &Table,
+    x: &mut Package<M>,
+) -> Result<(), ReadFault>
     ensures ok { OnOk result (first_fit 1 (package_rows (tree_of M.kind)) (table_view table.now) (package_content (λ m. M.kind.written (M.content m)) x.old) → first_fit 28 (package_rows (tree_of M.kind)) (table_view table.now) (package_content (λ m. M.kind.written (M.content m)) x.new)) }
     ensures fault { IfErr result (FaultIn ((form (package_rows (tree_of M.kind))).faulty (data_table (table_view table.now)))) }
 {
@@ -121,7 +129,11 @@ fn fill_package<M: Metadata>(alloc: Global, table: &Table, x: &mut Package<M>) -
 
 /// Reads rows 2 to 10.
 #[tactic(auto, unfolding(manifest_schema::specs::ManifestForms::package_rows))]
-fn fill_identity<M: Metadata>(alloc: Global, table: &Table, x: &mut Package<M>) -> Result<(), ReadFault>
+fn fill_identity<M: Metadata>(
+    alloc: Global,
+    table: &Table,
+    x: &mut Package<M>,
+) -> Result<(), ReadFault>
     ensures ok { OnOk result (first_fit 1 (package_rows (tree_of M.kind)) (table_view table.now) (package_content (λ m. M.kind.written (M.content m)) x.old) → first_fit 10 (package_rows (tree_of M.kind)) (table_view table.now) (package_content (λ m. M.kind.written (M.content m)) x.new)) }
     ensures fault { IfErr result (FaultIn ((form (package_rows (tree_of M.kind))).faulty (data_table (table_view table.now)))) }
 {
@@ -139,7 +151,11 @@ fn fill_identity<M: Metadata>(alloc: Global, table: &Table, x: &mut Package<M>) 
 
 /// Reads rows 11 to 19.
 #[tactic(auto, unfolding(manifest_schema::specs::ManifestForms::package_rows))]
-fn fill_description<M: Metadata>(alloc: Global, table: &Table, x: &mut Package<M>) -> Result<(), ReadFault>
+fn fill_description<M: Metadata>(
+    alloc: Global,
+    table: &Table,
+    x: &mut Package<M>,
+) -> Result<(), ReadFault>
     ensures ok { OnOk result (first_fit 10 (package_rows (tree_of M.kind)) (table_view table.now) (package_content (λ m. M.kind.written (M.content m)) x.old) → first_fit 19 (package_rows (tree_of M.kind)) (table_view table.now) (package_content (λ m. M.kind.written (M.content m)) x.new)) }
     ensures fault { IfErr result (FaultIn ((form (package_rows (tree_of M.kind))).faulty (data_table (table_view table.now)))) }
 {
@@ -157,7 +173,11 @@ fn fill_description<M: Metadata>(alloc: Global, table: &Table, x: &mut Package<M
 
 /// Reads rows 20 to 28.
 #[tactic(auto, unfolding(manifest_schema::specs::ManifestForms::package_rows))]
-fn fill_build<M: Metadata>(alloc: Global, table: &Table, x: &mut Package<M>) -> Result<(), ReadFault>
+fn fill_build<M: Metadata>(
+    alloc: Global,
+    table: &Table,
+    x: &mut Package<M>,
+) -> Result<(), ReadFault>
     ensures ok { OnOk result (first_fit 19 (package_rows (tree_of M.kind)) (table_view table.now) (package_content (λ m. M.kind.written (M.content m)) x.old) → first_fit 28 (package_rows (tree_of M.kind)) (table_view table.now) (package_content (λ m. M.kind.written (M.content m)) x.new)) }
     ensures fault { IfErr result (FaultIn ((form (package_rows (tree_of M.kind))).faulty (data_table (table_view table.now)))) }
 {
@@ -175,7 +195,11 @@ fn fill_build<M: Metadata>(alloc: Global, table: &Table, x: &mut Package<M>) -> 
 
 /// Writes rows 1 to 10, from the last to the first.
 #[tactic(auto, unfolding(manifest_schema::specs::ManifestForms::package_rows))]
-fn put_identity<M: Metadata>(alloc: Global, out: &mut Table, x: &Package<M>) -> Result<(), AllocError>
+fn put_identity<M: Metadata>(
+    alloc: Global,
+    out: &mut Table,
+    x: &Package<M>,
+) -> Result<(), AllocError>
     ensures { OnOk result (table_view out.new ≡ written_part 0 10 (package_rows (tree_of M.kind)) (package_content (λ m. M.kind.written (M.content m)) x.now) (table_view out.old)) }
 {
     put_optional(alloc, out, "documentation", &x.documentation)?;
@@ -193,7 +217,11 @@ fn put_identity<M: Metadata>(alloc: Global, out: &mut Table, x: &Package<M>) -> 
 
 /// Writes rows 11 to 19, from the last to the first.
 #[tactic(auto, unfolding(manifest_schema::specs::ManifestForms::package_rows))]
-fn put_description<M: Metadata>(alloc: Global, out: &mut Table, x: &Package<M>) -> Result<(), AllocError>
+fn put_description<M: Metadata>(
+    alloc: Global,
+    out: &mut Table,
+    x: &Package<M>,
+) -> Result<(), AllocError>
     ensures { OnOk result (table_view out.new ≡ written_part 10 9 (package_rows (tree_of M.kind)) (package_content (λ m. M.kind.written (M.content m)) x.now) (table_view out.old)) }
 {
     put_optional(alloc, out, "exclude", &x.exclude)?;

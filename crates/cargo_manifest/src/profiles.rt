@@ -1,21 +1,22 @@
 //! The profiles of a manifest.
 
-ghost use Rattle.std.specs.Prelude.{◌≡◌, IfOk, IfErr};
+ghost use Rattle.std.specs.Prelude.{◌≡◌, IfOk, IfErr, OnOk};
 ghost use Rattle.toml.specs.Data.{table as data_table};
 ghost use Rattle.toml.specs.View.{view, table_view};
-ghost use Rattle.manifest_schema.specs.Forms.{form};
+ghost use Rattle.manifest_schema.specs.Forms.{form, first_fit};
 ghost use Rattle.manifest_schema.specs.Contents;
 ghost use Rattle.manifest_schema.specs.PartForms.{profiles_rows};
 ghost use Rattle.manifest_schema.proofs.PartLaws.{profiles_lawful};
 ghost use Rattle.manifest_value.specs.Faults.{FaultIn};
 ghost use Rattle.manifest_parts.specs.Refusals.{RefusedIn};
 ghost use Rattle.cargo_manifest.specs.Whole.{profiles_content};
-use manifest_parts::error::{Error, read};
+
 use manifest_parts::Profile;
+use manifest_parts::error::{Error, read};
 use manifest_value::fault::here;
 use manifest_value::maps::entries_table;
 use manifest_value::others::others_of;
-use manifest_value::rows::{optional, put_optional};
+use manifest_value::rows::{fill, put_optional};
 use manifest_value::{Cause, ReadFault, Schema};
 use std::alloc::{AllocError, Global};
 use std::collections::BTreeMap;
@@ -45,19 +46,63 @@ impl Profiles {
 }
 
 /// Reads the rows of a table.
-#[tactic(auto, unfolding(manifest_schema::specs::PartForms::profiles_rows))]
+#[tactic(auto, using(crate::proofs::ProfileLemmas::custom_fault), unfolding(manifest_schema::specs::PartForms::profiles_rows))]
 fn profiles_from(alloc: Global, table: &Table) -> Result<Profiles, ReadFault>
     ensures ok { IfOk result (λ x. (form profiles_rows).reads (data_table (table_view table.now)) (profiles_content x)) }
     ensures fault { IfErr result (FaultIn ((form profiles_rows).faulty (data_table (table_view table.now)))) }
 {
-    Ok(Profiles {
-        release: optional(alloc, table, "release", None)?,
-        dev: optional(alloc, table, "dev", None)?,
-        test: optional(alloc, table, "test", None)?,
-        bench: optional(alloc, table, "bench", None)?,
-        doc: optional(alloc, table, "doc", None)?,
-        custom: others_of(alloc, table, &["release", "dev", "test", "bench", "doc"])?,
-    })
+    let mut x = Profiles {
+        release: None,
+        dev: None,
+        test: None,
+        bench: None,
+        doc: None,
+        custom: BTreeMap::new(alloc),
+    };
+    match fill_profiles(alloc, table, &mut x) {
+        Ok(()) => {}
+        Err(fault) => return Err(fault),
+    }
+    match others_of(alloc, table, &["release", "dev", "test", "bench", "doc"]) {
+        Ok(custom) => {
+            x.custom = custom;
+            Ok(x)
+        }
+        Err(fault) => Err(fault),
+    }
+}
+
+/// Reads the profiles that Cargo names.
+fn fill_profiles(alloc: Global, table: &Table, x: &mut Profiles) -> Result<(), ReadFault>
+    ensures ok { OnOk result (first_fit 5 profiles_rows (table_view table.now) (profiles_content x.new)) }
+    ensures fault { IfErr result (FaultIn ((form profiles_rows).faulty (data_table (table_view table.now)))) }
+{
+    fill_building(alloc, table, x)?;
+    fill_testing(alloc, table, x)?;
+    Ok(())
+}
+
+/// Reads rows 1 to 3.
+#[tactic(auto, unfolding(manifest_schema::specs::PartForms::profiles_rows))]
+fn fill_building(alloc: Global, table: &Table, x: &mut Profiles) -> Result<(), ReadFault>
+    ensures ok { OnOk result (first_fit 3 profiles_rows (table_view table.now) (profiles_content x.new)) }
+    ensures fault { IfErr result (FaultIn ((form profiles_rows).faulty (data_table (table_view table.now)))) }
+{
+    fill(alloc, table, "release", None, &mut x.release)?;
+    fill(alloc, table, "dev", None, &mut x.dev)?;
+    fill(alloc, table, "test", None, &mut x.test)?;
+    Ok(())
+}
+
+/// Reads rows 4 and 5.
+#[tactic(auto, unfolding(manifest_schema::specs::PartForms::profiles_rows))]
+fn fill_testing(alloc: Global, table: &Table, x: &mut Profiles) -> Result<(), ReadFault>
+    ensures ok { OnOk result (first_fit 3 profiles_rows (table_view table.now) (profiles_content x.old) → first_fit 5 profiles_rows (table_view table.now) (profiles_content x.new)) }
+    ensures fault { IfErr result (FaultIn ((form profiles_rows).faulty (data_table (table_view table.now)))) }
+{
+    fill(alloc, table, "bench", None, &mut x.bench)?;
+    fill(alloc, table, "doc", None, &mut x.doc)?;
+    Ok(())
 }
 
 impl Schema for Profiles {

@@ -13,6 +13,7 @@ ghost use Rattle.manifest_schema.proofs.ManifestLaws.{workspace_package_lawful, 
 ghost use Rattle.manifest_value.specs.Faults.{FaultIn};
 ghost use Rattle.manifest_parts.specs.Refusals.{RefusedIn};
 ghost use Rattle.cargo_manifest.specs.Whole.{workspace_package_content, workspace_content};
+
 use manifest_parts::error::{Error, read};
 use manifest_parts::{DepsSet, Edition, LintsSet, Publish, Resolver, StringOrBool};
 use manifest_value::fault::here;
@@ -57,7 +58,10 @@ impl WorkspacePackage {
 
 /// Reads the rows of a table.
 #[tactic(auto, unfolding(manifest_schema::specs::ManifestForms::workspace_package_rows))]
-pub(crate) fn workspace_package_from(alloc: Global, table: &Table) -> Result<WorkspacePackage, ReadFault>
+pub(crate) fn workspace_package_from(
+    alloc: Global,
+    table: &Table,
+) -> Result<WorkspacePackage, ReadFault>
     ensures ok { IfOk result (λ x. (form workspace_package_rows).reads (data_table (table_view table.now)) (workspace_package_content x)) }
     ensures fault { IfErr result (FaultIn ((form workspace_package_rows).faulty (data_table (table_view table.now)))) }
 {
@@ -86,7 +90,11 @@ pub(crate) fn workspace_package_from(alloc: Global, table: &Table) -> Result<Wor
 }
 
 /// Reads all rows.
-fn fill_workspace_package(alloc: Global, table: &Table, x: &mut WorkspacePackage) -> Result<(), ReadFault>
+fn fill_workspace_package(
+    alloc: Global,
+    table: &Table,
+    x: &mut WorkspacePackage,
+) -> Result<(), ReadFault>
     ensures ok { OnOk result (first_fit 16 workspace_package_rows (table_view table.now) (workspace_package_content x.new)) }
     ensures fault { IfErr result (FaultIn ((form workspace_package_rows).faulty (data_table (table_view table.now)))) }
 {
@@ -239,7 +247,10 @@ impl<M: Metadata> Workspace<M> {
 
 /// Reads the rows of a table.
 #[tactic(auto, unfolding(manifest_schema::specs::ManifestForms::workspace_rows))]
-pub(crate) fn workspace_from<M: Metadata>(alloc: Global, table: &Table) -> Result<Workspace<M>, ReadFault>
+pub(crate) fn workspace_from<M: Metadata>(
+    alloc: Global,
+    table: &Table,
+) -> Result<Workspace<M>, ReadFault>
     ensures ok { IfOk result (λ x. (form (workspace_rows (tree_of M.kind))).reads (data_table (table_view table.now)) (workspace_content (λ m. M.kind.written (M.content m)) x)) }
     ensures fault { IfErr result (FaultIn ((form (workspace_rows (tree_of M.kind))).faulty (data_table (table_view table.now)))) }
 {
@@ -260,7 +271,11 @@ pub(crate) fn workspace_from<M: Metadata>(alloc: Global, table: &Table) -> Resul
 }
 
 /// Reads all rows.
-fn fill_workspace<M: Metadata>(alloc: Global, table: &Table, x: &mut Workspace<M>) -> Result<(), ReadFault>
+fn fill_workspace<M: Metadata>(
+    alloc: Global,
+    table: &Table,
+    x: &mut Workspace<M>,
+) -> Result<(), ReadFault>
     ensures ok { OnOk result (first_fit 8 (workspace_rows (tree_of M.kind)) (table_view table.now) (workspace_content (λ m. M.kind.written (M.content m)) x.new)) }
     ensures fault { IfErr result (FaultIn ((form (workspace_rows (tree_of M.kind))).faulty (data_table (table_view table.now)))) }
 {
@@ -270,12 +285,29 @@ fn fill_workspace<M: Metadata>(alloc: Global, table: &Table, x: &mut Workspace<M
 
 /// Reads rows 1 to 8.
 #[tactic(auto, unfolding(manifest_schema::specs::ManifestForms::workspace_rows))]
-fn fill_workspace_rows<M: Metadata>(alloc: Global, table: &Table, x: &mut Workspace<M>) -> Result<(), ReadFault>
+fn fill_workspace_rows<M: Metadata>(
+    alloc: Global,
+    table: &Table,
+    x: &mut Workspace<M>,
+) -> Result<(), ReadFault>
     ensures ok { OnOk result (first_fit 8 (workspace_rows (tree_of M.kind)) (table_view table.now) (workspace_content (λ m. M.kind.written (M.content m)) x.new)) }
     ensures fault { IfErr result (FaultIn ((form (workspace_rows (tree_of M.kind))).faulty (data_table (table_view table.now)))) }
 {
-    fill_default(alloc, table, "members", None, Vec::new(alloc), &mut x.members)?;
-    fill(alloc, table, "default-members", Some("default_members"), &mut x.default_members)?;
+    fill_default(
+        alloc,
+        table,
+        "members",
+        None,
+        Vec::new(alloc),
+        &mut x.members,
+    )?;
+    fill(
+        alloc,
+        table,
+        "default-members",
+        Some("default_members"),
+        &mut x.default_members,
+    )?;
     fill(alloc, table, "exclude", None, &mut x.exclude)?;
     fill(alloc, table, "resolver", None, &mut x.resolver)?;
     fill(alloc, table, "dependencies", None, &mut x.dependencies)?;
@@ -287,7 +319,11 @@ fn fill_workspace_rows<M: Metadata>(alloc: Global, table: &Table, x: &mut Worksp
 
 /// Writes rows 1 to 8, from the last to the first.
 #[tactic(auto, unfolding(manifest_schema::specs::ManifestForms::workspace_rows))]
-fn put_workspace_rows<M: Metadata>(alloc: Global, out: &mut Table, x: &Workspace<M>) -> Result<(), AllocError>
+fn put_workspace_rows<M: Metadata>(
+    alloc: Global,
+    out: &mut Table,
+    x: &Workspace<M>,
+) -> Result<(), AllocError>
     ensures { OnOk result (table_view out.new ≡ written_part 0 8 (workspace_rows (tree_of M.kind)) (workspace_content (λ m. M.kind.written (M.content m)) x.now) (table_view out.old)) }
 {
     put_optional(alloc, out, "lints", &x.lints)?;

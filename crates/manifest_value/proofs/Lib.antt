@@ -4,3 +4,4 @@ pub mod InsertLemmas
 pub mod EntryLemmas
 pub mod OtherLemmas
 pub mod FloatLemmas
+pub mod TextLemmas

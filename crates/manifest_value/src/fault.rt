@@ -1,7 +1,8 @@
 //! Where a value does not fit, and why.
 
+ghost use Rattle.std.specs.Prelude.{◌≡◌, IfOk};
 ghost use Rattle.manifest_schema.specs.Paths.{no_fault, itself, key};
-ghost use Rattle.manifest_value.specs.Faults.{FaultIn, IsSchema, IsBehind, step_of, cause_of};
+ghost use Rattle.manifest_value.specs.Faults.{FaultIn, IsSchema, IsBehind, step_of, path_of, cause_of};
 
 use std::alloc::{AllocError, AllocFailed, Global};
 
@@ -44,6 +45,44 @@ pub enum Cause {
 pub struct SchemaFault {
     pub path: KeyPath,
     pub cause: Cause,
+}
+
+impl Step {
+    /// A step of the same key or index.
+    fn clone(&self, alloc: Global) -> Result<Step, AllocError>
+        ensures { IfOk result (λ s. step_of s ≡ step_of self.now) }
+    {
+        match self {
+            Step::Key(key) => Ok(Step::Key(String::from_str(alloc, key.as_str())?)),
+            Step::Index(index) => Ok(Step::Index(*index)),
+        }
+    }
+}
+
+impl KeyPath {
+    /// A path of the same steps.
+    fn clone(&self, alloc: Global) -> Result<KeyPath, AllocError>
+        ensures { IfOk result (λ p. path_of p ≡ path_of self.now) }
+    {
+        let mut steps = Vec::new(alloc);
+        for step in &self.steps {
+            steps.push(step.clone(alloc)?)?;
+        }
+        Ok(KeyPath { steps })
+    }
+}
+
+impl SchemaFault {
+    /// The same cause at the same path, in memory of its own, or `AllocError` where that finds no room.
+    pub fn clone(&self, alloc: Global) -> Result<SchemaFault, AllocError>
+        ensures path { IfOk result (λ f. path_of f.path ≡ path_of self.now.path) }
+        ensures cause { IfOk result (λ f. f.cause ≡ self.now.cause) }
+    {
+        Ok(SchemaFault {
+            path: self.path.clone(alloc)?,
+            cause: self.cause,
+        })
+    }
 }
 
 /// What a reader refuses with.

@@ -9,6 +9,7 @@ pub mod maps;
 pub mod metadata;
 pub mod numbers;
 pub mod others;
+pub mod path_text;
 pub mod plain;
 pub mod rows;
 pub mod schema;

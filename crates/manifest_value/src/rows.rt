@@ -1,12 +1,14 @@
 //! Rows of a form.
-ghost use Rattle.std.specs.Prelude.{◌≡◌, List, ℕ, IfOk, IfErr, OnOk, Option, Some, option_map, option_copied};
+ghost use Rattle.std.specs.Prelude.{◌≡◌, Some, map, IfOk, IfErr, OnOk, option_map, option_copied};
+ghost use Rattle.manifest_schema.specs.Kinds.{list_of};
+ghost use Rattle.manifest_schema.specs.PartForms.{is_empty};
 ghost use Rattle.toml.specs.View.{view, table_view};
 ghost use Rattle.manifest_value.specs.Faults.{FaultIn, cause_of};
 ghost use Rattle.manifest_schema.specs.Paths.{itself, behind, key};
 ghost use Rattle.manifest_schema.specs.Slots.{at, spellings_of, put_some};
 ghost use Rattle.manifest_schema.specs.Needs.{meets_required, meets_optional, meets_default, faulty_required, faulty_free, written_some, written_unless};
 
-use crate::fault::{Cause, ReadFault, Step, here, prefixed};
+use crate::fault::{Cause, ReadFault, here, under_key};
 use crate::schema::Schema;
 use crate::slots::{Slot, slot_at};
 use std::alloc::{AllocError, Global};
@@ -17,10 +19,7 @@ use toml::{Table, Value};
 fn at_key(alloc: Global, word: &str, cause: Cause) -> ReadFault
     ensures { FaultIn (behind (key word.now) (itself (cause_of cause))) result }
 {
-    match String::from_str(alloc, word) {
-        Ok(word) => prefixed(Step::Key(word), here(alloc, cause)),
-        Err(e) => ReadFault::Memory(e),
-    }
+    under_key(alloc, word, here(alloc, cause))
 }
 
 /// The value under a key, with the key before the path of a fault.
@@ -31,13 +30,7 @@ pub fn read_under<T: Schema>(alloc: Global, value: &Value, word: &str) -> Result
 {
     match T::from_value(alloc, value) {
         Ok(x) => Ok(x),
-        Err(f) => match String::from_str(alloc, word) {
-            Ok(word) => Err(prefixed(Step::Key(word), f)),
-            Err(e) => {
-                drop(f);
-                Err(ReadFault::Memory(e))
-            }
-        },
+        Err(fault) => Err(under_key(alloc, word, fault)),
     }
 }
 
@@ -173,4 +166,17 @@ pub fn put_unless<T: Schema>(
         return Ok(());
     }
     put_row(alloc, table, first, value)
+}
+
+/// Puts a row of a list into the table, unless the list is empty.
+pub fn put_nonempty<T: Schema>(
+    alloc: Global,
+    table: &mut Table,
+    first: &'static str,
+    list: &Vec<T>,
+) -> Result<(), AllocError>
+    ensures { let xs = map T.content list.now.items in
+        OnOk result (table_view table.new ≡ put_some first.now (written_unless (list_of T.kind) (is_empty xs) xs) (table_view table.old)) }
+{
+    put_unless(alloc, table, first, list.as_slice().is_empty(), list)
 }
