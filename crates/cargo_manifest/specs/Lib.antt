@@ -2,3 +2,4 @@ pub use Rattle.manifest_schema.specs.Contents
 pub use Rattle.manifest_schema.specs.ManifestForms
 pub use Rattle.manifest_schema.specs.Meaning
 pub mod Whole
+pub mod Answers

@@ -4,6 +4,7 @@
 pub mod manifest;
 pub mod package;
 pub mod profiles;
+mod reading;
 pub mod workspace;
 
 pub use manifest::Manifest;

@@ -1,0 +1,44 @@
+-- What each answer of the calls says of the bytes that were read. The kinds K and W are those of the metadata of the package and of the workspace.
+use Rattle.std.specs.Prelude.{◌≡◌, ℕ, List, false, Some, None, IsUtf8, codes, string_bytes}
+use Rattle.toml.specs.Data.{Data, Members, members_have_valid_dates}
+use Rattle.toml.specs.Parse.{parse_document}
+use Rattle.toml.specs.Errors.{IsMemory}
+use Rattle.manifest_schema.specs.Kinds.{Kind}
+use Rattle.manifest_schema.specs.Contents.{Manifest}
+use Rattle.manifest_schema.specs.Meaning.{means, unmeant}
+use Rattle.manifest_value.specs.declared.fault.SchemaFault.{SchemaFault}
+use Rattle.manifest_value.specs.Faults.{IsOneOf}
+use Rattle.manifest_parts.specs.declared.error.Error.{Error}
+use Rattle.manifest_parts.specs.declared.error.Error.TheVariants.{Parse, Utf8, Other, Memory}
+use Rattle.manifest_parts.specs.declared.error.ParseFault.TheVariants.{Toml, Schema}
+
+-- the bytes are a document of a table that means the manifest
+pub record IsDocumentOf (K W : Kind Data) (bytes : List ℕ) (m : Manifest) : Type 0 where
+  pub document : Members
+  pub parsed : parse_document bytes ≡ Some document
+  pub meant : means K W document m
+
+-- the bytes are a document of a table with this fault, which means no manifest
+pub record HasFault (K W : Kind Data) (bytes : List ℕ) (f : SchemaFault) : Type 0 where
+  pub document : Members
+  pub parsed : parse_document bytes ≡ Some document
+  pub stands : IsOneOf (unmeant K W document) f
+  pub nothing : (m : Manifest) → means K W document m → ⊥
+
+-- the refusal of a text: by `toml`, memory aside, only where it is no document; by the schema only with a fault that stands there; else want of memory
+abbrev pub RefusesText : Kind Data → Kind Data → List ℕ → Error → Type 0
+RefusesText K W text (Parse (Toml e)) = ¬ IsMemory e.value → parse_document text ≡ None
+RefusesText K W text (Parse (Schema f)) = HasFault K W text f
+RefusesText K W text (Memory e) = Unit {0}
+RefusesText K W text _ = ⊥
+
+-- the refusal of bytes: as UTF-8 exactly where they are not, else as that of a text
+abbrev pub Refuses : Kind Data → Kind Data → List ℕ → Error → Type 0
+Refuses K W bytes (Utf8 e) = ¬ IsUtf8 bytes
+Refuses K W bytes e = IsUtf8 bytes × RefusesText K W bytes e
+
+-- the refusal to print a table: it has a date-time that TOML cannot write, or memory ran out
+abbrev pub RefusesToPrint : Members → Error → Type 0
+RefusesToPrint t (Other s) = (members_have_valid_dates t ≡ false) × (string_bytes s ≡ codes "a date-time of a kept value is not a valid date")
+RefusesToPrint t (Memory e) = Unit {0}
+RefusesToPrint t _ = ⊥

@@ -1,0 +1,140 @@
+//! A manifest from bytes or from a text.
+
+ghost use Rattle.std.specs.Prelude.{◌≡◌, codes, IfOk, IfErr, IsUtf8};
+ghost use Rattle.toml.specs.Data.{get_member};
+ghost use Rattle.toml.specs.View.{view, table_view};
+ghost use Rattle.manifest_schema.specs.Forms.{form};
+ghost use Rattle.manifest_schema.specs.Kinds.{kept, tree_of};
+ghost use Rattle.manifest_schema.specs.ManifestForms.{package_rows};
+ghost use Rattle.manifest_schema.specs.Meaning.{has, has_header, old_package, faulty_old, means, unmeant};
+ghost use Rattle.manifest_value.specs.Faults.{FaultIn};
+ghost use Rattle.cargo_manifest.specs.Whole.{package_content, manifest_content};
+ghost use Rattle.cargo_manifest.specs.Answers.{IsDocumentOf, Refuses, RefusesText};
+
+use crate::manifest::{Manifest, manifest_from};
+use crate::package::{Package, package_from};
+use manifest_parts::error::refusal;
+use manifest_parts::{Error, ParseFault};
+use manifest_value::rows::read_under;
+use manifest_value::slots::find;
+use manifest_value::{Metadata, ReadFault};
+use std::alloc::{AllocError, Global};
+use std::rc::Rc;
+use toml::{Table, Value};
+
+/// Whether the table has the key.
+fn has_key(table: &Table, key: &str) -> bool
+    ensures { result ≡ has key.now (table_view table.now) }
+{
+    find(table, key).is_some()
+}
+
+/// Whether the table has a `package` or a `workspace`.
+fn has_package_or_workspace(table: &Table) -> bool
+    ensures { result ≡ has_header (table_view table.now) }
+{
+    has_key(table, "package") | has_key(table, "workspace")
+}
+
+/// The package under an old header: that of `project`, or else of the whole table.
+fn read_old_package<P: Metadata>(alloc: Global, table: &Table) -> Result<Package<P>, ReadFault>
+    ensures ok { let ms = table_view table.now in
+        IfOk result (λ p. (form (package_rows (tree_of P.kind))).reads (old_package ms (get_member (codes "project") ms)) (package_content (λ m. P.kind.written (P.content m)) p)) }
+    ensures fault { let ms = table_view table.now in
+        IfErr result (FaultIn (faulty_old (tree_of P.kind) ms (get_member (codes "project") ms))) }
+{
+    match find(table, "project") {
+        Some(value) => read_under(alloc, value, "project"),
+        None => package_from(alloc, table),
+    }
+}
+
+/// The manifest that a table means. Where it has neither `package` nor `workspace`, its package is that of `project`,
+/// or else of the whole table.
+fn read_table<P: Metadata, W: Metadata>(
+    alloc: Global,
+    table: &Table,
+) -> Result<Manifest<P, W>, ReadFault>
+    ensures ok { IfOk result (λ m. means (tree_of P.kind) (tree_of W.kind) (table_view table.now)
+        (manifest_content (λ m. P.kind.written (P.content m)) (λ m. W.kind.written (W.content m)) m)) }
+    ensures fault { IfErr result (FaultIn (unmeant (tree_of P.kind) (tree_of W.kind) (table_view table.now))) }
+{
+    let mut manifest = match manifest_from(alloc, table) {
+        Ok(manifest) => manifest,
+        Err(fault) => return Err(fault),
+    };
+    if has_package_or_workspace(table) {
+        return Ok(manifest);
+    }
+    match read_old_package(alloc, table) {
+        Ok(package) => {
+            drop(manifest.package.replace(package));
+            Ok(manifest)
+        }
+        Err(fault) => {
+            drop(manifest);
+            Err(fault)
+        }
+    }
+}
+
+/// The manifest that a text means.
+fn read_text<P: Metadata, W: Metadata>(
+    alloc: Global,
+    text: &str,
+) -> Result<Manifest<P, W>, Error>
+    ensures ok { IfOk result (λ m. IsDocumentOf (tree_of P.kind) (tree_of W.kind) text.now
+        (manifest_content (λ m. P.kind.written (P.content m)) (λ m. W.kind.written (W.content m)) m)) }
+    ensures refused { IfErr result (RefusesText (tree_of P.kind) (tree_of W.kind) text.now) }
+{
+    let table = match toml::table_from_str(alloc, text) {
+        Ok(table) => table,
+        Err(fault) => match Rc::new(alloc, fault) {
+            Ok(shared) => return Err(Error::Parse(ParseFault::Toml(shared))),
+            Err(refused) => return Err(Error::Memory(AllocError::from(refused))),
+        },
+    };
+    match read_table(alloc, &table) {
+        Ok(manifest) => Ok(manifest),
+        Err(fault) => Err(refusal(fault)),
+    }
+}
+
+impl<P: Metadata> Manifest<P, Value> {
+    /// Reads the bytes of a `Cargo.toml`, with the package's metadata as a `P`.
+    ///
+    /// Refuses bytes that are not UTF-8 with [`Error::Utf8`]; then a text that is no TOML with
+    /// `Error::Parse(ParseFault::Toml(..))`; then a table that means no manifest with
+    /// `Error::Parse(ParseFault::Schema(..))`, which tells a key path and a cause that stand there. Besides, want of
+    /// memory is [`Error::Memory`], or a memory fault inside `ParseFault::Toml`.
+    ///
+    /// Nothing is completed from folders.
+    pub fn from_slice_with_metadata(alloc: Global, bytes: &[u8]) -> Result<Manifest<P, Value>, Error>
+        ensures ok { IfOk result (λ m. IsUtf8 bytes.now × IsDocumentOf (tree_of P.kind) (tree_of kept) bytes.now
+            (manifest_content (λ m. P.kind.written (P.content m)) view m)) }
+        ensures refused { IfErr result (Refuses (tree_of P.kind) (tree_of kept) bytes.now) }
+    {
+        match std::str::from_utf8(bytes) {
+            Ok(text) => read_text(alloc, text),
+            Err(fault) => Err(Error::Utf8(fault)),
+        }
+    }
+}
+
+impl Manifest<Value, Value> {
+    /// Reads the bytes of a `Cargo.toml`: [`Manifest::from_slice_with_metadata`] with metadata kept as it is.
+    pub fn from_slice(alloc: Global, bytes: &[u8]) -> Result<Manifest<Value, Value>, Error>
+        ensures ok { IfOk result (λ m. IsUtf8 bytes.now × IsDocumentOf (tree_of kept) (tree_of kept) bytes.now (manifest_content view view m)) }
+        ensures refused { IfErr result (Refuses (tree_of kept) (tree_of kept) bytes.now) }
+    {
+        Manifest::from_slice_with_metadata(alloc, bytes)
+    }
+
+    /// Reads the text of a `Cargo.toml`, as [`Manifest::from_slice`] does its bytes.
+    pub fn from_str(alloc: Global, text: &str) -> Result<Manifest<Value, Value>, Error>
+        ensures ok { IfOk result (λ m. IsDocumentOf (tree_of kept) (tree_of kept) text.now (manifest_content view view m)) }
+        ensures refused { IfErr result (RefusesText (tree_of kept) (tree_of kept) text.now) }
+    {
+        read_text(alloc, text)
+    }
+}
