@@ -1,11 +1,13 @@
 //! Cargo manifests: read from bytes, and written as their one canonical table.
 #![tactic(auto)]
 
+pub mod laws;
 pub mod manifest;
 pub mod package;
 pub mod profiles;
 mod reading;
 pub mod workspace;
+mod writing;
 
 pub use manifest::Manifest;
 pub use manifest_parts::{
@@ -19,4 +21,5 @@ pub use manifest_value::{Cause, KeyPath, Metadata, Plain, ReadFault, Schema, Sch
 pub use package::Package;
 pub use profiles::Profiles;
 pub use toml::Value;
+pub use writing::INVALID_DATE;
 pub use workspace::{Workspace, WorkspacePackage};

@@ -7,6 +7,7 @@ ghost use Rattle.manifest_schema.specs.Forms.{form, first_fit, written_part};
 ghost use Rattle.manifest_schema.specs.Kinds.{tree_of};
 ghost use Rattle.manifest_schema.specs.Contents;
 ghost use Rattle.manifest_schema.specs.ManifestForms.{manifest_rows};
+ghost use Rattle.manifest_schema.specs.Meaning.{rewritten};
 ghost use Rattle.manifest_schema.proofs.KindLaws.{tree_lawful};
 ghost use Rattle.manifest_schema.proofs.ManifestLaws.{manifest_lawful};
 ghost use Rattle.manifest_value.specs.Faults.{FaultIn};
@@ -237,6 +238,22 @@ fn put_settings<P: Metadata, W: Metadata>(
     Ok(())
 }
 
+/// The table that is written.
+#[tactic(auto, unfolding(manifest_schema::specs::ManifestForms::manifest_rows))]
+pub(crate) fn manifest_table<P: Metadata, W: Metadata>(
+    alloc: Global,
+    x: &Manifest<P, W>,
+) -> Result<Table, AllocError>
+    ensures { IfOk result (λ t. table_view t ≡ rewritten (tree_of P.kind) (tree_of W.kind)
+        (manifest_content (λ m. P.kind.written (P.content m)) (λ m. W.kind.written (W.content m)) x.now)) }
+{
+    let mut out = Table::new(alloc);
+    put_settings(alloc, &mut out, x)?;
+    put_features(alloc, &mut out, x)?;
+    put_header(alloc, &mut out, x)?;
+    Ok(out)
+}
+
 impl<P: Metadata, W: Metadata> Schema for Manifest<P, W> {
     ghost Content = { Contents.Manifest };
 
@@ -251,13 +268,8 @@ impl<P: Metadata, W: Metadata> Schema for Manifest<P, W> {
         }
     }
 
-    #[tactic(auto, unfolding(manifest_schema::specs::ManifestForms::manifest_rows))]
     fn to_value(&self, alloc: Global) -> Result<Value, AllocError> {
-        let mut out = Table::new(alloc);
-        put_settings(alloc, &mut out, self)?;
-        put_features(alloc, &mut out, self)?;
-        put_header(alloc, &mut out, self)?;
-        Ok(Value::Table(out))
+        Ok(Value::Table(manifest_table(alloc, self)?))
     }
 
     ghost lawful = { manifest_lawful (tree_of P.kind) (tree_of W.kind) (tree_lawful P.lawful) (tree_lawful W.lawful) };
