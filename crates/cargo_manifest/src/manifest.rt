@@ -1,7 +1,8 @@
 //! A manifest.
 
 ghost use Rattle.std.specs.Prelude.{◌≡◌, IfOk, IfErr, OnOk};
-ghost use Rattle.toml.specs.Data.{table as data_table};
+ghost use Rattle.toml.specs.Data.{Data, table as data_table};
+ghost use Rattle.manifest_schema.specs.Defaults.{empty_manifest};
 ghost use Rattle.toml.specs.View.{view, table_view};
 ghost use Rattle.manifest_schema.specs.Forms.{form, first_fit, written_part};
 ghost use Rattle.manifest_schema.specs.Kinds.{tree_of};
@@ -58,6 +59,33 @@ impl<P: Metadata, W: Metadata> Manifest<P, W> {
         ensures refused { IfErr result (RefusedIn ((form (manifest_rows (tree_of P.kind) (tree_of W.kind))).faulty (view value.now))) }
     {
         read(alloc, value)
+    }
+}
+
+impl<P, W> Manifest<P, W> {
+    /// A manifest with nothing in it: every option is `None`, and every list is empty.
+    pub fn default(alloc: Global) -> Manifest<P, W>
+        ensures { (f : P → Data) (g : W → Data) → manifest_content f g result ≡ empty_manifest }
+    {
+        Manifest {
+            package: None,
+            cargo_features: None,
+            workspace: None,
+            dependencies: None,
+            dev_dependencies: None,
+            build_dependencies: None,
+            target: None,
+            features: None,
+            bin: Vec::new(alloc),
+            bench: Vec::new(alloc),
+            test: Vec::new(alloc),
+            example: Vec::new(alloc),
+            patch: None,
+            lib: None,
+            profile: None,
+            badges: None,
+            lints: None,
+        }
     }
 }
 

@@ -5,6 +5,7 @@ ghost use Rattle.toml.specs.Data.{table as data_table};
 ghost use Rattle.toml.specs.View.{view, table_view};
 ghost use Rattle.manifest_schema.specs.Forms.{form, first_fit};
 ghost use Rattle.manifest_schema.specs.Contents;
+ghost use Rattle.manifest_schema.specs.Defaults.{no_profiles};
 ghost use Rattle.manifest_schema.specs.PartForms.{profiles_rows};
 ghost use Rattle.manifest_schema.proofs.PartLaws.{profiles_lawful};
 ghost use Rattle.manifest_value.specs.Faults.{FaultIn};
@@ -35,6 +36,20 @@ pub struct Profiles {
 }
 
 impl Profiles {
+    /// No profile at all.
+    pub fn default(alloc: Global) -> Profiles
+        ensures { profiles_content result ≡ no_profiles }
+    {
+        Profiles {
+            release: None,
+            dev: None,
+            test: None,
+            bench: None,
+            doc: None,
+            custom: BTreeMap::new(alloc),
+        }
+    }
+
     /// The one reading of the value by the form of profiles: every key but the five is the name of a custom profile. Refuses
     /// a value that is no table with `WrongKind`, and else with the fault of a profile.
     pub fn from_value(alloc: Global, value: &Value) -> Result<Profiles, Error>

@@ -1,12 +1,12 @@
 //! The workspace of a manifest, and the package fields that it lends.
 
 ghost use Rattle.std.specs.Prelude.{◌≡◌, IfOk, IfErr, OnOk};
-ghost use Rattle.toml.specs.Data.{table as data_table};
+ghost use Rattle.toml.specs.Data.{Data, table as data_table};
 ghost use Rattle.toml.specs.View.{view, table_view};
 ghost use Rattle.manifest_schema.specs.Forms.{form, first_fit, written_part};
 ghost use Rattle.manifest_schema.specs.Kinds.{tree_of};
 ghost use Rattle.manifest_schema.specs.Contents;
-ghost use Rattle.manifest_schema.specs.Defaults.{no_workspace_package};
+ghost use Rattle.manifest_schema.specs.Defaults.{no_workspace_package, empty_workspace};
 ghost use Rattle.manifest_schema.specs.ManifestForms.{workspace_package_rows, workspace_rows};
 ghost use Rattle.manifest_schema.proofs.KindLaws.{tree_lawful};
 ghost use Rattle.manifest_schema.proofs.ManifestLaws.{workspace_package_lawful, workspace_lawful};
@@ -232,6 +232,24 @@ pub struct Workspace<M = Value> {
     pub package: Option<WorkspacePackage>,
     pub metadata: Option<M>,
     pub lints: Option<LintsSet>,
+}
+
+impl<M> Workspace<M> {
+    /// A workspace with nothing in it: no members, and every option is `None`.
+    pub fn default(alloc: Global) -> Workspace<M>
+        ensures { (f : M → Data) → workspace_content f result ≡ empty_workspace }
+    {
+        Workspace {
+            members: Vec::new(alloc),
+            default_members: None,
+            exclude: None,
+            resolver: None,
+            dependencies: None,
+            package: None,
+            metadata: None,
+            lints: None,
+        }
+    }
 }
 
 impl<M: Metadata> Workspace<M> {

@@ -43,6 +43,29 @@ pub enum Error {
     Memory(AllocError),
 }
 
+impl Error {
+    ghost use Rattle.manifest_parts.specs.Refusals.{SameError};
+
+    /// An error that says the same: the same answer, with the same fault of `toml` (which is shared), the same path and
+    /// cause, the same I/O kind, or the same text.
+    pub fn clone(&self, alloc: Global) -> Result<Error, AllocError>
+        ensures { IfOk result (SameError self.now) }
+    {
+        match self {
+            Error::Parse(ParseFault::Toml(fault)) => {
+                Ok(Error::Parse(ParseFault::Toml(fault.clone()?)))
+            }
+            Error::Parse(ParseFault::Schema(fault)) => {
+                Ok(Error::Parse(ParseFault::Schema(fault.clone(alloc)?)))
+            }
+            Error::Io(fault) => Ok(Error::Io(*fault)),
+            Error::Utf8(fault) => Ok(Error::Utf8(*fault)),
+            Error::Other(text) => Ok(Error::Other(String::from_str(alloc, text.as_str())?)),
+            Error::Memory(refused) => Ok(Error::Memory(*refused)),
+        }
+    }
+}
+
 /// Reads a value by the kind of its type.
 pub fn read<T: Schema>(alloc: Global, value: &Value) -> Result<T, Error>
     ensures ok { IfOk result (λ x. T.kind.reads (view value.now) (T.content x)) }

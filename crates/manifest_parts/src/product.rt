@@ -5,6 +5,7 @@ ghost use Rattle.toml.specs.Data.{table as data_table};
 ghost use Rattle.toml.specs.View.{view, table_view};
 ghost use Rattle.manifest_schema.specs.Forms.{form};
 ghost use Rattle.manifest_schema.specs.Contents;
+ghost use Rattle.manifest_schema.specs.Defaults.{default_product};
 ghost use Rattle.manifest_schema.specs.PartForms.{product_rows};
 ghost use Rattle.manifest_schema.proofs.PartLaws.{product_lawful};
 ghost use Rattle.manifest_value.specs.Faults.{FaultIn};
@@ -57,6 +58,26 @@ impl Product {
         ensures refused { IfErr result (RefusedIn ((form product_rows).faulty (view value.now))) }
     {
         read(alloc, value)
+    }
+
+    /// A product with nothing set: tested, benched and documented, with the harness, of the edition 2015.
+    pub fn default(alloc: Global) -> Product
+        ensures { product_content result ≡ default_product }
+    {
+        Product {
+            path: None,
+            name: None,
+            test: true,
+            doctest: true,
+            bench: true,
+            doc: true,
+            plugin: false,
+            proc_macro: false,
+            harness: true,
+            edition: Some(Edition::E2015),
+            required_features: Vec::new(alloc),
+            crate_type: None,
+        }
     }
 }
 

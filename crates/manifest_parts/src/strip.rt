@@ -1,12 +1,13 @@
 //! What is stripped from a binary.
 
-ghost use Rattle.std.specs.Prelude.{◌≡◌, IfOk, IfErr};
+ghost use Rattle.std.specs.Prelude.{◌≡◌, Some, IfOk, IfErr, MatchResult};
+ghost use Rattle.toml.specs.Data.{string};
 ghost use Rattle.toml.specs.View.{view};
 ghost use Rattle.manifest_schema.specs.Contents;
-ghost use Rattle.manifest_schema.specs.Choices.{strip};
+ghost use Rattle.manifest_schema.specs.Choices.{strip, strip_meaning};
 ghost use Rattle.manifest_schema.proofs.ChoiceLaws.{strip_lawful};
 ghost use Rattle.manifest_parts.specs.Parts.{strip_content};
-ghost use Rattle.manifest_parts.specs.Refusals.{RefusedIn};
+ghost use Rattle.manifest_parts.specs.Refusals.{RefusedIn, RefusesStrip};
 
 use crate::error::{Error, read};
 use manifest_value::fault::here;
@@ -34,6 +35,43 @@ impl StripSetting {
         ensures refused { IfErr result (RefusedIn (strip.faulty (view value.now))) }
     {
         read(alloc, value)
+    }
+
+    /// The same reading, with the refusal told as a text: `'X' is not a valid value for 'strip'` of another text X, and
+    /// `wrong data type for strip setting` of another kind.
+    pub fn try_from(alloc: Global, value: Value) -> Result<StripSetting, Error>
+        ensures ok { IfOk result (λ x. strip.reads (view value) (strip_content x)) }
+        ensures refused { IfErr result (RefusesStrip (view value)) }
+    {
+        match &value {
+            Value::Boolean(true) => Ok(StripSetting::Symbols),
+            Value::Boolean(false) => Ok(StripSetting::None),
+            Value::String(s) => setting_of(alloc, s.as_str()),
+            _ => Err(said(String::from_str(alloc, "wrong data type for strip setting"))),
+        }
+    }
+}
+
+/// The setting that a text stands for.
+fn setting_of(alloc: Global, text: &str) -> Result<StripSetting, Error>
+    ensures ok { IfOk result (λ x. strip_meaning (string text.now) ≡ Some (strip_content x)) }
+    ensures refused { IfErr result (RefusesStrip (string text.now)) }
+{
+    match text {
+        "none" => Ok(StripSetting::None),
+        "symbols" => Ok(StripSetting::Symbols),
+        "debuginfo" => Ok(StripSetting::Debuginfo),
+        _ => Err(said(format!(in alloc; "'{text}' is not a valid value for 'strip'"))),
+    }
+}
+
+/// The error of a text, or want of memory where there was none for it.
+fn said(text: Result<String, AllocError>) -> Error
+    ensures { MatchResult text (λ s. result ≡ Error.Other s) (λ e. result ≡ Error.Memory e) }
+{
+    match text {
+        Ok(text) => Error::Other(text),
+        Err(refused) => Error::Memory(refused),
     }
 }
 
