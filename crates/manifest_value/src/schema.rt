@@ -9,6 +9,7 @@ ghost use Rattle.manifest_schema.proofs.KindLaws.{text_lawful, flag_lawful, list
 ghost use Rattle.manifest_value.specs.Faults.{FaultIn};
 
 use crate::fault::{Cause, ReadFault, Step, here, prefixed};
+use crate::readers::{boolean, text};
 use std::alloc::{AllocError, Global};
 use toml::Value;
 
@@ -43,10 +44,7 @@ impl Schema for String {
     ghost kind = { text };
 
     fn from_value(alloc: Global, value: &Value) -> Result<String, ReadFault> {
-        match value {
-            Value::String(s) => Ok(String::from_str(alloc, s.as_str())?),
-            _ => Err(here(alloc, Cause::WrongKind)),
-        }
+        text(alloc, value)
     }
 
     fn to_value(&self, alloc: Global) -> Result<Value, AllocError> {
@@ -64,10 +62,7 @@ impl Schema for bool {
     ghost kind = { flag };
 
     fn from_value(alloc: Global, value: &Value) -> Result<bool, ReadFault> {
-        match value {
-            Value::Boolean(b) => Ok(*b),
-            _ => Err(here(alloc, Cause::WrongKind)),
-        }
+        boolean(alloc, value)
     }
 
     fn to_value(&self, _alloc: Global) -> Result<Value, AllocError> {
