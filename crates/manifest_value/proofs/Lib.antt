@@ -5,3 +5,5 @@ pub mod EntryLemmas
 pub mod OtherLemmas
 pub mod FloatLemmas
 pub mod TextLemmas
+pub mod CallLemmas
+pub mod KindCalls

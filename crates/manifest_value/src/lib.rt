@@ -2,6 +2,7 @@
 //! it holds and which values it reads, readers and writers of std's types, and the rows of a form.
 #![tactic(auto)]
 
+pub mod closures;
 pub mod fault;
 pub mod kept;
 pub mod lenient;
@@ -15,9 +16,12 @@ pub mod readers;
 pub mod rows;
 pub mod schema;
 pub mod slots;
+pub mod writers;
 
+pub use closures::{list_of, map_of};
 pub use fault::{Cause, KeyPath, ReadFault, SchemaFault, Step};
 pub use metadata::Metadata;
 pub use plain::Plain;
 pub use readers::{boolean, field, table, text, texts, whole};
 pub use schema::Schema;
+pub use writers::{write_list, write_map, write_text, write_texts};
