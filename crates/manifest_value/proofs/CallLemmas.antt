@@ -1,5 +1,5 @@
 -- Calls of a reader or a writer at the items of a list and the entries of a map, one after the other.
-use Rattle.std.proofs.Common.{◌≡◌, ℕ, Result, IfErr, String, Global, string_bytes, List, [], ◌∷◌, ◌++◌, length, take, drop, get_or, ◌<◌, ◌+◌, Ok, Err, refl, sym, ap, ◌∙◌, arith}
+use Rattle.std.proofs.Common.{◌≡◌, ℕ, Result, IfOk, IfErr, String, Global, string_bytes, List, [], ◌∷◌, ◌++◌, length, take, drop, get_or, ◌<◌, ◌+◌, Ok, Err, refl, sym, ap, ◌∙◌, arith}
 use Rattle.std.proofs.lemmas.List.{take_more, drop_more, take-append-drop}
 use Rattle.std.proofs.lemmas.Grind.{common_steps}
 use Rattle.std.specs.BTreeMap.{insert_entry}
@@ -8,22 +8,23 @@ use Rattle.std.specs.List.Sorted.{IsStrictlySortedBy}
 use Rattle.std.specs.Map.{keys_of}
 use Rattle.std.specs.String.{string_cmp}
 use Rattle.toml.specs.declared.value.Value.{Value}
-use Rattle.manifest_schema.specs.Paths.{Path, Cause as SchemaCause, Step as PathStep, Faults, behind, index, key}
+use Rattle.manifest_schema.specs.Paths.{Path, Cause as SchemaCause, Faults, behind, index, key}
 use Rattle.manifest_value.specs.Calls.{Reads, Refused, ItemsGiven, EntriesGiven, ItemRefused, EntryRefused}
-use Rattle.manifest_value.specs.Faults.{FaultIn, IsBehind}
+use Rattle.manifest_value.specs.Faults.{FaultIn}
 use Rattle.manifest_value.specs.declared.fault.ReadFault.{ReadFault}
 use Rattle.manifest_value.specs.declared.fault.ReadFault.TheVariants.{Schema, Memory}
-use Rattle.manifest_value.proofs.Behind.{fault_weaker, fault_behind}
+use Rattle.manifest_value.proofs.Behind.{fault_weaker}
 use Rattle.manifest_value.proofs.EntryLemmas.{texts, insert_last}
 
--- the fault of a call is one with which the value is refused
-pub fault_refused : {T : Type 0} (R : Reads T) (v : Value) (f : ReadFault) → R v (Err f) → FaultIn (Refused R v) f
-fault_refused R v (Schema f) h = record { fault = f; answer = h; path = refl; cause = refl }
-fault_refused R v (Memory e) h = tt
+-- the result of a call is its answer, or a fault with which the value is refused
+pub answer_given : {X Y E : Type 0} (R : X → Result Y E → Type 0) (x : X) (r : Result Y E) → R x r → IfOk r (λ y. R x (Ok y))
+answer_given R x (Ok y) h = h
+answer_given R x (Err e) h = tt
 
--- and the one with a step before it is seen behind that step
-pub refused_behind : {T : Type 0} (R : Reads T) (s : PathStep) (v : Value) (f g : ReadFault) → R v (Err f) → IsBehind s f g → FaultIn (behind s (Refused R v)) g
-refused_behind R s v f g h b = fault_behind (Refused R v) s f g (fault_refused R v f h) b
+pub fault_given : {T : Type 0} (R : Reads T) (v : Value) (r : Result T ReadFault) → R v r → IfErr r (FaultIn (Refused R v))
+fault_given R v (Ok x) h = tt
+fault_given R v (Err (Schema f)) h = record { fault = f; answer = h; path = refl; cause = refl }
+fault_given R v (Err (Memory e)) h = tt
 
 -- what is refused with a fault of P is refused with one of Q
 pub refused_weaker : {X : Type 0} (P Q : Faults) (r : Result X ReadFault) → ((p : Path) (c : SchemaCause) → P p c → Q p c) → IfErr r (FaultIn P) → IfErr r (FaultIn Q)

@@ -1,5 +1,4 @@
 pub mod Behind
-pub mod ItemLemmas
 pub mod InsertLemmas
 pub mod EntryLemmas
 pub mod OtherLemmas

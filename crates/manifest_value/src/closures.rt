@@ -1,4 +1,4 @@
-//! Lists and maps whose values a given reader reads.
+//! Readers of a list and of a table by a given reader of their values.
 
 ghost use Rattle.std.specs.Prelude.{◌≡◌, IfOk, IfErr, Ok};
 ghost use Rattle.std.specs.BTreeMap.{values};
@@ -21,7 +21,17 @@ pub(crate) fn call_at<X, R, F: Fn(&X) -> R>(f: &F, x: &X) -> R
     f(x)
 }
 
+/// The reader's answer at a value, or the fault with which it refuses the value.
+fn read_at<T, F: Fn(&Value) -> Result<T, ReadFault>>(read: &F, value: &Value) -> Result<T, ReadFault>
+    requires { (b : _) → b.now ≡ value.now → F.pre read.now b }
+    ensures ok { IfOk result (λ x. FnReturnsAt F.Fn read.now value.now (Ok x)) }
+    ensures fault { IfErr result (FaultIn (Refused (FnReturnsAt F.Fn read.now) value.now)) }
+{
+    call_at(read, value)
+}
+
 /// The reader's answer at an item, with the index before the path of a fault.
+#[tactic(auto, using(crate::proofs::Behind::fault_behind))]
 fn item_at<T: Drop, F: Fn(&Value) -> Result<T, ReadFault>>(
     read: &F,
     item: &Value,
@@ -31,7 +41,7 @@ fn item_at<T: Drop, F: Fn(&Value) -> Result<T, ReadFault>>(
     ensures ok { IfOk result (λ x. FnReturnsAt F.Fn read.now item.now (Ok x)) }
     ensures fault { IfErr result (FaultIn (behind (index i) (Refused (FnReturnsAt F.Fn read.now) item.now))) }
 {
-    match call_at(read, item) {
+    match read_at(read, item) {
         Ok(x) => Ok(x),
         Err(fault) => Err(prefixed(Step::Index(i), fault)),
     }
@@ -54,7 +64,16 @@ fn items_of<T: Drop, F: Fn(&Value) -> Result<T, ReadFault>>(
     Ok(out)
 }
 
-/// The items of a list, each read by a given reader.
+/// Reads a list whose items a given reader reads: its answers, in order.
+///
+/// The reader has to be callable on each item, which asks nothing where the list is empty or the value is no list.
+///
+/// A value that is no list is refused at itself with `WrongKind`. Else the reader's fault at the first item that it
+/// refuses is told, with the item's index before its path. An answer that finds no room is want of memory.
+///
+/// ```ignore
+/// let levels = list_of(alloc, &value, |item| whole(alloc, item, 0, 3))?; // of `[1, 3]` the numbers 1 and 3
+/// ```
 pub fn list_of<T: Drop, F: Fn(&Value) -> Result<T, ReadFault> + Drop>(
     alloc: Global,
     value: &Value,
@@ -71,6 +90,7 @@ pub fn list_of<T: Drop, F: Fn(&Value) -> Result<T, ReadFault> + Drop>(
 }
 
 /// The reader's answer at the value of an entry, with the key before the path of a fault.
+#[tactic(auto, using(crate::proofs::Behind::fault_behind))]
 fn entry_at<T: Drop, F: Fn(&Value) -> Result<T, ReadFault>>(
     alloc: Global,
     read: &F,
@@ -81,7 +101,7 @@ fn entry_at<T: Drop, F: Fn(&Value) -> Result<T, ReadFault>>(
     ensures ok { IfOk result (λ x. FnReturnsAt F.Fn read.now value.now (Ok x)) }
     ensures fault { IfErr result (FaultIn (behind (key word.now) (Refused (FnReturnsAt F.Fn read.now) value.now))) }
 {
-    match call_at(read, value) {
+    match read_at(read, value) {
         Ok(x) => Ok(x),
         Err(fault) => Err(under_key(alloc, word, fault)),
     }
@@ -106,7 +126,18 @@ fn entries_of<T: Drop, F: Fn(&Value) -> Result<T, ReadFault>>(
     Ok(all)
 }
 
-/// The entries of a table, the value of each read by a given reader.
+/// Reads a table whose values a given reader reads: its answers under the same keys, in the same order.
+///
+/// The reader has to be callable on the value of each entry, which asks nothing where the table is empty or the value
+/// is no table.
+///
+/// A value that is no table is refused at itself with `WrongKind`. Else the reader's fault at the first entry whose
+/// value it refuses is told, with the entry's key before its path. A key or an answer that finds no room is want of
+/// memory.
+///
+/// ```ignore
+/// let features = map_of(alloc, &value, |item| texts(alloc, item))?; // of `{ default = ["std"] }` one entry
+/// ```
 pub fn map_of<T: Drop, F: Fn(&Value) -> Result<T, ReadFault> + Drop>(
     alloc: Global,
     value: &Value,

@@ -1,5 +1,5 @@
 //! Reading `toml`'s values into types, and writing them: key paths and faults, the trait by which a type names what
-//! it holds and which values it reads, readers and writers of std's types, and the rows of a form.
+//! it holds and which values it reads, readers and writers of std's types and by closures, and the rows of a form.
 #![tactic(auto)]
 
 pub mod closures;

@@ -2,7 +2,6 @@
 
 ghost use Rattle.std.specs.Prelude.{◌≡◌, ℕ, Bool, List, map, IfOk, IfErr, string_bytes};
 ghost use Rattle.toml.specs.View.{view};
-ghost use Rattle.manifest_schema.specs.Paths.{behind, index};
 ghost use Rattle.manifest_schema.specs.Kinds.{Kind, text, flag, list_of};
 ghost use Rattle.manifest_schema.specs.Lawful.{IsLawful};
 ghost use Rattle.manifest_schema.proofs.KindLaws.{text_lawful, flag_lawful, list_lawful};

@@ -14,21 +14,41 @@ use std::alloc::{AllocError, Global};
 use std::collections::BTreeMap;
 use toml::{Table, Value};
 
-/// A text.
+/// Writes a text: a string of the same bytes.
+///
+/// It fails where the copy finds no room, and only there.
+///
+/// ```ignore
+/// let name = write_text(alloc, "serde")?;
+/// ```
 pub fn write_text(alloc: Global, text: &str) -> Result<Value, AllocError>
     ensures { IfOk result (λ v. view v ≡ string text.now) }
 {
     Value::string(alloc, text)
 }
 
-/// A list of texts.
+/// Writes a list of texts, in order.
+///
+/// It fails where the list or a copy finds no room, and only there.
+///
+/// ```ignore
+/// let members = write_texts(alloc, manifest.members.as_slice())?;
+/// ```
 pub fn write_texts(alloc: Global, texts: &[String]) -> Result<Value, AllocError>
     ensures { IfOk result (λ v. view v ≡ (list_of text).written (map string_bytes texts.now)) }
 {
     write_list(alloc, texts, |text| write_text(alloc, text.as_str()))
 }
 
-/// The list of what a given writer writes of each item.
+/// Writes a list whose items a given writer writes: the list of its answers, in order.
+///
+/// The writer has to be callable on each item, which asks nothing where there is none.
+///
+/// It fails where the writer fails at an item, or where the list finds no room.
+///
+/// ```ignore
+/// let levels = write_list(alloc, levels.as_slice(), |level| Ok(Value::Integer(*level)))?;
+/// ```
 pub fn write_list<T, F: Fn(&T) -> Result<Value, AllocError> + Drop>(
     alloc: Global,
     items: &[T],
@@ -62,7 +82,15 @@ fn entries_by<T, F: Fn(&T) -> Result<Value, AllocError>>(
     Ok(all)
 }
 
-/// The table of what a given writer writes of each value of a map.
+/// Writes a map whose values a given writer writes: the table of its answers under the same keys.
+///
+/// The writer has to be callable on each value, which asks nothing where the map is empty.
+///
+/// It fails where the writer fails at a value, or where the table or a key finds no room.
+///
+/// ```ignore
+/// let features = write_map(alloc, &features, |names| write_texts(alloc, names.as_slice()))?;
+/// ```
 pub fn write_map<T, F: Fn(&T) -> Result<Value, AllocError> + Drop>(
     alloc: Global,
     map: &BTreeMap<String, T>,
