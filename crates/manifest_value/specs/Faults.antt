@@ -1,6 +1,7 @@
 -- Key paths, causes and faults of the code, as the definitions see them.
 use Rattle.std.specs.Prelude.{◌≡◌, ◌∷◌, map, string_bytes}
-use Rattle.manifest_schema.specs.Paths.{Path, Step as PathStep, key, index, Cause as SchemaCause, wrong_kind, missing, two_spellings, not_a_choice, out_of_range, not_true, holds_float, metadata_fault, Faults, no_fault}
+use Rattle.toml.specs.Data.{Data, array, table}
+use Rattle.manifest_schema.specs.Paths.{Path, Step as PathStep, key, index, Cause as SchemaCause, wrong_kind, missing, two_spellings, not_a_choice, out_of_range, not_true, holds_float, metadata_fault, Faults, no_fault, itself}
 use Rattle.manifest_value.specs.declared.fault.Step.{Step}
 use Rattle.manifest_value.specs.declared.fault.Step.TheVariants.{Key, Index}
 use Rattle.manifest_value.specs.declared.fault.KeyPath.{KeyPath}
@@ -45,3 +46,13 @@ IsSchema (Memory e) = ⊥
 abbrev pub IsBehind : PathStep → ReadFault → ReadFault → Type 0
 IsBehind s (Memory e) g = FaultIn no_fault g
 IsBehind s (Schema f) g = FaultIn (λ p c. (p ≡ s ∷ path_of f.path) × (c ≡ cause_of f.cause)) g
+
+-- a value that is no list has the wrong kind
+abbrev pub no_list : Data → Faults
+no_list (array ds) p c = ⊥
+no_list _ p c = itself wrong_kind p c
+
+-- a value that is no table has the wrong kind
+abbrev pub no_table : Data → Faults
+no_table (table ms) p c = ⊥
+no_table _ p c = itself wrong_kind p c

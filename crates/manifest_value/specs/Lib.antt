@@ -8,3 +8,4 @@ pub use Rattle.manifest_schema.specs.Lawful
 pub mod Faults
 pub mod Found
 pub mod Entries
+pub mod Calls

@@ -16,7 +16,7 @@ use toml::{Table, Value};
 
 /// A fault at a key of the table.
 #[tactic(auto, using(crate::proofs::Behind::fault_behind))]
-fn at_key(alloc: Global, word: &str, cause: Cause) -> ReadFault
+pub fn at_key(alloc: Global, word: &str, cause: Cause) -> ReadFault
     ensures { FaultIn (behind (key word.now) (itself (cause_of cause))) result }
 {
     under_key(alloc, word, here(alloc, cause))

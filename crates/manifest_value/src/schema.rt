@@ -2,13 +2,15 @@
 
 ghost use Rattle.std.specs.Prelude.{◌≡◌, ℕ, Bool, List, map, IfOk, IfErr, string_bytes};
 ghost use Rattle.toml.specs.View.{view};
-ghost use Rattle.manifest_schema.specs.Paths.{behind, index};
 ghost use Rattle.manifest_schema.specs.Kinds.{Kind, text, flag, list_of};
 ghost use Rattle.manifest_schema.specs.Lawful.{IsLawful};
 ghost use Rattle.manifest_schema.proofs.KindLaws.{text_lawful, flag_lawful, list_lawful};
 ghost use Rattle.manifest_value.specs.Faults.{FaultIn};
 
-use crate::fault::{Cause, ReadFault, Step, here, prefixed};
+use crate::closures::list_of;
+use crate::fault::ReadFault;
+use crate::readers::{boolean, text};
+use crate::writers::{write_list, write_text};
 use std::alloc::{AllocError, Global};
 use toml::Value;
 
@@ -43,14 +45,11 @@ impl Schema for String {
     ghost kind = { text };
 
     fn from_value(alloc: Global, value: &Value) -> Result<String, ReadFault> {
-        match value {
-            Value::String(s) => Ok(String::from_str(alloc, s.as_str())?),
-            _ => Err(here(alloc, Cause::WrongKind)),
-        }
+        text(alloc, value)
     }
 
     fn to_value(&self, alloc: Global) -> Result<Value, AllocError> {
-        Value::string(alloc, self.as_str())
+        write_text(alloc, self.as_str())
     }
 
     ghost lawful = { text_lawful };
@@ -64,10 +63,7 @@ impl Schema for bool {
     ghost kind = { flag };
 
     fn from_value(alloc: Global, value: &Value) -> Result<bool, ReadFault> {
-        match value {
-            Value::Boolean(b) => Ok(*b),
-            _ => Err(here(alloc, Cause::WrongKind)),
-        }
+        boolean(alloc, value)
     }
 
     fn to_value(&self, _alloc: Global) -> Result<Value, AllocError> {
@@ -75,18 +71,6 @@ impl Schema for bool {
     }
 
     ghost lawful = { flag_lawful };
-}
-
-/// One item of a list, with its index before the path of a fault.
-#[tactic(auto, using(crate::proofs::Behind::fault_behind))]
-fn read_item<T: Schema>(alloc: Global, value: &Value, i: usize) -> Result<T, ReadFault>
-    ensures ok { IfOk result (λ x. T.kind.reads (view value.now) (T.content x)) }
-    ensures fault { IfErr result (FaultIn (behind (index i) (T.kind.faulty (view value.now)))) }
-{
-    match T::from_value(alloc, value) {
-        Ok(x) => Ok(x),
-        Err(fault) => Err(prefixed(Step::Index(i), fault)),
-    }
 }
 
 impl<T: Schema> Schema for Vec<T> {
@@ -97,24 +81,11 @@ impl<T: Schema> Schema for Vec<T> {
     ghost kind = { list_of T.kind };
 
     fn from_value(alloc: Global, value: &Value) -> Result<Vec<T>, ReadFault> {
-        match value {
-            Value::Array(items) => {
-                let mut out = Vec::new(alloc);
-                for (i, item) in items.iter().enumerate() {
-                    out.push(read_item::<T>(alloc, item, i)?)?;
-                }
-                Ok(out)
-            }
-            _ => Err(here(alloc, Cause::WrongKind)),
-        }
+        list_of(alloc, value, |item| T::from_value(alloc, item))
     }
 
     fn to_value(&self, alloc: Global) -> Result<Value, AllocError> {
-        let mut out = Vec::new(alloc);
-        for x in self {
-            out.push(x.to_value(alloc)?)?;
-        }
-        Ok(Value::Array(out))
+        write_list(alloc, self.as_slice(), |x| x.to_value(alloc))
     }
 
     ghost lawful = { list_lawful T.lawful };

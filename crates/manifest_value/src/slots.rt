@@ -11,12 +11,9 @@ use toml::{Table, Value};
 /// What stands under the spellings of a field: nothing, a value under the spelling that is present, or values under
 /// both spellings.
 #[derive(Drop)]
-pub enum Slot<'a> {
+pub enum Slot<'t, 'k> {
     Absent,
-    One {
-        spelling: &'static str,
-        value: &'a Value,
-    },
+    One { spelling: &'k str, value: &'t Value },
     Clash,
 }
 
@@ -28,7 +25,7 @@ pub fn find<'a>(table: &'a Table, key: &str) -> Option<&'a Value>
 }
 
 /// What stands under the spellings of a field.
-pub fn slot_at<'a>(table: &'a Table, first: &'static str, second: Option<&'static str>) -> Slot<'a>
+pub fn slot_at<'t, 'k>(table: &'t Table, first: &'k str, second: Option<&'k str>) -> Slot<'t, 'k>
     ensures { slot_view result ≡ at (spellings_of first.now (option_copied second.entry)) (table_view table.now) }
 {
     match second {

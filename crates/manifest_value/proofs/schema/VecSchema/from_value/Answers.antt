@@ -1,22 +1,9 @@
-use Rattle.std.proofs.Common.{rules, arith, ◌≡◌, take}
-use Rattle.std.proofs.lemmas.Grind.{common_steps}
-use Rattle.toml.proofs.Views.{view-Array}
-use Rattle.manifest_value.proofs.ItemLemmas.{item_faults, items_read-more}
+use Rattle.std.proofs.Common.{rules}
+use Rattle.manifest_value.proofs.KindCalls.{list_reads, list_refuses}
 use Rattle.manifest_value.proofs.schema.VecSchema.from_value.Goals as goal
 
-pub returns-in_err-read_item-in-Array-clause-fault : goal.returns-in_err-read_item-in-Array-clause-fault
-returns-in_err-read_item-in-Array-clause-fault g c =
-    let vs = c.deref-item-items.result.now in
-    let h = item_faults g.T.Schema.kind vs c.loop-i.i c.item-item.result c.in_err-read_item-in-Array.field-0.0 (omega arith) c.item-item.is c.in_err-read_item-in-Array.ensures.fault in
-    rw (c.in-Array.is, view-Array c.in-Array.items, ← c.deref-item-items.ensures.value) (search rules)
+pub returns-clause-ok : goal.returns-clause-ok
+returns-clause-ok g c = list_reads g.T.Schema.kind g.T.Schema.content _ c.list_of.result c.args.value.now c.list_of.ensures.ok (λ v x r. search rules)
 
-pub loop-i-preserved : goal.loop-i-preserved
-loop-i-preserved g c =
-    rw c.in_ok-push-in-Array.ensures.items
-    (items_read-more g.T.Schema.kind g.T.Schema.content c.deref-item-items.result.now c.loop-i.i c.item-item.result c.loop-i.out.items c.in_ok-read_item-in-Array.field-0 (omega arith) c.item-item.is c.loop-i.invariant c.in_ok-read_item-in-Array.ensures.ok)
-
-pub returns-after-loop-i-clause-ok : goal.returns-after-loop-i-clause-ok
-returns-after-loop-i-clause-ok g c =
-    let vs = c.deref-item-items.result.now in
-    let whole : take c.loop-i.i vs ≡ vs = grind (arith, common_steps) in
-    rw (c.in-Array.is, view-Array c.in-Array.items, ← c.deref-item-items.ensures.value) (rw whole at c.loop-i.invariant)
+pub returns-clause-fault : goal.returns-clause-fault
+returns-clause-fault g c = list_refuses g.T.Schema.kind _ c.list_of.result c.args.value.now c.list_of.ensures.fault (λ v f r. search rules)

@@ -1,0 +1,102 @@
+-- What a reader or a writer that is passed as a closure gives at each item of a list and each entry of a map.
+use Rattle.std.specs.Prelude.{◌≡◌, ◌⊎◌, List, ◌∷◌, ◌++◌, length, Result, Ok, Err, String, Vec, string_bytes}
+use Rattle.std.specs.BTreeMap.{BTreeMap, values}
+use Rattle.std.specs.List.{AllZip, Contains}
+use Rattle.std.specs.declared.alloc.AllocError.{AllocError}
+use Rattle.std.specs.declared.alloc.Global.{Global}
+use Rattle.toml.specs.Data.{array, table}
+use Rattle.toml.specs.View.{view, items_view, members_view}
+use Rattle.toml.specs.declared.value.Value.{Value, Array, Table}
+use Rattle.manifest_schema.specs.Paths.{Path, Cause, key, index, Faults, behind}
+use Rattle.manifest_value.specs.Faults.{path_of, cause_of, no_list, no_table}
+use Rattle.manifest_value.specs.declared.fault.SchemaFault.{SchemaFault}
+use Rattle.manifest_value.specs.declared.fault.ReadFault.{ReadFault}
+use Rattle.manifest_value.specs.declared.fault.ReadFault.TheVariants.{Schema}
+
+-- CALLS
+-- the results that the calls at some items gave, each of them Ok, in order
+abbrev pub ItemsGiven : {X Y E : Type 0} → (X → Result Y E → Type 0) → List X → List Y → Type 0
+ItemsGiven R xs ys = AllZip (λ x y. R x (Ok y)) xs ys
+
+-- the same of the values of some entries, beside their keys
+abbrev pub EntriesGiven : {X Y E : Type 0} → (X → Result Y E → Type 0) → List (String Global × X) → List (String Global × Y) → Type 0
+EntriesGiven R es gs = AllZip (λ e g. (string_bytes g.0 ≡ string_bytes e.0) × R e.1 (Ok g.1)) es gs
+
+-- READERS
+-- the results that a reader may give at a value
+abbrev pub Reads : Type 0 → Type 1
+Reads T = Value → Result T ReadFault → Type 0
+
+-- the reader refuses v, for this cause at this path
+pub record Refused {T : Type 0} (R : Reads T) (v : Value) (p : Path) (c : Cause) : Type 0 where
+  pub fault : SchemaFault
+  pub answer : R v (Err (Schema fault))
+  pub path : path_of fault.path ≡ p
+  pub cause : cause_of fault.cause ≡ c
+
+-- LISTS
+-- v is a list, and x one of its items
+abbrev pub IsItemOf : Value → Value → Type 0
+IsItemOf v x = (vs : Vec Value Global) × (v ≡ Array vs) × Contains vs.items x
+
+-- v is a list, and the reader gives xs at its items
+pub record ListGiven {T : Type 0} (R : Reads T) (v : Value) (xs : List T) : Type 0 where
+  pub list : Vec Value Global
+  pub is : v ≡ Array list
+  pub given : ItemsGiven R list.items xs
+
+-- the reader refuses an item and gives answers at those before it: the fault is told behind the item's index
+pub record ItemRefused {T : Type 0} (R : Reads T) (vs : List Value) (p : Path) (c : Cause) : Type 0 where
+  pub before : List Value
+  pub item : Value
+  pub after : List Value
+  pub whole : vs ≡ before ++ item ∷ after
+  pub answers : List T
+  pub given : ItemsGiven R before answers
+  pub refused : behind (index (length before)) (Refused R item) p c
+
+-- v is no list, or one of its items is refused
+abbrev pub ListRefused : {T : Type 0} → Reads T → Value → Faults
+ListRefused R v p c = no_list (view v) p c ⊎ ((vs : Vec Value Global) × (v ≡ Array vs) × ItemRefused R vs.items p c)
+
+-- MAPS
+-- v is a table, and x the value of one of its entries
+abbrev pub IsValueOf : Value → Value → Type 0
+IsValueOf v x = (m : BTreeMap (String Global) Value) × (v ≡ Table m) × Contains (values m) x
+
+-- v is a table, and the reader gives these entries at its own
+pub record MapGiven {T : Type 0} (R : Reads T) (v : Value) (gs : List (String Global × T)) : Type 0 where
+  pub table : BTreeMap (String Global) Value
+  pub is : v ≡ Table table
+  pub given : EntriesGiven R table.entries gs
+
+-- the reader refuses the value of an entry and gives answers at those before it: the fault is told behind the key
+pub record EntryRefused {T : Type 0} (R : Reads T) (es : List (String Global × Value)) (p : Path) (c : Cause) : Type 0 where
+  pub before : List (String Global × Value)
+  pub entry : String Global × Value
+  pub after : List (String Global × Value)
+  pub whole : es ≡ before ++ entry ∷ after
+  pub answers : List (String Global × T)
+  pub given : EntriesGiven R before answers
+  pub refused : behind (key (string_bytes entry.0)) (Refused R entry.1) p c
+
+-- v is no table, or the value of one of its entries is refused
+abbrev pub MapRefused : {T : Type 0} → Reads T → Value → Faults
+MapRefused R v p c = no_table (view v) p c ⊎ ((m : BTreeMap (String Global) Value) × (v ≡ Table m) × EntryRefused R m.entries p c)
+
+-- WRITERS
+-- the results that a writer may give at a value of its type
+abbrev pub Writes : Type 0 → Type 1
+Writes X = X → Result Value AllocError → Type 0
+
+-- v is the list of what the writer gives at the items
+pub record ListWritten {X : Type 0} (W : Writes X) (xs : List X) (v : Value) : Type 0 where
+  pub items : List Value
+  pub is : view v ≡ array (items_view items)
+  pub given : ItemsGiven W xs items
+
+-- v is the table of what the writer gives at the entries
+pub record MapWritten {X : Type 0} (W : Writes X) (es : List (String Global × X)) (v : Value) : Type 0 where
+  pub entries : List (String Global × Value)
+  pub is : view v ≡ table (members_view entries)
+  pub given : EntriesGiven W es entries

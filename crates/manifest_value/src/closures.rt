@@ -1,0 +1,154 @@
+//! Readers of a list and of a table by a given reader of their values.
+
+ghost use Rattle.std.specs.Prelude.{◌≡◌, IfOk, IfErr, Ok};
+ghost use Rattle.std.specs.BTreeMap.{values};
+ghost use Rattle.std.specs.Fn.{FnReturnsAt};
+ghost use Rattle.std.specs.List.{Contains};
+ghost use Rattle.manifest_schema.specs.Paths.{behind, index, key};
+ghost use Rattle.manifest_value.specs.Calls.{ItemsGiven, EntriesGiven, Refused, IsItemOf, ListGiven, ItemRefused, ListRefused, IsValueOf, MapGiven, EntryRefused, MapRefused};
+ghost use Rattle.manifest_value.specs.Faults.{FaultIn};
+
+use crate::fault::{Cause, ReadFault, Step, here, prefixed, under_key};
+use std::alloc::Global;
+use std::collections::BTreeMap;
+use toml::{Table, Value};
+
+/// The result of a call.
+pub(crate) fn call_at<X, R, F: Fn(&X) -> R>(f: &F, x: &X) -> R
+    requires { (b : _) → b.now ≡ x.now → F.pre f.now b }
+    ensures { FnReturnsAt F.Fn f.now x.now result }
+{
+    f(x)
+}
+
+/// The reader's answer at a value, or the fault with which it refuses the value.
+fn read_at<T, F: Fn(&Value) -> Result<T, ReadFault>>(read: &F, value: &Value) -> Result<T, ReadFault>
+    requires { (b : _) → b.now ≡ value.now → F.pre read.now b }
+    ensures ok { IfOk result (λ x. FnReturnsAt F.Fn read.now value.now (Ok x)) }
+    ensures fault { IfErr result (FaultIn (Refused (FnReturnsAt F.Fn read.now) value.now)) }
+{
+    call_at(read, value)
+}
+
+/// The reader's answer at an item, with the index before the path of a fault.
+#[tactic(auto, using(crate::proofs::Behind::fault_behind))]
+fn item_at<T: Drop, F: Fn(&Value) -> Result<T, ReadFault>>(
+    read: &F,
+    item: &Value,
+    i: usize,
+) -> Result<T, ReadFault>
+    requires { (b : _) → b.now ≡ item.now → F.pre read.now b }
+    ensures ok { IfOk result (λ x. FnReturnsAt F.Fn read.now item.now (Ok x)) }
+    ensures fault { IfErr result (FaultIn (behind (index i) (Refused (FnReturnsAt F.Fn read.now) item.now))) }
+{
+    match read_at(read, item) {
+        Ok(x) => Ok(x),
+        Err(fault) => Err(prefixed(Step::Index(i), fault)),
+    }
+}
+
+/// The reader's answers at some items.
+fn items_of<T: Drop, F: Fn(&Value) -> Result<T, ReadFault>>(
+    alloc: Global,
+    items: &[Value],
+    read: &F,
+) -> Result<Vec<T>, ReadFault>
+    requires { (b : _) → Contains items.now b.now → F.pre read.now b }
+    ensures ok { IfOk result (λ xs. ItemsGiven (FnReturnsAt F.Fn read.now) items.now xs.items) }
+    ensures fault { IfErr result (FaultIn (ItemRefused (FnReturnsAt F.Fn read.now) items.now)) }
+{
+    let mut out = Vec::new(alloc);
+    for (i, item) in items.iter().enumerate() {
+        out.push(item_at(read, item, i)?)?;
+    }
+    Ok(out)
+}
+
+/// Reads a list whose items a given reader reads: its answers, in order.
+///
+/// The reader has to be callable on each item, which asks nothing where the list is empty or the value is no list.
+///
+/// A value that is no list is refused at itself with `WrongKind`. Else the reader's fault at the first item that it
+/// refuses is told, with the item's index before its path. An answer that finds no room is want of memory.
+///
+/// ```ignore
+/// let levels = list_of(alloc, &value, |item| whole(alloc, item, 0, 3))?; // of `[1, 3]` the numbers 1 and 3
+/// ```
+pub fn list_of<T: Drop, F: Fn(&Value) -> Result<T, ReadFault> + Drop>(
+    alloc: Global,
+    value: &Value,
+    read: F,
+) -> Result<Vec<T>, ReadFault>
+    requires { (b : _) → IsItemOf value.now b.now → F.pre read b }
+    ensures ok { IfOk result (λ xs. ListGiven (FnReturnsAt F.Fn read) value.now xs.items) }
+    ensures fault { IfErr result (FaultIn (ListRefused (FnReturnsAt F.Fn read) value.now)) }
+{
+    match value {
+        Value::Array(items) => items_of(alloc, items.as_slice(), &read),
+        _ => Err(here(alloc, Cause::WrongKind)),
+    }
+}
+
+/// The reader's answer at the value of an entry, with the key before the path of a fault.
+#[tactic(auto, using(crate::proofs::Behind::fault_behind))]
+fn entry_at<T: Drop, F: Fn(&Value) -> Result<T, ReadFault>>(
+    alloc: Global,
+    read: &F,
+    value: &Value,
+    word: &str,
+) -> Result<T, ReadFault>
+    requires { (b : _) → b.now ≡ value.now → F.pre read.now b }
+    ensures ok { IfOk result (λ x. FnReturnsAt F.Fn read.now value.now (Ok x)) }
+    ensures fault { IfErr result (FaultIn (behind (key word.now) (Refused (FnReturnsAt F.Fn read.now) value.now))) }
+{
+    match read_at(read, value) {
+        Ok(x) => Ok(x),
+        Err(fault) => Err(under_key(alloc, word, fault)),
+    }
+}
+
+/// The reader's answers at the entries of a table.
+fn entries_of<T: Drop, F: Fn(&Value) -> Result<T, ReadFault>>(
+    alloc: Global,
+    table: &Table,
+    read: &F,
+) -> Result<BTreeMap<String, T>, ReadFault>
+    requires { (b : _) → Contains (values table.now) b.now → F.pre read.now b }
+    ensures ok { IfOk result (λ m. EntriesGiven (FnReturnsAt F.Fn read.now) table.now.entries m.entries) }
+    ensures fault { IfErr result (FaultIn (EntryRefused (FnReturnsAt F.Fn read.now) table.now.entries)) }
+{
+    let mut all = BTreeMap::new(alloc);
+    for (key, value) in table.iter() {
+        let x = entry_at(alloc, read, value, key.as_str())?;
+        let name = String::from_str(alloc, key.as_str())?;
+        drop(all.insert(name, x)?);
+    }
+    Ok(all)
+}
+
+/// Reads a table whose values a given reader reads: its answers under the same keys, in the same order.
+///
+/// The reader has to be callable on the value of each entry, which asks nothing where the table is empty or the value
+/// is no table.
+///
+/// A value that is no table is refused at itself with `WrongKind`. Else the reader's fault at the first entry whose
+/// value it refuses is told, with the entry's key before its path. A key or an answer that finds no room is want of
+/// memory.
+///
+/// ```ignore
+/// let features = map_of(alloc, &value, |item| texts(alloc, item))?; // of `{ default = ["std"] }` one entry
+/// ```
+pub fn map_of<T: Drop, F: Fn(&Value) -> Result<T, ReadFault> + Drop>(
+    alloc: Global,
+    value: &Value,
+    read: F,
+) -> Result<BTreeMap<String, T>, ReadFault>
+    requires { (b : _) → IsValueOf value.now b.now → F.pre read b }
+    ensures ok { IfOk result (λ m. MapGiven (FnReturnsAt F.Fn read) value.now m.entries) }
+    ensures fault { IfErr result (FaultIn (MapRefused (FnReturnsAt F.Fn read) value.now)) }
+{
+    match value {
+        Value::Table(table) => entries_of(alloc, table, &read),
+        _ => Err(here(alloc, Cause::WrongKind)),
+    }
+}

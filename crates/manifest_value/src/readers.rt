@@ -1,0 +1,143 @@
+//! Readers of a value of one kind, and of a field of a table.
+
+ghost use Rattle.std.specs.Prelude.{◌≡◌, map, IfOk, IfErr, Some, string_bytes, option_map, option_copied};
+ghost use Rattle.toml.specs.Data.{table as table_data};
+ghost use Rattle.toml.specs.View.{view, table_view};
+ghost use Rattle.manifest_schema.specs.Slots.{at, clash, spellings_of};
+ghost use Rattle.manifest_schema.specs.Kinds.{text, flag, whole, list_of};
+ghost use Rattle.manifest_schema.specs.Needs.{clash_at};
+ghost use Rattle.manifest_value.specs.Faults.{FaultIn, IsSchema, no_table};
+ghost use Rattle.manifest_value.specs.Found.{value_in};
+
+use crate::fault::{Cause, ReadFault, here};
+use crate::rows::at_key;
+use crate::schema::Schema;
+use crate::slots::{Slot, slot_at};
+use std::alloc::Global;
+use toml::{Table, Value};
+
+/// Reads a text: a copy of the value's bytes.
+///
+/// A value that is no text is refused at itself with `WrongKind`. A copy that finds no room is want of memory.
+///
+/// ```ignore
+/// let value = Value::string(alloc, "serde")?;
+/// let name = text(alloc, &value)?; // "serde"
+/// ```
+pub fn text(alloc: Global, value: &Value) -> Result<String, ReadFault>
+    ensures ok { IfOk result (λ s. text.reads (view value.now) (string_bytes s)) }
+    ensures fault { IfErr result (FaultIn (text.faulty (view value.now))) }
+{
+    match value {
+        Value::String(s) => Ok(String::from_str(alloc, s.as_str())?),
+        _ => Err(here(alloc, Cause::WrongKind)),
+    }
+}
+
+/// Reads a boolean.
+///
+/// A value that is no boolean is refused at itself with `WrongKind`. It never wants memory.
+///
+/// ```ignore
+/// let harness = boolean(alloc, &Value::Boolean(true))?; // true
+/// ```
+pub fn boolean(alloc: Global, value: &Value) -> Result<bool, ReadFault>
+    ensures ok { IfOk result (flag.reads (view value.now)) }
+    ensures fault { IfErr result (FaultIn (flag.faulty (view value.now))) }
+    ensures schema { IfErr result IsSchema }
+{
+    match value {
+        Value::Boolean(b) => Ok(*b),
+        _ => Err(here(alloc, Cause::WrongKind)),
+    }
+}
+
+/// Reads a whole number from `low` to `high`, both included.
+///
+/// A value that is no whole number is refused at itself with `WrongKind`, and one below `low` or above `high` with
+/// `OutOfRange`. So where `low` is above `high` each whole number is out of range. It never wants memory.
+///
+/// ```ignore
+/// let level = whole(alloc, &Value::Integer(3), 0, 3)?; // 3
+/// let too_high = whole(alloc, &Value::Integer(4), 0, 3); // `OutOfRange`
+/// ```
+pub fn whole(alloc: Global, value: &Value, low: i64, high: i64) -> Result<i64, ReadFault>
+    ensures ok { IfOk result ((whole low high).reads (view value.now)) }
+    ensures fault { IfErr result (FaultIn ((whole low high).faulty (view value.now))) }
+    ensures schema { IfErr result IsSchema }
+{
+    match value {
+        Value::Integer(n) => {
+            let n = *n;
+            if low <= n && n <= high {
+                Ok(n)
+            } else {
+                Err(here(alloc, Cause::OutOfRange))
+            }
+        }
+        _ => Err(here(alloc, Cause::WrongKind)),
+    }
+}
+
+/// Reads a list of texts: a copy of each, in order.
+///
+/// A value that is no list is refused at itself with `WrongKind`, and an item that is no text with `WrongKind` at its
+/// index. A copy that finds no room is want of memory.
+///
+/// ```ignore
+/// let members = texts(alloc, &value)?; // of `["a", "b"]` the texts "a" and "b"
+/// ```
+pub fn texts(alloc: Global, value: &Value) -> Result<Vec<String>, ReadFault>
+    ensures ok { IfOk result (λ v. (list_of text).reads (view value.now) (map string_bytes v.items)) }
+    ensures fault { IfErr result (FaultIn ((list_of text).faulty (view value.now))) }
+{
+    <Vec<String> as Schema>::from_value(alloc, value)
+}
+
+/// Reads a table: the one that stands in the value, not a copy.
+///
+/// A value that is no table is refused at itself with `WrongKind`. It never wants memory.
+///
+/// ```ignore
+/// let package = table(alloc, &value)?;
+/// let name = package.get("name");
+/// ```
+pub fn table(alloc: Global, value: &Value) -> Result<&Table, ReadFault>
+    ensures ok { IfOk result (λ t. view value.now ≡ table_data (table_view t.now)) }
+    ensures fault { IfErr result (FaultIn (no_table (view value.now))) }
+    ensures schema { IfErr result IsSchema }
+{
+    match value {
+        Value::Table(entries) => Ok(entries),
+        _ => Err(here(alloc, Cause::WrongKind)),
+    }
+}
+
+/// Finds the value of a field that has one spelling or two: `None` where the table has neither, and else the value
+/// under the spelling that it has, not a copy.
+///
+/// A table that has both spellings is refused under the first one with `TwoSpellings`, or with want of memory where
+/// the key finds no room in the path. Nothing else is refused.
+///
+/// ```ignore
+/// let kinds = field(alloc, library, "crate-type", Some("crate_type"))?;
+/// ```
+pub fn field<'a>(
+    alloc: Global,
+    table: &'a Table,
+    first: &str,
+    second: Option<&str>,
+) -> Result<Option<&'a Value>, ReadFault>
+    ensures ok { let slot = at (spellings_of first.now (option_copied second.entry)) (table_view table.now) in
+        IfOk result (λ found. value_in slot ≡ Some (option_map (λ v. view v.now) found)) }
+    ensures err { let slot = at (spellings_of first.now (option_copied second.entry)) (table_view table.now) in
+        IfErr result (λ f. slot ≡ clash) }
+    ensures fault { let spellings = spellings_of first.now (option_copied second.entry) in
+        IfErr result (FaultIn (clash_at spellings)) }
+{
+    match slot_at(table, first, second) {
+        Slot::Absent => Ok(None),
+        Slot::One { value, .. } => Ok(Some(value)),
+        Slot::Clash => Err(at_key(alloc, first, Cause::TwoSpellings)),
+    }
+}
