@@ -22,7 +22,10 @@ pub(crate) fn call_at<X, R, F: Fn(&X) -> R>(f: &F, x: &X) -> R
 }
 
 /// The reader's answer at a value, or the fault with which it refuses the value.
-fn read_at<T, F: Fn(&Value) -> Result<T, ReadFault>>(read: &F, value: &Value) -> Result<T, ReadFault>
+fn read_at<T, F: Fn(&Value) -> Result<T, ReadFault>>(
+    read: &F,
+    value: &Value,
+) -> Result<T, ReadFault>
     requires { (b : _) → b.now ≡ value.now → F.pre read.now b }
     ensures ok { IfOk result (λ x. FnReturnsAt F.Fn read.now value.now (Ok x)) }
     ensures fault { IfErr result (FaultIn (Refused (FnReturnsAt F.Fn read.now) value.now)) }

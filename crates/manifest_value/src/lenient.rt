@@ -49,7 +49,7 @@ pub fn lenient_default<T: Schema>(
         Slot::One { value, .. } => match T::from_value(alloc, value) {
             Ok(x) => Ok(x),
             Err(ReadFault::Schema(_)) => Ok(default),
-            Err(ReadFault::Memory(refused)) => Err(refused),
+            Err(ReadFault::Memory(memory)) => Err(memory),
         },
     }
 }
