@@ -9,3 +9,4 @@ pub mod RowLaws
 pub mod PartLaws
 pub mod ManifestLaws
 pub mod MeaningLaws
+pub mod GoodLaws
