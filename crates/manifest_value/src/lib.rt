@@ -14,6 +14,7 @@ pub mod plain;
 pub mod rows;
 pub mod schema;
 pub mod slots;
+pub mod well_formed;
 
 pub use fault::{Cause, KeyPath, ReadFault, SchemaFault, Step};
 pub use metadata::Metadata;
