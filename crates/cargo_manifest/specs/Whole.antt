@@ -4,6 +4,9 @@ use Rattle.std.specs.declared.alloc.Global.{Global}
 use Rattle.std.specs.BTreeMap.{BTreeMap}
 use Rattle.toml.specs.Data.{Data}
 use Rattle.manifest_schema.specs.Kinds.{Entries}
+use Rattle.manifest_schema.specs.Needs.{good_some}
+use Rattle.manifest_schema.specs.Forms.{form}
+use Rattle.manifest_schema.specs.PartForms.{profile_rows}
 use Rattle.manifest_schema.specs.Contents
 use Rattle.manifest_value.specs.Entries.{entries_content}
 use Rattle.manifest_parts.specs.Parts.{edition_content, resolver_content, text_or_flag_content, publish_content, inh_content}
@@ -112,3 +115,9 @@ manifest_content package_tree workspace_tree m = record {
   badges = option_map badges_content m.badges;
   lints = option_map lints_content m.lints;
 }
+
+-- each of the profiles that Cargo names is absent or well-formed
+abbrev pub NamedAreGood : Contents.Profiles → Type 0
+NamedAreGood p =
+    good_some (form profile_rows) p.release × good_some (form profile_rows) p.dev × good_some (form profile_rows) p.test
+    × good_some (form profile_rows) p.bench × good_some (form profile_rows) p.doc

@@ -1,19 +1,22 @@
 //! A manifest.
 
-ghost use Rattle.std.specs.Prelude.{◌≡◌, IfOk, IfErr, OnOk};
+ghost use Rattle.std.specs.Prelude.{◌≡◌, ◌↔◌, IsTrue, option_map, IfOk, IfErr, OnOk};
 ghost use Rattle.toml.specs.Data.{Data, table as data_table};
 ghost use Rattle.manifest_schema.specs.Defaults.{empty_manifest};
 ghost use Rattle.toml.specs.View.{view, table_view};
 ghost use Rattle.manifest_schema.specs.Forms.{form, first_fit, written_part};
 ghost use Rattle.manifest_schema.specs.Kinds.{tree_of};
+ghost use Rattle.manifest_schema.specs.Needs.{good_some};
 ghost use Rattle.manifest_schema.specs.Contents;
-ghost use Rattle.manifest_schema.specs.ManifestForms.{manifest_rows};
+ghost use Rattle.manifest_schema.specs.PartForms.{profiles_rows, lints_rows};
+ghost use Rattle.manifest_schema.specs.ManifestForms.{package_rows, workspace_rows, manifest_rows};
 ghost use Rattle.manifest_schema.specs.Meaning.{rewritten};
 ghost use Rattle.manifest_schema.proofs.KindLaws.{tree_lawful};
 ghost use Rattle.manifest_schema.proofs.ManifestLaws.{manifest_lawful};
 ghost use Rattle.manifest_value.specs.Faults.{FaultIn};
+ghost use Rattle.manifest_parts.specs.Records.{lints_content};
 ghost use Rattle.manifest_parts.specs.Refusals.{RefusedIn};
-ghost use Rattle.cargo_manifest.specs.Whole.{manifest_content};
+ghost use Rattle.cargo_manifest.specs.Whole.{package_content, workspace_content, profiles_content, manifest_content};
 
 use crate::package::Package;
 use crate::profiles::Profiles;
@@ -59,6 +62,58 @@ impl<P: Metadata, W: Metadata> Manifest<P, W> {
         ensures refused { IfErr result (RefusedIn ((form (manifest_rows (tree_of P.kind) (tree_of W.kind))).faulty (view value.now))) }
     {
         read(alloc, value)
+    }
+
+    /// Whether the manifest can be written and read back: its package, its workspace, its profiles and its lints, where they
+    /// are there, are well-formed. All else always is. With a custom profile `dev`, or a tool of lints named `workspace`, it is
+    /// not well-formed.
+    pub fn is_well_formed(&self) -> bool
+        ensures { IsTrue result ↔ (form (manifest_rows (tree_of P.kind) (tree_of W.kind))).good (manifest_content (λ m. P.kind.written (P.content m)) (λ m. W.kind.written (W.content m)) self.now) }
+    {
+        package_is_well_formed(&self.package)
+            && workspace_is_well_formed(&self.workspace)
+            && profiles_are_well_formed(&self.profile)
+            && lints_are_well_formed(&self.lints)
+    }
+}
+
+/// Whether the package is absent or well-formed.
+fn package_is_well_formed<P: Metadata>(package: &Option<Package<P>>) -> bool
+    ensures { IsTrue result ↔ good_some (form (package_rows (tree_of P.kind))) (option_map (package_content (λ m. P.kind.written (P.content m))) «package».now) }
+{
+    match package {
+        Some(package) => package.is_well_formed(),
+        None => true,
+    }
+}
+
+/// Whether the workspace is absent or well-formed.
+fn workspace_is_well_formed<W: Metadata>(workspace: &Option<Workspace<W>>) -> bool
+    ensures { IsTrue result ↔ good_some (form (workspace_rows (tree_of W.kind))) (option_map (workspace_content (λ m. W.kind.written (W.content m))) workspace.now) }
+{
+    match workspace {
+        Some(workspace) => workspace.is_well_formed(),
+        None => true,
+    }
+}
+
+/// Whether the profiles are absent or well-formed.
+fn profiles_are_well_formed(profiles: &Option<Profiles>) -> bool
+    ensures { IsTrue result ↔ good_some (form profiles_rows) (option_map profiles_content profiles.now) }
+{
+    match profiles {
+        Some(profiles) => profiles.is_well_formed(),
+        None => true,
+    }
+}
+
+/// Whether the lints are absent or well-formed.
+fn lints_are_well_formed(lints: &Option<MaybeInheritedLintsSet>) -> bool
+    ensures { IsTrue result ↔ good_some (form lints_rows) (option_map lints_content lints.now) }
+{
+    match lints {
+        Some(lints) => lints.is_well_formed(),
+        None => true,
     }
 }
 

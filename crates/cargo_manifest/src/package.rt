@@ -1,6 +1,6 @@
 //! The package of a manifest.
 
-ghost use Rattle.std.specs.Prelude.{◌≡◌, IfOk, IfErr, OnOk};
+ghost use Rattle.std.specs.Prelude.{◌≡◌, ◌↔◌, IsTrue, IfOk, IfErr, OnOk};
 ghost use Rattle.toml.specs.Data.{table as data_table};
 ghost use Rattle.toml.specs.View.{view, table_view};
 ghost use Rattle.manifest_schema.specs.Forms.{form, first_fit, written_part};
@@ -18,6 +18,7 @@ use manifest_parts::{Edition, MaybeInherited, Publish, Resolver, StringOrBool};
 use manifest_value::fault::here;
 use manifest_value::metadata::{fill_tree, put_tree};
 use manifest_value::rows::{fill, put_optional, put_row, required};
+use manifest_value::well_formed::tree_is_well_formed;
 use manifest_value::{Cause, Metadata, ReadFault, Schema};
 use std::alloc::{AllocError, Global};
 use toml::{Table, Value};
@@ -64,6 +65,14 @@ impl<M: Metadata> Package<M> {
         ensures refused { IfErr result (RefusedIn ((form (package_rows (tree_of M.kind))).faulty (view value.now))) }
     {
         read(alloc, value)
+    }
+
+    /// Whether the package can be written and read back: its metadata is absent or well-formed. With a float in metadata of
+    /// the type `Value` it is not well-formed.
+    pub fn is_well_formed(&self) -> bool
+        ensures { IsTrue result ↔ (form (package_rows (tree_of M.kind))).good (package_content (λ m. M.kind.written (M.content m)) self.now) }
+    {
+        tree_is_well_formed(&self.metadata)
     }
 }
 

@@ -1,16 +1,20 @@
 //! The profiles of a manifest.
 
-ghost use Rattle.std.specs.Prelude.{◌≡◌, IfOk, IfErr, OnOk};
+ghost use Rattle.std.specs.Prelude.{◌≡◌, ◌↔◌, IsTrue, option_map, IfOk, IfErr, OnOk};
 ghost use Rattle.toml.specs.Data.{table as data_table};
 ghost use Rattle.toml.specs.View.{view, table_view};
 ghost use Rattle.manifest_schema.specs.Forms.{form, first_fit};
+ghost use Rattle.manifest_schema.specs.Kinds.{good_entries};
+ghost use Rattle.manifest_schema.specs.Needs.{good_some};
 ghost use Rattle.manifest_schema.specs.Contents;
 ghost use Rattle.manifest_schema.specs.Defaults.{no_profiles};
-ghost use Rattle.manifest_schema.specs.PartForms.{profiles_rows};
+ghost use Rattle.manifest_schema.specs.PartForms.{profile_rows, profiles_rows};
 ghost use Rattle.manifest_schema.proofs.PartLaws.{profiles_lawful};
 ghost use Rattle.manifest_value.specs.Faults.{FaultIn};
+ghost use Rattle.manifest_value.specs.Entries.{entries_content};
+ghost use Rattle.manifest_parts.specs.Records.{profile_content};
 ghost use Rattle.manifest_parts.specs.Refusals.{RefusedIn};
-ghost use Rattle.cargo_manifest.specs.Whole.{profiles_content};
+ghost use Rattle.cargo_manifest.specs.Whole.{profiles_content, NamedAreGood};
 
 use manifest_parts::Profile;
 use manifest_parts::error::{Error, read};
@@ -18,6 +22,7 @@ use manifest_value::fault::here;
 use manifest_value::maps::entries_table;
 use manifest_value::others::others_of;
 use manifest_value::rows::{fill, put_optional};
+use manifest_value::well_formed::none_is_named;
 use manifest_value::{Cause, ReadFault, Schema};
 use std::alloc::{AllocError, Global};
 use std::collections::BTreeMap;
@@ -58,6 +63,49 @@ impl Profiles {
     {
         read(alloc, value)
     }
+
+    /// Whether the profiles can be written and read back: each is well-formed, and no custom one is named `release`, `dev`,
+    /// `test`, `bench` or `doc`. With a custom profile `dev` they are not well-formed.
+    pub fn is_well_formed(&self) -> bool
+        ensures { IsTrue result ↔ (form profiles_rows).good (profiles_content self.now) }
+    {
+        named_are_well_formed(self)
+            && none_is_named(&self.custom, &["release", "dev", "test", "bench", "doc"])
+            && customs_are_well_formed(&self.custom)
+    }
+}
+
+/// Whether the profile is absent or well-formed.
+fn profile_is_well_formed(profile: &Option<Profile>) -> bool
+    ensures { IsTrue result ↔ good_some (form profile_rows) (option_map profile_content profile.now) }
+{
+    match profile {
+        Some(profile) => profile.is_well_formed(),
+        None => true,
+    }
+}
+
+/// Whether each of the profiles that Cargo names is absent or well-formed.
+fn named_are_well_formed(x: &Profiles) -> bool
+    ensures { IsTrue result ↔ NamedAreGood (profiles_content x.now) }
+{
+    profile_is_well_formed(&x.release)
+        && profile_is_well_formed(&x.dev)
+        && profile_is_well_formed(&x.test)
+        && profile_is_well_formed(&x.bench)
+        && profile_is_well_formed(&x.doc)
+}
+
+/// Whether each custom profile is well-formed.
+fn customs_are_well_formed(custom: &BTreeMap<String, Profile>) -> bool
+    ensures { IsTrue result ↔ good_entries (form profile_rows) (entries_content profile_content custom.now.entries) }
+{
+    for (_name, profile) in custom.iter() {
+        if !profile.is_well_formed() {
+            return false;
+        }
+    }
+    true
 }
 
 /// Reads the rows of a table.

@@ -1,24 +1,30 @@
 //! The workspace of a manifest, and the package fields that it lends.
 
-ghost use Rattle.std.specs.Prelude.{◌≡◌, IfOk, IfErr, OnOk};
+ghost use Rattle.std.specs.Prelude.{◌≡◌, ◌↔◌, IsTrue, option_map, IfOk, IfErr, OnOk};
 ghost use Rattle.toml.specs.Data.{Data, table as data_table};
 ghost use Rattle.toml.specs.View.{view, table_view};
 ghost use Rattle.manifest_schema.specs.Forms.{form, first_fit, written_part};
-ghost use Rattle.manifest_schema.specs.Kinds.{tree_of};
+ghost use Rattle.manifest_schema.specs.Kinds.{map_of, tree_of};
+ghost use Rattle.manifest_schema.specs.Needs.{good_some};
 ghost use Rattle.manifest_schema.specs.Contents;
 ghost use Rattle.manifest_schema.specs.Defaults.{no_workspace_package, empty_workspace};
+ghost use Rattle.manifest_schema.specs.PartForms.{lint};
 ghost use Rattle.manifest_schema.specs.ManifestForms.{workspace_package_rows, workspace_rows};
 ghost use Rattle.manifest_schema.proofs.KindLaws.{tree_lawful};
 ghost use Rattle.manifest_schema.proofs.ManifestLaws.{workspace_package_lawful, workspace_lawful};
 ghost use Rattle.manifest_value.specs.Faults.{FaultIn};
+ghost use Rattle.manifest_value.specs.Entries.{entries_content};
+ghost use Rattle.manifest_parts.specs.Records.{lint_content};
 ghost use Rattle.manifest_parts.specs.Refusals.{RefusedIn};
 ghost use Rattle.cargo_manifest.specs.Whole.{workspace_package_content, workspace_content};
 
 use manifest_parts::error::{Error, read};
+use manifest_parts::lints::lints_fit;
 use manifest_parts::{DepsSet, Edition, LintsSet, Publish, Resolver, StringOrBool};
 use manifest_value::fault::here;
 use manifest_value::metadata::{fill_tree, put_tree};
 use manifest_value::rows::{fill, fill_default, put_optional, put_row};
+use manifest_value::well_formed::tree_is_well_formed;
 use manifest_value::{Cause, Metadata, ReadFault, Schema};
 use std::alloc::{AllocError, Global};
 use toml::{Table, Value};
@@ -260,6 +266,24 @@ impl<M: Metadata> Workspace<M> {
         ensures refused { IfErr result (RefusedIn ((form (workspace_rows (tree_of M.kind))).faulty (view value.now))) }
     {
         read(alloc, value)
+    }
+
+    /// Whether the workspace can be written and read back: its metadata is absent or well-formed. With a float in metadata
+    /// of the type `Value` it is not well-formed.
+    pub fn is_well_formed(&self) -> bool
+        ensures { IsTrue result ↔ (form (workspace_rows (tree_of M.kind))).good (workspace_content (λ m. M.kind.written (M.content m)) self.now) }
+    {
+        lent_lints_fit(&self.lints);
+        tree_is_well_formed(&self.metadata)
+    }
+}
+
+/// Reads the priorities of the lints that a workspace lends: each `i8` is in the range of its row.
+fn lent_lints_fit(lints: &Option<LintsSet>)
+    ensures { good_some (map_of (map_of lint)) (option_map (λ m. entries_content (λ l. entries_content lint_content l.entries) m.entries) lints.now) }
+{
+    if let Some(lints) = lints {
+        lints_fit(lints);
     }
 }
 

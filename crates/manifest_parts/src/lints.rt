@@ -1,13 +1,15 @@
 //! Lints.
 
-ghost use Rattle.std.specs.Prelude.{◌≡◌, IfOk, IfErr};
+ghost use Rattle.std.specs.Prelude.{◌≡◌, ◌↔◌, IsTrue, IfOk, IfErr};
 ghost use Rattle.toml.specs.Data.{table as data_table};
 ghost use Rattle.toml.specs.View.{view, table_view};
 ghost use Rattle.manifest_schema.specs.Forms.{form};
+ghost use Rattle.manifest_schema.specs.Kinds.{map_of, good_entries};
 ghost use Rattle.manifest_schema.specs.Contents;
 ghost use Rattle.manifest_schema.specs.PartForms.{lint_rows, lint, lints_rows};
 ghost use Rattle.manifest_schema.proofs.PartLaws.{lint_config_lawful, lint_lawful, lints_lawful};
 ghost use Rattle.manifest_value.specs.Faults.{FaultIn};
+ghost use Rattle.manifest_value.specs.Entries.{entries_content};
 ghost use Rattle.manifest_parts.specs.Records.{lint_config_content, lint_content, lints_content};
 ghost use Rattle.manifest_parts.specs.Refusals.{RefusedIn};
 
@@ -18,6 +20,7 @@ use manifest_value::fault::here;
 use manifest_value::maps::entries_table;
 use manifest_value::others::others_of;
 use manifest_value::rows::{optional, or_default, put_optional, put_row, required};
+use manifest_value::well_formed::none_is_named;
 use manifest_value::{Cause, ReadFault, Schema};
 use std::alloc::{AllocError, Global};
 use std::collections::BTreeMap;
@@ -77,6 +80,43 @@ impl MaybeInheritedLintsSet {
         ensures refused { IfErr result (RefusedIn ((form lints_rows).faulty (view value.now))) }
     {
         read(alloc, value)
+    }
+
+    /// Whether the lints can be written and read back: no tool is named `workspace`, since under that key stands the
+    /// word that the workspace lends them.
+    pub fn is_well_formed(&self) -> bool
+        ensures { IsTrue result ↔ (form lints_rows).good (lints_content self.now) }
+    {
+        lints_fit(&self.lints);
+        none_is_named(&self.lints, &["workspace"])
+    }
+}
+
+/// Reads the priority of a lint: each `i8` is in the range of the row.
+#[tactic(auto, unfolding(manifest_schema::specs::PartForms::lint_rows))]
+fn lint_fits(x: &Lint)
+    ensures { lint.good (lint_content x.now) }
+{
+    if let Lint::Config(config) = x {
+        let _priority = config.priority;
+    }
+}
+
+/// Reads the priorities of the lints of a tool.
+fn tool_lints_fit(lints: &BTreeMap<String, Lint>)
+    ensures { good_entries lint (entries_content lint_content lints.now.entries) }
+{
+    for (_name, lint) in lints.iter() {
+        lint_fits(lint);
+    }
+}
+
+/// Reads the priorities of all lints, and so finds the lints of each tool well-formed.
+pub fn lints_fit(lints: &BTreeMap<String, BTreeMap<String, Lint>>)
+    ensures { good_entries (map_of lint) (entries_content (λ m. entries_content lint_content m.entries) lints.now.entries) }
+{
+    for (_tool, lints) in lints.iter() {
+        tool_lints_fit(lints);
     }
 }
 

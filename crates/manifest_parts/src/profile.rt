@@ -1,11 +1,12 @@
 //! A profile.
 
-ghost use Rattle.std.specs.Prelude.{◌≡◌, IfOk, IfErr, OnOk};
+ghost use Rattle.std.specs.Prelude.{◌≡◌, ◌↔◌, IsTrue, pos, option_map, IfOk, IfErr, OnOk};
 ghost use Rattle.toml.specs.Data.{table as data_table};
 ghost use Rattle.toml.specs.View.{view, table_view};
 ghost use Rattle.manifest_schema.specs.Forms.{form, first_fit, written_part};
+ghost use Rattle.manifest_schema.specs.Needs.{good_some};
 ghost use Rattle.manifest_schema.specs.Contents;
-ghost use Rattle.manifest_schema.specs.PartForms.{profile_rows};
+ghost use Rattle.manifest_schema.specs.PartForms.{profile_rows, codegen};
 ghost use Rattle.manifest_schema.proofs.PartLaws.{profile_lawful};
 ghost use Rattle.manifest_value.specs.Faults.{FaultIn};
 ghost use Rattle.manifest_parts.specs.Records.{profile_content};
@@ -15,6 +16,7 @@ use crate::error::{Error, read};
 use crate::strip::StripSetting;
 use manifest_value::fault::here;
 use manifest_value::rows::{fill, fill_default, put_optional, put_row};
+use manifest_value::well_formed::{optional_is_well_formed, values_are_well_formed};
 use manifest_value::{Cause, ReadFault, Schema};
 use std::alloc::{AllocError, Global};
 use std::collections::BTreeMap;
@@ -47,6 +49,29 @@ impl Profile {
         ensures refused { IfErr result (RefusedIn ((form profile_rows).faulty (view value.now))) }
     {
         read(alloc, value)
+    }
+
+    /// Whether the profile can be written and read back: no value that is kept as it is (`opt_level`, `debug`, `lto`,
+    /// `build_override`, and those of `package`) holds a float, at any depth. With the `opt_level` `2.5` it is not
+    /// well-formed.
+    pub fn is_well_formed(&self) -> bool
+        ensures { IsTrue result ↔ (form profile_rows).good (profile_content self.now) }
+    {
+        units_fit(&self.codegen_units);
+        optional_is_well_formed(&self.opt_level)
+            && optional_is_well_formed(&self.debug)
+            && optional_is_well_formed(&self.lto)
+            && optional_is_well_formed(&self.build_override)
+            && values_are_well_formed(&self.package)
+    }
+}
+
+/// Reads the units of code generation: each `u16` is in the range of the row.
+fn units_fit(units: &Option<u16>)
+    ensures { good_some codegen (option_map pos units.now) }
+{
+    if let Some(units) = units {
+        let _units = *units;
     }
 }
 

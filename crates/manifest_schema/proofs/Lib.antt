@@ -9,3 +9,5 @@ pub mod RowLaws
 pub mod PartLaws
 pub mod ManifestLaws
 pub mod MeaningLaws
+pub mod GoodLaws
+pub mod Exactly

@@ -16,6 +16,7 @@ pub mod readers;
 pub mod rows;
 pub mod schema;
 pub mod slots;
+pub mod well_formed;
 pub mod writers;
 
 pub use closures::{list_of, map_of};

@@ -1,5 +1,6 @@
 //! Metadata of any type.
 ghost use Rattle.std.specs.Prelude.{◌≡◌, ◌↔◌, IsTrue, IfOk, IfErr, OnOk, option_map, option_copied};
+ghost use Rattle.std.proofs.Common.{subst};
 ghost use Rattle.toml.specs.View.{view, table_view};
 ghost use Rattle.manifest_value.specs.Faults.{FaultIn};
 ghost use Rattle.manifest_schema.specs.Slots.{at, spellings_of, put_some};
@@ -14,12 +15,15 @@ use crate::schema::Schema;
 use std::alloc::{AllocError, Global};
 use toml::{Table, Value};
 
-/// A type whose well-formed values are written without floats.
+/// A type whose well-formed values are written without floats. Whether a value is well-formed is told by the tree that
+/// is written of it: no two values with one tree are told apart.
 pub trait Metadata: Schema {
     fn is_well_formed(&self) -> bool
         ensures { IsTrue result ↔ Self.kind.good (Self.content self.now) };
 
     ghost without_floats: { (x : Self.Content) → Self.kind.good x → IsTrue (plain (Self.kind.written x)) };
+
+    ghost good_by_tree: { (x y : Self.Content) → Self.kind.good x → Self.kind.written x ≡ Self.kind.written y → Self.kind.good y };
 }
 
 /// A row of metadata that may be absent.
@@ -89,6 +93,8 @@ impl Metadata for () {
     }
 
     ghost without_floats = { λ x g. absurd g };
+
+    ghost good_by_tree = { λ x y g e. absurd g };
 }
 
 /// Any value without a float, as it is.
@@ -98,4 +104,6 @@ impl Metadata for Value {
     }
 
     ghost without_floats = { λ x g. g };
+
+    ghost good_by_tree = { λ x y g e. subst (λ d. IsTrue (plain d)) e g };
 }

@@ -1,0 +1,229 @@
+-- Kinds of which everything is well-formed, and what it comes down to that a record is.
+use Rattle.std.proofs.Common.{Bool, ◌⊎◌, inl, inr, List, [], ◌∷◌, Option, Some, None, IsTrue}
+use Rattle.toml.specs.Data.{Data}
+use Rattle.manifest_schema.specs.Paths.{Text}
+use Rattle.manifest_schema.specs.Kinds.{Kind, Entries, Inheritable, inherited, local, text, flag, truth, list_of, map_of, inh, split, kept, good_items, good_entries, good_inh, good_split}
+use Rattle.manifest_schema.specs.Needs.{Need, required, optional, default, lenient_optional, lenient_default, good_some}
+use Rattle.manifest_schema.specs.Forms.{Rows, no_more, others, ◌⨾◌, Fields, gets, form, good_beside, spelled}
+use Rattle.manifest_schema.specs.Choices.{edition, resolver, level, status, strip}
+use Rattle.manifest_schema.specs.Contents.{Package, Workspace, Manifest, Profile}
+use Rattle.manifest_schema.specs.PartForms.{texts, text_or_flag, publish, codegen, lint, inherited_rows, detailed_rows, dependency_table, dependency, product_rows, badge_rows, maintenance_rows, badges_rows, profile_rows, profiles_rows, lints_rows, platform_rows}
+use Rattle.manifest_schema.specs.ManifestForms.{package_rows, workspace_package_rows, workspace_rows, manifest_rows}
+
+-- EVERYTHING OF THE KIND is well-formed
+pub record IsGood {A : Type 0} (K : Kind A) : Type 0 where
+  pub good : (x : A) → K.good x
+
+-- the same of a need
+pub record IsGoodNeed {C : Type 0} (n : Need C) : Type 0 where
+  pub good : (x : C) → n.good x
+
+-- the same of all rows; a map of all other keys may have the key of a row
+abbrev pub AreGood : {A : Type 0} → Rows A → Type 0
+AreGood (r ⨾ rs) = IsGoodNeed r.need × AreGood rs
+AreGood (others get K) = ⊥
+AreGood no_more = Unit {0}
+
+-- KINDS
+pub text_good : IsGood text
+text_good = record { good = λ x. tt }
+
+pub flag_good : IsGood flag
+flag_good = record { good = λ x. tt }
+
+pub truth_good : IsGood truth
+truth_good = record { good = λ x. tt }
+
+pub edition_good : IsGood edition
+edition_good = record { good = λ x. tt }
+
+pub resolver_good : IsGood resolver
+resolver_good = record { good = λ x. tt }
+
+pub level_good : IsGood level
+level_good = record { good = λ x. tt }
+
+pub status_good : IsGood status
+status_good = record { good = λ x. tt }
+
+pub strip_good : IsGood strip
+strip_good = record { good = λ x. tt }
+
+items_good : {A : Type 0} {K : Kind A} → IsGood K → (xs : List A) → good_items K xs
+items_good g [] = tt
+items_good g (x ∷ xs) = (g.good x, items_good g xs)
+
+pub list_good : {A : Type 0} {K : Kind A} → IsGood K → IsGood (list_of K)
+list_good g = record { good = items_good g }
+
+entries_good : {A : Type 0} {K : Kind A} → IsGood K → (es : Entries A) → good_entries K es
+entries_good g [] = tt
+entries_good g (e ∷ es) = (g.good e.1, entries_good g es)
+
+pub map_good : {A : Type 0} {K : Kind A} → IsGood K → IsGood (map_of K)
+map_good g = record { good = entries_good g }
+
+inheritable_good : {A : Type 0} {K : Kind A} → IsGood K → (x : Inheritable A) → good_inh K x
+inheritable_good g inherited = tt
+inheritable_good g (local x) = g.good x
+
+pub inh_good : {A : Type 0} {K : Kind A} → IsGood K → IsGood (inh K)
+inh_good g = record { good = inheritable_good g }
+
+sides_good : {A B : Type 0} {K : Kind A} {L : Kind B} → IsGood K → IsGood L → (x : A ⊎ B) → good_split K L x
+sides_good g h (inl a) = g.good a
+sides_good g h (inr b) = h.good b
+
+pub split_good : {A B C : Type 0} {K : Kind A} {L : Kind B} → IsGood K → IsGood L → (test : Data → Bool) (side : C → A ⊎ B) → IsGood (split test K L side)
+split_good g h test side = record { good = λ x. sides_good g h (side x) }
+
+pub some_good : {A : Type 0} {K : Kind A} → IsGood K → (x : Option A) → good_some K x
+some_good g None = tt
+some_good g (Some x) = g.good x
+
+-- NEEDS
+pub required_good : {A : Type 0} {K : Kind A} → IsGood K → IsGoodNeed (required K)
+required_good g = record { good = g.good }
+
+pub optional_good : {A : Type 0} {K : Kind A} → IsGood K → IsGoodNeed (optional K)
+optional_good g = record { good = some_good g }
+
+pub default_good : {A : Type 0} {K : Kind A} (e : A) (skipped : A → Bool) → IsGood K → IsGoodNeed (default K e skipped)
+default_good e skipped g = record { good = g.good }
+
+pub lenient_optional_good : {A : Type 0} {K : Kind A} → IsGood K → IsGoodNeed (lenient_optional K)
+lenient_optional_good g = record { good = some_good g }
+
+pub lenient_default_good : {A : Type 0} {K : Kind A} {e : A} → IsGood K → IsGoodNeed (lenient_default K e)
+lenient_default_good g = record { good = g.good }
+
+-- FORMS
+rows_good : {A : Type 0} (named : List Text) (rows : Rows A) → AreGood rows → (t : Fields rows) → good_beside named rows t
+rows_good named no_more g t = tt
+rows_good named (others get K) g t = absurd g
+rows_good named (r ⨾ rs) g t = (g.0.good t.0, rows_good named rs g.1 t.1)
+
+pub form_good : {A : Type 0} (rows : Rows A) → AreGood rows → IsGood (form rows)
+form_good rows g = record { good = λ x. rows_good (spelled rows) rows g (gets rows x) }
+
+-- SMALL KINDS
+pub texts_good : IsGood texts
+texts_good = list_good text_good
+
+pub text_or_flag_good : IsGood text_or_flag
+text_or_flag_good = split_good flag_good text_good _ _
+
+pub publish_good : IsGood publish
+publish_good = split_good flag_good texts_good _ _
+
+pub ruleset good_laws = (required_good, optional_good, default_good, lenient_optional_good, lenient_default_good, text_good, flag_good, truth_good, edition_good, resolver_good, level_good, status_good, strip_good, texts_good, text_or_flag_good, publish_good, inh_good)
+
+-- DEPENDENCIES
+inherited_are_good : AreGood inherited_rows
+unfolding inherited_rows
+inherited_are_good = search good_laws
+
+detailed_are_good : AreGood detailed_rows
+unfolding detailed_rows
+detailed_are_good = search good_laws
+
+dependency_table_good : IsGood dependency_table
+dependency_table_good = split_good (form_good inherited_rows inherited_are_good) (form_good detailed_rows detailed_are_good) _ _
+
+pub dependency_good : IsGood dependency
+dependency_good = split_good text_good dependency_table_good _ _
+
+pub dependencies_good : IsGood (map_of dependency)
+dependencies_good = map_good dependency_good
+
+pub patch_good : IsGood (map_of (map_of dependency))
+patch_good = map_good dependencies_good
+
+-- PLATFORMS
+platform_are_good : AreGood platform_rows
+unfolding platform_rows
+platform_are_good = search (good_laws, dependencies_good)
+
+pub platforms_good : IsGood (map_of (form platform_rows))
+platforms_good = map_good (form_good platform_rows platform_are_good)
+
+-- PRODUCTS, features and badges
+product_are_good : AreGood product_rows
+unfolding product_rows
+product_are_good = search good_laws
+
+pub product_good : IsGood (form product_rows)
+product_good = form_good product_rows product_are_good
+
+pub products_good : IsGood (list_of (form product_rows))
+products_good = list_good product_good
+
+pub features_good : IsGood (map_of texts)
+features_good = map_good texts_good
+
+badge_are_good : AreGood badge_rows
+unfolding badge_rows
+badge_are_good = search good_laws
+
+maintenance_are_good : AreGood maintenance_rows
+unfolding maintenance_rows
+maintenance_are_good = search good_laws
+
+badge_good : IsGood (form badge_rows)
+badge_good = form_good badge_rows badge_are_good
+
+maintenance_good : IsGood (form maintenance_rows)
+maintenance_good = form_good maintenance_rows maintenance_are_good
+
+badges_are_good : AreGood badges_rows
+unfolding badges_rows
+badges_are_good = search (good_laws, badge_good, maintenance_good)
+
+pub badges_good : IsGood (form badges_rows)
+badges_good = form_good badges_rows badges_are_good
+
+-- THE PACKAGE FIELDS OF A WORKSPACE
+workspace_package_are_good : AreGood workspace_package_rows
+unfolding workspace_package_rows
+workspace_package_are_good = search good_laws
+
+pub workspace_package_good : IsGood (form workspace_package_rows)
+workspace_package_good = form_good workspace_package_rows workspace_package_are_good
+
+-- A PACKAGE is well-formed exactly if its metadata is
+pub package_good : (K : Kind Data) (p : Package) → good_some K p.metadata → (form (package_rows K)).good p
+unfolding package_rows
+package_good K p g = search (some_good, text_good, flag_good, edition_good, resolver_good, texts_good, text_or_flag_good, publish_good, inh_good)
+
+pub package_metadata_good : (K : Kind Data) (p : Package) → (form (package_rows K)).good p → good_some K p.metadata
+unfolding package_rows
+package_metadata_good K p g = g.1.1.1.1.1.1.1.1.1.1.1.1.1.1.1.1.0
+
+-- A WORKSPACE is well-formed exactly if its metadata and its lints are
+pub workspace_good : (K : Kind Data) (w : Workspace) → good_some K w.metadata → good_some (map_of (map_of lint)) w.lints → (form (workspace_rows K)).good w
+unfolding workspace_rows
+workspace_good K w g h = (texts_good.good w.members, (some_good texts_good w.default_members, (some_good texts_good w.exclude, (some_good resolver_good w.resolver, (some_good dependencies_good w.dependencies, (some_good workspace_package_good w.«package», (g, (h, tt))))))))
+
+pub workspace_metadata_good : (K : Kind Data) (w : Workspace) → (form (workspace_rows K)).good w → good_some K w.metadata
+unfolding workspace_rows
+workspace_metadata_good K w g = g.1.1.1.1.1.1.0
+
+-- A PROFILE is well-formed exactly if its kept values and its units of code generation are
+pub profile_good : (p : Profile) → good_some kept p.opt_level → good_some kept p.debug → good_some kept p.lto → good_some codegen p.codegen_units → good_entries kept p.«package» → good_some kept p.build_override → (form profile_rows).good p
+unfolding profile_rows
+profile_good p a b c u e d = search (some_good, text_good, flag_good, strip_good)
+
+pub profile_parts_good : (p : Profile) → (form profile_rows).good p
+    → good_some kept p.opt_level × good_some kept p.debug × good_some kept p.lto × good_entries kept p.«package» × good_some kept p.build_override
+unfolding profile_rows
+profile_parts_good p g = (g.0, g.1.0, g.1.1.1.1.0, g.1.1.1.1.1.1.1.1.1.1.1.0, g.1.1.1.1.1.1.1.1.1.1.1.1.1.0)
+
+-- A MANIFEST is well-formed exactly if its package, its workspace, its profiles and its lints are
+pub manifest_good : (K W : Kind Data) (m : Manifest) → good_some (form (package_rows K)) m.«package» → good_some (form (workspace_rows W)) m.workspace → good_some (form profiles_rows) m.profile → good_some (form lints_rows) m.lints → (form (manifest_rows K W)).good m
+unfolding manifest_rows
+manifest_good K W m a b c d = search (some_good, items_good, texts_good, dependencies_good, platforms_good, features_good, product_good, patch_good, badges_good)
+
+pub manifest_parts_good : (K W : Kind Data) (m : Manifest) → (form (manifest_rows K W)).good m
+    → good_some (form (package_rows K)) m.«package» × good_some (form (workspace_rows W)) m.workspace × good_some (form profiles_rows) m.profile × good_some (form lints_rows) m.lints
+unfolding manifest_rows
+manifest_parts_good K W m g = (g.0, g.1.1.0, g.1.1.1.1.1.1.1.1.1.1.1.1.1.1.0, g.1.1.1.1.1.1.1.1.1.1.1.1.1.1.1.1.0)
