@@ -7,8 +7,7 @@ ghost use Rattle.manifest_schema.specs.Kinds.{whole};
 ghost use Rattle.manifest_schema.specs.Forms.{form};
 ghost use Rattle.manifest_schema.proofs.KindLaws.{whole_lawful};
 ghost use Rattle.manifest_value.specs.Faults.{FaultIn};
-ghost use Rattle.manifest_rows.specs.Scores.{score_rows};
-ghost use Rattle.manifest_rows.proofs.ScoreLaws.{score_lawful, score_plain};
+ghost use Rattle.manifest_rows.specs.Scores.{score_rows, score_lawful, score_plain};
 
 use manifest_value::fault::here;
 use manifest_value::rows::{put_row, required};
@@ -57,7 +56,7 @@ pub struct Score {
 }
 
 /// The score of a table.
-#[tactic(auto, unfolding(manifest_rows::specs::Scores::score_rows))]
+#[tactic(auto, unfolding(crate::specs::Scores::score_rows))]
 fn score_from(alloc: Global, table: &Table) -> Result<Score, ReadFault>
     ensures ok { IfOk result (λ x. (form score_rows).reads (data_table (table_view table.now)) (pos x.level.number)) }
     ensures fault { IfErr result (FaultIn ((form score_rows).faulty (data_table (table_view table.now)))) }
@@ -81,7 +80,7 @@ impl Schema for Score {
         }
     }
 
-    #[tactic(auto, unfolding(manifest_rows::specs::Scores::score_rows))]
+    #[tactic(auto, unfolding(crate::specs::Scores::score_rows))]
     fn to_value(&self, alloc: Global) -> Result<Value, AllocError> {
         let mut out = Table::new(alloc);
         put_row(alloc, &mut out, "level", &self.level)?;
@@ -92,7 +91,7 @@ impl Schema for Score {
 }
 
 impl Metadata for Score {
-    #[tactic(auto, unfolding(manifest_rows::specs::Scores::score_rows))]
+    #[tactic(auto, unfolding(crate::specs::Scores::score_rows))]
     fn is_well_formed(&self) -> bool {
         self.level.number <= 9
     }
