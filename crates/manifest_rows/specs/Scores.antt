@@ -1,0 +1,32 @@
+-- The form of a score, with its laws.
+use Rattle.std.specs.Prelude.{◌≡◌, ℤ, pos, true, codes, IsTrue, refl}
+use Rattle.manifest_schema.specs.Slots.{only, put_some}
+use Rattle.manifest_schema.specs.Kinds.{whole, plain}
+use Rattle.manifest_schema.specs.Needs.{required}
+use Rattle.manifest_schema.specs.Forms.{Rows, row, no_more, ◌⨾◌, form}
+use Rattle.manifest_schema.specs.Lawful.{IsLawful, AreLawful, IsBuilt}
+use Rattle.manifest_schema.proofs.KindLaws.{whole_lawful}
+use Rattle.manifest_schema.proofs.NeedLaws.{required_lawful}
+use Rattle.manifest_schema.proofs.FormLaws.{form_lawful}
+
+-- a level from 0 to 9; all other keys are free
+unfoldable pub score_rows : Rows ℤ
+score_rows = row (λ x. x) (only (codes "level")) (required (whole (pos 0) (pos 9))) ⨾ no_more
+
+-- the laws of its kind
+score_built : IsBuilt score_rows
+unfolding score_rows
+score_built = record { build = λ t. t.0; all = λ x. refl; each = λ t. refl }
+
+score_are_lawful : AreLawful score_rows
+unfolding score_rows
+score_are_lawful = (required_lawful (whole_lawful (pos 0) (pos 9)), tt)
+
+pub score_lawful : IsLawful (form score_rows)
+unfolding score_rows
+score_lawful = form_lawful score_rows score_are_lawful score_built refl
+
+-- no float is written of a score
+pub score_plain : (x : ℤ) → (form score_rows).good x → IsTrue (plain ((form score_rows).written x))
+unfolding score_rows put_some
+score_plain x g = refl

@@ -1,0 +1,18 @@
+//! Tests of the public calls that read and write manifests, and the metadata type of these tests.
+#![tactic(auto)]
+
+#[cfg(test)]
+mod answers;
+#[cfg(test)]
+mod forms;
+#[cfg(test)]
+mod metadata;
+#[cfg(test)]
+mod paths;
+#[cfg(test)]
+mod refused;
+#[cfg(test)]
+mod rewritten;
+pub mod score;
+#[cfg(test)]
+mod values;

@@ -1,0 +1,100 @@
+//! A type of metadata: a score.
+
+ghost use Rattle.std.specs.Prelude.{◌≡◌, ℤ, pos, IfOk, IfErr, IsTrue, refl};
+ghost use Rattle.toml.specs.Data.{table as data_table};
+ghost use Rattle.toml.specs.View.{view, table_view};
+ghost use Rattle.manifest_schema.specs.Kinds.{whole};
+ghost use Rattle.manifest_schema.specs.Forms.{form};
+ghost use Rattle.manifest_schema.proofs.KindLaws.{whole_lawful};
+ghost use Rattle.manifest_value.specs.Faults.{FaultIn};
+ghost use Rattle.manifest_rows.specs.Scores.{score_rows, score_lawful, score_plain};
+
+use manifest_value::fault::here;
+use manifest_value::rows::{put_row, required};
+use manifest_value::{Cause, Metadata, ReadFault, Schema};
+use std::alloc::{AllocError, Global};
+use toml::{Table, Value};
+
+/// A whole number from 0 to 9.
+#[derive(Clone, Copy, Debug, PartialEq, Eq)]
+pub struct Level {
+    pub number: u8,
+}
+
+impl Schema for Level {
+    ghost Content = { ℤ };
+
+    ghost content = { λ l. pos l.number };
+
+    ghost kind = { whole (pos 0) (pos 9) };
+
+    fn from_value(alloc: Global, value: &Value) -> Result<Level, ReadFault> {
+        match value {
+            Value::Integer(n) => {
+                let n = *n;
+                if 0 <= n && n <= 9 {
+                    Ok(Level { number: n as u8 })
+                } else {
+                    Err(here(alloc, Cause::OutOfRange))
+                }
+            }
+            _ => Err(here(alloc, Cause::WrongKind)),
+        }
+    }
+
+    fn to_value(&self, _alloc: Global) -> Result<Value, AllocError> {
+        Ok(Value::Integer(i64::from(self.number)))
+    }
+
+    ghost lawful = { whole_lawful (pos 0) (pos 9) };
+}
+
+/// A table with a level. It is well-formed with a level from 0 to 9.
+#[derive(Clone, Copy, Debug, PartialEq, Eq)]
+pub struct Score {
+    pub level: Level,
+}
+
+/// The score of a table.
+#[tactic(auto, unfolding(crate::specs::Scores::score_rows))]
+fn score_from(alloc: Global, table: &Table) -> Result<Score, ReadFault>
+    ensures ok { IfOk result (λ x. (form score_rows).reads (data_table (table_view table.now)) (pos x.level.number)) }
+    ensures fault { IfErr result (FaultIn ((form score_rows).faulty (data_table (table_view table.now)))) }
+{
+    Ok(Score {
+        level: required(alloc, table, "level", None)?,
+    })
+}
+
+impl Schema for Score {
+    ghost Content = { ℤ };
+
+    ghost content = { λ x. pos x.level.number };
+
+    ghost kind = { form score_rows };
+
+    fn from_value(alloc: Global, value: &Value) -> Result<Score, ReadFault> {
+        match value {
+            Value::Table(table) => score_from(alloc, table),
+            _ => Err(here(alloc, Cause::WrongKind)),
+        }
+    }
+
+    #[tactic(auto, unfolding(crate::specs::Scores::score_rows))]
+    fn to_value(&self, alloc: Global) -> Result<Value, AllocError> {
+        let mut out = Table::new(alloc);
+        put_row(alloc, &mut out, "level", &self.level)?;
+        Ok(Value::Table(out))
+    }
+
+    ghost lawful = { score_lawful };
+}
+
+impl Metadata for Score {
+    #[tactic(auto, unfolding(crate::specs::Scores::score_rows))]
+    fn is_well_formed(&self) -> bool {
+        self.level.number <= 9
+    }
+
+    ghost without_floats = { score_plain };
+}
