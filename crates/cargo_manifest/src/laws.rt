@@ -10,35 +10,29 @@ use manifest_value::Metadata;
 /// A table means at most one manifest.
 pub fn means_one<P: Metadata, W: Metadata>()
     ensures { MeansOne (tree_of P.kind) (tree_of W.kind) }
-{
-}
+{}
 
 /// What is written of a well-formed manifest is read as that manifest.
 pub fn written_is_read<P: Metadata, W: Metadata>()
     ensures { WrittenIsRead (tree_of P.kind) (tree_of W.kind) }
-{
-}
+{}
 
 /// What a table means is well-formed, and has a package or a workspace.
 pub fn accepted_is_well_formed<P: Metadata, W: Metadata>()
     ensures { AcceptedIsWellFormed (tree_of P.kind) (tree_of W.kind) }
-{
-}
+{}
 
 /// The rewritten table of an accepted table means the same manifest.
 pub fn rewritten_means_the_same<P: Metadata, W: Metadata>()
     ensures { RewrittenMeansTheSame (tree_of P.kind) (tree_of W.kind) }
-{
-}
+{}
 
 /// Two accepted tables mean one manifest exactly if their rewritten tables are equal.
 pub fn same_exactly<P: Metadata, W: Metadata>()
     ensures { SameExactly (tree_of P.kind) (tree_of W.kind) }
-{
-}
+{}
 
 /// A table with a fault means nothing.
 pub fn faulty_means_nothing<P: Metadata, W: Metadata>()
     ensures { FaultyMeansNothing (tree_of P.kind) (tree_of W.kind) }
-{
-}
+{}

@@ -21,5 +21,5 @@ pub use manifest_value::{Cause, KeyPath, Metadata, Plain, ReadFault, Schema, Sch
 pub use package::Package;
 pub use profiles::Profiles;
 pub use toml::Value;
-pub use writing::INVALID_DATE;
 pub use workspace::{Workspace, WorkspacePackage};
+pub use writing::INVALID_DATE;

@@ -79,10 +79,7 @@ fn read_table<P: Metadata, W: Metadata>(
 }
 
 /// The manifest that a text means.
-fn read_text<P: Metadata, W: Metadata>(
-    alloc: Global,
-    text: &str,
-) -> Result<Manifest<P, W>, Error>
+fn read_text<P: Metadata, W: Metadata>(alloc: Global, text: &str) -> Result<Manifest<P, W>, Error>
     ensures ok { IfOk result (λ m. IsDocumentOf (tree_of P.kind) (tree_of W.kind) text.now
         (manifest_content (λ m. P.kind.written (P.content m)) (λ m. W.kind.written (W.content m)) m)) }
     ensures refused { IfErr result (RefusesText (tree_of P.kind) (tree_of W.kind) text.now) }
@@ -109,7 +106,10 @@ impl<P: Metadata> Manifest<P, Value> {
     /// memory is [`Error::Memory`], or a memory fault inside `ParseFault::Toml`.
     ///
     /// Nothing is completed from folders.
-    pub fn from_slice_with_metadata(alloc: Global, bytes: &[u8]) -> Result<Manifest<P, Value>, Error>
+    pub fn from_slice_with_metadata(
+        alloc: Global,
+        bytes: &[u8],
+    ) -> Result<Manifest<P, Value>, Error>
         ensures ok { IfOk result (λ m. IsUtf8 bytes.now × IsDocumentOf (tree_of P.kind) (tree_of kept) bytes.now
             (manifest_content (λ m. P.kind.written (P.content m)) view m)) }
         ensures refused { IfErr result (Refuses (tree_of P.kind) (tree_of kept) bytes.now) }
