@@ -1,5 +1,5 @@
 -- What a package, a workspace, profiles and a manifest of the code hold; metadata is seen by a function to its tree.
-use Rattle.std.specs.Prelude.{List, map, option_map, String, string_bytes}
+use Rattle.std.specs.Prelude.{map, option_map, String, string_bytes}
 use Rattle.std.specs.declared.alloc.Global.{Global}
 use Rattle.std.specs.BTreeMap.{BTreeMap}
 use Rattle.toml.specs.Data.{Data}

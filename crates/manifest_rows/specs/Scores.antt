@@ -1,5 +1,7 @@
 -- The form of a score, with its laws.
-use Rattle.std.specs.Prelude.{◌≡◌, ℤ, pos, true, codes, IsTrue, refl}
+use Rattle.std.specs.Prelude.{◌≡◌, ℤ, pos, codes, IsTrue, refl}
+use Rattle.std.proofs.Common.{subst, ap}
+use Rattle.toml.specs.Data.{Data, integer, table, member}
 use Rattle.manifest_schema.specs.Slots.{only, put_some}
 use Rattle.manifest_schema.specs.Kinds.{whole, plain}
 use Rattle.manifest_schema.specs.Needs.{required}
@@ -30,3 +32,13 @@ score_lawful = form_lawful score_rows score_are_lawful score_built refl
 pub score_plain : (x : ℤ) → (form score_rows).good x → IsTrue (plain ((form score_rows).written x))
 unfolding score_rows put_some
 score_plain x g = refl
+
+-- the level that a written table has
+abbrev level_of : Data → ℤ
+level_of (table (member k (integer z) ms)) = z
+level_of _ = pos 0
+
+-- whether a score is well-formed is told by its table
+pub score_by_tree : (x y : ℤ) → (form score_rows).good x → (form score_rows).written x ≡ (form score_rows).written y → (form score_rows).good y
+unfolding score_rows put_some
+score_by_tree x y g e = subst (λ (z : ℤ). (form score_rows).good z) (ap level_of e) g

@@ -7,7 +7,7 @@ ghost use Rattle.manifest_schema.specs.Kinds.{whole};
 ghost use Rattle.manifest_schema.specs.Forms.{form};
 ghost use Rattle.manifest_schema.proofs.KindLaws.{whole_lawful};
 ghost use Rattle.manifest_value.specs.Faults.{FaultIn};
-ghost use Rattle.manifest_rows.specs.Scores.{score_rows, score_lawful, score_plain};
+ghost use Rattle.manifest_rows.specs.Scores.{score_rows, score_lawful, score_plain, score_by_tree};
 
 use manifest_value::fault::here;
 use manifest_value::rows::{put_row, required};
@@ -97,4 +97,6 @@ impl Metadata for Score {
     }
 
     ghost without_floats = { score_plain };
+
+    ghost good_by_tree = { score_by_tree };
 }

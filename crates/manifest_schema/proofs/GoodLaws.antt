@@ -1,5 +1,5 @@
 -- Kinds of which everything is well-formed, and what it comes down to that a record is.
-use Rattle.std.proofs.Common.{Bool, ◌⊎◌, inl, inr, List, [], ◌∷◌, Option, Some, None, IsTrue}
+use Rattle.std.proofs.Common.{Bool, ◌⊎◌, inl, inr, List, [], ◌∷◌, Option, Some, None}
 use Rattle.toml.specs.Data.{Data}
 use Rattle.manifest_schema.specs.Paths.{Text}
 use Rattle.manifest_schema.specs.Kinds.{Kind, Entries, Inheritable, inherited, local, text, flag, truth, list_of, map_of, inh, split, kept, good_items, good_entries, good_inh, good_split}

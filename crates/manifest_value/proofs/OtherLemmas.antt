@@ -1,5 +1,5 @@
 -- A map that is made of the entries of a table under other keys than some.
-use Rattle.std.proofs.Common.{◌≡◌, ℕ, ◌+◌, ◌<◌, Bool, true, false, ◌||◌, List, [], ◌∷◌, ◌++◌, map, length, get_or, drop, Bor, bytes_eq, drop-cons, add-one, String, Global, Ordering, Less, Greater, nat_cmp, string_bytes, if◌then◌else◌, refl, ap, ◌∙◌, sym, subst, inl, inr, ◌⊎◌, true≢false}
+use Rattle.std.proofs.Common.{◌≡◌, ℕ, ◌+◌, ◌<◌, Bool, true, false, ◌||◌, List, [], ◌∷◌, ◌++◌, map, length, get_or, drop, Bor, bytes_eq, drop-cons, add-one, String, Global, Less, Greater, nat_cmp, string_bytes, if◌then◌else◌, refl, ap, ◌∙◌, sym, inl, inr, ◌⊎◌, true≢false}
 use Rattle.std.proofs.lemmas.Cmp.{nat_list_cmp_total}
 use Rattle.std.proofs.lemmas.Map.Text.{is_eq-slice_cmp}
 use Rattle.std.specs.Cmp.Lexicographic.{slice_cmp}
@@ -11,7 +11,7 @@ use Rattle.std.specs.Map.{keys_of}
 use Rattle.std.specs.String.{string_cmp}
 use Rattle.toml.specs.Data.{Data, Members, no_members, member}
 use Rattle.toml.specs.declared.value.Value.{Value}
-use Rattle.toml.specs.View.{view, members_view}
+use Rattle.toml.specs.View.{members_view}
 use Rattle.toml.proofs.Views.{with_last}
 use Rattle.manifest_schema.specs.Paths.{Text}
 use Rattle.manifest_schema.specs.Slots.{is_among, without}

@@ -1,4 +1,3 @@
-use Rattle.std.proofs.Common.{rules}
 use Rattle.toml.specs.View.{table_view}
 use Rattle.manifest_value.proofs.OtherLemmas.{without-none}
 use Rattle.manifest_value.proofs.maps.entries_of.Goals as goal

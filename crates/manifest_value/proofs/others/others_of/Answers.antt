@@ -6,8 +6,7 @@ use Rattle.toml.specs.View.{view, members_view}
 use Rattle.toml.proofs.Views.{members_view-last}
 use Rattle.manifest_schema.specs.Paths.{Text}
 use Rattle.manifest_schema.specs.Slots.{is_among, without}
-use Rattle.manifest_schema.specs.Kinds.{has_entry, reads_entries}
-use Rattle.manifest_value.specs.Entries.{entries_content}
+use Rattle.manifest_schema.specs.Kinds.{has_entry}
 use Rattle.manifest_value.proofs.EntryLemmas.{has_entry_within, entry_fault}
 use Rattle.manifest_value.proofs.OtherLemmas.{Entry, above_sorted, above_without, insert_above, reads_last, without-last_out, without-last_in, has_entry-without}
 use Rattle.manifest_value.proofs.others.others_of.Goals as goal
