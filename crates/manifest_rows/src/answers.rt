@@ -1,9 +1,17 @@
 //! Answers of the calls as texts.
-use cargo_manifest::{Error, Manifest, Metadata, ParseFault, Schema};
+use cargo_manifest::{Error, Manifest, Metadata, ParseFault, ReadFault, Schema};
 use std::alloc::{AllocError, Global};
 use std::process::Abort;
 use std::test::Fail;
 use toml::{Table, Value};
+
+/// The error of a reader's fault.
+pub fn error_of(fault: ReadFault) -> Error {
+    match fault {
+        ReadFault::Schema(fault) => Error::Parse(ParseFault::Schema(fault)),
+        ReadFault::Memory(refused) => Error::Memory(refused),
+    }
+}
 
 /// What an error tells: the cause and the path of a fault of the schema, else what refused.
 pub fn told(alloc: Global, error: &Error) -> Result<String, AllocError> {

@@ -1,6 +1,6 @@
 //! Values of plain types, read and written by the trait.
-use crate::answers::{assert_told, assert_written, value};
-use cargo_manifest::{Error, ParseFault, ReadFault, Schema};
+use crate::answers::{assert_told, assert_written, error_of, value};
+use cargo_manifest::{Error, Schema};
 use manifest_value::kept::{holds_float, kept};
 use std::alloc::Global;
 use std::collections::BTreeMap;
@@ -16,14 +16,6 @@ fn read<T: Schema>(alloc: Global, text: &str) -> Result<T, Error> {
     match T::from_value(alloc, &value) {
         Ok(x) => Ok(x),
         Err(fault) => Err(error_of(fault)),
-    }
-}
-
-/// The error of a reader's fault.
-fn error_of(fault: ReadFault) -> Error {
-    match fault {
-        ReadFault::Schema(fault) => Error::Parse(ParseFault::Schema(fault)),
-        ReadFault::Memory(refused) => Error::Memory(refused),
     }
 }
 
