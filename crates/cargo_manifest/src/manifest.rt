@@ -153,25 +153,7 @@ pub(crate) fn manifest_from<P: Metadata, W: Metadata>(
     ensures ok { IfOk result (λ x. (form (manifest_rows (tree_of P.kind) (tree_of W.kind))).reads (data_table (table_view table.now)) (manifest_content (λ m. P.kind.written (P.content m)) (λ m. W.kind.written (W.content m)) x)) }
     ensures fault { IfErr result (FaultIn ((form (manifest_rows (tree_of P.kind) (tree_of W.kind))).faulty (data_table (table_view table.now)))) }
 {
-    let mut x = Manifest {
-        package: None,
-        cargo_features: None,
-        workspace: None,
-        dependencies: None,
-        dev_dependencies: None,
-        build_dependencies: None,
-        target: None,
-        features: None,
-        bin: Vec::new(alloc),
-        bench: Vec::new(alloc),
-        test: Vec::new(alloc),
-        example: Vec::new(alloc),
-        patch: None,
-        lib: None,
-        profile: None,
-        badges: None,
-        lints: None,
-    };
+    let mut x = Manifest::default(alloc);
     match fill_manifest(alloc, table, &mut x) {
         Ok(()) => Ok(x),
         Err(fault) => Err(fault),
