@@ -1,0 +1,3 @@
+pub mod TargetLaws
+pub mod CompletedLaws
+pub mod AskedLaws

@@ -1,0 +1,267 @@
+-- What completion makes of a manifest, as a function of the listings; and which places are asked for it.
+use Rattle.std.specs.Prelude.{◌≡◌, List, [], ◌∷◌, ◌++◌, map, codes, if◌then◌else◌, Option, Some, None, Bool, true, false, is_some, unwrap_or, ◌&&◌, ◌||◌, not, nat_eq}
+use Rattle.std.specs.Option.{option_or}
+use Rattle.std.specs.List.{list_any, AllByRecursion}
+use Rattle.std.specs.declared.io.ErrorKind.{ErrorKind}
+use Rattle.std.specs.declared.io.ErrorKind.TheVariants.{NotFound, OutOfMemory}
+use Rattle.manifest_schema.specs.Paths.{Text}
+use Rattle.manifest_schema.specs.Kinds.{Inheritable, inherited, local}
+use Rattle.manifest_schema.specs.PartForms.{is_empty}
+use Rattle.manifest_schema.specs.Contents.{Edition, e2015, TextOrFlag, a_text, a_flag, Product, Package, Manifest}
+use Rattle.manifest_schema.specs.Defaults.{default_product}
+use Rattle.manifest_completion.specs.Listings.{Answer, names, fault, lists, is_memory_fault, TargetFolder, bins, examples, tests, benches, Place, source, folder, entry, root, names_of, path_text, ListingMap, at, HasNoNameTwice}
+use Rattle.manifest_completion.specs.Finds.{finds, bin_finds}
+use Rattle.manifest_completion.specs.Targets.{targets, Defaults}
+
+-- THE TARGETS OF A PACKAGE: what completion reads of a manifest. It fills in `build`, the library and the four lists.
+pub record PackageTargets : Type 0 where
+  pub name : Text
+  pub edition : Option (Inheritable Edition)
+  pub autolib : Option Bool
+  pub autobins : Option Bool
+  pub autoexamples : Option Bool
+  pub autotests : Option Bool
+  pub autobenches : Option Bool
+  pub build : Option TextOrFlag
+  pub lib : Option Product
+  pub bin : List Product
+  pub example : List Product
+  pub test : List Product
+  pub bench : List Product
+
+-- EDITION
+abbrev pub is_2015 : Edition → Bool
+is_2015 e2015 = true
+is_2015 _ = false
+
+-- the old way to discover targets: the edition is absent, or 2015 and the package's own
+abbrev pub is_legacy : Option (Inheritable Edition) → Bool
+is_legacy None = true
+is_legacy (Some inherited) = false
+is_legacy (Some (local e)) = is_2015 e
+
+-- the edition of the package's own
+abbrev pub own_edition : Option (Inheritable Edition) → Option Edition
+own_edition (Some (local e)) = Some e
+own_edition _ = None
+
+-- FLAGS: whether the finds are added to a list of targets: as the package says, or else unless it is discovered in the old way and the list has a target
+abbrev pub discovers : {A : Type 0} → Option Bool → Bool → List A → Bool
+discovers own legacy ps = unwrap_or own (not (legacy && not (is_empty ps)))
+
+-- LIBRARY
+-- the name of the package, with `_` in place of each `-`
+abbrev pub underscored : Text → Text
+underscored bs = map (λ b. if nat_eq b 45 then 95 else b) bs
+
+abbrev pub library_type : List Text
+library_type = codes "lib" ∷ []
+
+-- the file of a library without a path: `src/lib.rs`, or in the old way the file of its name
+abbrev pub library_file : Bool → Answer → Text → Option Text
+library_file legacy src file =
+    if lists src (codes "lib.rs") then Some (codes "src/lib.rs")
+    else if legacy && lists src file then Some (codes "src/" ++ file) else None
+
+-- the path of a declared library; its file has its own name, or else that of the package
+abbrev pub library_path : PackageTargets → Answer → Product → Option Text
+library_path t src lib = option_or lib.path (library_file (is_legacy t.edition) src (unwrap_or lib.name t.name ++ codes ".rs"))
+
+-- a library, none, or one that is declared and has no file
+pub data Library : Type 0 where
+  no_file : Library
+  known : Option Product → Library
+
+-- a declared library, by its path
+abbrev pub declared_library : PackageTargets → Product → Option Text → Library
+declared_library t lib None = no_file
+declared_library t lib (Some q) = known (Some (record lib {
+  path = Some q;
+  name = option_or lib.name (Some (underscored t.name));
+  edition = option_or lib.edition (own_edition t.edition);
+  required_features = [];
+  crate_type = option_or lib.crate_type (Some library_type)
+}))
+
+-- a library that is not declared: it is there where `src` lists `lib.rs`, unless the package says otherwise
+abbrev pub inferred_library : PackageTargets → Answer → Option Product
+inferred_library t src =
+    if unwrap_or t.autolib true && lists src (codes "lib.rs")
+    then Some (record default_product { path = Some (codes "src/lib.rs"); name = Some (underscored t.name); edition = own_edition t.edition; crate_type = Some library_type })
+    else None
+
+abbrev pub library_of : PackageTargets → Option Product → Answer → Library
+library_of t None src = known (inferred_library t src)
+library_of t (Some lib) src = declared_library t lib (library_path t src lib)
+
+-- THE LIBRARY that a package comes to have
+abbrev pub library : PackageTargets → Answer → Library
+library t src = library_of t t.lib src
+
+-- BUILD SCRIPT: the folder of the manifest is asked where `build` is absent or true
+abbrev pub asks_root : Option TextOrFlag → Bool
+asks_root None = true
+asks_root (Some (a_text t)) = false
+asks_root (Some (a_flag b)) = b
+
+-- `build.rs`, where it is asked for and listed
+abbrev pub found_build : Bool → Answer → Option TextOrFlag
+found_build asks a = if asks && lists a (codes "build.rs") then Some (a_text (codes "build.rs")) else None
+
+abbrev pub build_of : Option TextOrFlag → Answer → Option TextOrFlag
+build_of b a = option_or (found_build (asks_root b) a) b
+
+-- DEFAULTS of the three sorts of lists
+abbrev pub bin_defaults : PackageTargets → Answer → Defaults
+bin_defaults t src = record { edition = own_edition t.edition; crate_type = None; path = if is_legacy t.edition && lists src (codes "main.rs") then Some (codes "src/main.rs") else None }
+
+abbrev pub example_defaults : PackageTargets → Defaults
+example_defaults t = record { edition = own_edition t.edition; crate_type = Some (codes "bin" ∷ []); path = None }
+
+abbrev pub test_defaults : PackageTargets → Defaults
+test_defaults t = record { edition = own_edition t.edition; crate_type = None; path = None }
+
+-- THE TARGETS FILLED IN, with this library
+unfoldable pub filled : PackageTargets → Option Product → ListingMap → PackageTargets
+filled t lib l = record t {
+  build = build_of t.build l.root;
+  lib = lib;
+  bin = targets (bin_defaults t l.source) (discovers t.autobins (is_legacy t.edition) t.bin) (bin_finds l t.name) t.bin;
+  example = targets (example_defaults t) (discovers t.autoexamples (is_legacy t.edition) t.example) (finds l examples) t.example;
+  test = targets (test_defaults t) (discovers t.autotests (is_legacy t.edition) t.test) (finds l tests) t.test;
+  bench = targets (test_defaults t) (discovers t.autobenches (is_legacy t.edition) t.bench) (finds l benches) t.bench
+}
+
+-- WHAT COMPLETION COMES TO: what it makes, or a refusal for a listing's fault of this kind, or for want of a library's file
+pub data Completion (A : Type 0) : Type 0 where
+  completed_to : A → Completion A
+  refused : ErrorKind → Completion A
+  no_library : Completion A
+
+-- a folder of targets, then its entries
+abbrev pub folder_places : ListingMap → TargetFolder → List Place
+folder_places l d = folder d ∷ map (entry d) (names_of (at l (folder d)))
+
+abbrev pub target_places : ListingMap → List Place
+target_places l = folder_places l bins ++ (folder_places l examples ++ (folder_places l tests ++ folder_places l benches))
+
+-- the filesystem found no memory at one of these places
+abbrev pub has_memory_fault : (Place → Answer) → List Place → Bool
+has_memory_fault f ps = list_any (λ p. is_memory_fault (f p)) ps
+
+-- the fault of `src` that refuses: any but that it is not there
+abbrev pub source_fault : Answer → Option ErrorKind
+source_fault (names ns) = None
+source_fault (fault NotFound) = None
+source_fault (fault k) = Some k
+
+-- the fault of the manifest's folder that refuses: any, where the folder is asked
+abbrev pub root_fault_if : Bool → Answer → Option ErrorKind
+root_fault_if asks (names ns) = None
+root_fault_if asks (fault k) = if asks then Some k else None
+
+abbrev pub root_fault : Option TextOrFlag → Answer → Option ErrorKind
+root_fault b a = root_fault_if (asks_root b) a
+
+-- the first that applies of: a fault of `src`, a library without a file, a target folder or an entry of one for which no memory was found, a fault of the manifest's folder; else the targets filled in
+abbrev pub after_root : PackageTargets → Option Product → ListingMap → Option ErrorKind → Completion PackageTargets
+after_root t lib l (Some k) = refused k
+after_root t lib l None = completed_to (filled t lib l)
+
+abbrev pub after_library : PackageTargets → ListingMap → Library → Completion PackageTargets
+after_library t l no_file = no_library
+after_library t l (known lib) = if has_memory_fault (at l) (target_places l) then refused OutOfMemory else after_root t lib l (root_fault t.build l.root)
+
+abbrev pub after_source : PackageTargets → ListingMap → Option ErrorKind → Completion PackageTargets
+after_source t l (Some k) = refused k
+after_source t l None = after_library t l (library t l.source)
+
+-- THE COMPLETED TARGETS of a package
+abbrev pub completed_targets : PackageTargets → ListingMap → Completion PackageTargets
+completed_targets t l = after_source t l (source_fault l.source)
+
+-- THE MANIFEST
+-- the targets of a manifest with this package
+abbrev pub targets_of : Package → Manifest → PackageTargets
+targets_of p m = record {
+  name = p.name;
+  edition = p.edition;
+  autolib = p.autolib;
+  autobins = p.autobins;
+  autoexamples = p.autoexamples;
+  autotests = p.autotests;
+  autobenches = p.autobenches;
+  build = p.build;
+  lib = m.lib;
+  bin = m.bin;
+  example = m.example;
+  test = m.test;
+  bench = m.bench
+}
+
+-- the manifest with this package, and with these targets in place of its own
+abbrev pub with_targets : Package → Manifest → PackageTargets → Manifest
+with_targets p m t = record m {
+  «package» = Some (record p { build = t.build });
+  lib = t.lib;
+  bin = t.bin;
+  example = t.example;
+  test = t.test;
+  bench = t.bench
+}
+
+abbrev pub completion_with : Package → Manifest → Completion PackageTargets → Completion Manifest
+completion_with p m (completed_to t) = completed_to (with_targets p m t)
+completion_with p m (refused k) = refused k
+completion_with p m no_library = no_library
+
+abbrev pub completed_by : Option Package → Manifest → ListingMap → Completion Manifest
+completed_by None m l = completed_to m
+completed_by (Some p) m l = completion_with p m (completed_targets (targets_of p m) l)
+
+-- THE COMPLETED MANIFEST: without a package it is the manifest itself
+abbrev pub completed : Manifest → ListingMap → Completion Manifest
+completed m l = completed_by m.«package» m l
+
+-- THE FLAGS of a manifest: false without a package
+abbrev pub flag_by : Option Package → (Package → Option Bool) → List Product → Bool
+flag_by None own ps = false
+flag_by (Some p) own ps = discovers (own p) (is_legacy p.edition) ps
+
+-- WHAT IS ASKED
+-- the places up to the first for which no memory was found
+abbrev pub up_to_memory_fault : (Place → Answer) → List Place → List Place
+up_to_memory_fault f [] = []
+up_to_memory_fault f (p ∷ ps) = p ∷ (if is_memory_fault (f p) then [] else up_to_memory_fault f ps)
+
+abbrev pub has_no_file : Library → Bool
+has_no_file no_file = true
+has_no_file (known lib) = false
+
+-- completion refuses before a target folder is asked
+abbrev pub stops_at_source : PackageTargets → Answer → Bool
+stops_at_source t src = is_some (source_fault src) || has_no_file (library t src)
+
+abbrev pub root_places : Bool → List Place
+root_places asks = if asks then root ∷ [] else []
+
+-- the places that are asked for the targets of a package, in their order: nothing is asked after a refusal
+abbrev pub asked_targets : PackageTargets → ListingMap → List Place
+asked_targets t l = source ∷ (if stops_at_source t l.source then [] else up_to_memory_fault (at l) (target_places l ++ root_places (asks_root t.build)))
+
+abbrev pub asked_by : Option Package → Manifest → ListingMap → List Place
+asked_by None m l = []
+asked_by (Some p) m l = asked_targets (targets_of p m) l
+
+-- THE PLACES THAT ARE ASKED for a manifest, in their order: none without a package
+abbrev pub asked : Manifest → ListingMap → List Place
+asked m l = asked_by m.«package» m l
+
+-- a relation between path texts and answers, which is what a filesystem allows, allows the map's answers at these places
+abbrev pub AllAllowed : (Text → Answer → Type 0) → ListingMap → List Place → Type 0
+AllAllowed allows l ps = AllByRecursion (λ p. allows (path_text p) (at l p)) ps
+
+-- THE MAP EXPLAINS what the filesystem answered: at each place that is asked it has an answer that is allowed there
+pub record Explains (allows : Text → Answer → Type 0) (l : ListingMap) (places : List Place) : Type 0 where
+  pub distinct : HasNoNameTwice l
+  pub allowed : AllAllowed allows l places

@@ -1,0 +1,5 @@
+pub mod Listings
+pub mod Finds
+pub mod Targets
+pub mod Completed
+pub mod Laws

@@ -1,0 +1,92 @@
+-- What a filesystem answers for a folder, the places that completion asks for, and a map of listings.
+use Rattle.std.specs.Prelude.{◌≡◌, ℕ, Bool, true, false, if◌then◌else◌, List, [], ◌∷◌, ◌++◌, codes}
+use Rattle.std.specs.List.{list_any, IsDistinct}
+use Rattle.std.specs.Str.{bytes_eq}
+use Rattle.std.specs.declared.io.ErrorKind.{ErrorKind}
+use Rattle.std.specs.declared.io.ErrorKind.TheVariants.{NotFound, OutOfMemory}
+use Rattle.manifest_schema.specs.Paths.{Text}
+
+-- AN ANSWER for a folder: the names in it, in the order of bytes, or the kind of a fault
+pub data Answer : Type 0 where
+  names : List Text → Answer
+  fault : ErrorKind → Answer
+
+-- the names, none of a fault
+abbrev pub names_of : Answer → List Text
+names_of (names ns) = ns
+names_of (fault k) = []
+
+-- the answer has this name
+abbrev pub lists : Answer → Text → Bool
+lists a n = list_any (bytes_eq n) (names_of a)
+
+-- the filesystem found no memory for the answer
+abbrev pub is_memory_kind : ErrorKind → Bool
+is_memory_kind OutOfMemory = true
+is_memory_kind _ = false
+
+abbrev pub is_memory_fault : Answer → Bool
+is_memory_fault (names ns) = false
+is_memory_fault (fault k) = is_memory_kind k
+
+-- PLACES: the folder of the sources, a folder of targets, an entry of one by its name, and the folder of the manifest itself
+pub data TargetFolder : Type 0 where
+  bins examples tests benches : TargetFolder
+
+pub data Place : Type 0 where
+  source : Place
+  folder : TargetFolder → Place
+  entry : TargetFolder → Text → Place
+  root : Place
+
+-- the text that the filesystem is asked with
+abbrev pub folder_text : TargetFolder → Text
+folder_text bins = codes "src/bin"
+folder_text examples = codes "examples"
+folder_text tests = codes "tests"
+folder_text benches = codes "benches"
+
+-- a folder and a name in it, with `/` between them
+abbrev pub joined : Text → Text → Text
+joined d n = d ++ 47 ∷ n
+
+abbrev pub path_text : Place → Text
+path_text source = codes "src"
+path_text (folder d) = folder_text d
+path_text (entry d n) = joined (folder_text d) n
+path_text root = codes "."
+
+-- A MAP OF LISTINGS: one answer for each place; a folder of targets has its own answer and that of each entry
+pub record FolderListing : Type 0 where
+  pub own : Answer
+  pub entries : List (Text × Answer)
+
+pub record ListingMap : Type 0 where
+  pub source : Answer
+  pub bins : FolderListing
+  pub examples : FolderListing
+  pub tests : FolderListing
+  pub benches : FolderListing
+  pub root : Answer
+
+-- the answer for an entry; what is not in the map is not found
+abbrev pub entry_answer : List (Text × Answer) → Text → Answer
+entry_answer [] n = fault NotFound
+entry_answer (e ∷ es) n = if bytes_eq e.0 n then e.1 else entry_answer es n
+
+abbrev pub folder_of : ListingMap → TargetFolder → FolderListing
+folder_of l bins = l.bins
+folder_of l examples = l.examples
+folder_of l tests = l.tests
+folder_of l benches = l.benches
+
+-- the answer that the map has for a place
+abbrev pub at : ListingMap → Place → Answer
+at l source = l.source
+at l (folder d) = (folder_of l d).own
+at l (entry d n) = entry_answer (folder_of l d).entries n
+at l root = l.root
+
+-- no folder has a name twice
+abbrev pub HasNoNameTwice : ListingMap → Type 0
+HasNoNameTwice l = (p : Place) → IsDistinct bytes_eq (names_of (at l p))
