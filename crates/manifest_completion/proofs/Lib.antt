@@ -1,3 +1,9 @@
 pub mod TargetLaws
 pub mod CompletedLaws
 pub mod AskedLaws
+pub mod FindLemmas
+pub mod LibraryLemmas
+pub mod ListingLemmas
+pub mod AskLemmas
+pub mod HeardLemmas
+pub mod CompleteLemmas

@@ -3,3 +3,7 @@ pub mod Finds
 pub mod Targets
 pub mod Completed
 pub mod Laws
+pub mod Answered
+pub mod Stored
+pub mod Asking
+pub mod Outcome

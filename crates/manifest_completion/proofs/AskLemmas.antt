@@ -1,0 +1,65 @@
+-- Lemmas on what is heard at a folder and at its entries.
+use Rattle.std.proofs.Common.{◌≡◌, List, [], ◌∷◌, ◌++◌, Bool, true, false, refl, ap, sym, ◌∙◌, String, map, string_bytes, MatchBool}
+use Rattle.std.specs.declared.alloc.Global.{Global}
+use Rattle.std.specs.declared.cmp.Ordering.TheVariants.{Less}
+use Rattle.std.specs.List.{AllZip, AllByRecursion, IsDistinct}
+use Rattle.std.specs.List.Sorted.{IsStrictlySortedBy}
+use Rattle.std.specs.Ordering.{nat_cmp, is_eq}
+use Rattle.std.specs.Cmp.Lexicographic.{slice_cmp}
+use Rattle.std.specs.Str.{bytes_eq}
+use Rattle.std.specs.String.{string_cmp}
+use Rattle.std.proofs.lemmas.Map.Text.{is_eq-slice_cmp}
+use Rattle.manifest_schema.specs.Paths.{Text}
+use Rattle.manifest_completion.specs.Listings.{Answer, joined, is_memory_fault}
+use Rattle.manifest_completion.specs.Asking.{Heard, EntriesHeard}
+
+-- NAMES of a set differ
+below_differs : (a b : Text) → slice_cmp nat_cmp a b ≡ Less → bytes_eq a b ≡ false
+below_differs a b h = sym (is_eq-slice_cmp a b) ∙ ap is_eq h
+
+none_same : (x : String Global) (xs : List (String Global)) → AllByRecursion (λ y. string_cmp x y ≡ Less) xs → AllByRecursion (λ n. bytes_eq (string_bytes x) n ≡ false) (map string_bytes xs)
+none_same x [] h = tt
+none_same x (y ∷ ys) h = (below_differs (string_bytes x) (string_bytes y) h.0, none_same x ys h.1)
+
+pub names_distinct : (ks : List (String Global)) → IsStrictlySortedBy string_cmp ks → IsDistinct bytes_eq (map string_bytes ks)
+unfolding IsStrictlySortedBy IsDistinct
+names_distinct [] h = tt
+names_distinct (k ∷ ks) h = (none_same k ks h.0, names_distinct ks h.1)
+
+pub none_distinct : IsDistinct bytes_eq []
+unfolding IsDistinct
+none_distinct = tt
+
+-- LISTS side by side
+pub zip_push : {A B : Type 0} (R : A → B → Type 0) (xs : List A) (ys : List B) (x : A) (y : B) → AllZip R xs ys → R x y → AllZip R (xs ++ x ∷ []) (ys ++ y ∷ [])
+zip_push R [] [] x y h r = (r, tt)
+zip_push R [] (b ∷ ys) x y h r = absurd h
+zip_push R (a ∷ xs) [] x y h r = absurd h
+zip_push R (a ∷ xs) (b ∷ ys) x y h r = (h.0, zip_push R xs ys x y h.1 r)
+
+pub at_true : (b : Bool) (P Q : Type 0) → b ≡ true → P → MatchBool b P Q
+at_true true P Q e p = p
+at_true false P Q e p = cc
+
+pub at_false : (b : Bool) (P Q : Type 0) → b ≡ false → Q → MatchBool b P Q
+at_false true P Q e q = cc
+at_false false P Q e q = q
+
+-- ENTRIES
+module _ (allows : Text → Answer → Type 0) (d : Text) where
+  abbrev pub Answered : Text → Answer → Type 0
+  Answered n a = Heard allows (joined d n) a × (is_memory_fault a ≡ false)
+
+  -- each entry was asked, and found memory
+  pub entries_all : (ns : List Text) (heard : List Answer) → AllZip Answered ns heard → EntriesHeard allows d ns heard
+  entries_all [] [] h = tt
+  entries_all [] (a ∷ heard) h = absurd h
+  entries_all (n ∷ ns) [] h = absurd h
+  entries_all (n ∷ ns) (a ∷ heard) h = (h.0.0, at_false (is_memory_fault a) (heard ≡ []) (EntriesHeard allows d ns heard) h.0.1 (entries_all ns heard h.1))
+
+  -- the last one that was asked found none
+  pub entries_stop : (ns : List Text) (heard : List Answer) (n : Text) (rest : List Text) (a : Answer) → AllZip Answered ns heard → Heard allows (joined d n) a → is_memory_fault a ≡ true → EntriesHeard allows d (ns ++ n ∷ rest) (heard ++ a ∷ [])
+  entries_stop [] [] n rest a h ok e = (ok, at_true (is_memory_fault a) ([] ≡ []) (EntriesHeard allows d rest []) e refl)
+  entries_stop [] (b ∷ heard) n rest a h ok e = absurd h
+  entries_stop (m ∷ ns) [] n rest a h ok e = absurd h
+  entries_stop (m ∷ ns) (b ∷ heard) n rest a h ok e = (h.0.0, at_false (is_memory_fault b) (heard ++ a ∷ [] ≡ []) (EntriesHeard allows d (ns ++ n ∷ rest) (heard ++ a ∷ [])) h.0.1 (entries_stop ns heard n rest a h.1 ok e))

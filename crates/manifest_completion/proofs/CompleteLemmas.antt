@@ -1,0 +1,167 @@
+-- What the steps of a completion come to, by the definitions.
+use Rattle.std.proofs.Common.{◌≡◌, List, [], ◌∷◌, ◌++◌, Bool, true, false, refl, ap, sym, ◌∙◌, map, subst, ◌||◌, ◌&&◌, Option, Some, None, IsTrue, if◌then◌else◌, MatchBool, string_bytes, option_map, Result, Ok, Err, IfOk}
+use Rattle.std.specs.Result.{IsErrAnd}
+use Rattle.std.specs.IoError.{error_kind}
+use Rattle.std.specs.List.{AllByRecursion, IsDistinct, list_any, flat_map}
+use Rattle.std.specs.Str.{bytes_eq}
+use Rattle.std.proofs.lemmas.List.Folds.{list_any-append}
+use Rattle.std.specs.declared.io.ErrorKind.{ErrorKind}
+use Rattle.std.specs.declared.io.ErrorKind.TheVariants.{NotFound, OutOfMemory}
+use Rattle.manifest_schema.specs.Paths.{Text}
+use Rattle.manifest_schema.specs.Contents.{Product}
+use Rattle.manifest_parts.specs.Parts.{text_or_flag_content}
+use Rattle.manifest_parts.specs.Records.{product_content}
+use Rattle.manifest_parts.specs.declared.error.Error.{Error}
+use Rattle.manifest_parts.specs.declared.error.Error.TheVariants.{Parse, Io, Utf8, Other, Memory}
+use Rattle.manifest_completion.specs.declared.completion.CompletedTargets.{CompletedTargets}
+use Rattle.manifest_completion.specs.declared.completion.CompletedLists.{CompletedLists}
+use Rattle.manifest_completion.specs.declared.ask.FolderAnswers.{FolderAnswers}
+use Rattle.manifest_completion.specs.declared.ask.Answers.{Answers}
+use Rattle.manifest_completion.specs.Listings.{Answer, names, fault, names_of, is_memory_fault, TargetFolder, bins, examples, tests, benches, Place, source, folder, entry, root, joined, folder_text, path_text, FolderListing, ListingMap, folder_of, at, HasNoNameTwice}
+use Rattle.manifest_completion.specs.Finds.{Find, finds, entry_finds}
+use Rattle.manifest_completion.specs.Completed.{PackageTargets, AllAllowed, Explains, up_to_memory_fault, folder_places, target_places, root_places, has_memory_fault, Completion, completed_to, refused, no_library, filled, library, Library, no_file, known, source_fault, root_fault, asked_targets, asks_root, build_of, stops_at_source, completed_targets}
+use Rattle.manifest_completion.specs.Answered.{answer_of, answers_of}
+use Rattle.manifest_completion.specs.Asking.{Heard, EntriesHeard, FolderHeard, IsInOrder, folder_listing, listing_map, AllHeard, found_no_memory, some_found_no_memory}
+use Rattle.manifest_completion.specs.Outcome.{completed_content, IsFault, IsWantOfMemory, RefusesLibrary, library_text, ByOneMap, TargetsRefused, TargetsCompleted, ListsCompleted, paired_finds, folder_paired}
+use Rattle.manifest_completion.proofs.AskLemmas.{none_distinct}
+use Rattle.manifest_completion.proofs.HeardLemmas.{folder_fault, entry_answers, padded, match_false, any_map}
+
+-- FINDS: those that are computed are those of the map
+left_false : (x y : Bool) → (x || y) ≡ false → x ≡ false
+left_false true y w = w
+left_false false y w = refl
+
+right_false : (x y : Bool) → (x || y) ≡ false → y ≡ false
+right_false true y w = cc
+right_false false y w = w
+
+paired_is : (d : Text) (f : Text → Answer) (ns : List Text) (heard : List Answer) → map f ns ≡ padded ns heard → EntriesHeard (λ path answer. Unit {0}) d ns heard → list_any is_memory_fault heard ≡ false → paired_finds d ns heard ≡ flat_map (λ n. entry_finds d n (f n)) ns
+paired_is d f [] heard e h q = refl
+paired_is d f (n ∷ ns) [] e h q = absurd h
+paired_is d f (n ∷ ns) (a ∷ heard) e h q =
+    let here : f n ≡ a = cc e in
+    let there : map f ns ≡ padded ns heard = cc e in
+    let kept : is_memory_fault a ≡ false = left_false (is_memory_fault a) (list_any is_memory_fault heard) q in
+    rw here (ap (λ (xs : List Find). entry_finds d n a ++ xs)
+    (paired_is d f ns heard there (match_false (is_memory_fault a) (heard ≡ []) (EntriesHeard (λ path answer. Unit {0}) d ns heard) h.1 kept) (right_false (is_memory_fault a) (list_any is_memory_fault heard) q)))
+
+folder_paired_is : (l : ListingMap) (d : TargetFolder) (a : FolderAnswers) → folder_of l d ≡ folder_listing a → IsInOrder d a → found_no_memory a ≡ false → folder_paired (folder_text d) a ≡ finds l d
+folder_paired_is l d a e h q =
+    let own : (folder_of l d).own ≡ answer_of a.own = ap (λ (f : FolderListing). f.own) e in
+    let kept : list_any is_memory_fault (answers_of a.entries) ≡ false = any_map is_memory_fault answer_of a.entries.items ∙ right_false (is_memory_fault (answer_of a.own)) _ q in
+    rw own (paired_is (folder_text d) (λ n. at l (entry d n)) (names_of (answer_of a.own)) (answers_of a.entries) (entry_answers l d a e h.own.0) h.entries kept)
+
+-- THE MAP of a completion that asks `src` alone
+abbrev no_folder : FolderListing
+no_folder = record { own = fault NotFound; entries = [] }
+
+abbrev only_source : Answer → ListingMap
+only_source src = record { source = src; bins = no_folder; examples = no_folder; tests = no_folder; benches = no_folder; root = fault NotFound }
+
+only_distinct : (src : Answer) → IsDistinct bytes_eq (names_of src) → HasNoNameTwice (only_source src)
+only_distinct src d source = d
+only_distinct src d (folder bins) = none_distinct
+only_distinct src d (folder examples) = none_distinct
+only_distinct src d (folder tests) = none_distinct
+only_distinct src d (folder benches) = none_distinct
+only_distinct src d (entry bins n) = none_distinct
+only_distinct src d (entry examples n) = none_distinct
+only_distinct src d (entry tests n) = none_distinct
+only_distinct src d (entry benches n) = none_distinct
+only_distinct src d root = none_distinct
+
+module _ (allows : Text → Answer → Type 0) (t : PackageTargets) (src : Answer) (ok : Heard allows (path_text source) src) where
+  explains_stop : stops_at_source t src ≡ true → Explains allows (only_source src) (asked_targets t (only_source src))
+  explains_stop e = record { distinct = only_distinct src ok.0; allowed = rw e (ok.1, tt) }
+
+  -- `src` is a fault
+  source_refused : (k : ErrorKind) → source_fault src ≡ Some k → ByOneMap allows t (λ c. c ≡ refused k)
+  source_refused k e = (only_source src, explains_stop (rw e refl), rw e refl)
+
+  pub source_error : (e : Error) → IsFault (source_fault src) e → TargetsRefused allows t e
+  source_error (Io e) h = source_refused (error_kind e) h
+  source_error (Parse f) h = absurd h
+  source_error (Utf8 f) h = absurd h
+  source_error (Other s) h = absurd h
+  source_error (Memory f) h = absurd h
+
+  -- there is no library
+  library_refused : source_fault src ≡ None → library t src ≡ no_file → ByOneMap allows t (λ c. c ≡ no_library)
+  library_refused e f = (only_source src, explains_stop (rw (e, f) refl), rw (e, f) refl)
+
+  pub library_error : source_fault src ≡ None → (e : Error) → RefusesLibrary (library t src) e → TargetsRefused allows t e
+  library_error none (Io e) h = absurd h
+  library_error none (Parse f) h = absurd h
+  library_error none (Utf8 f) h = absurd h
+  library_error none (Other s) h = (library_refused none h.0, h.1)
+  library_error none (Memory f) h = tt
+
+  module _ (none : source_fault src ≡ None) (lib : Option Product) (got : library t src ≡ known lib) (a : Answers) (heard : AllHeard allows (asks_root t.build) a) where
+    explains_all : Explains allows (listing_map src a) (asked_targets t (listing_map src a))
+    explains_all = record { distinct = heard.distinct src ok.0; allowed = rw (none, got) (ok.1, heard.allowed src) }
+
+    any_fault : has_memory_fault (at (listing_map src a)) (target_places (listing_map src a)) ≡ some_found_no_memory a
+    any_fault =
+        let l = listing_map src a in let t = λ (q : Place). is_memory_fault (at l q) in
+        list_any-append t (folder_places l bins) (folder_places l examples ++ (folder_places l tests ++ folder_places l benches))
+        ∙ ap (λ b. list_any t (folder_places l bins) || b) (list_any-append t (folder_places l examples) (folder_places l tests ++ folder_places l benches)
+        ∙ ap (λ b. list_any t (folder_places l examples) || b) (list_any-append t (folder_places l tests) (folder_places l benches)))
+        ∙ cc (folder_fault l bins a.bins refl heard.bins, folder_fault l examples a.examples refl heard.examples, folder_fault l tests a.tests refl heard.tests, folder_fault l benches a.benches refl heard.benches)
+
+    -- a listing found no memory
+    pub memory_refused : some_found_no_memory a ≡ true → ByOneMap allows t (λ c. c ≡ refused OutOfMemory)
+    memory_refused e = (listing_map src a, explains_all, rw (none, got, any_fault, e) refl)
+
+    -- the folder of the manifest is a fault
+    root_refused : some_found_no_memory a ≡ false → (k : ErrorKind) → root_fault t.build (answer_of a.root) ≡ Some k → ByOneMap allows t (λ c. c ≡ refused k)
+    root_refused e k f = (listing_map src a, explains_all, rw (none, got, any_fault, e, f) refl)
+
+    pub root_error : some_found_no_memory a ≡ false → (e : Error) → IsFault (root_fault t.build (answer_of a.root)) e → TargetsRefused allows t e
+    root_error calm (Io e) h = root_refused calm (error_kind e) h
+    root_error calm (Parse f) h = absurd h
+    root_error calm (Utf8 f) h = absurd h
+    root_error calm (Other s) h = absurd h
+    root_error calm (Memory f) h = absurd h
+
+    -- nothing is refused
+    all_done : some_found_no_memory a ≡ false → root_fault t.build (answer_of a.root) ≡ None → ByOneMap allows t (λ c. c ≡ completed_to (filled t lib (listing_map src a)))
+    all_done e f = (listing_map src a, explains_all, rw (none, got, any_fault, e, f) refl)
+
+    filled_is : some_found_no_memory a ≡ false → (c : CompletedTargets) (lists : CompletedLists) → ListsCompleted t src a lists → option_map text_or_flag_content c.build ≡ build_of t.build (answer_of a.root) → option_map product_content c.lib ≡ lib
+        → c.bin ≡ lists.bin → c.example ≡ lists.example → c.test ≡ lists.test → c.bench ≡ lists.bench → filled t lib (listing_map src a) ≡ completed_content t c
+    unfolding filled
+    filled_is e c lists gives build library b1 e1 t1 n1 =
+        let l = listing_map src a in
+        let q1 = left_false (found_no_memory a.bins) _ e in let r1 = right_false (found_no_memory a.bins) _ e in
+        let q2 = left_false (found_no_memory a.examples) _ r1 in let r2 = right_false (found_no_memory a.examples) _ r1 in
+        let q3 = left_false (found_no_memory a.tests) (found_no_memory a.benches) r2 in let q4 = right_false (found_no_memory a.tests) (found_no_memory a.benches) r2 in
+        let fb = folder_paired_is l bins a.bins refl heard.bins q1 in let fe = folder_paired_is l examples a.examples refl heard.examples q2 in
+        let ft = folder_paired_is l tests a.tests refl heard.tests q3 in let fn = folder_paired_is l benches a.benches refl heard.benches q4 in
+        rw (b1, e1, t1, n1, build, library, gives.bin, gives.example, gives.test, gives.bench, fb, fe, ft, fn) refl
+
+    pub targets_done : some_found_no_memory a ≡ false → root_fault t.build (answer_of a.root) ≡ None → (c : CompletedTargets) (lists : CompletedLists) → ListsCompleted t src a lists → option_map text_or_flag_content c.build ≡ build_of t.build (answer_of a.root) → option_map product_content c.lib ≡ lib
+        → c.bin ≡ lists.bin → c.example ≡ lists.example → c.test ≡ lists.test → c.bench ≡ lists.bench → TargetsCompleted allows t (Ok c)
+    targets_done e f c lists gives build library b1 e1 t1 n1 =
+        let done = all_done e f in
+        (done.0, done.1, done.2 ∙ ap completed_to (filled_is e c lists gives build library b1 e1 t1 n1))
+
+-- a refusal with this error
+pub refused_with : (allows : Text → Answer → Type 0) (t : PackageTargets) (r : Result CompletedTargets Error) (e : Error) → IsErrAnd r (λ x. x ≡ e) → TargetsRefused allows t e → TargetsCompleted allows t r
+refused_with allows t (Ok c) e h g = absurd h
+refused_with allows t (Err x) e h g = subst (TargetsRefused allows t) (sym h) g
+
+-- want of memory
+pub refused_by_memory : (allows : Text → Answer → Type 0) (t : PackageTargets) (r : Result CompletedTargets Error) (e : Error) → IsErrAnd r (λ x. x ≡ e) → IsWantOfMemory e → TargetsCompleted allows t r
+refused_by_memory allows t (Ok c) e h g = absurd h
+refused_by_memory allows t (Err x) e h g = subst (TargetsRefused allows t) (sym h) (memory e g)
+  where
+    memory : (f : Error) → IsWantOfMemory f → TargetsRefused allows t f
+    memory (Memory m) k = tt
+    memory (Io f) k = absurd k
+    memory (Parse f) k = absurd k
+    memory (Utf8 f) k = absurd k
+    memory (Other s) k = absurd k
+
+-- what is known of an answer, where it is one
+pub of_answer : {A E : Type 0} (P : A → Type 0) (r : Result A E) (x : A) → IfOk r P → r ≡ Ok x → P x
+of_answer P r x h e = subst (λ s. IfOk s P) e h

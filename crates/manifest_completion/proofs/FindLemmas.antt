@@ -1,0 +1,50 @@
+-- Lemmas on names, and on the finds of a folder.
+use Rattle.std.proofs.Common.{◌≡◌, ℕ, List, [], ◌∷◌, Bool, true, false, refl, ap, sym, ◌∙◌, map, String, string_bytes, ◌||◌, codes, Option, Some, None, length, take, ◌-◌, ◌≤◌, arith, nat_eq}
+use Rattle.std.specs.declared.alloc.Global.{Global}
+use Rattle.std.specs.Option.{MatchOption, option_copied}
+use Rattle.std.specs.Borrow.{Bor}
+use Rattle.std.specs.Str.Pattern.{FindsTextSuffix, StripsSuffix}
+use Rattle.std.proofs.lemmas.Str.Pattern.{ends_text}
+use Rattle.std.specs.List.{AllZip, list_any, ends_with}
+use Rattle.std.specs.Ordering.{nat_cmp, is_eq}
+use Rattle.std.specs.Cmp.Lexicographic.{slice_cmp}
+use Rattle.std.specs.Str.{bytes_eq}
+use Rattle.std.proofs.lemmas.Map.Text.{is_eq-slice_cmp}
+use Rattle.manifest_schema.specs.Paths.{Text}
+use Rattle.manifest_completion.specs.Listings.{Answer}
+use Rattle.manifest_completion.specs.Finds.{stem}
+use Rattle.manifest_completion.specs.Outcome.{paired_finds}
+
+-- a set has a text where its names do
+pub has_name : (n : Text) (ks : List (String Global)) → list_any (λ k. is_eq (slice_cmp nat_cmp n (string_bytes k))) ks ≡ list_any (bytes_eq n) (map string_bytes ks)
+has_name n [] = refl
+has_name n (k ∷ ks) = rw (is_eq-slice_cmp n (string_bytes k)) (ap (λ b. bytes_eq n (string_bytes k) || b) (has_name n ks))
+
+-- copies of texts have the same bytes
+pub bytes_of_copies : {R : String Global → String Global → Type 0} → ((s n : String Global) → R s n → string_bytes n ≡ string_bytes s) → (ks ns : List (String Global)) → AllZip R ks ns → map string_bytes ns ≡ map string_bytes ks
+bytes_of_copies same [] [] h = refl
+bytes_of_copies same [] (n ∷ ns) h = absurd h
+bytes_of_copies same (k ∷ ks) [] h = absurd h
+bytes_of_copies same (k ∷ ks) (n ∷ ns) h = cc (same k n h.0, bytes_of_copies same ks ns h.1)
+
+pub bytes_of_clones : (ks ns : List (String Global)) → AllZip (λ s n. string_bytes n ≡ string_bytes s) ks ns → map string_bytes ns ≡ map string_bytes ks
+bytes_of_clones = bytes_of_copies (λ s n e. e)
+
+-- no answers, no finds
+pub paired_none : (d : Text) (ns : List Text) → paired_finds d ns [] ≡ []
+paired_none d [] = refl
+paired_none d (n ∷ ns) = refl
+
+abbrev ending : Text
+ending = codes ".rs"
+
+-- what `strip_suffix(".rs")` answers
+pub stem_is : (n : Text) (r : Option (Bor Text)) → MatchOption r (FindsTextSuffix ending n None) (λ x. StripsSuffix (FindsTextSuffix ending) n x.now) → option_copied r ≡ stem n
+stem_is n None h =
+    let e : false ≡ ends_with nat_eq n ending = ends_text false ending n h in
+    rw (← e) refl
+stem_is n (Some x) (k, found, taken, whole) =
+    let three : k ≡ 3 = found.0 in
+    let small : 3 ≤ length n = omega (arith, three, whole) in
+    let e : true ≡ ends_with nat_eq n ending = ends_text true ending n (3, (refl, rw three at found.1, found.2), small, found.2) in
+    rw (← e) (ap Some (rw three at taken))

@@ -1,0 +1,223 @@
+-- What was heard, as the map of listings has it.
+use Rattle.std.proofs.Common.{◌≡◌, List, [], ◌∷◌, ◌++◌, Bool, true, false, refl, ap, sym, ◌∙◌, map, MatchBool, subst, ◌||◌, ◌&&◌, not, if◌then◌else◌}
+use Rattle.std.specs.List.{AllByRecursion, IsDistinct, list_any, zip}
+use Rattle.std.specs.Str.{bytes_eq}
+use Rattle.std.proofs.lemmas.Slice.Eq.{bytes_eq-Decides}
+use Rattle.std.proofs.lemmas.List.{append_assoc}
+use Rattle.std.specs.declared.io.ErrorKind.TheVariants.{NotFound}
+use Rattle.manifest_schema.specs.Paths.{Text}
+use Rattle.manifest_completion.specs.declared.ask.FolderAnswers.{FolderAnswers}
+use Rattle.manifest_completion.specs.declared.ask.Answers.{Answers}
+use Rattle.manifest_completion.specs.Listings.{Answer, names, fault, names_of, is_memory_fault, TargetFolder, bins, examples, tests, benches, Place, source, folder, entry, root, joined, folder_text, path_text, entry_answer, FolderListing, ListingMap, folder_of, at, HasNoNameTwice}
+use Rattle.manifest_completion.specs.Completed.{AllAllowed, up_to_memory_fault, folder_places, has_memory_fault, target_places, root_places}
+use Rattle.manifest_completion.specs.Answered.{answer_of, answers_of}
+use Rattle.manifest_completion.specs.Asking.{Heard, EntriesHeard, FolderHeard, IsInOrder, folder_listing, listing_map, AllHeard, found_no_memory}
+use Rattle.manifest_completion.proofs.AskLemmas.{none_distinct}
+
+-- the answers, with NotFound past their end
+abbrev pub padded : List Text → List Answer → List Answer
+padded [] heard = []
+padded (n ∷ ns) [] = fault NotFound ∷ padded ns []
+padded (n ∷ ns) (a ∷ heard) = a ∷ padded ns heard
+
+skip : (n : Text) (a : Answer) (es : List (Text × Answer)) (ms : List Text) → AllByRecursion (λ m. bytes_eq n m ≡ false) ms → map (entry_answer ((n, a) ∷ es)) ms ≡ map (entry_answer es) ms
+skip n a es [] h = refl
+skip n a es (m ∷ ms) h = rw h.0 (ap (λ (xs : List Answer). entry_answer es m ∷ xs) (skip n a es ms h.1))
+
+none_there : (ms : List Text) → map (entry_answer []) ms ≡ padded ms []
+none_there [] = refl
+none_there (m ∷ ms) = ap (λ (xs : List Answer). fault NotFound ∷ xs) (none_there ms)
+
+lookups : (ns : List Text) (heard : List Answer) → IsDistinct bytes_eq ns → map (entry_answer (zip ns heard)) ns ≡ padded ns heard
+unfolding IsDistinct
+lookups [] heard h = refl
+lookups (n ∷ ns) [] h = none_there (n ∷ ns)
+lookups (n ∷ ns) (a ∷ heard) h =
+    let here : entry_answer ((n, a) ∷ zip ns heard) n ≡ a = rw ((bytes_eq-Decides n n).1 refl) refl in
+    cc (here, skip n a (zip ns heard) ns h.0, lookups ns heard h.1)
+
+or_cases : (b x y : Bool) → (b ≡ false → x ≡ y) → (b || x) ≡ (b || y)
+or_cases true x y h = refl
+or_cases false x y h = h refl
+
+pub match_false : (b : Bool) (P Q : Type 0) → MatchBool b P Q → b ≡ false → Q
+match_false true P Q m e = cc
+match_false false P Q m e = m
+
+any_padded : (P : Text → Answer → Type 0) (d : Text) (ns : List Text) (heard : List Answer) → EntriesHeard P d ns heard → list_any is_memory_fault (padded ns heard) ≡ list_any is_memory_fault heard
+any_padded P d [] [] h = refl
+any_padded P d [] (a ∷ heard) h = absurd h
+any_padded P d (n ∷ ns) [] h = absurd h
+any_padded P d (n ∷ ns) (a ∷ heard) h = or_cases (is_memory_fault a) _ _ (λ e. any_padded P d ns heard (match_false (is_memory_fault a) (heard ≡ []) (EntriesHeard P d ns heard) h.1 e))
+
+pub any_map : {A B : Type 0} (p : B → Bool) (f : A → B) (xs : List A) → list_any p (map f xs) ≡ list_any (λ x. p (f x)) xs
+any_map p f [] = refl
+any_map p f (x ∷ xs) = ap (λ b. p (f x) || b) (any_map p f xs)
+
+-- the answers for the entries, where the map has this folder
+pub entry_answers : (l : ListingMap) (d : TargetFolder) (a : FolderAnswers) → folder_of l d ≡ folder_listing a → IsDistinct bytes_eq (names_of (answer_of a.own)) → map (λ n. at l (entry d n)) (names_of (answer_of a.own)) ≡ padded (names_of (answer_of a.own)) (answers_of a.entries)
+entry_answers l d a e h = rw e (lookups (names_of (answer_of a.own)) (answers_of a.entries) h)
+
+-- whether the folder or an entry found no memory
+pub folder_fault : (l : ListingMap) (d : TargetFolder) (a : FolderAnswers) → folder_of l d ≡ folder_listing a → IsInOrder d a → has_memory_fault (at l) (folder_places l d) ≡ found_no_memory a
+folder_fault l d a e h =
+    let ns = names_of (answer_of a.own) in
+    let own : (folder_of l d).own ≡ answer_of a.own = ap (λ (f : FolderListing). f.own) e in
+    rw own (ap (λ b. is_memory_fault (answer_of a.own) || b)
+    (any_map (λ p. is_memory_fault (at l p)) (entry d) ns ∙ sym (any_map is_memory_fault (λ n. at l (entry d n)) ns)
+    ∙ ap (list_any is_memory_fault) (entry_answers l d a e h.own.0)
+    ∙ any_padded (λ path answer. Unit {0}) (folder_text d) ns (answers_of a.entries) h.entries
+    ∙ any_map is_memory_fault answer_of a.entries.items))
+
+-- ALLOWED
+module _ (allows : Text → Answer → Type 0) (l : ListingMap) where
+  abbrev Holds : Place → Type 0
+  Holds p = allows (path_text p) (at l p)
+
+  stop_or : (b : Bool) (us vs : List Place) → AllByRecursion Holds (if b then [] else us) → (b ≡ false → AllByRecursion Holds us → AllByRecursion Holds vs) → AllByRecursion Holds (if b then [] else vs)
+  stop_or true us vs h k = tt
+  stop_or false us vs h k = k refl h
+
+  or_false : (x y : Bool) → x ≡ false → y ≡ false → (x || y) ≡ false
+  or_false true y e f = cc
+  or_false false y e f = f
+
+  pub allowed_append : (xs ys : List Place) → AllByRecursion Holds (up_to_memory_fault (at l) xs) → (has_memory_fault (at l) xs ≡ false → AllByRecursion Holds (up_to_memory_fault (at l) ys)) → AllByRecursion Holds (up_to_memory_fault (at l) (xs ++ ys))
+  allowed_append [] ys h k = k refl
+  allowed_append (x ∷ xs) ys h k =
+      (h.0, stop_or (is_memory_fault (at l x)) (up_to_memory_fault (at l) xs) (up_to_memory_fault (at l) (xs ++ ys)) h.1
+      (λ e all. allowed_append xs ys all (λ f. k (or_false (is_memory_fault (at l x)) (has_memory_fault (at l) xs) e f))))
+
+  stop_if : (b : Bool) (us : List Place) → (b ≡ false → AllByRecursion Holds us) → AllByRecursion Holds (if b then [] else us)
+  stop_if true us h = tt
+  stop_if false us h = h refl
+
+  -- the answers for the entries are allowed, up to the first that found no memory
+  entries_held : (d : TargetFolder) (ns : List Text) (heard : List Answer) → map (λ n. at l (entry d n)) ns ≡ padded ns heard → EntriesHeard allows (folder_text d) ns heard → AllByRecursion Holds (up_to_memory_fault (at l) (map (entry d) ns))
+  entries_held d [] heard e h = tt
+  entries_held d (n ∷ ns) [] e h = absurd h
+  entries_held d (n ∷ ns) (a ∷ heard) e h =
+      let here : at l (entry d n) ≡ a = cc e in
+      let there : map (λ m. at l (entry d m)) ns ≡ padded ns heard = cc e in
+      rw here (h.0.1, stop_if (is_memory_fault a) (up_to_memory_fault (at l) (map (entry d) ns))
+      (λ q. entries_held d ns heard there (match_false (is_memory_fault a) (heard ≡ []) (EntriesHeard allows (folder_text d) ns heard) h.1 q)))
+
+  -- the same of the folder before them
+  pub folder_held : (d : TargetFolder) (a : FolderAnswers) → folder_of l d ≡ folder_listing a → FolderHeard allows (folder_text d) a → AllByRecursion Holds (up_to_memory_fault (at l) (folder_places l d))
+  folder_held d a e h =
+      let own : (folder_of l d).own ≡ answer_of a.own = ap (λ (f : FolderListing). f.own) e in
+      rw own (h.own.1, stop_if (is_memory_fault (answer_of a.own)) (up_to_memory_fault (at l) (map (entry d) (names_of (answer_of a.own))))
+      (λ q. entries_held d (names_of (answer_of a.own)) (answers_of a.entries) (entry_answers l d a e h.own.0) h.entries))
+
+  pub root_held : (asks : Bool) → (asks ≡ true → allows (path_text root) (at l root)) → AllByRecursion Holds (up_to_memory_fault (at l) (root_places asks))
+  root_held true h = (h refl, stop_if (is_memory_fault (at l root)) [] (λ q. tt))
+  root_held false h = tt
+
+-- DISTINCT
+abbrev Distinct : Answer → Type 0
+Distinct a = IsDistinct bytes_eq (names_of a)
+
+match_map : (b : Bool) (P Q Q' : Type 0) → (Q → Q') → MatchBool b P Q → MatchBool b P Q'
+match_map true P Q Q' f m = m
+match_map false P Q Q' f m = f m
+
+entries_distinct : (P : Text → Answer → Type 0) (d : Text) (ns : List Text) (heard : List Answer) → EntriesHeard P d ns heard → AllByRecursion Distinct heard
+entries_distinct P d [] [] h = tt
+entries_distinct P d [] (a ∷ heard) h = absurd h
+entries_distinct P d (n ∷ ns) [] h = absurd h
+entries_distinct P d (n ∷ ns) (a ∷ heard) h = (h.0.0, one (is_memory_fault a) heard h.1 (entries_distinct P d ns heard))
+  where
+    one : (b : Bool) (bs : List Answer) → MatchBool b (bs ≡ []) (EntriesHeard P d ns bs) → (EntriesHeard P d ns bs → AllByRecursion Distinct bs) → AllByRecursion Distinct bs
+    one true bs e k = rw e tt
+    one false bs e k = k e
+
+looked_up : (ns : List Text) (heard : List Answer) (n : Text) → AllByRecursion Distinct heard → Distinct (entry_answer (zip ns heard) n)
+looked_up [] heard n h = none_distinct
+looked_up (m ∷ ns) [] n h = none_distinct
+looked_up (m ∷ ns) (a ∷ heard) n h = one (bytes_eq m n) h.0 (looked_up ns heard n h.1)
+  where
+    one : (b : Bool) → Distinct a → Distinct (entry_answer (zip ns heard) n) → Distinct (if b then a else entry_answer (zip ns heard) n)
+    one true x y = x
+    one false x y = y
+
+folder_distinct : (a : FolderAnswers) (P : Text → Answer → Type 0) (d : Text) → FolderHeard P d a → (n : Text) → Distinct (entry_answer (folder_listing a).entries n)
+folder_distinct a P d h n = looked_up (names_of (answer_of a.own)) (answers_of a.entries) n (entries_distinct P d (names_of (answer_of a.own)) (answers_of a.entries) h.entries)
+
+abbrev anything : Text → Answer → Type 0
+anything path a = Unit {0}
+
+map_distinct : (src : Answer) (a : Answers) → IsInOrder bins a.bins → IsInOrder examples a.examples → IsInOrder tests a.tests → IsInOrder benches a.benches → Distinct (answer_of a.root) → Distinct src → HasNoNameTwice (listing_map src a)
+map_distinct src a b e t n r s source = s
+map_distinct src a b e t n r s (folder bins) = b.own.0
+map_distinct src a b e t n r s (folder examples) = e.own.0
+map_distinct src a b e t n r s (folder tests) = t.own.0
+map_distinct src a b e t n r s (folder benches) = n.own.0
+map_distinct src a b e t n r s (entry bins x) = folder_distinct a.bins anything (folder_text bins) b x
+map_distinct src a b e t n r s (entry examples x) = folder_distinct a.examples anything (folder_text examples) e x
+map_distinct src a b e t n r s (entry tests x) = folder_distinct a.tests anything (folder_text tests) t x
+map_distinct src a b e t n r s (entry benches x) = folder_distinct a.benches anything (folder_text benches) n x
+map_distinct src a b e t n r s root = r
+
+-- WEAKER
+module _ (P Q : Text → Answer → Type 0) (weaker : (path : Text) (a : Answer) → P path a → Q path a) where
+  entries_weaker : (d : Text) (ns : List Text) (heard : List Answer) → EntriesHeard P d ns heard → EntriesHeard Q d ns heard
+  entries_weaker d [] [] h = tt
+  entries_weaker d [] (a ∷ heard) h = absurd h
+  entries_weaker d (n ∷ ns) [] h = absurd h
+  entries_weaker d (n ∷ ns) (a ∷ heard) h = ((h.0.0, weaker (joined d n) a h.0.1), match_map (is_memory_fault a) (heard ≡ []) (EntriesHeard P d ns heard) (EntriesHeard Q d ns heard) (entries_weaker d ns heard) h.1)
+
+  pub folder_weaker : (d : Text) (a : FolderAnswers) → FolderHeard P d a → FolderHeard Q d a
+  folder_weaker d a h = record { own = (h.own.0, weaker d (answer_of a.own) h.own.1); entries = entries_weaker d (names_of (answer_of a.own)) (answers_of a.entries) h.entries }
+
+in_order : (P : Text → Answer → Type 0) (d : TargetFolder) (a : FolderAnswers) → FolderHeard P (folder_text d) a → IsInOrder d a
+in_order P d a h = folder_weaker P anything (λ path answer p. tt) (folder_text d) a h
+
+-- of a folder that is asked only where completion goes on
+abbrev pub HeardUnless : Bool → (Text → Answer → Type 0) → TargetFolder → FolderAnswers → Type 0
+HeardUnless stopped allows d a = FolderHeard (λ path answer. stopped ≡ false → allows path answer) (folder_text d) a
+
+goes_on : (stopped : Bool) (allows : Text → Answer → Type 0) (d : TargetFolder) (a : FolderAnswers) → HeardUnless stopped allows d a → stopped ≡ false → FolderHeard allows (folder_text d) a
+goes_on stopped allows d a h e = folder_weaker (λ path answer. stopped ≡ false → allows path answer) allows (λ path answer p. p e) (folder_text d) a h
+
+-- of a folder that is not asked
+pub none_heard : (stopped : Bool) (allows : Text → Answer → Type 0) (d : Text) (a : FolderAnswers) → stopped ≡ true → answer_of a.own ≡ fault NotFound → a.entries.items ≡ [] → FolderHeard (λ path answer. stopped ≡ false → allows path answer) d a
+none_heard stopped allows d a e own none = record { own = rw own (none_distinct, λ f. cc (e, f)); entries = rw (own, none) tt }
+
+none_of : (x y : Bool) → x ≡ false → y ≡ false → (x || y) ≡ false
+none_of true y e f = cc
+none_of false y e f = f
+
+asks_and : (asks stopped : Bool) → asks ≡ true → stopped ≡ false → (asks && not stopped) ≡ true
+asks_and true true e f = cc
+asks_and true false e f = refl
+asks_and false stopped e f = cc
+
+-- ALL that was heard
+pub all_heard : (allows : Text → Answer → Type 0) (asks : Bool) (a : Answers) →
+    FolderHeard allows (folder_text bins) a.bins →
+    HeardUnless (found_no_memory a.bins) allows examples a.examples →
+    HeardUnless (found_no_memory a.bins || found_no_memory a.examples) allows tests a.tests →
+    HeardUnless ((found_no_memory a.bins || found_no_memory a.examples) || found_no_memory a.tests) allows benches a.benches →
+    Heard (λ path answer. (asks && not (((found_no_memory a.bins || found_no_memory a.examples) || found_no_memory a.tests) || found_no_memory a.benches)) ≡ true → allows path answer) (path_text root) (answer_of a.root) →
+    AllHeard allows asks a
+all_heard allows asks a b e t n r =
+    let ob = in_order _ bins a.bins b in let oe = in_order _ examples a.examples e in
+    let ot = in_order _ tests a.tests t in let on = in_order _ benches a.benches n in
+    record {
+      bins = ob; examples = oe; tests = ot; benches = on;
+      distinct = λ src d. map_distinct src a ob oe ot on r.0 d;
+      allowed = λ src.
+        let l = listing_map src a in
+        let bp = folder_places l bins in let ep = folder_places l examples in let tp = folder_places l tests in let np = folder_places l benches in let rp = root_places asks in
+        let together : target_places l ++ rp ≡ bp ++ (ep ++ (tp ++ (np ++ rp))) = append_assoc bp (ep ++ (tp ++ np)) rp ∙ ap (λ (ps : List Place). bp ++ ps) (append_assoc ep (tp ++ np) rp ∙ ap (λ (ps : List Place). ep ++ ps) (append_assoc tp np rp)) in
+        subst (λ (ps : List Place). AllByRecursion (λ p. allows (path_text p) (at l p)) (up_to_memory_fault (at l) ps)) (sym together)
+        (allowed_append allows l bp (ep ++ (tp ++ (np ++ rp))) (folder_held allows l bins a.bins refl b) (λ q1.
+          let f1 : found_no_memory a.bins ≡ false = sym (folder_fault l bins a.bins refl ob) ∙ q1 in
+          allowed_append allows l ep (tp ++ (np ++ rp)) (folder_held allows l examples a.examples refl (goes_on (found_no_memory a.bins) allows examples a.examples e f1)) (λ q2.
+            let f2 = none_of (found_no_memory a.bins) (found_no_memory a.examples) f1 (sym (folder_fault l examples a.examples refl oe) ∙ q2) in
+            allowed_append allows l tp (np ++ rp) (folder_held allows l tests a.tests refl (goes_on _ allows tests a.tests t f2)) (λ q3.
+              let f3 = none_of (found_no_memory a.bins || found_no_memory a.examples) (found_no_memory a.tests) f2 (sym (folder_fault l tests a.tests refl ot) ∙ q3) in
+              allowed_append allows l np rp (folder_held allows l benches a.benches refl (goes_on _ allows benches a.benches n f3)) (λ q4.
+                let f4 = none_of ((found_no_memory a.bins || found_no_memory a.examples) || found_no_memory a.tests) (found_no_memory a.benches) f3 (sym (folder_fault l benches a.benches refl on) ∙ q4) in
+                root_held allows l asks (λ y. r.1 (asks_and asks _ y f4)))))))
+    }

@@ -1,0 +1,12 @@
+use Rattle.std.proofs.Common.{◌≡◌, false}
+use Rattle.std.proofs.lemmas.Result.{IfOk-weaker}
+use Rattle.manifest_completion.proofs.HeardLemmas.{folder_weaker, none_heard}
+use Rattle.manifest_completion.proofs.ask.ask_folder_unless.Goals as goal
+
+pub returns-then-stopped : goal.returns-then-stopped
+returns-then-stopped g c = none_heard c.args.stopped (g.FS.AbstractFilesystem.allows c.args.fs.now) c.args.folder.now c.none.result c.if-stopped.true c.none.ensures.own c.none.ensures.entries
+
+pub returns : goal.returns
+returns g c =
+    let allows = g.FS.AbstractFilesystem.allows c.args.fs.now in
+    IfOk-weaker c.ask_folder.result _ _ (λ a h. folder_weaker allows (λ path answer. c.args.stopped ≡ false → allows path answer) (λ path a p e. p) c.args.folder.now a h) c.ask_folder.ensures

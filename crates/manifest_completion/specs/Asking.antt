@@ -1,0 +1,62 @@
+-- What the functions that ask a filesystem say of what they heard.
+use Rattle.std.specs.Prelude.{◌≡◌, List, [], ◌∷◌, ◌++◌, Bool, ◌||◌}
+use Rattle.std.specs.List.{list_any, zip, IsDistinct}
+use Rattle.std.specs.Bool.{MatchBool}
+use Rattle.std.specs.Str.{bytes_eq}
+use Rattle.manifest_schema.specs.Paths.{Text}
+use Rattle.manifest_completion.specs.declared.ask.FolderAnswers.{FolderAnswers}
+use Rattle.manifest_completion.specs.declared.ask.Answers.{Answers}
+use Rattle.manifest_completion.specs.Listings.{Answer, TargetFolder, bins, examples, tests, benches, folder_text, joined, names_of, is_memory_fault, FolderListing, ListingMap, at, HasNoNameTwice}
+use Rattle.manifest_completion.specs.Completed.{AllAllowed, up_to_memory_fault, target_places, root_places}
+use Rattle.manifest_completion.specs.Answered.{answer_of, answers_of}
+
+-- an answer that is allowed at a path, with no name twice
+abbrev pub Heard : (Text → Answer → Type 0) → Text → Answer → Type 0
+Heard allows path a = IsDistinct bytes_eq (names_of a) × allows path a
+
+-- the answers for the names in a folder, in order, up to the first that found no memory
+abbrev pub EntriesHeard : (Text → Answer → Type 0) → Text → List Text → List Answer → Type 0
+EntriesHeard allows d [] [] = Unit {0}
+EntriesHeard allows d [] (a ∷ heard) = ⊥
+EntriesHeard allows d (n ∷ ns) [] = ⊥
+EntriesHeard allows d (n ∷ ns) (a ∷ heard) = Heard allows (joined d n) a × MatchBool (is_memory_fault a) (heard ≡ []) (EntriesHeard allows d ns heard)
+
+-- what was heard at a folder and at its entries
+pub record FolderHeard (allows : Text → Answer → Type 0) (d : Text) (a : FolderAnswers) : Type 0 where
+  pub own : Heard allows d (answer_of a.own)
+  pub entries : EntriesHeard allows d (names_of (answer_of a.own)) (answers_of a.entries)
+
+-- the same, where nothing is said of what is allowed
+abbrev pub IsInOrder : TargetFolder → FolderAnswers → Type 0
+IsInOrder d a = FolderHeard (λ path answer. Unit {0}) (folder_text d) a
+
+-- the map of what was heard, with an answer for `src`
+abbrev pub folder_listing : FolderAnswers → FolderListing
+folder_listing a = record { own = answer_of a.own; entries = zip (names_of (answer_of a.own)) (answers_of a.entries) }
+
+abbrev pub listing_map : Answer → Answers → ListingMap
+listing_map src a = record {
+  source = src;
+  bins = folder_listing a.bins;
+  examples = folder_listing a.examples;
+  tests = folder_listing a.tests;
+  benches = folder_listing a.benches;
+  root = answer_of a.root
+}
+
+-- what was heard at all folders of targets, their entries, and at the folder of the manifest where it was asked
+pub record AllHeard (allows : Text → Answer → Type 0) (asks : Bool) (a : Answers) : Type 0 where
+  pub bins : IsInOrder bins a.bins
+  pub examples : IsInOrder examples a.examples
+  pub tests : IsInOrder tests a.tests
+  pub benches : IsInOrder benches a.benches
+  pub distinct : (src : Answer) → IsDistinct bytes_eq (names_of src) → HasNoNameTwice (listing_map src a)
+  pub allowed : (src : Answer) → AllAllowed allows (listing_map src a) (up_to_memory_fault (at (listing_map src a)) (target_places (listing_map src a) ++ root_places asks))
+
+-- the folder's answer or one of its entries' found no memory
+abbrev pub found_no_memory : FolderAnswers → Bool
+found_no_memory a = is_memory_fault (answer_of a.own) || list_any (λ x. is_memory_fault (answer_of x)) a.entries.items
+
+-- some answer found no memory
+abbrev pub some_found_no_memory : Answers → Bool
+some_found_no_memory a = found_no_memory a.bins || (found_no_memory a.examples || (found_no_memory a.tests || found_no_memory a.benches))

@@ -1,0 +1,120 @@
+-- What the code holds and answers, by the definitions.
+use Rattle.std.specs.Prelude.{◌≡◌, List, [], ◌∷◌, ◌++◌, map, codes, option_map, Option, Some, None, Bool, string_bytes, Result, Ok, Err}
+use Rattle.std.specs.Borrow.{Bor}
+use Rattle.std.specs.IoError.{error_kind}
+use Rattle.std.specs.declared.io.ErrorKind.{ErrorKind}
+use Rattle.manifest_schema.specs.Paths.{Text}
+use Rattle.manifest_parts.specs.Parts.{edition_content, text_or_flag_content, inh_content}
+use Rattle.manifest_parts.specs.Records.{product_content}
+use Rattle.manifest_parts.specs.declared.error.Error.{Error}
+use Rattle.manifest_parts.specs.declared.error.Error.TheVariants.{Io, Other, Memory}
+use Rattle.manifest_completion.specs.declared.completion.DeclaredTargets.{DeclaredTargets}
+use Rattle.manifest_completion.specs.declared.completion.CompletedTargets.{CompletedTargets}
+use Rattle.manifest_completion.specs.declared.completion.CompletedLists.{CompletedLists}
+use Rattle.manifest_completion.specs.declared.ask.Answers.{Answers}
+use Rattle.manifest_completion.specs.declared.finds.FoundTarget.{FoundTarget}
+use Rattle.manifest_completion.specs.declared.targets.TargetDefaults.{TargetDefaults}
+use Rattle.manifest_completion.specs.declared.ask.FolderAnswers.{FolderAnswers}
+use Rattle.manifest_completion.specs.Listings.{Answer, ListingMap, folder_text, bins, examples, tests, benches, names_of}
+use Rattle.manifest_completion.specs.Finds.{Find, entry_finds, main_find}
+use Rattle.manifest_completion.specs.Targets.{Defaults, targets}
+use Rattle.manifest_completion.specs.Completed.{PackageTargets, is_legacy, discovers, bin_defaults, example_defaults, test_defaults, Library, no_file, Completion, completed_to, refused, no_library, completed_targets, asked_targets, Explains}
+use Rattle.manifest_completion.specs.Answered.{answer_of, answers_of}
+
+-- CONTENTS
+abbrev pub find_content : FoundTarget → Find
+find_content f = record { name = string_bytes f.name; path = string_bytes f.path }
+
+abbrev pub finds_content : List FoundTarget → List Find
+finds_content fs = map find_content fs
+
+abbrev pub defaults_content : TargetDefaults → Defaults
+defaults_content d = record {
+  edition = option_map edition_content d.edition;
+  crate_type = option_map (λ (t : Bor Text). t.now ∷ []) d.crate_type;
+  path = option_map (λ (t : Bor Text). t.now) d.path
+}
+
+abbrev pub declared_content : DeclaredTargets → PackageTargets
+declared_content t = record {
+  name = t.name.now;
+  edition = option_map (inh_content edition_content) t.edition.now;
+  autolib = option_map (λ b. b) t.autolib;
+  autobins = option_map (λ b. b) t.autobins;
+  autoexamples = option_map (λ b. b) t.autoexamples;
+  autotests = option_map (λ b. b) t.autotests;
+  autobenches = option_map (λ b. b) t.autobenches;
+  build = option_map text_or_flag_content t.build.now;
+  lib = option_map product_content t.lib.now;
+  bin = map product_content t.bin.now;
+  example = map product_content t.example.now;
+  test = map product_content t.test.now;
+  bench = map product_content t.bench.now
+}
+
+-- the declared targets, with the completed ones in their place
+abbrev pub completed_content : PackageTargets → CompletedTargets → PackageTargets
+completed_content t c = record t {
+  build = option_map text_or_flag_content c.build;
+  lib = option_map product_content c.lib;
+  bin = map product_content c.bin.items;
+  example = map product_content c.example.items;
+  test = map product_content c.test.items;
+  bench = map product_content c.bench.items
+}
+
+-- REFUSALS
+abbrev pub library_text : Text
+library_text = codes "can't find library, rename file to `src/lib.rs` or specify lib.path"
+
+-- the error of a listing's fault of this kind
+abbrev pub IsFault : Option ErrorKind → Error → Type 0
+IsFault k (Io e) = k ≡ Some (error_kind e)
+IsFault k _ = ⊥
+
+-- the error of a library without a file, or want of memory
+abbrev pub RefusesLibrary : Library → Error → Type 0
+RefusesLibrary lib (Other t) = (lib ≡ no_file) × (string_bytes t ≡ library_text)
+RefusesLibrary lib (Memory e) = Unit {0}
+RefusesLibrary lib _ = ⊥
+
+-- want of memory
+abbrev pub IsWantOfMemory : Error → Type 0
+IsWantOfMemory (Memory e) = Unit {0}
+IsWantOfMemory _ = ⊥
+
+-- its text, or want of memory for it
+abbrev pub IsLibraryText : Error → Type 0
+IsLibraryText (Other t) = string_bytes t ≡ library_text
+IsLibraryText (Memory e) = Unit {0}
+IsLibraryText _ = ⊥
+
+-- WHAT COMPLETING ANSWERS: there is one map of listings, by answers that the filesystem allows, of which it is the completion; or memory was wanting
+abbrev pub ByOneMap : (Text → Answer → Type 0) → PackageTargets → (Completion PackageTargets → Type 0) → Type 0
+ByOneMap allows t P = (l : ListingMap) × Explains allows l (asked_targets t l) × P (completed_targets t l)
+
+abbrev pub TargetsRefused : (Text → Answer → Type 0) → PackageTargets → Error → Type 0
+TargetsRefused allows t (Io e) = ByOneMap allows t (λ c. c ≡ refused (error_kind e))
+TargetsRefused allows t (Other s) = ByOneMap allows t (λ c. c ≡ no_library) × (string_bytes s ≡ library_text)
+TargetsRefused allows t (Memory e) = Unit {0}
+TargetsRefused allows t _ = ⊥
+
+abbrev pub TargetsCompleted : (Text → Answer → Type 0) → PackageTargets → Result CompletedTargets Error → Type 0
+TargetsCompleted allows t (Ok c) = ByOneMap allows t (λ r. r ≡ completed_to (completed_content t c))
+TargetsCompleted allows t (Err e) = TargetsRefused allows t e
+
+-- THE FINDS of a folder's names beside the answers for its entries
+abbrev pub paired_finds : Text → List Text → List Answer → List Find
+paired_finds d [] heard = []
+paired_finds d (n ∷ ns) [] = []
+paired_finds d (n ∷ ns) (a ∷ heard) = entry_finds d n a ++ paired_finds d ns heard
+
+abbrev pub folder_paired : Text → FolderAnswers → List Find
+folder_paired d a = paired_finds d (names_of (answer_of a.own)) (answers_of a.entries)
+
+-- the four lists are completed, by what was heard
+pub record ListsCompleted (t : PackageTargets) (src : Answer) (a : Answers) (lists : CompletedLists) : Type 0 where
+  pub bin : map product_content lists.bin.items ≡ targets (bin_defaults t src) (discovers t.autobins (is_legacy t.edition) t.bin) (folder_paired (folder_text bins) a.bins ++ main_find t.name src) t.bin
+  pub example : map product_content lists.example.items ≡ targets (example_defaults t) (discovers t.autoexamples (is_legacy t.edition) t.example) (folder_paired (folder_text examples) a.examples) t.example
+  pub test : map product_content lists.test.items ≡ targets (test_defaults t) (discovers t.autotests (is_legacy t.edition) t.test) (folder_paired (folder_text tests) a.tests) t.test
+  pub bench : map product_content lists.bench.items ≡ targets (test_defaults t) (discovers t.autobenches (is_legacy t.edition) t.bench) (folder_paired (folder_text benches) a.benches) t.bench

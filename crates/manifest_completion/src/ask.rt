@@ -1,0 +1,203 @@
+//! Asking a filesystem.
+
+ghost use Rattle.std.specs.Prelude.{◌≡◌, [], codes, IfOk, string_bytes, true, false, ◌&&◌, not};
+ghost use Rattle.std.specs.List.{IsDistinct};
+ghost use Rattle.std.specs.Str.{bytes_eq};
+ghost use Rattle.std.specs.declared.io.ErrorKind.TheVariants.{NotFound};
+ghost use Rattle.manifest_completion.specs.Listings.{joined, is_memory_fault, fault};
+ghost use Rattle.manifest_completion.specs.Answered.{answer_of, answers_of, set_names};
+ghost use Rattle.manifest_completion.specs.Asking.{Heard, EntriesHeard, FolderHeard, AllHeard, found_no_memory, some_found_no_memory};
+
+use crate::filesystem::AbstractFilesystem;
+use std::alloc::{AllocError, Global};
+use std::collections::BTreeSet;
+use std::io;
+use std::io::ErrorKind;
+
+/// `folder/name`.
+pub fn join(alloc: Global, folder: &str, name: &str) -> Result<String, AllocError>
+    ensures { IfOk result (λ s. string_bytes s ≡ joined folder.now name.now) }
+{
+    let mut path = String::from_str(alloc, folder)?;
+    path.push_str("/")?;
+    path.push_str(name)?;
+    Ok(path)
+}
+
+/// What was answered at a folder of targets, and at its entries in the order of their names.
+#[derive(Debug, Drop)]
+pub struct FolderAnswers {
+    pub own: io::Result<BTreeSet<String>>,
+    pub entries: Vec<io::Result<BTreeSet<String>>>,
+}
+
+/// What was answered at the folders of targets and at that of the manifest.
+#[derive(Debug, Drop)]
+pub struct Answers {
+    pub bins: FolderAnswers,
+    pub examples: FolderAnswers,
+    pub tests: FolderAnswers,
+    pub benches: FolderAnswers,
+    pub root: io::Result<BTreeSet<String>>,
+}
+
+/// Whether the filesystem found no memory for an answer.
+fn is_memory_fault(answer: &io::Result<BTreeSet<String>>) -> bool
+    ensures { result ≡ is_memory_fault (answer_of answer.now) }
+{
+    match answer {
+        Ok(_) => false,
+        Err(fault) => matches!(fault.kind(), ErrorKind::OutOfMemory),
+    }
+}
+
+/// No name of a set is in it twice.
+fn names_differ(names: &BTreeSet<String>)
+    ensures { IsDistinct bytes_eq (set_names names.now) }
+{
+    let _count = names.len();
+}
+
+/// Asks at a path.
+#[tactic(auto, using(crate::proofs::AskLemmas::none_distinct))]
+pub fn ask<FS: AbstractFilesystem>(
+    alloc: Global,
+    fs: &FS,
+    path: &str,
+) -> io::Result<BTreeSet<String>>
+    ensures { Heard (FS.allows fs.now) path.now (answer_of result) }
+{
+    match fs.file_names_in(alloc, path) {
+        Ok(names) => {
+            names_differ(&names);
+            Ok(names)
+        }
+        Err(fault) => Err(fault),
+    }
+}
+
+/// Asks at each name in a folder, up to a first answer that found no memory.
+fn ask_entries<FS: AbstractFilesystem>(
+    alloc: Global,
+    fs: &FS,
+    folder: &str,
+    names: &BTreeSet<String>,
+) -> Result<Vec<io::Result<BTreeSet<String>>>, AllocError>
+    ensures { IfOk result (λ v. EntriesHeard (FS.allows fs.now) folder.now (set_names names.now) (answers_of v)) }
+{
+    let mut entries = Vec::new(alloc);
+    for name in names.iter() {
+        let path = join(alloc, folder, name.as_str())?;
+        let answer = ask(alloc, fs, path.as_str());
+        let is_last = is_memory_fault(&answer);
+        entries.push(answer)?;
+        if is_last {
+            return Ok(entries);
+        }
+    }
+    Ok(entries)
+}
+
+/// Asks at a folder of targets and at its entries.
+fn ask_folder<FS: AbstractFilesystem>(
+    alloc: Global,
+    fs: &FS,
+    folder: &str,
+) -> Result<FolderAnswers, AllocError>
+    ensures { IfOk result (λ a. FolderHeard (FS.allows fs.now) folder.now a) }
+{
+    let own = ask(alloc, fs, folder);
+    let entries = match &own {
+        Ok(names) => ask_entries(alloc, fs, folder, names)?,
+        Err(_) => Vec::new(alloc),
+    };
+    Ok(FolderAnswers { own, entries })
+}
+
+impl FolderAnswers {
+    /// Those of a folder that is not asked.
+    fn none(alloc: Global) -> FolderAnswers
+        ensures own { answer_of result.own ≡ fault NotFound }
+        ensures entries { result.entries.items ≡ [] }
+    {
+        FolderAnswers {
+            own: Err(io::Error::from(ErrorKind::NotFound)),
+            entries: Vec::new(alloc),
+        }
+    }
+
+    /// Whether one of them found no memory.
+    fn found_no_memory(&self) -> bool
+        ensures { result ≡ found_no_memory self.now }
+    {
+        is_memory_fault(&self.own) || self.entries.iter().any(|answer| is_memory_fault(answer))
+    }
+}
+
+impl Answers {
+    /// Whether one of them found no memory.
+    pub fn found_no_memory(&self) -> bool
+        ensures { result ≡ some_found_no_memory self.now }
+    {
+        self.bins.found_no_memory()
+            | (self.examples.found_no_memory()
+                | (self.tests.found_no_memory() | self.benches.found_no_memory()))
+    }
+}
+
+/// Asks at a folder of targets, unless an answer before it found no memory.
+fn ask_folder_unless<FS: AbstractFilesystem>(
+    stopped: bool,
+    alloc: Global,
+    fs: &FS,
+    folder: &str,
+) -> Result<FolderAnswers, AllocError>
+    ensures { IfOk result (λ a. FolderHeard (λ path answer. stopped ≡ false → FS.allows fs.now path answer) folder.now a) }
+{
+    if stopped {
+        return Ok(FolderAnswers::none(alloc));
+    }
+    ask_folder(alloc, fs, folder)
+}
+
+/// Asks at the folder of the manifest, where it is to be asked.
+fn ask_root_if<FS: AbstractFilesystem>(
+    asks: bool,
+    alloc: Global,
+    fs: &FS,
+) -> io::Result<BTreeSet<String>>
+    ensures { Heard (λ path answer. asks ≡ true → FS.allows fs.now path answer) (codes ".") (answer_of result) }
+{
+    if asks {
+        ask(alloc, fs, ".")
+    } else {
+        Err(io::Error::from(ErrorKind::NotFound))
+    }
+}
+
+/// Asks at the folders of targets, at their entries and, where it is to be asked, at the folder of the manifest, up to a
+/// first answer that found no memory.
+pub fn ask_folders<FS: AbstractFilesystem>(
+    alloc: Global,
+    fs: &FS,
+    asks_root: bool,
+) -> Result<Answers, AllocError>
+    ensures { IfOk result (λ a. AllHeard (FS.allows fs.now) asks_root a) }
+{
+    let bins = ask_folder(alloc, fs, "src/bin")?;
+    let after_bins = bins.found_no_memory();
+    let examples = ask_folder_unless(after_bins, alloc, fs, "examples")?;
+    let after_examples = after_bins | examples.found_no_memory();
+    let tests = ask_folder_unless(after_examples, alloc, fs, "tests")?;
+    let after_tests = after_examples | tests.found_no_memory();
+    let benches = ask_folder_unless(after_tests, alloc, fs, "benches")?;
+    let after_benches = after_tests | benches.found_no_memory();
+    let root = ask_root_if(asks_root & !after_benches, alloc, fs);
+    Ok(Answers {
+        bins,
+        examples,
+        tests,
+        benches,
+        root,
+    })
+}

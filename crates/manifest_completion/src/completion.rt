@@ -1,0 +1,321 @@
+//! Completing the targets of a package.
+
+ghost use Rattle.std.specs.Prelude.{◌≡◌, ◌++◌, map, codes, option_map, IfOk, MatchResult, None};
+ghost use Rattle.manifest_parts.specs.Parts.{edition_content, text_or_flag_content, inh_content};
+ghost use Rattle.manifest_parts.specs.Records.{product_content};
+ghost use Rattle.manifest_completion.specs.Listings.{examples, tests, benches};
+ghost use Rattle.manifest_completion.specs.Answered.{answer_of};
+ghost use Rattle.manifest_completion.specs.Finds.{main_find};
+ghost use Rattle.manifest_completion.specs.Targets.{targets};
+ghost use Rattle.manifest_completion.specs.Completed.{is_legacy, own_edition, discovers, asks_root, build_of, bin_defaults, example_defaults, test_defaults, source_fault, root_fault_if};
+ghost use Rattle.manifest_completion.specs.Outcome.{declared_content, defaults_content, folder_paired, IsFault, TargetsCompleted, ListsCompleted};
+
+use crate::ask::{Answers, FolderAnswers, ask, ask_folders};
+use crate::copies::copied;
+use crate::filesystem::AbstractFilesystem;
+use crate::finds::{folder_finds, lists, push_main_find};
+use crate::library::completed_library;
+use crate::refusals::or_memory;
+use crate::targets::{TargetDefaults, completed_list};
+use manifest_parts::{Edition, Error, MaybeInherited, Product, StringOrBool};
+use std::alloc::{AllocError, Global};
+use std::collections::BTreeSet;
+use std::io;
+use std::io::ErrorKind;
+
+/// What completion reads of a package and of its manifest.
+pub struct DeclaredTargets<'a> {
+    pub name: &'a str,
+    pub edition: &'a Option<MaybeInherited<Edition>>,
+    pub autolib: Option<bool>,
+    pub autobins: Option<bool>,
+    pub autoexamples: Option<bool>,
+    pub autotests: Option<bool>,
+    pub autobenches: Option<bool>,
+    pub build: &'a Option<StringOrBool>,
+    pub lib: &'a Option<Product>,
+    pub bin: &'a [Product],
+    pub example: &'a [Product],
+    pub test: &'a [Product],
+    pub bench: &'a [Product],
+}
+
+/// What it makes of them: the build script, the library and the four lists.
+#[derive(Debug, Drop)]
+pub struct CompletedTargets {
+    pub build: Option<StringOrBool>,
+    pub lib: Option<Product>,
+    pub bin: Vec<Product>,
+    pub example: Vec<Product>,
+    pub test: Vec<Product>,
+    pub bench: Vec<Product>,
+}
+
+/// The four completed lists.
+#[derive(Debug, Drop)]
+pub struct CompletedLists {
+    pub bin: Vec<Product>,
+    pub example: Vec<Product>,
+    pub test: Vec<Product>,
+    pub bench: Vec<Product>,
+}
+
+/// Whether targets are discovered in the old way: the edition is absent, or 2015 and the package's own. One that the
+/// workspace lends is not 2015, whatever the workspace says.
+pub fn is_legacy(edition: &Option<MaybeInherited<Edition>>) -> bool
+    ensures { result ≡ is_legacy (option_map (inh_content edition_content) edition.now) }
+{
+    match edition {
+        None => true,
+        Some(MaybeInherited::Inherited { .. }) => false,
+        Some(MaybeInherited::Local(edition)) => matches!(edition, Edition::E2015),
+    }
+}
+
+/// The edition of the package's own.
+pub fn own_edition(edition: &Option<MaybeInherited<Edition>>) -> Option<Edition>
+    ensures { option_map edition_content result ≡ own_edition (option_map (inh_content edition_content) edition.now) }
+{
+    match edition {
+        Some(MaybeInherited::Local(edition)) => Some(*edition),
+        _ => None,
+    }
+}
+
+/// Whether found targets are added to a list: as the package says, and where it says nothing, unless targets are
+/// discovered in the old way and the list has one.
+pub fn discovers(own: Option<bool>, legacy: bool, list: &[Product]) -> bool
+    ensures { result ≡ discovers (option_map (λ b. b) own) legacy (map product_content list.now) }
+{
+    match own {
+        Some(own) => own,
+        None => !(legacy & !list.is_empty()),
+    }
+}
+
+/// Whether the folder of the manifest is asked for a build script: `build` is absent or true.
+fn asks_root(build: &Option<StringOrBool>) -> bool
+    ensures { result ≡ asks_root (option_map text_or_flag_content build.now) }
+{
+    match build {
+        None => true,
+        Some(StringOrBool::Bool(asks)) => *asks,
+        Some(StringOrBool::String(_)) => false,
+    }
+}
+
+/// The answer at `src`, unless it is a fault other than that it is not there.
+fn settled_source(
+    source: io::Result<BTreeSet<String>>,
+) -> Result<io::Result<BTreeSet<String>>, Error>
+    ensures { MatchResult result (λ s. (s ≡ source) × (source_fault (answer_of source) ≡ None)) (IsFault (source_fault (answer_of source))) }
+{
+    match source {
+        Ok(names) => Ok(Ok(names)),
+        Err(fault) => {
+            if fault.kind() == ErrorKind::NotFound {
+                Ok(Err(fault))
+            } else {
+                Err(Error::Io(fault))
+            }
+        }
+    }
+}
+
+/// The answer at the folder of the manifest, unless that was asked and is a fault.
+fn settled_root(
+    asks: bool,
+    root: io::Result<BTreeSet<String>>,
+) -> Result<io::Result<BTreeSet<String>>, Error>
+    ensures { MatchResult result (λ s. (s ≡ root) × (root_fault_if asks (answer_of root) ≡ None)) (IsFault (root_fault_if asks (answer_of root))) }
+{
+    match root {
+        Ok(names) => Ok(Ok(names)),
+        Err(fault) => {
+            if asks {
+                Err(Error::Io(fault))
+            } else {
+                Ok(Err(fault))
+            }
+        }
+    }
+}
+
+/// The build script: `build.rs` where it is asked for and listed, else as it was.
+fn completed_build(
+    alloc: Global,
+    build: &Option<StringOrBool>,
+    root: &io::Result<BTreeSet<String>>,
+) -> Result<Option<StringOrBool>, AllocError>
+    ensures { IfOk result (λ o. option_map text_or_flag_content o ≡ build_of (option_map text_or_flag_content build.now) (answer_of root.now)) }
+{
+    if asks_root(build) & lists(root, "build.rs") {
+        let text = String::from_str(alloc, "build.rs")?;
+        return Ok(Some(StringOrBool::String(text)));
+    }
+    match build {
+        None => Ok(None),
+        Some(StringOrBool::Bool(asks)) => Ok(Some(StringOrBool::Bool(*asks))),
+        Some(StringOrBool::String(text)) => Ok(Some(StringOrBool::String(String::from_str(
+            alloc,
+            text.as_str(),
+        )?))),
+    }
+}
+
+/// What tests and benches take where they have none.
+fn test_defaults(declared: &DeclaredTargets<'_>) -> TargetDefaults
+    ensures { defaults_content result ≡ test_defaults (declared_content declared.now) }
+{
+    TargetDefaults {
+        edition: own_edition(declared.edition),
+        crate_type: None,
+        path: None,
+    }
+}
+
+/// What examples take.
+fn example_defaults(declared: &DeclaredTargets<'_>) -> TargetDefaults
+    ensures { defaults_content result ≡ example_defaults (declared_content declared.now) }
+{
+    TargetDefaults {
+        edition: own_edition(declared.edition),
+        crate_type: Some("bin"),
+        path: None,
+    }
+}
+
+/// What binaries take: in the old way also the path `src/main.rs`, where `src` lists it.
+fn bin_defaults(
+    declared: &DeclaredTargets<'_>,
+    source: &io::Result<BTreeSet<String>>,
+) -> TargetDefaults
+    ensures { defaults_content result ≡ bin_defaults (declared_content declared.now) (answer_of source.now) }
+{
+    let path = if is_legacy(declared.edition) & lists(source, "main.rs") {
+        Some("src/main.rs")
+    } else {
+        None
+    };
+    TargetDefaults {
+        edition: own_edition(declared.edition),
+        crate_type: None,
+        path,
+    }
+}
+
+/// A completed list of the targets of one folder.
+fn completed_folder(
+    alloc: Global,
+    folder: &str,
+    answers: &FolderAnswers,
+    list: &[Product],
+    discovers: bool,
+    defaults: TargetDefaults,
+) -> Result<Vec<Product>, AllocError>
+    ensures { IfOk result (λ v. map product_content v.items ≡ targets (defaults_content defaults) discovers (folder_paired folder.now answers.now) (map product_content list.now)) }
+{
+    let finds = folder_finds(alloc, folder, answers)?;
+    completed_list(alloc, list, finds.as_slice(), discovers, defaults)
+}
+
+/// The completed binaries: those of `src/bin`, and `src/main.rs`.
+fn completed_bins(
+    alloc: Global,
+    declared: &DeclaredTargets<'_>,
+    source: &io::Result<BTreeSet<String>>,
+    answers: &FolderAnswers,
+) -> Result<Vec<Product>, AllocError>
+    ensures { IfOk result (λ v. map product_content v.items ≡ targets (bin_defaults (declared_content declared.now) (answer_of source.now)) (discovers (declared_content declared.now).autobins (is_legacy (declared_content declared.now).edition) (declared_content declared.now).bin) (folder_paired (codes "src/bin") answers.now ++ main_find declared.now.name.now (answer_of source.now)) (declared_content declared.now).bin) }
+{
+    let mut finds = folder_finds(alloc, "src/bin", answers)?;
+    push_main_find(&mut finds, alloc, declared.name, source)?;
+    completed_list(
+        alloc,
+        declared.bin,
+        finds.as_slice(),
+        discovers(declared.autobins, is_legacy(declared.edition), declared.bin),
+        bin_defaults(declared, source),
+    )
+}
+
+/// The four completed lists.
+fn completed_lists(
+    alloc: Global,
+    declared: &DeclaredTargets<'_>,
+    source: &io::Result<BTreeSet<String>>,
+    answers: &Answers,
+) -> Result<CompletedLists, AllocError>
+    ensures { IfOk result (ListsCompleted (declared_content declared.now) (answer_of source.now) answers.now) }
+{
+    let legacy = is_legacy(declared.edition);
+    let bin = completed_bins(alloc, declared, source, &answers.bins)?;
+    let example = completed_folder(
+        alloc,
+        "examples",
+        &answers.examples,
+        declared.example,
+        discovers(declared.autoexamples, legacy, declared.example),
+        example_defaults(declared),
+    )?;
+    let test = completed_folder(
+        alloc,
+        "tests",
+        &answers.tests,
+        declared.test,
+        discovers(declared.autotests, legacy, declared.test),
+        test_defaults(declared),
+    )?;
+    let bench = completed_folder(
+        alloc,
+        "benches",
+        &answers.benches,
+        declared.bench,
+        discovers(declared.autobenches, legacy, declared.bench),
+        test_defaults(declared),
+    )?;
+    Ok(CompletedLists {
+        bin,
+        example,
+        test,
+        bench,
+    })
+}
+
+/// Asks the filesystem, and completes the targets by what it answers. Nothing that was declared is changed.
+///
+/// Refuses with `Io` where `src` has another fault than that it is not there, where a folder of targets or an entry of
+/// one finds no memory, and where the folder of the manifest is asked and has a fault; with `Other` where a declared
+/// library has no file; and with `Memory` where memory is wanting.
+pub fn complete<FS: AbstractFilesystem>(
+    alloc: Global,
+    fs: &FS,
+    declared: &DeclaredTargets<'_>,
+) -> Result<CompletedTargets, Error>
+    ensures { TargetsCompleted (FS.allows fs.now) (declared_content declared.now) result }
+{
+    let source = settled_source(ask(alloc, fs, "src"))?;
+    let lib = completed_library(alloc, declared, &source)?;
+    let asks = asks_root(declared.build);
+    let answers = or_memory(ask_folders(alloc, fs, asks))?;
+    if answers.found_no_memory() {
+        return Err(Error::Io(io::Error::from(ErrorKind::OutOfMemory)));
+    }
+    let lists = or_memory(completed_lists(alloc, declared, &source, &answers))?;
+    let root = settled_root(asks, answers.root)?;
+    let build = or_memory(completed_build(alloc, declared.build, &root))?;
+    let CompletedLists {
+        bin,
+        example,
+        test,
+        bench,
+    } = lists;
+    Ok(CompletedTargets {
+        build,
+        lib,
+        bin,
+        example,
+        test,
+        bench,
+    })
+}

@@ -1,0 +1,45 @@
+//! Copies of texts.
+
+ghost use Rattle.std.specs.Prelude.{◌≡◌, ◌∷◌, [], IfOk, map, option_map, string_bytes};
+ghost use Rattle.std.specs.Option.{option_copied};
+
+use std::alloc::{AllocError, Global};
+
+/// A copy of a text, where there is one.
+pub fn copied(alloc: Global, text: Option<&str>) -> Result<Option<String>, AllocError>
+    ensures { IfOk result (λ o. option_map string_bytes o ≡ option_copied text.entry) }
+{
+    match text {
+        Some(text) => Ok(Some(String::from_str(alloc, text)?)),
+        None => Ok(None),
+    }
+}
+
+/// A copy of a text that may be absent.
+pub fn copied_text(
+    alloc: Global,
+    text: &Option<String>,
+) -> Result<Option<String>, AllocError>
+    ensures { IfOk result (λ o. option_map string_bytes o ≡ option_map string_bytes text.now) }
+{
+    match text {
+        Some(text) => Ok(Some(String::from_str(alloc, text.as_str())?)),
+        None => Ok(None),
+    }
+}
+
+/// A copy of a list of texts.
+pub fn copied_texts(texts: &Vec<String>) -> Result<Vec<String>, AllocError>
+    ensures { IfOk result (λ v. map string_bytes v.items ≡ map string_bytes texts.now.items) }
+{
+    texts.clone()
+}
+
+/// A list of one text.
+pub fn one_text(alloc: Global, text: &str) -> Result<Vec<String>, AllocError>
+    ensures { IfOk result (λ v. map string_bytes v.items ≡ text.now ∷ []) }
+{
+    let mut list = Vec::new(alloc);
+    list.push(String::from_str(alloc, text)?)?;
+    Ok(list)
+}

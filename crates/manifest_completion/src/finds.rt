@@ -1,0 +1,106 @@
+//! The targets that the listings of a folder hold.
+
+ghost use Rattle.std.specs.Prelude.{◌≡◌, ◌++◌, OnOk, IfOk, string_bytes};
+ghost use Rattle.std.specs.Option.{option_copied};
+ghost use Rattle.manifest_completion.specs.Listings.{lists};
+ghost use Rattle.manifest_completion.specs.Answered.{answer_of};
+ghost use Rattle.manifest_completion.specs.Finds.{stem, entry_finds, main_find};
+ghost use Rattle.manifest_completion.specs.Outcome.{finds_content, folder_paired};
+
+use crate::ask::{FolderAnswers, join};
+use std::alloc::{AllocError, Global};
+use std::collections::BTreeSet;
+use std::io;
+
+/// A target that was found.
+#[derive(Debug, Drop)]
+pub struct FoundTarget {
+    pub name: String,
+    pub path: String,
+}
+
+/// A name without its ending `.rs`.
+fn stem(name: &str) -> Option<&str>
+    ensures { option_copied result ≡ stem name.now }
+{
+    name.strip_suffix(".rs")
+}
+
+/// Whether an answer has a name.
+pub fn lists(answer: &io::Result<BTreeSet<String>>, name: &str) -> bool
+    ensures { result ≡ lists (answer_of answer.now) name.now }
+{
+    match answer {
+        Ok(names) => names.contains(name),
+        Err(_) => false,
+    }
+}
+
+/// Puts the finds of one entry at the end.
+fn push_entry_finds(
+    finds: &mut Vec<FoundTarget>,
+    alloc: Global,
+    folder: &str,
+    name: &str,
+    answer: &io::Result<BTreeSet<String>>,
+) -> Result<(), AllocError>
+    ensures { OnOk result (finds_content finds.new.items ≡ finds_content finds.old.items ++ entry_finds folder.now name.now (answer_of answer.now)) }
+{
+    if let Some(stem) = stem(name) {
+        finds.push(FoundTarget {
+            name: String::from_str(alloc, stem)?,
+            path: join(alloc, folder, name)?,
+        })?;
+    }
+    if lists(answer, "main.rs") {
+        let inside = join(alloc, folder, name)?;
+        finds.push(FoundTarget {
+            name: String::from_str(alloc, name)?,
+            path: join(alloc, inside.as_str(), "main.rs")?,
+        })?;
+    }
+    Ok(())
+}
+
+/// The finds of a folder of targets, in the order of its names.
+#[tactic(auto, using(crate::proofs::FindLemmas::paired_none))]
+pub fn folder_finds(
+    alloc: Global,
+    folder: &str,
+    answers: &FolderAnswers,
+) -> Result<Vec<FoundTarget>, AllocError>
+    ensures { IfOk result (λ v. finds_content v.items ≡ folder_paired folder.now answers.now) }
+{
+    let mut finds = Vec::new(alloc);
+    let Ok(names) = &answers.own else {
+        return Ok(finds);
+    };
+    let mut entries = answers.entries.iter();
+    for name in names.iter() {
+        match entries.next() {
+            Some(answer) => {
+                push_entry_finds(&mut finds, alloc, folder, name.as_str(), answer)?;
+            }
+            None => {}
+        }
+    }
+    Ok(finds)
+}
+
+/// Puts the binary of `src/main.rs` at the end, where `src` lists it.
+pub fn push_main_find(
+    finds: &mut Vec<FoundTarget>,
+    alloc: Global,
+    name: &str,
+    source: &io::Result<BTreeSet<String>>,
+) -> Result<(), AllocError>
+    ensures { OnOk result (finds_content finds.new.items ≡ finds_content finds.old.items ++ main_find name.now (answer_of source.now)) }
+{
+    if lists(source, "main.rs") {
+        finds.push(FoundTarget {
+            name: String::from_str(alloc, name)?,
+            path: String::from_str(alloc, "src/main.rs")?,
+        })?;
+    }
+    Ok(())
+}

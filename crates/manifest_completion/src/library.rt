@@ -1,0 +1,138 @@
+//! The library of a package.
+
+ghost use Rattle.std.specs.Prelude.{◌≡◌, ◌++◌, codes, IfOk, IfErr, MatchResult, string_bytes, option_map, Some};
+ghost use Rattle.manifest_parts.specs.Records.{product_content};
+ghost use Rattle.manifest_completion.specs.Answered.{answer_of};
+ghost use Rattle.manifest_completion.specs.Completed.{library, known, declared_library, inferred_library, library_path, library_file, library_type, underscored, is_legacy};
+ghost use Rattle.manifest_completion.specs.Outcome.{declared_content, RefusesLibrary};
+
+use crate::completion::{DeclaredTargets, is_legacy, own_edition};
+use crate::copies::one_text;
+use crate::finds::lists;
+use crate::refusals::{no_library, or_memory};
+use crate::targets::crate_type_of;
+use manifest_parts::{Error, Product};
+use std::alloc::{AllocError, Global};
+use std::collections::BTreeSet;
+use std::io;
+
+/// The name of the package, with `_` in place of each `-`.
+fn underscored(alloc: Global, name: &str) -> Result<String, AllocError>
+    ensures { IfOk result (λ s. string_bytes s ≡ underscored name.now) }
+{
+    name.replace(alloc, '-', "_")
+}
+
+/// The file of a library without a path: `src/lib.rs` where `src` lists it, or in the old way `src/{name}.rs`.
+fn library_file(
+    alloc: Global,
+    legacy: bool,
+    source: &io::Result<BTreeSet<String>>,
+    name: &str,
+) -> Result<Option<String>, AllocError>
+    ensures { IfOk result (λ o. option_map string_bytes o ≡ library_file legacy (answer_of source.now) (name.now ++ codes ".rs")) }
+{
+    if lists(source, "lib.rs") {
+        return Ok(Some(String::from_str(alloc, "src/lib.rs")?));
+    }
+    let mut file = String::from_str(alloc, name)?;
+    file.push_str(".rs")?;
+    if legacy & lists(source, file.as_str()) {
+        let mut path = String::from_str(alloc, "src/")?;
+        path.push_str(file.as_str())?;
+        return Ok(Some(path));
+    }
+    Ok(None)
+}
+
+/// The path of a declared library.
+fn library_path(
+    alloc: Global,
+    declared: &DeclaredTargets<'_>,
+    source: &io::Result<BTreeSet<String>>,
+    lib: &Product,
+) -> Result<Option<String>, AllocError>
+    ensures { IfOk result (λ o. option_map string_bytes o ≡ library_path (declared_content declared.now) (answer_of source.now) (product_content lib.now)) }
+{
+    if let Some(path) = &lib.path {
+        return Ok(Some(String::from_str(alloc, path.as_str())?));
+    }
+    let name = match &lib.name {
+        Some(name) => name.as_str(),
+        None => declared.name,
+    };
+    library_file(alloc, is_legacy(declared.edition), source, name)
+}
+
+/// A declared library with this path, and with what it takes where it has none.
+fn declared_library(
+    alloc: Global,
+    declared: &DeclaredTargets<'_>,
+    lib: &Product,
+    path: String,
+) -> Result<Product, AllocError>
+    ensures { IfOk result (λ p. known (Some (product_content p)) ≡ declared_library (declared_content declared.now) (product_content lib.now) (Some (string_bytes path))) }
+{
+    let name = match &lib.name {
+        Some(name) => String::from_str(alloc, name.as_str())?,
+        None => underscored(alloc, declared.name)?,
+    };
+    let crate_type = crate_type_of(alloc, &lib.crate_type, Some("lib"))?;
+    Ok(Product {
+        path: Some(path),
+        name: Some(name),
+        test: lib.test,
+        doctest: lib.doctest,
+        bench: lib.bench,
+        doc: lib.doc,
+        plugin: lib.plugin,
+        proc_macro: lib.proc_macro,
+        harness: lib.harness,
+        edition: lib.edition.or(own_edition(declared.edition)),
+        required_features: Vec::new(alloc),
+        crate_type,
+    })
+}
+
+/// The library of `src/lib.rs`, where none is declared and `src` lists it, unless the package says otherwise.
+fn inferred_library(
+    alloc: Global,
+    declared: &DeclaredTargets<'_>,
+    source: &io::Result<BTreeSet<String>>,
+) -> Result<Option<Product>, AllocError>
+    ensures { IfOk result (λ o. option_map product_content o ≡ inferred_library (declared_content declared.now) (answer_of source.now)) }
+{
+    if !(declared.autolib.unwrap_or(true) & lists(source, "lib.rs")) {
+        return Ok(None);
+    }
+    let path = String::from_str(alloc, "src/lib.rs")?;
+    let name = underscored(alloc, declared.name)?;
+    let crate_type = one_text(alloc, "lib")?;
+    Ok(Some(Product {
+        path: Some(path),
+        name: Some(name),
+        edition: own_edition(declared.edition),
+        crate_type: Some(crate_type),
+        ..Product::default(alloc)
+    }))
+}
+
+/// The library that the package comes to have. Refuses a declared one that has no file with `Other` and its text.
+pub fn completed_library(
+    alloc: Global,
+    declared: &DeclaredTargets<'_>,
+    source: &io::Result<BTreeSet<String>>,
+) -> Result<Option<Product>, Error>
+    ensures { MatchResult result (λ o. library (declared_content declared.now) (answer_of source.now) ≡ known (option_map product_content o)) (RefusesLibrary (library (declared_content declared.now) (answer_of source.now))) }
+{
+    let Some(lib) = declared.lib else {
+        return or_memory(inferred_library(alloc, declared, source));
+    };
+    match or_memory(library_path(alloc, declared, source, lib))? {
+        Some(path) => {
+            let product = or_memory(declared_library(alloc, declared, lib, path))?;
+            Ok(Some(product))
+        }
+        None => Err(no_library(alloc)),
+    }
+}
