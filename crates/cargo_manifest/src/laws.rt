@@ -1,9 +1,10 @@
-//! What is promised of the meaning of a table, for every type of metadata of a package (`P`) and of a workspace (`W`).
+//! What is promised of the meaning of a table and of completion, for every type of metadata of a package (`P`) and of a workspace (`W`).
 //!
 //! Each function returns at once: it is there for its contract, a law of the definitions.
 
 ghost use Rattle.manifest_schema.specs.Kinds.{tree_of};
 ghost use Rattle.manifest_schema.specs.Meaning.{MeansOne, WrittenIsRead, AcceptedIsWellFormed, RewrittenMeansTheSame, SameExactly, FaultyMeansNothing};
+ghost use Rattle.manifest_completion.specs.Laws.{AskedDiffer, CompletedIsFixed};
 
 use manifest_value::Metadata;
 
@@ -35,4 +36,15 @@ pub fn same_exactly<P: Metadata, W: Metadata>()
 /// A table with a fault means nothing.
 pub fn faulty_means_nothing<P: Metadata, W: Metadata>()
     ensures { FaultyMeansNothing (tree_of P.kind) (tree_of W.kind) }
+{}
+
+/// All path texts that are asked in one completion differ, whatever names, slashes and empty names are listed.
+pub fn asked_differ()
+    ensures { AskedDiffer }
+{}
+
+/// Completing a well-formed manifest, writing it, reading it and completing it again over the same listings changes nothing
+/// and asks no other place.
+pub fn completed_is_fixed<P: Metadata, W: Metadata>()
+    ensures { CompletedIsFixed (tree_of P.kind) (tree_of W.kind) }
 {}

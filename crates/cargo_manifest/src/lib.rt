@@ -1,6 +1,7 @@
-//! Cargo manifests: read from bytes, and written as their one canonical table.
+//! Cargo manifests: read from bytes, completed from listings of folders, and written as their one canonical table.
 #![tactic(auto)]
 
+mod completion;
 pub mod laws;
 pub mod manifest;
 pub mod package;
@@ -10,6 +11,7 @@ pub mod workspace;
 mod writing;
 
 pub use manifest::Manifest;
+pub use manifest_completion::{AbstractFilesystem, Listing, Listings};
 pub use manifest_parts::{
     Badge, Badges, Dependency, DependencyDetail, DepsSet, Edition, Error, FeatureSet,
     InheritedDependencyDetail, Lint, LintConfig, LintLevel, LintsSet, Maintenance,

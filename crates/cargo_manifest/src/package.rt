@@ -1,10 +1,11 @@
 //! The package of a manifest.
 
-ghost use Rattle.std.specs.Prelude.{◌≡◌, ◌↔◌, IsTrue, IfOk, IfErr, OnOk};
-ghost use Rattle.toml.specs.Data.{table as data_table};
+ghost use Rattle.std.specs.Prelude.{◌≡◌, ◌↔◌, IsTrue, IfOk, IfErr, OnOk, Some, string_bytes};
+ghost use Rattle.toml.specs.Data.{Data, table as data_table};
 ghost use Rattle.toml.specs.View.{view, table_view};
 ghost use Rattle.manifest_schema.specs.Forms.{form, first_fit, written_part};
-ghost use Rattle.manifest_schema.specs.Kinds.{tree_of};
+ghost use Rattle.manifest_schema.specs.Kinds.{tree_of, local};
+ghost use Rattle.manifest_schema.specs.Defaults.{named};
 ghost use Rattle.manifest_schema.specs.Contents;
 ghost use Rattle.manifest_schema.specs.ManifestForms.{package_rows};
 ghost use Rattle.manifest_schema.proofs.KindLaws.{tree_lawful};
@@ -76,17 +77,25 @@ impl<M: Metadata> Package<M> {
     }
 }
 
-/// Reads the rows of a table.
-#[tactic(auto, unfolding(manifest_schema::specs::ManifestForms::package_rows))]
-pub(crate) fn package_from<M: Metadata>(
-    alloc: Global,
-    table: &Table,
-) -> Result<Package<M>, ReadFault>
-    ensures ok { IfOk result (λ x. (form (package_rows (tree_of M.kind))).reads (data_table (table_view table.now)) (package_content (λ m. M.kind.written (M.content m)) x)) }
-    ensures fault { IfErr result (FaultIn ((form (package_rows (tree_of M.kind))).faulty (data_table (table_view table.now)))) }
+impl<M> Package<M> {
+    /// A package of this name and this version of its own, and nothing else.
+    pub fn new(name: String, version: String) -> Package<M>
+        ensures { (f : M → Data) → package_content f result ≡ record (named (string_bytes name)) { version = Some (local (string_bytes version)) } }
+    {
+        Package {
+            version: Some(MaybeInherited::Local(version)),
+            ..named(name)
+        }
+    }
+}
+
+/// A package of this name, and nothing else.
+fn named<M>(name: String) -> Package<M>
+    ensures content { (f : M → Data) → package_content f result ≡ named (string_bytes name) }
+    ensures name { result.name ≡ name }
 {
-    let mut x = Package {
-        name: required(alloc, table, "name", None)?,
+    Package {
+        name,
         edition: None,
         version: None,
         build: None,
@@ -114,7 +123,19 @@ pub(crate) fn package_from<M: Metadata>(
         autobenches: None,
         publish: None,
         resolver: None,
-    };
+    }
+}
+
+/// Reads the rows of a table.
+#[tactic(auto, unfolding(manifest_schema::specs::ManifestForms::package_rows))]
+pub(crate) fn package_from<M: Metadata>(
+    alloc: Global,
+    table: &Table,
+) -> Result<Package<M>, ReadFault>
+    ensures ok { IfOk result (λ x. (form (package_rows (tree_of M.kind))).reads (data_table (table_view table.now)) (package_content (λ m. M.kind.written (M.content m)) x)) }
+    ensures fault { IfErr result (FaultIn ((form (package_rows (tree_of M.kind))).faulty (data_table (table_view table.now)))) }
+{
+    let mut x = named(required(alloc, table, "name", None)?);
     match fill_package(alloc, table, &mut x) {
         Ok(()) => Ok(x),
         Err(fault) => Err(fault),

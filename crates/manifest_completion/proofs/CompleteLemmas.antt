@@ -8,7 +8,7 @@ use Rattle.std.proofs.lemmas.List.Folds.{list_any-append}
 use Rattle.std.specs.declared.io.ErrorKind.{ErrorKind}
 use Rattle.std.specs.declared.io.ErrorKind.TheVariants.{NotFound, OutOfMemory}
 use Rattle.manifest_schema.specs.Paths.{Text}
-use Rattle.manifest_schema.specs.Contents.{Product}
+use Rattle.manifest_schema.specs.Contents.{Product, Manifest}
 use Rattle.manifest_parts.specs.Parts.{text_or_flag_content}
 use Rattle.manifest_parts.specs.Records.{product_content}
 use Rattle.manifest_parts.specs.declared.error.Error.{Error}
@@ -19,7 +19,7 @@ use Rattle.manifest_completion.specs.declared.ask.FolderAnswers.{FolderAnswers}
 use Rattle.manifest_completion.specs.declared.ask.Answers.{Answers}
 use Rattle.manifest_completion.specs.Listings.{Answer, names, fault, names_of, is_memory_fault, TargetFolder, bins, examples, tests, benches, Place, source, folder, entry, root, joined, folder_text, path_text, FolderListing, ListingMap, folder_of, at, HasNoNameTwice}
 use Rattle.manifest_completion.specs.Finds.{Find, finds, entry_finds}
-use Rattle.manifest_completion.specs.Completed.{PackageTargets, AllAllowed, Explains, up_to_memory_fault, folder_places, target_places, root_places, has_memory_fault, Completion, completed_to, refused, no_library, filled, library, Library, no_file, known, source_fault, root_fault, asked_targets, asks_root, build_of, stops_at_source, completed_targets}
+use Rattle.manifest_completion.specs.Completed.{PackageTargets, AllAllowed, Explains, up_to_memory_fault, folder_places, target_places, root_places, has_memory_fault, Completion, completed_to, refused, no_library, filled, library, Library, no_file, known, source_fault, root_fault, asked_targets, asks_root, build_of, stops_at_source, completed_targets, completed, asked}
 use Rattle.manifest_completion.specs.Answered.{answer_of, answers_of}
 use Rattle.manifest_completion.specs.Asking.{Heard, EntriesHeard, FolderHeard, IsInOrder, folder_listing, listing_map, AllHeard, found_no_memory, some_found_no_memory}
 use Rattle.manifest_completion.specs.Outcome.{completed_content, IsFault, IsWantOfMemory, RefusesLibrary, library_text, ByOneMap, TargetsRefused, TargetsCompleted, ListsCompleted, paired_finds, folder_paired}
@@ -165,3 +165,7 @@ refused_by_memory allows t (Err x) e h g = subst (TargetsRefused allows t) (sym 
 -- what is known of an answer, where it is one
 pub of_answer : {A E : Type 0} (P : A → Type 0) (r : Result A E) (x : A) → IfOk r P → r ≡ Ok x → P x
 of_answer P r x h e = subst (λ s. IfOk s P) e h
+
+-- WITHOUT A PACKAGE nothing is asked, and any map explains it
+pub without_package : (allows : Text → Answer → Type 0) (m : Manifest) → m.«package» ≡ None → (l : ListingMap) × Explains allows l (asked m l) × (completed m l ≡ completed_to m)
+without_package allows m e = (only_source (fault NotFound), record { distinct = only_distinct (fault NotFound) none_distinct; allowed = rw e tt }, rw e refl)

@@ -228,6 +228,18 @@ abbrev pub flag_by : Option Package → (Package → Option Bool) → List Produ
 flag_by None own ps = false
 flag_by (Some p) own ps = discovers (own p) (is_legacy p.edition) ps
 
+abbrev pub autobins : Manifest → Bool
+autobins m = flag_by m.«package» (λ p. p.autobins) m.bin
+
+abbrev pub autoexamples : Manifest → Bool
+autoexamples m = flag_by m.«package» (λ p. p.autoexamples) m.example
+
+abbrev pub autotests : Manifest → Bool
+autotests m = flag_by m.«package» (λ p. p.autotests) m.test
+
+abbrev pub autobenches : Manifest → Bool
+autobenches m = flag_by m.«package» (λ p. p.autobenches) m.bench
+
 -- WHAT IS ASKED
 -- the places up to the first for which no memory was found
 abbrev pub up_to_memory_fault : (Place → Answer) → List Place → List Place

@@ -24,6 +24,7 @@ use std::io;
 use std::io::ErrorKind;
 
 /// What completion reads of a package and of its manifest.
+#[derive(Debug, Clone, Copy)]
 pub struct DeclaredTargets<'a> {
     pub name: &'a str,
     pub edition: &'a Option<MaybeInherited<Edition>>,

@@ -1,0 +1,26 @@
+-- What completing a manifest answers.
+use Rattle.std.specs.Prelude.{◌≡◌, Result, Ok, Err, string_bytes}
+use Rattle.std.specs.IoError.{error_kind}
+use Rattle.manifest_schema.specs.Paths.{Text}
+use Rattle.manifest_schema.specs.Contents.{Manifest}
+use Rattle.manifest_parts.specs.declared.error.Error.{Error}
+use Rattle.manifest_parts.specs.declared.error.Error.TheVariants.{Io, Other, Memory}
+use Rattle.manifest_completion.specs.Listings.{Answer, ListingMap}
+use Rattle.manifest_completion.specs.Completed.{Completion, completed_to, refused, no_library, completed, asked, Explains}
+use Rattle.manifest_completion.specs.Outcome.{library_text}
+
+-- there is one map of listings that explains all that the filesystem answered, and the completed manifest of that map is this
+abbrev pub ByOneMap : (Text → Answer → Type 0) → Manifest → Completion Manifest → Type 0
+ByOneMap allows m c = (l : ListingMap) × Explains allows l (asked m l) × (completed m l ≡ c)
+
+-- the refusal to complete: for a fault that the map has, for want of a library's file, or for want of memory
+abbrev pub RefusesToComplete : (Text → Answer → Type 0) → Manifest → Error → Type 0
+RefusesToComplete allows m (Io e) = ByOneMap allows m (refused (error_kind e))
+RefusesToComplete allows m (Other s) = ByOneMap allows m no_library × (string_bytes s ≡ library_text)
+RefusesToComplete allows m (Memory e) = Unit {0}
+RefusesToComplete allows m _ = ⊥
+
+-- what completing a manifest answers, which it leaves as the second one
+abbrev pub Completes : (Text → Answer → Type 0) → Manifest → Manifest → Result (Unit {0}) Error → Type 0
+Completes allows old new (Ok u) = ByOneMap allows old (completed_to new)
+Completes allows old new (Err e) = RefusesToComplete allows old e

@@ -1,0 +1,141 @@
+//! Completion of a manifest from the listings of a filesystem, and the flags that it goes by.
+
+ghost use Rattle.std.specs.Prelude.{◌≡◌, OnErr, Ok, Some, None};
+ghost use Rattle.toml.specs.View.{view};
+ghost use Rattle.manifest_schema.specs.Contents;
+ghost use Rattle.manifest_completion.specs.Completed.{targets_of, with_targets, autobins, autoexamples, autotests, autobenches};
+ghost use Rattle.manifest_completion.specs.Outcome.{declared_content, completed_content};
+ghost use Rattle.cargo_manifest.specs.Whole.{package_content, manifest_content};
+ghost use Rattle.cargo_manifest.specs.Completes.{Completes};
+
+use crate::manifest::Manifest;
+use crate::package::Package;
+use manifest_completion::{
+    AbstractFilesystem, CompletedTargets, DeclaredTargets, complete, discovers, is_legacy,
+};
+use manifest_parts::Error;
+use manifest_value::Metadata;
+use std::alloc::Global;
+use toml::Value;
+
+/// What completion reads of a package and of its manifest.
+fn declared_targets<'a, P: Metadata>(
+    manifest: &'a Manifest<P, Value>,
+    package: &'a Package<P>,
+) -> DeclaredTargets<'a>
+    ensures { declared_content result ≡ targets_of (package_content (λ m. P.kind.written (P.content m)) «package».now) (manifest_content (λ m. P.kind.written (P.content m)) view manifest.now) }
+{
+    DeclaredTargets {
+        name: package.name.as_str(),
+        edition: &package.edition,
+        autolib: package.autolib,
+        autobins: package.autobins,
+        autoexamples: package.autoexamples,
+        autotests: package.autotests,
+        autobenches: package.autobenches,
+        build: &package.build,
+        lib: &manifest.lib,
+        bin: &manifest.bin,
+        example: &manifest.example,
+        test: &manifest.test,
+        bench: &manifest.bench,
+    }
+}
+
+/// Puts the completed targets in the place of the declared ones. Nothing is grown.
+fn put_targets<P: Metadata>(manifest: &mut Manifest<P, Value>, completed: CompletedTargets)
+    ensures { let old = manifest_content (λ m. P.kind.written (P.content m)) view manifest.old in
+        (p : Contents.Package) → old.«package» ≡ Some p → manifest_content (λ m. P.kind.written (P.content m)) view manifest.new ≡ with_targets p old (completed_content (targets_of p old) completed) }
+{
+    let CompletedTargets {
+        build,
+        lib,
+        bin,
+        example,
+        test,
+        bench,
+    } = completed;
+    if let Some(package) = &mut manifest.package {
+        package.build = build;
+    }
+    manifest.lib = lib;
+    manifest.bin = bin;
+    manifest.example = example;
+    manifest.test = test;
+    manifest.bench = bench;
+}
+
+impl<P: Metadata> Manifest<P, Value> {
+    /// Whether found binaries are added to `bin`: as the package's `autobins` says, and where it says nothing, unless the
+    /// edition is absent or 2015 and there is a binary. False without a package. See the
+    /// [Cargo reference](https://doc.rust-lang.org/cargo/reference/cargo-targets.html#target-auto-discovery).
+    pub fn autobins(&self) -> bool
+        ensures { result ≡ autobins (manifest_content (λ m. P.kind.written (P.content m)) view self.now) }
+    {
+        match &self.package {
+            Some(package) => discovers(package.autobins, is_legacy(&package.edition), &self.bin),
+            None => false,
+        }
+    }
+
+    /// Whether found examples are added to `example`, as [`Manifest::autobins`] says of binaries.
+    pub fn autoexamples(&self) -> bool
+        ensures { result ≡ autoexamples (manifest_content (λ m. P.kind.written (P.content m)) view self.now) }
+    {
+        match &self.package {
+            Some(package) => discovers(
+                package.autoexamples,
+                is_legacy(&package.edition),
+                &self.example,
+            ),
+            None => false,
+        }
+    }
+
+    /// Whether found tests are added to `test`, as [`Manifest::autobins`] says of binaries.
+    pub fn autotests(&self) -> bool
+        ensures { result ≡ autotests (manifest_content (λ m. P.kind.written (P.content m)) view self.now) }
+    {
+        match &self.package {
+            Some(package) => discovers(package.autotests, is_legacy(&package.edition), &self.test),
+            None => false,
+        }
+    }
+
+    /// Whether found benches are added to `bench`, as [`Manifest::autobins`] says of binaries.
+    pub fn autobenches(&self) -> bool
+        ensures { result ≡ autobenches (manifest_content (λ m. P.kind.written (P.content m)) view self.now) }
+    {
+        match &self.package {
+            Some(package) => {
+                discovers(package.autobenches, is_legacy(&package.edition), &self.bench)
+            }
+            None => false,
+        }
+    }
+
+    /// Completes the manifest by what the filesystem lists: the library, the binaries, examples, tests and benches, and the
+    /// build script. `docs/COMPLETION.md` says how. Without a package nothing is asked and nothing changes.
+    ///
+    /// It asks for `src`; `src/bin` and each of its entries; `examples`, `tests`, `benches`, each with its entries; and `.`,
+    /// where `build` is absent or true. Refuses with [`Error::Io`] where `src` has another fault than that it is not there,
+    /// where a listing of a target folder or of an entry finds no memory, and where `.` has a fault; with [`Error::Other`]
+    /// where a declared library has no file; and with [`Error::Memory`] where memory is wanting. After a refusal the manifest
+    /// is what it was.
+    pub fn complete_from_abstract_filesystem<FS: AbstractFilesystem>(
+        &mut self,
+        alloc: Global,
+        fs: &FS,
+    ) -> Result<(), Error>
+        ensures answers { Completes (FS.allows fs.now) (manifest_content (λ m. P.kind.written (P.content m)) view self.old) (manifest_content (λ m. P.kind.written (P.content m)) view self.new) result }
+        ensures refused { OnErr result (self.new ≡ self.old) }
+        ensures without { self.old.«package» ≡ None → (result ≡ Ok tt) × (self.new ≡ self.old) }
+    {
+        let completed = match &self.package {
+            Some(package) => complete(alloc, fs, &declared_targets(self, package))?,
+            None => return Ok(()),
+        };
+        put_targets(self, completed);
+        Ok(())
+    }
+}
