@@ -1,0 +1,110 @@
+//! Completes a small manifest from listings in memory, and prints what came of it. It is run with each request for memory
+//! refused in turn, and tells whether a completion that was refused kept the manifest and can be tried again.
+#![tactic(auto)]
+
+mod scenario;
+
+use cargo_manifest::{Error, Listings, Manifest, Value};
+use scenario::Scenario;
+use std::alloc::Global;
+use std::io::{ErrorKind, Write};
+use std::process::ExitCode;
+use std::{env, io};
+
+const USAGE: &str = "usage: manifest_growth library | binaries | example\n";
+
+/// The scenario that the first word after the program's name names.
+fn asked_scenario(rt: &HostRuntime) -> io::Result<Option<Scenario>> {
+    let word = env::args(rt)?.nth(1);
+    Ok(word.and_then(|word| Scenario::named(word.as_str())))
+}
+
+/// The line that tells what a completion was refused with.
+fn cause(refusal: &Error) -> &'static str {
+    match refusal {
+        Error::Memory(_) => "memory\n",
+        Error::Io(fault) => {
+            if fault.kind() == ErrorKind::OutOfMemory {
+                "io\n"
+            } else {
+                "other fault\n"
+            }
+        }
+        _ => "other fault\n",
+    }
+}
+
+/// Prints the text of a manifest that is completed.
+fn print_completed<W: Write>(
+    alloc: Global,
+    manifest: &Manifest<Value, Value>,
+    output: &mut W,
+) -> Result<(), Error> {
+    let text = manifest.to_toml_string(alloc)?;
+    output.write_all(b"completed\n")?;
+    output.write_all(text.as_bytes())?;
+    Ok(())
+}
+
+/// Prints why a completion was refused and whether the text of the manifest is the one of before, and completes again.
+fn print_refused<W: Write>(
+    alloc: Global,
+    manifest: &mut Manifest<Value, Value>,
+    listings: &Listings,
+    before: &str,
+    refusal: &Error,
+    output: &mut W,
+) -> Result<(), Error> {
+    output.write_all(cause(refusal).as_bytes())?;
+    let after = manifest.to_toml_string(alloc)?;
+    if after.as_str() == before {
+        output.write_all(b"kept\n")?;
+    } else {
+        output.write_all(b"changed\n")?;
+    }
+    manifest.complete_from_abstract_filesystem(alloc, listings)?;
+    print_completed(alloc, manifest, output)
+}
+
+/// Completes a manifest and prints what came of it.
+fn complete<W: Write>(
+    alloc: Global,
+    manifest: &mut Manifest<Value, Value>,
+    listings: &Listings,
+    output: &mut W,
+) -> Result<(), Error> {
+    let before = manifest.to_toml_string(alloc)?;
+    match manifest.complete_from_abstract_filesystem(alloc, listings) {
+        Ok(()) => print_completed(alloc, manifest, output),
+        Err(refusal) => print_refused(alloc, manifest, listings, before.as_str(), &refusal, output),
+    }
+}
+
+/// Completes the manifest of a scenario and prints what came of it.
+fn run<W: Write>(alloc: Global, scenario: Scenario, output: &mut W) -> Result<(), Error> {
+    let listings = match scenario.listings(alloc) {
+        Ok(listings) => listings,
+        Err(refused) => return Err(Error::Memory(refused)),
+    };
+    let mut manifest = Manifest::from_str(alloc, scenario.manifest())?;
+    let printed = complete(alloc, &mut manifest, &listings, output);
+    drop(manifest);
+    printed
+}
+
+fn main(rt: HostRuntime) -> ExitCode {
+    let mut output = rt.stdout();
+    let ran = match asked_scenario(&rt) {
+        Ok(Some(scenario)) => run(rt.alloc(), scenario, &mut output),
+        Ok(None) => {
+            let _ = rt.stderr().write_all(USAGE.as_bytes());
+            return ExitCode::from(2);
+        }
+        Err(fault) => Err(Error::Io(fault)),
+    };
+    // a completion that is refused is printed by the run, so what is refused here stands before it or after it
+    match ran.or_else(|_| output.write_all(b"elsewhere\n")) {
+        Ok(()) => ExitCode::SUCCESS,
+        Err(_) => ExitCode::FAILURE,
+    }
+}
