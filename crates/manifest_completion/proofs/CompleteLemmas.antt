@@ -1,8 +1,8 @@
 -- What the steps of a completion come to, by the definitions.
-use Rattle.std.proofs.Common.{◌≡◌, List, [], ◌∷◌, ◌++◌, Bool, true, false, refl, ap, sym, ◌∙◌, map, subst, ◌||◌, ◌&&◌, Option, Some, None, IsTrue, if◌then◌else◌, MatchBool, string_bytes, option_map, Result, Ok, Err, IfOk}
+use Rattle.std.proofs.Common.{◌≡◌, List, [], ◌∷◌, ◌++◌, Bool, true, false, refl, ap, sym, ◌∙◌, map, subst, ◌||◌, Option, Some, None, option_map, Result, Ok, Err, IfOk}
 use Rattle.std.specs.Result.{IsErrAnd}
 use Rattle.std.specs.IoError.{error_kind}
-use Rattle.std.specs.List.{AllByRecursion, IsDistinct, list_any, flat_map}
+use Rattle.std.specs.List.{IsDistinct, list_any, flat_map}
 use Rattle.std.specs.Str.{bytes_eq}
 use Rattle.std.proofs.lemmas.List.Folds.{list_any-append}
 use Rattle.std.specs.declared.io.ErrorKind.{ErrorKind}
@@ -17,12 +17,12 @@ use Rattle.manifest_completion.specs.declared.completion.CompletedTargets.{Compl
 use Rattle.manifest_completion.specs.declared.completion.CompletedLists.{CompletedLists}
 use Rattle.manifest_completion.specs.declared.ask.FolderAnswers.{FolderAnswers}
 use Rattle.manifest_completion.specs.declared.ask.Answers.{Answers}
-use Rattle.manifest_completion.specs.Listings.{Answer, names, fault, names_of, is_memory_fault, TargetFolder, bins, examples, tests, benches, Place, source, folder, entry, root, joined, folder_text, path_text, FolderListing, ListingMap, folder_of, at, HasNoNameTwice}
+use Rattle.manifest_completion.specs.Listings.{Answer, fault, names_of, is_memory_fault, TargetFolder, bins, examples, tests, benches, Place, source, folder, entry, root, folder_text, path_text, FolderListing, ListingMap, folder_of, at, HasNoNameTwice}
 use Rattle.manifest_completion.specs.Finds.{Find, finds, entry_finds}
-use Rattle.manifest_completion.specs.Completed.{PackageTargets, AllAllowed, Explains, up_to_memory_fault, folder_places, target_places, root_places, has_memory_fault, Completion, completed_to, refused, no_library, filled, library, Library, no_file, known, source_fault, root_fault, asked_targets, asks_root, build_of, stops_at_source, completed_targets, completed, asked}
+use Rattle.manifest_completion.specs.Completed.{PackageTargets, Explains, folder_places, target_places, has_memory_fault, completed_to, refused, no_library, filled, library, no_file, known, source_fault, root_fault, asked_targets, asks_root, build_of, stops_at_source, completed, asked}
 use Rattle.manifest_completion.specs.Answered.{answer_of, answers_of}
-use Rattle.manifest_completion.specs.Asking.{Heard, EntriesHeard, FolderHeard, IsInOrder, folder_listing, listing_map, AllHeard, found_no_memory, some_found_no_memory}
-use Rattle.manifest_completion.specs.Outcome.{completed_content, IsFault, IsWantOfMemory, RefusesLibrary, library_text, ByOneMap, TargetsRefused, TargetsCompleted, ListsCompleted, paired_finds, folder_paired}
+use Rattle.manifest_completion.specs.Asking.{Heard, EntriesHeard, IsInOrder, folder_listing, listing_map, AllHeard, found_no_memory, some_found_no_memory}
+use Rattle.manifest_completion.specs.Outcome.{completed_content, IsFault, IsWantOfMemory, RefusesLibrary, ByOneMap, TargetsRefused, TargetsCompleted, ListsCompleted, paired_finds, folder_paired}
 use Rattle.manifest_completion.proofs.AskLemmas.{none_distinct}
 use Rattle.manifest_completion.proofs.HeardLemmas.{folder_fault, entry_answers, padded, match_false, any_map}
 

@@ -1,9 +1,8 @@
 -- A completed manifest is completed, and is well-formed where the manifest was.
-use Rattle.std.proofs.Common.{◌≡◌, inl, inr, List, [], ◌∷◌, ◌++◌, Bool, true, false, refl, ap, sym, ◌∙◌, map, ◌||◌, ◌&&◌, Option, Some, None, if◌then◌else◌, subst, codes, unwrap_or, is_some}
+use Rattle.std.proofs.Common.{◌≡◌, inl, inr, List, [], ◌∷◌, ◌++◌, Bool, true, false, refl, ap, sym, ◌∙◌, ◌&&◌, Option, Some, None, if◌then◌else◌, subst, codes, unwrap_or}
 use Rattle.std.specs.Option.{option_or}
 use Rattle.std.specs.List.{AllByRecursion}
 use Rattle.std.specs.declared.io.ErrorKind.{ErrorKind}
-use Rattle.std.specs.declared.io.ErrorKind.TheVariants.{OutOfMemory}
 use Rattle.toml.specs.Data.{Data}
 use Rattle.manifest_schema.specs.Paths.{Text}
 use Rattle.manifest_schema.specs.Kinds.{Kind}
@@ -16,10 +15,9 @@ use Rattle.manifest_schema.specs.ManifestForms.{package_rows}
 use Rattle.manifest_schema.specs.Meaning.{well_formed}
 use Rattle.manifest_schema.proofs.GoodLaws.{package_good, package_metadata_good, manifest_good, manifest_parts_good}
 use Rattle.manifest_schema.proofs.ManifestLaws.{manifest_lawful}
-use Rattle.manifest_completion.specs.Listings.{Answer, names, fault, lists, is_memory_fault, examples, tests, benches, Place, source, root, ListingMap, at}
+use Rattle.manifest_completion.specs.Listings.{Answer, names, fault, lists, is_memory_fault, examples, tests, benches, Place, source, ListingMap, at}
 use Rattle.manifest_completion.specs.Finds.{finds, bin_finds}
-use Rattle.manifest_completion.specs.Targets.{targets}
-use Rattle.manifest_completion.specs.Completed.{PackageTargets, is_legacy, own_edition, discovers, underscored, library_type, library_path, Library, no_file, known, declared_library, inferred_library, library_of, library, asks_root, found_build, build_of, bin_defaults, example_defaults, test_defaults, filled, Completion, completed_to, refused, no_library, target_places, has_memory_fault, source_fault, root_fault, after_root, after_library, after_source, completed_targets, targets_of, with_targets, completion_with, completed_by, completed, up_to_memory_fault, has_no_file, stops_at_source, root_places, asked_targets, asked_by, asked}
+use Rattle.manifest_completion.specs.Completed.{PackageTargets, is_legacy, own_edition, underscored, library_type, library_path, Library, no_file, known, declared_library, inferred_library, library_of, library, asks_root, build_of, bin_defaults, example_defaults, test_defaults, filled, Completion, completed_to, refused, no_library, target_places, has_memory_fault, source_fault, root_fault, completed_targets, targets_of, with_targets, completion_with, completed_by, completed, up_to_memory_fault, root_places, asked_targets, asked_by, asked}
 use Rattle.manifest_completion.specs.Laws.{IsAmong, IsFixed, CompletedIsFixed}
 use Rattle.manifest_completion.proofs.TargetLaws.{or_idem, targets_fixed}
 

@@ -1,5 +1,5 @@
 -- Lemmas on names, and on the finds of a folder.
-use Rattle.std.proofs.Common.{◌≡◌, ℕ, List, [], ◌∷◌, Bool, true, false, refl, ap, sym, ◌∙◌, map, String, string_bytes, ◌||◌, codes, Option, Some, None, length, take, ◌-◌, ◌≤◌, arith, nat_eq}
+use Rattle.std.proofs.Common.{◌≡◌, List, [], ◌∷◌, true, false, refl, ap, map, String, string_bytes, ◌||◌, codes, Option, Some, None, length, ◌≤◌, arith, nat_eq}
 use Rattle.std.specs.declared.alloc.Global.{Global}
 use Rattle.std.specs.Option.{MatchOption, option_copied}
 use Rattle.std.specs.Borrow.{Bor}
@@ -11,7 +11,6 @@ use Rattle.std.specs.Cmp.Lexicographic.{slice_cmp}
 use Rattle.std.specs.Str.{bytes_eq}
 use Rattle.std.proofs.lemmas.Map.Text.{is_eq-slice_cmp}
 use Rattle.manifest_schema.specs.Paths.{Text}
-use Rattle.manifest_completion.specs.Listings.{Answer}
 use Rattle.manifest_completion.specs.Finds.{stem}
 use Rattle.manifest_completion.specs.Outcome.{paired_finds}
 

@@ -1,7 +1,7 @@
 -- `-` replaced by `_`.
-use Rattle.std.proofs.Common.{◌≡◌, ℕ, zero, suc, ◌+◌, ◌<◌, List, [], ◌∷◌, ◌++◌, Bool, true, false, refl, ap, sym, ◌∙◌, map, take, drop, length, get_or, Some, None, arith, nat_eq, subst, if◌then◌else◌, ◌≢◌, ◌⊎◌, ⊎_elim}
+use Rattle.std.proofs.Common.{◌≡◌, ℕ, zero, suc, ◌+◌, ◌<◌, List, [], ◌∷◌, ◌++◌, false, refl, ap, sym, ◌∙◌, take, drop, length, get_or, arith, nat_eq, if◌then◌else◌, ◌≢◌, ⊎_elim}
 use Rattle.std.specs.Str.{NoCharPasses}
-use Rattle.std.specs.Str.Pattern.{FindsChar, HasCharAt}
+use Rattle.std.specs.Str.Pattern.{FindsChar}
 use Rattle.std.specs.Str.Replace.{ReplacesMatches}
 use Rattle.std.proofs.lemmas.Str.Pattern.{NoCharPasses-char, drop_at_char}
 use Rattle.std.proofs.lemmas.List.{map-append, take-append-drop}

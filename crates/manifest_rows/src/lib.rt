@@ -1,4 +1,4 @@
-//! Tests of the public calls that read and write manifests, and the metadata type of these tests.
+//! Tests of the public calls that read, complete and write manifests, and the metadata type of these tests.
 #![tactic(auto)]
 
 #[cfg(test)]
@@ -6,7 +6,11 @@ mod answers;
 #[cfg(test)]
 mod calls;
 #[cfg(test)]
+mod completed;
+#[cfg(test)]
 mod examples;
+#[cfg(test)]
+mod folders;
 #[cfg(test)]
 mod forms;
 #[cfg(test)]

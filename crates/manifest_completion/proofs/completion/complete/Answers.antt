@@ -1,11 +1,11 @@
-use Rattle.std.proofs.Common.{◌≡◌, ap, sym, subst, ◌∙◌, None, codes, refl, map, option_map}
+use Rattle.std.proofs.Common.{◌≡◌, ap, sym, subst, ◌∙◌, None, codes, refl, option_map}
 use Rattle.manifest_parts.specs.Parts.{text_or_flag_content}
 use Rattle.manifest_parts.specs.Records.{product_content}
-use Rattle.manifest_completion.specs.Completed.{source_fault, library, known, root_fault_if, asks_root, build_of}
+use Rattle.manifest_completion.specs.Completed.{source_fault, root_fault_if, asks_root, build_of}
 use Rattle.manifest_completion.specs.Answered.{answer_of}
 use Rattle.manifest_completion.specs.Asking.{Heard, AllHeard}
 use Rattle.manifest_completion.specs.Outcome.{declared_content, IsFault, ListsCompleted}
-use Rattle.manifest_completion.proofs.CompleteLemmas.{source_error, library_error, root_error, memory_refused, targets_done, refused_with, refused_by_memory, of_answer}
+use Rattle.manifest_completion.proofs.CompleteLemmas.{source_error, library_error, root_error, memory_refused, targets_done, refused_with, of_answer}
 use Rattle.manifest_completion.proofs.completion.complete.Goals as goal
 
 pub returns-in_err-source : goal.returns-in_err-source

@@ -1,4 +1,4 @@
-use Rattle.std.proofs.Common.{◌≡◌, ◌||◌, rules, tests, refl, sym, ap, ◌∙◌, false, Result}
+use Rattle.std.proofs.Common.{◌≡◌, rules, tests, sym, false}
 use Rattle.std.specs.List.{list_any}
 use Rattle.std.proofs.lemmas.Iterator.{YieldsList-from_slice}
 use Rattle.std.proofs.lemmas.Iterator.Search.{any_from_yields_List}
