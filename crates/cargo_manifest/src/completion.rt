@@ -108,7 +108,11 @@ impl<P: Metadata> Manifest<P, Value> {
     {
         match &self.package {
             Some(package) => {
-                discovers(package.autobenches, is_legacy(&package.edition), &self.bench)
+                discovers(
+                    package.autobenches,
+                    is_legacy(&package.edition),
+                    &self.bench,
+                )
             }
             None => false,
         }

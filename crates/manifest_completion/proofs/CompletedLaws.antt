@@ -100,8 +100,8 @@ done_calm t u l h = by_source (source_fault l.source) (library t l.source) (has_
     by_source None (known lib) true r e1 e2 e3 e4 x = cc (rw (e1, e2, e3) at x)
     by_source None (known lib) false (Some k) e1 e2 e3 e4 x = cc (rw (e1, e2, e3, e4) at x)
     by_source None (known lib) false None e1 e2 e3 e4 x =
-      let calm : IsCalm t l lib = record { source = e1; library = e2; memory = e3; root = e4 } in
-      (lib, calm, cc (sym (calm_done t l lib calm) ∙ x))
+        let calm : IsCalm t l lib = record { source = e1; library = e2; memory = e3; root = e4 } in
+        (lib, calm, cc (sym (calm_done t l lib calm) ∙ x))
 
 -- THE SAME AGAIN
 calm_again : (t : PackageTargets) (l : ListingMap) (lib : Option Product) → IsCalm t l lib → IsCalm (filled t lib l) l lib
@@ -111,11 +111,13 @@ calm_again t l lib c = record { source = c.source; library = library_fixed t t.l
 filled_again : (t : PackageTargets) (l : ListingMap) (lib : Option Product) → filled (filled t lib l) lib l ≡ filled t lib l
 unfolding filled
 filled_again t l lib =
-    rw (build_twice t.build l.root,
-    targets_fixed (bin_defaults t l.source) t.autobins (is_legacy t.edition) (bin_finds l t.name) t.bin,
-    targets_fixed (example_defaults t) t.autoexamples (is_legacy t.edition) (finds l examples) t.example,
-    targets_fixed (test_defaults t) t.autotests (is_legacy t.edition) (finds l tests) t.test,
-    targets_fixed (test_defaults t) t.autobenches (is_legacy t.edition) (finds l benches) t.bench) refl
+    rw (
+      build_twice t.build l.root,
+      targets_fixed (bin_defaults t l.source) t.autobins (is_legacy t.edition) (bin_finds l t.name) t.bin,
+      targets_fixed (example_defaults t) t.autoexamples (is_legacy t.edition) (finds l examples) t.example,
+      targets_fixed (test_defaults t) t.autotests (is_legacy t.edition) (finds l tests) t.test,
+      targets_fixed (test_defaults t) t.autobenches (is_legacy t.edition) (finds l benches) t.bench,
+    ) refl
 
 -- WHAT IS ASKED AGAIN
 wider : (ps qs : List Place) (q : Place) → AllByRecursion (IsAmong qs) ps → AllByRecursion (IsAmong (q ∷ qs)) ps
@@ -187,7 +189,7 @@ module _ (K W : Kind Data) (k : IsLawful K) (w : IsLawful W) where
         formed = formed;
         read = (manifest_lawful K W k w).back n formed;
         unchanged = twice;
-        asked = among_same after before (asked_again t l lib c)
+        asked = among_same after before (asked_again t l lib c);
       }
 
   by_package : (o : Option Package) (m n : Manifest) (l : ListingMap) → m.«package» ≡ o → well_formed K W m → completed_by o m l ≡ completed_to n → IsFixed K W m n l

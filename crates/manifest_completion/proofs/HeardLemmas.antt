@@ -84,9 +84,11 @@ module _ (allows : Text → Answer → Type 0) (l : ListingMap) where
 
   pub allowed_append : (xs ys : List Place) → AllByRecursion Holds (up_to_memory_fault (at l) xs) → (has_memory_fault (at l) xs ≡ false → AllByRecursion Holds (up_to_memory_fault (at l) ys)) → AllByRecursion Holds (up_to_memory_fault (at l) (xs ++ ys))
   allowed_append [] ys h k = k refl
-  allowed_append (x ∷ xs) ys h k =
-      (h.0, stop_or (is_memory_fault (at l x)) (up_to_memory_fault (at l) xs) (up_to_memory_fault (at l) (xs ++ ys)) h.1
-      (λ e all. allowed_append xs ys all (λ f. k (or_false (is_memory_fault (at l x)) (has_memory_fault (at l) xs) e f))))
+  allowed_append (x ∷ xs) ys h k = (
+    h.0,
+    stop_or (is_memory_fault (at l x)) (up_to_memory_fault (at l) xs) (up_to_memory_fault (at l) (xs ++ ys)) h.1
+        (λ e all. allowed_append xs ys all (λ f. k (or_false (is_memory_fault (at l x)) (has_memory_fault (at l) xs) e f))),
+  )
 
   stop_if : (b : Bool) (us : List Place) → (b ≡ false → AllByRecursion Holds us) → AllByRecursion Holds (if b then [] else us)
   stop_if true us h = tt
@@ -99,15 +101,21 @@ module _ (allows : Text → Answer → Type 0) (l : ListingMap) where
   entries_held d (n ∷ ns) (a ∷ heard) e h =
       let here : at l (entry d n) ≡ a = cc e in
       let there : map (λ m. at l (entry d m)) ns ≡ padded ns heard = cc e in
-      rw here (h.0.1, stop_if (is_memory_fault a) (up_to_memory_fault (at l) (map (entry d) ns))
-      (λ q. entries_held d ns heard there (match_false (is_memory_fault a) (heard ≡ []) (EntriesHeard allows (folder_text d) ns heard) h.1 q)))
+      rw here (
+        h.0.1,
+        stop_if (is_memory_fault a) (up_to_memory_fault (at l) (map (entry d) ns))
+            (λ q. entries_held d ns heard there (match_false (is_memory_fault a) (heard ≡ []) (EntriesHeard allows (folder_text d) ns heard) h.1 q)),
+      )
 
   -- the same of the folder before them
   pub folder_held : (d : TargetFolder) (a : FolderAnswers) → folder_of l d ≡ folder_listing a → FolderHeard allows (folder_text d) a → AllByRecursion Holds (up_to_memory_fault (at l) (folder_places l d))
   folder_held d a e h =
       let own : (folder_of l d).own ≡ answer_of a.own = ap (λ (f : FolderListing). f.own) e in
-      rw own (h.own.1, stop_if (is_memory_fault (answer_of a.own)) (up_to_memory_fault (at l) (map (entry d) (names_of (answer_of a.own))))
-      (λ q. entries_held d (names_of (answer_of a.own)) (answers_of a.entries) (entry_answers l d a e h.own.0) h.entries))
+      rw own (
+        h.own.1,
+        stop_if (is_memory_fault (answer_of a.own)) (up_to_memory_fault (at l) (map (entry d) (names_of (answer_of a.own))))
+            (λ q. entries_held d (names_of (answer_of a.own)) (answers_of a.entries) (entry_answers l d a e h.own.0) h.entries),
+      )
 
   pub root_held : (asks : Bool) → (asks ≡ true → allows (path_text root) (at l root)) → AllByRecursion Holds (up_to_memory_fault (at l) (root_places asks))
   root_held true h = (h refl, stop_if (is_memory_fault (at l root)) [] (λ q. tt))
@@ -204,20 +212,23 @@ all_heard allows asks a b e t n r =
     let ob = in_order _ bins a.bins b in let oe = in_order _ examples a.examples e in
     let ot = in_order _ tests a.tests t in let on = in_order _ benches a.benches n in
     record {
-      bins = ob; examples = oe; tests = ot; benches = on;
+      bins = ob;
+      examples = oe;
+      tests = ot;
+      benches = on;
       distinct = λ src d. map_distinct src a ob oe ot on r.0 d;
       allowed = λ src.
-        let l = listing_map src a in
-        let bp = folder_places l bins in let ep = folder_places l examples in let tp = folder_places l tests in let np = folder_places l benches in let rp = root_places asks in
-        let together : target_places l ++ rp ≡ bp ++ (ep ++ (tp ++ (np ++ rp))) = append_assoc bp (ep ++ (tp ++ np)) rp ∙ ap (λ (ps : List Place). bp ++ ps) (append_assoc ep (tp ++ np) rp ∙ ap (λ (ps : List Place). ep ++ ps) (append_assoc tp np rp)) in
-        subst (λ (ps : List Place). AllByRecursion (λ p. allows (path_text p) (at l p)) (up_to_memory_fault (at l) ps)) (sym together)
-        (allowed_append allows l bp (ep ++ (tp ++ (np ++ rp))) (folder_held allows l bins a.bins refl b) (λ q1.
+          let l = listing_map src a in
+          let bp = folder_places l bins in let ep = folder_places l examples in let tp = folder_places l tests in let np = folder_places l benches in let rp = root_places asks in
+          let together : target_places l ++ rp ≡ bp ++ (ep ++ (tp ++ (np ++ rp))) = append_assoc bp (ep ++ (tp ++ np)) rp ∙ ap (λ (ps : List Place). bp ++ ps) (append_assoc ep (tp ++ np) rp ∙ ap (λ (ps : List Place). ep ++ ps) (append_assoc tp np rp)) in
+          subst (λ (ps : List Place). AllByRecursion (λ p. allows (path_text p) (at l p)) (up_to_memory_fault (at l) ps)) (sym together)
+          (allowed_append allows l bp (ep ++ (tp ++ (np ++ rp))) (folder_held allows l bins a.bins refl b) (λ q1.
           let f1 : found_no_memory a.bins ≡ false = sym (folder_fault l bins a.bins refl ob) ∙ q1 in
           allowed_append allows l ep (tp ++ (np ++ rp)) (folder_held allows l examples a.examples refl (goes_on (found_no_memory a.bins) allows examples a.examples e f1)) (λ q2.
-            let f2 = none_of (found_no_memory a.bins) (found_no_memory a.examples) f1 (sym (folder_fault l examples a.examples refl oe) ∙ q2) in
-            allowed_append allows l tp (np ++ rp) (folder_held allows l tests a.tests refl (goes_on _ allows tests a.tests t f2)) (λ q3.
-              let f3 = none_of (found_no_memory a.bins || found_no_memory a.examples) (found_no_memory a.tests) f2 (sym (folder_fault l tests a.tests refl ot) ∙ q3) in
-              allowed_append allows l np rp (folder_held allows l benches a.benches refl (goes_on _ allows benches a.benches n f3)) (λ q4.
-                let f4 = none_of ((found_no_memory a.bins || found_no_memory a.examples) || found_no_memory a.tests) (found_no_memory a.benches) f3 (sym (folder_fault l benches a.benches refl on) ∙ q4) in
-                root_held allows l asks (λ y. r.1 (asks_and asks _ y f4)))))))
+          let f2 = none_of (found_no_memory a.bins) (found_no_memory a.examples) f1 (sym (folder_fault l examples a.examples refl oe) ∙ q2) in
+          allowed_append allows l tp (np ++ rp) (folder_held allows l tests a.tests refl (goes_on _ allows tests a.tests t f2)) (λ q3.
+          let f3 = none_of (found_no_memory a.bins || found_no_memory a.examples) (found_no_memory a.tests) f2 (sym (folder_fault l tests a.tests refl ot) ∙ q3) in
+          allowed_append allows l np rp (folder_held allows l benches a.benches refl (goes_on _ allows benches a.benches n f3)) (λ q4.
+          let f4 = none_of ((found_no_memory a.bins || found_no_memory a.examples) || found_no_memory a.tests) (found_no_memory a.benches) f3 (sym (folder_fault l benches a.benches refl on) ∙ q4) in
+          root_held allows l asks (λ y. r.1 (asks_and asks _ y f4)))))));
     }

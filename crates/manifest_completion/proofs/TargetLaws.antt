@@ -111,7 +111,7 @@ covers (g ∷ gs) had base sub = one (has_path had g.path) refl (λ (base' : Lis
 
     in_more : (base' : List Text) → ((q : Text) → has_path had q ≡ true → has_path base' q ≡ true) → has_path base' g.path ≡ true → (q : Text) → has_path (had ++ g.path ∷ []) q ≡ true → has_path base' q ≡ true
     in_more base' f here q e = or_split (has_path had q) (has_path (g.path ∷ []) q) (has_path base' q ≡ true) (sym (has_append had (g.path ∷ []) q) ∙ e) (f q)
-      (λ k. let same : q ≡ g.path = (bytes_eq-Decides q g.path).0 (or_false (bytes_eq q g.path) k) in rw same here)
+        (λ k. let same : q ≡ g.path = (bytes_eq-Decides q g.path).0 (or_false (bytes_eq q g.path) k) in rw same here)
 
     one : (b : Bool) → has_path had g.path ≡ b
         → ((base' : List Text) → ((q : Text) → has_path (had ++ g.path ∷ []) q ≡ true → has_path base' q ≡ true) → AllHad (base' ++ paths_of (added (had ++ g.path ∷ []) gs)) gs)
@@ -124,9 +124,10 @@ covers (g ∷ gs) had base sub = one (has_path had g.path) refl (λ (base' : Lis
         let grown = λ (q : Text) (h : has_path had q ≡ true). has_append base (g.path ∷ []) q ∙ or_left (has_path base q) (has_path (g.path ∷ []) q) (sub q h) in
         let here : has_path wider g.path ≡ true = has_append base (g.path ∷ []) g.path ∙ or_right (has_path base g.path) (has_path (g.path ∷ []) g.path) (or_left (bytes_eq g.path g.path) false itself) in
         let later = k wider (in_more wider grown here) in
-        let together : wider ++ rest ≡ base ++ g.path ∷ rest = append_assoc base (g.path ∷ []) rest in
-        (has_append base (g.path ∷ rest) g.path ∙ or_right (has_path base g.path) (has_path (g.path ∷ rest) g.path) (or_left (bytes_eq g.path g.path) (has_path rest g.path) itself),
-        subst (λ (xs : List Text). AllHad xs gs) together later)
+        let together : wider ++ rest ≡ base ++ g.path ∷ rest = append_assoc base (g.path ∷ []) rest in (
+          has_append base (g.path ∷ rest) g.path ∙ or_right (has_path base g.path) (has_path (g.path ∷ rest) g.path) (or_left (bytes_eq g.path g.path) (has_path rest g.path) itself),
+          subst (λ (xs : List Text). AllHad xs gs) together later,
+        )
 
 -- DEFAULTS
 defaults_twice : (d : Defaults) (p : Product) → with_defaults d (with_defaults d p) ≡ with_defaults d p

@@ -41,7 +41,7 @@ listing_map src a = record {
   examples = folder_listing a.examples;
   tests = folder_listing a.tests;
   benches = folder_listing a.benches;
-  root = answer_of a.root
+  root = answer_of a.root;
 }
 
 -- what was heard at all folders of targets, their entries, and at the folder of the manifest where it was asked

@@ -80,7 +80,7 @@ declared_library t lib (Some q) = known (Some (record lib {
   name = option_or lib.name (Some (underscored t.name));
   edition = option_or lib.edition (own_edition t.edition);
   required_features = [];
-  crate_type = option_or lib.crate_type (Some library_type)
+  crate_type = option_or lib.crate_type (Some library_type);
 }))
 
 -- a library that is not declared: it is there where `src` lists `lib.rs`, unless the package says otherwise
@@ -129,7 +129,7 @@ filled t lib l = record t {
   bin = targets (bin_defaults t l.source) (discovers t.autobins (is_legacy t.edition) t.bin) (bin_finds l t.name) t.bin;
   example = targets (example_defaults t) (discovers t.autoexamples (is_legacy t.edition) t.example) (finds l examples) t.example;
   test = targets (test_defaults t) (discovers t.autotests (is_legacy t.edition) t.test) (finds l tests) t.test;
-  bench = targets (test_defaults t) (discovers t.autobenches (is_legacy t.edition) t.bench) (finds l benches) t.bench
+  bench = targets (test_defaults t) (discovers t.autobenches (is_legacy t.edition) t.bench) (finds l benches) t.bench;
 }
 
 -- WHAT COMPLETION COMES TO: what it makes, or a refusal for a listing's fault of this kind, or for want of a library's file
@@ -196,7 +196,7 @@ targets_of p m = record {
   bin = m.bin;
   example = m.example;
   test = m.test;
-  bench = m.bench
+  bench = m.bench;
 }
 
 -- the manifest with this package, and with these targets in place of its own
@@ -207,7 +207,7 @@ with_targets p m t = record m {
   bin = t.bin;
   example = t.example;
   test = t.test;
-  bench = t.bench
+  bench = t.bench;
 }
 
 abbrev pub completion_with : Package → Manifest → Completion PackageTargets → Completion Manifest

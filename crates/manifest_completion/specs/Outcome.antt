@@ -32,7 +32,7 @@ abbrev pub defaults_content : TargetDefaults → Defaults
 defaults_content d = record {
   edition = option_map edition_content d.edition;
   crate_type = option_map (λ (t : Bor Text). t.now ∷ []) d.crate_type;
-  path = option_map (λ (t : Bor Text). t.now) d.path
+  path = option_map (λ (t : Bor Text). t.now) d.path;
 }
 
 abbrev pub declared_content : DeclaredTargets → PackageTargets
@@ -49,7 +49,7 @@ declared_content t = record {
   bin = map product_content t.bin.now;
   example = map product_content t.example.now;
   test = map product_content t.test.now;
-  bench = map product_content t.bench.now
+  bench = map product_content t.bench.now;
 }
 
 -- the declared targets, with the completed ones in their place
@@ -60,7 +60,7 @@ completed_content t c = record t {
   bin = map product_content c.bin.items;
   example = map product_content c.example.items;
   test = map product_content c.test.items;
-  bench = map product_content c.bench.items
+  bench = map product_content c.bench.items;
 }
 
 -- REFUSALS

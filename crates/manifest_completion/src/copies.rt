@@ -16,10 +16,7 @@ pub fn copied(alloc: Global, text: Option<&str>) -> Result<Option<String>, Alloc
 }
 
 /// A copy of a text that may be absent.
-pub fn copied_text(
-    alloc: Global,
-    text: &Option<String>,
-) -> Result<Option<String>, AllocError>
+pub fn copied_text(alloc: Global, text: &Option<String>) -> Result<Option<String>, AllocError>
     ensures { IfOk result (λ o. option_map string_bytes o ≡ option_map string_bytes text.now) }
 {
     match text {

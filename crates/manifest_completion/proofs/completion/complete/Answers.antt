@@ -55,8 +55,8 @@ returns g c =
     let calm = sym c.found_no_memory.ensures ∙ c.if-found_no_memory.false in
     let rooted : root_fault_if (asks_root t.build) (answer_of a.root) ≡ None = subst (λ x. root_fault_if x (answer_of a.root) ≡ None) c.asks_root-asks.ensures c.in_ok-root.ensures.1 in
     let build : option_map text_or_flag_content c.in_ok-build.build ≡ build_of t.build (answer_of a.root) =
-        of_answer (λ o. option_map text_or_flag_content o ≡ build_of t.build (answer_of c.in_ok-root.root)) c.completed_build.result c.in_ok-build.build c.completed_build.ensures c.in_ok-build.ensures
-        ∙ ap (λ x. build_of t.build (answer_of x)) c.in_ok-root.ensures.0 in
+    of_answer (λ o. option_map text_or_flag_content o ≡ build_of t.build (answer_of c.in_ok-root.root)) c.completed_build.result c.in_ok-build.build c.completed_build.ensures c.in_ok-build.ensures
+    ∙ ap (λ x. build_of t.build (answer_of x)) c.in_ok-root.ensures.0 in
     let gives = of_answer (ListsCompleted t (answer_of s) a) c.completed_lists.result c.in_ok-lists.lists c.completed_lists.ensures c.in_ok-lists.ensures in
     targets_done allows t (answer_of s) ok none (option_map product_content c.in_ok-lib.lib) c.in_ok-lib.ensures a heard calm rooted
     (record { build = c.in_ok-build.build; lib = c.in_ok-lib.lib; bin = c.in_ok-lists.lists.bin; example = c.in_ok-lists.lists.example; test = c.in_ok-lists.lists.test; bench = c.in_ok-lists.lists.bench })
