@@ -1,8 +1,9 @@
 //! What the workspace may lend.
 
-ghost use Rattle.std.specs.Prelude.{◌≡◌, IfOk, IfErr};
+ghost use Rattle.std.specs.Prelude.{◌≡◌, IfOk, IfErr, true};
 ghost use Rattle.toml.specs.View.{view, table_view};
-ghost use Rattle.toml.specs.Data.{table as data_table};
+ghost use Rattle.toml.specs.Data.{Data, table as data_table};
+ghost use Rattle.manifest_schema.specs.Paths.{Path, Cause as FaultCause};
 ghost use Rattle.manifest_schema.specs.Kinds.{Inheritable, inh, inherits, truth};
 ghost use Rattle.manifest_schema.proofs.KindLaws.{inh_lawful, truth_lawful};
 ghost use Rattle.manifest_parts.specs.Parts.{inh_content};
@@ -137,3 +138,12 @@ impl<T: Plain> Schema for MaybeInherited<T> {
 
     ghost lawful = { inh_lawful T.lawful T.plain };
 }
+
+/// The laws of what may be inherited, for every plain type: a value has at most one reading, and none where it has a fault;
+/// what is written is read back; and no value is both a table that inherits and a value of the type's own.
+pub fn inherited_is_lawful<T: Plain>()
+    ensures one_reading { (d : Data) (x y : Inheritable T.Content) → (inh T.kind).reads d x → (inh T.kind).reads d y → x ≡ y }
+    ensures no_reading_with_a_fault { (d : Data) (p : Path) (c : FaultCause) (x : Inheritable T.Content) → (inh T.kind).faulty d p c → (inh T.kind).reads d x → ⊥ }
+    ensures read_back { (x : Inheritable T.Content) → (inh T.kind).reads ((inh T.kind).written x) x }
+    ensures inherited_or_local { (d : Data) (x : T.Content) → inherits d ≡ true → T.kind.reads d x → ⊥ }
+{}

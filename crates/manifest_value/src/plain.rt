@@ -1,5 +1,8 @@
 //! Types that no table stands for.
 
+ghost use Rattle.std.specs.Prelude.{◌≡◌};
+ghost use Rattle.toml.specs.Data.{Data, Members, table};
+ghost use Rattle.manifest_schema.specs.Paths.{Path, Cause};
 ghost use Rattle.manifest_schema.specs.Lawful.{IsPlain};
 ghost use Rattle.manifest_schema.proofs.RowLaws.{text_plain, texts_plain};
 
@@ -21,3 +24,13 @@ impl Plain for String {
 impl Plain for Vec<String> {
     ghost plain = { texts_plain };
 }
+
+/// The five laws of a plain type: a value has at most one reading, and none where it has a fault; what is written of a value
+/// of the type is read back as it; and a table is neither read nor written.
+pub fn plain_is_lawful<T: Plain>()
+    ensures one_reading { (d : Data) (x y : T.Content) → T.kind.reads d x → T.kind.reads d y → x ≡ y }
+    ensures no_reading_with_a_fault { (d : Data) (p : Path) (c : Cause) (x : T.Content) → T.kind.faulty d p c → T.kind.reads d x → ⊥ }
+    ensures read_back { (x : T.Content) → T.kind.reads (T.kind.written x) x }
+    ensures reads_no_table { (ms : Members) (x : T.Content) → T.kind.reads (table ms) x → ⊥ }
+    ensures writes_no_table { (ms : Members) (x : T.Content) → T.kind.written x ≡ table ms → ⊥ }
+{}
