@@ -24,3 +24,5 @@ mod rewritten;
 pub mod score;
 #[cfg(test)]
 mod values;
+#[cfg(test)]
+mod well_formed;
