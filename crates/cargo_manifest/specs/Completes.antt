@@ -9,7 +9,7 @@ use Rattle.manifest_completion.specs.Listings.{Answer, ListingMap}
 use Rattle.manifest_completion.specs.Completed.{Completion, completed_to, refused, no_library, completed, asked, Explains}
 use Rattle.manifest_completion.specs.Outcome.{library_text}
 
--- there is one map of listings that explains all that the filesystem answered, and the completed manifest of that map is this
+-- there is one map of listings, with an answer that the filesystem allows at each place that is asked for it, and what the manifest comes to by that map is this
 abbrev pub ByOneMap : (Text → Answer → Type 0) → Manifest → Completion Manifest → Type 0
 ByOneMap allows m c = (l : ListingMap) × Explains allows l (asked m l) × (completed m l ≡ c)
 
