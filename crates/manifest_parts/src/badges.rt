@@ -1,9 +1,9 @@
 //! Badges of a package.
 
-ghost use Rattle.std.specs.Prelude.{◌≡◌, None, IfOk, IfErr};
+ghost use Rattle.std.specs.Prelude.{◌≡◌, None, IfOk, IfErr, OnOk};
 ghost use Rattle.toml.specs.Data.{table as data_table};
 ghost use Rattle.toml.specs.View.{view, table_view};
-ghost use Rattle.manifest_schema.specs.Forms.{form};
+ghost use Rattle.manifest_schema.specs.Forms.{form, first_fit, written_part};
 ghost use Rattle.manifest_schema.specs.Contents;
 ghost use Rattle.manifest_schema.specs.Defaults.{no_badges};
 ghost use Rattle.manifest_schema.specs.PartForms.{badge_rows, maintenance_rows, badges_rows};
@@ -126,27 +126,90 @@ fn maintenance_from(alloc: Global, table: &Table) -> Result<Maintenance, ReadFau
 fn badges_from(alloc: Global, table: &Table) -> Result<Badges, AllocError>
     ensures { IfOk result (λ x. (form badges_rows).reads (data_table (table_view table.now)) (badges_content x)) }
 {
-    Ok(Badges {
-        appveyor: lenient_optional(alloc, table, "appveyor", None)?,
-        circle_ci: lenient_optional(alloc, table, "circle-ci", None)?,
-        gitlab: lenient_optional(alloc, table, "gitlab", None)?,
-        travis_ci: lenient_optional(alloc, table, "travis-ci", None)?,
-        codecov: lenient_optional(alloc, table, "codecov", None)?,
-        coveralls: lenient_optional(alloc, table, "coveralls", None)?,
-        is_it_maintained_issue_resolution: lenient_optional(
-            alloc,
-            table,
-            "is-it-maintained-issue-resolution",
-            None,
-        )?,
-        is_it_maintained_open_issues: lenient_optional(
-            alloc,
-            table,
-            "is-it-maintained-open-issues",
-            None,
-        )?,
-        maintenance: lenient_default(alloc, table, "maintenance", None, Maintenance::default())?,
-    })
+    let mut x = Badges::default();
+    match fill_badges(alloc, table, &mut x) {
+        Ok(()) => Ok(x),
+        Err(refused) => Err(refused),
+    }
+}
+
+/// Reads all rows.
+fn fill_badges(alloc: Global, table: &Table, x: &mut Badges) -> Result<(), AllocError>
+    ensures { OnOk result (first_fit 9 badges_rows (table_view table.now) (badges_content x.new)) }
+{
+    fill_services(alloc, table, x)?;
+    fill_reports(alloc, table, x)?;
+    Ok(())
+}
+
+/// Reads rows 1 to 4.
+#[tactic(auto, unfolding(manifest_schema::specs::PartForms::badges_rows))]
+fn fill_services(alloc: Global, table: &Table, x: &mut Badges) -> Result<(), AllocError>
+    ensures { OnOk result (first_fit 4 badges_rows (table_view table.now) (badges_content x.new)) }
+{
+    x.appveyor = lenient_optional(alloc, table, "appveyor", None)?;
+    x.circle_ci = lenient_optional(alloc, table, "circle-ci", None)?;
+    x.gitlab = lenient_optional(alloc, table, "gitlab", None)?;
+    x.travis_ci = lenient_optional(alloc, table, "travis-ci", None)?;
+    Ok(())
+}
+
+/// Reads rows 5 to 9.
+#[tactic(auto, unfolding(manifest_schema::specs::PartForms::badges_rows))]
+fn fill_reports(alloc: Global, table: &Table, x: &mut Badges) -> Result<(), AllocError>
+    ensures { OnOk result (first_fit 4 badges_rows (table_view table.now) (badges_content x.old) → first_fit 9 badges_rows (table_view table.now) (badges_content x.new)) }
+{
+    x.codecov = lenient_optional(alloc, table, "codecov", None)?;
+    x.coveralls = lenient_optional(alloc, table, "coveralls", None)?;
+    x.is_it_maintained_issue_resolution = lenient_optional(
+        alloc,
+        table,
+        "is-it-maintained-issue-resolution",
+        None,
+    )?;
+    x.is_it_maintained_open_issues = lenient_optional(
+        alloc,
+        table,
+        "is-it-maintained-open-issues",
+        None,
+    )?;
+    x.maintenance = lenient_default(alloc, table, "maintenance", None, Maintenance::default())?;
+    Ok(())
+}
+
+/// Writes rows 1 to 4, from the last to the first.
+#[tactic(auto, unfolding(manifest_schema::specs::PartForms::badges_rows))]
+fn put_services(alloc: Global, out: &mut Table, x: &Badges) -> Result<(), AllocError>
+    ensures { OnOk result (table_view out.new ≡ written_part 0 4 badges_rows (badges_content x.now) (table_view out.old)) }
+{
+    put_optional(alloc, out, "travis-ci", &x.travis_ci)?;
+    put_optional(alloc, out, "gitlab", &x.gitlab)?;
+    put_optional(alloc, out, "circle-ci", &x.circle_ci)?;
+    put_optional(alloc, out, "appveyor", &x.appveyor)?;
+    Ok(())
+}
+
+/// Writes rows 5 to 9, from the last to the first.
+#[tactic(auto, unfolding(manifest_schema::specs::PartForms::badges_rows))]
+fn put_reports(alloc: Global, out: &mut Table, x: &Badges) -> Result<(), AllocError>
+    ensures { OnOk result (table_view out.new ≡ written_part 4 5 badges_rows (badges_content x.now) (table_view out.old)) }
+{
+    put_row(alloc, out, "maintenance", &x.maintenance)?;
+    put_optional(
+        alloc,
+        out,
+        "is-it-maintained-open-issues",
+        &x.is_it_maintained_open_issues,
+    )?;
+    put_optional(
+        alloc,
+        out,
+        "is-it-maintained-issue-resolution",
+        &x.is_it_maintained_issue_resolution,
+    )?;
+    put_optional(alloc, out, "coveralls", &x.coveralls)?;
+    put_optional(alloc, out, "codecov", &x.codecov)?;
+    Ok(())
 }
 
 impl Schema for Badge {
@@ -218,25 +281,8 @@ impl Schema for Badges {
     #[tactic(auto, unfolding(manifest_schema::specs::PartForms::badges_rows))]
     fn to_value(&self, alloc: Global) -> Result<Value, AllocError> {
         let mut out = Table::new(alloc);
-        put_row(alloc, &mut out, "maintenance", &self.maintenance)?;
-        put_optional(
-            alloc,
-            &mut out,
-            "is-it-maintained-open-issues",
-            &self.is_it_maintained_open_issues,
-        )?;
-        put_optional(
-            alloc,
-            &mut out,
-            "is-it-maintained-issue-resolution",
-            &self.is_it_maintained_issue_resolution,
-        )?;
-        put_optional(alloc, &mut out, "coveralls", &self.coveralls)?;
-        put_optional(alloc, &mut out, "codecov", &self.codecov)?;
-        put_optional(alloc, &mut out, "travis-ci", &self.travis_ci)?;
-        put_optional(alloc, &mut out, "gitlab", &self.gitlab)?;
-        put_optional(alloc, &mut out, "circle-ci", &self.circle_ci)?;
-        put_optional(alloc, &mut out, "appveyor", &self.appveyor)?;
+        put_reports(alloc, &mut out, self)?;
+        put_services(alloc, &mut out, self)?;
         Ok(Value::Table(out))
     }
 

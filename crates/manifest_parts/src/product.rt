@@ -1,9 +1,9 @@
 //! A target of a package.
 
-ghost use Rattle.std.specs.Prelude.{◌≡◌, IfOk, IfErr};
+ghost use Rattle.std.specs.Prelude.{◌≡◌, IfOk, IfErr, OnOk};
 ghost use Rattle.toml.specs.Data.{table as data_table};
 ghost use Rattle.toml.specs.View.{view, table_view};
-ghost use Rattle.manifest_schema.specs.Forms.{form};
+ghost use Rattle.manifest_schema.specs.Forms.{form, first_fit, written_part};
 ghost use Rattle.manifest_schema.specs.Contents;
 ghost use Rattle.manifest_schema.specs.Defaults.{default_product};
 ghost use Rattle.manifest_schema.specs.PartForms.{product_rows};
@@ -15,7 +15,7 @@ ghost use Rattle.manifest_parts.specs.Refusals.{RefusedIn};
 use crate::choices::Edition;
 use crate::error::{Error, read};
 use manifest_value::fault::here;
-use manifest_value::rows::{optional, or_default, put_optional, put_row, put_unless};
+use manifest_value::rows::{fill, fill_default, put_optional, put_row, put_unless};
 use manifest_value::{Cause, ReadFault, Schema};
 use std::alloc::{AllocError, Global};
 use toml::{Table, Value};
@@ -87,26 +87,99 @@ fn product_from(alloc: Global, table: &Table) -> Result<Product, ReadFault>
     ensures ok { IfOk result (λ x. (form product_rows).reads (data_table (table_view table.now)) (product_content x)) }
     ensures fault { IfErr result (FaultIn ((form product_rows).faulty (data_table (table_view table.now)))) }
 {
-    Ok(Product {
-        path: optional(alloc, table, "path", None)?,
-        name: optional(alloc, table, "name", None)?,
-        test: or_default(alloc, table, "test", None, true)?,
-        doctest: or_default(alloc, table, "doctest", None, true)?,
-        bench: or_default(alloc, table, "bench", None, true)?,
-        doc: or_default(alloc, table, "doc", None, true)?,
-        plugin: or_default(alloc, table, "plugin", None, false)?,
-        proc_macro: or_default(alloc, table, "proc-macro", Some("proc_macro"), false)?,
-        harness: or_default(alloc, table, "harness", None, true)?,
-        edition: optional(alloc, table, "edition", None)?,
-        required_features: or_default(
-            alloc,
-            table,
-            "required-features",
-            Some("required_features"),
-            Vec::new(alloc),
-        )?,
-        crate_type: optional(alloc, table, "crate-type", Some("crate_type"))?,
-    })
+    let mut x = Product::default(alloc);
+    match fill_product(alloc, table, &mut x) {
+        Ok(()) => Ok(x),
+        Err(fault) => Err(fault),
+    }
+}
+
+/// Reads all rows.
+fn fill_product(alloc: Global, table: &Table, x: &mut Product) -> Result<(), ReadFault>
+    ensures ok { OnOk result (first_fit 12 product_rows (table_view table.now) (product_content x.new)) }
+    ensures fault { IfErr result (FaultIn ((form product_rows).faulty (data_table (table_view table.now)))) }
+{
+    fill_uses(alloc, table, x)?;
+    fill_build(alloc, table, x)?;
+    Ok(())
+}
+
+/// Reads rows 1 to 6.
+#[tactic(auto, unfolding(manifest_schema::specs::PartForms::product_rows))]
+fn fill_uses(alloc: Global, table: &Table, x: &mut Product) -> Result<(), ReadFault>
+    ensures ok { OnOk result (first_fit 6 product_rows (table_view table.now) (product_content x.new)) }
+    ensures fault { IfErr result (FaultIn ((form product_rows).faulty (data_table (table_view table.now)))) }
+{
+    fill(alloc, table, "path", None, &mut x.path)?;
+    fill(alloc, table, "name", None, &mut x.name)?;
+    fill_default(alloc, table, "test", None, true, &mut x.test)?;
+    fill_default(alloc, table, "doctest", None, true, &mut x.doctest)?;
+    fill_default(alloc, table, "bench", None, true, &mut x.bench)?;
+    fill_default(alloc, table, "doc", None, true, &mut x.doc)?;
+    Ok(())
+}
+
+/// Reads rows 7 to 12.
+#[tactic(auto, unfolding(manifest_schema::specs::PartForms::product_rows))]
+fn fill_build(alloc: Global, table: &Table, x: &mut Product) -> Result<(), ReadFault>
+    ensures ok { OnOk result (first_fit 6 product_rows (table_view table.now) (product_content x.old) → first_fit 12 product_rows (table_view table.now) (product_content x.new)) }
+    ensures fault { IfErr result (FaultIn ((form product_rows).faulty (data_table (table_view table.now)))) }
+{
+    fill_default(alloc, table, "plugin", None, false, &mut x.plugin)?;
+    fill_default(
+        alloc,
+        table,
+        "proc-macro",
+        Some("proc_macro"),
+        false,
+        &mut x.proc_macro,
+    )?;
+    fill_default(alloc, table, "harness", None, true, &mut x.harness)?;
+    fill(alloc, table, "edition", None, &mut x.edition)?;
+    fill_default(
+        alloc,
+        table,
+        "required-features",
+        Some("required_features"),
+        Vec::new(alloc),
+        &mut x.required_features,
+    )?;
+    fill(
+        alloc,
+        table,
+        "crate-type",
+        Some("crate_type"),
+        &mut x.crate_type,
+    )?;
+    Ok(())
+}
+
+/// Writes rows 1 to 6, from the last to the first.
+#[tactic(auto, unfolding(manifest_schema::specs::PartForms::product_rows))]
+fn put_uses(alloc: Global, out: &mut Table, x: &Product) -> Result<(), AllocError>
+    ensures { OnOk result (table_view out.new ≡ written_part 0 6 product_rows (product_content x.now) (table_view out.old)) }
+{
+    put_unless(alloc, out, "doc", x.doc, &x.doc)?;
+    put_unless(alloc, out, "bench", x.bench, &x.bench)?;
+    put_unless(alloc, out, "doctest", x.doctest, &x.doctest)?;
+    put_unless(alloc, out, "test", x.test, &x.test)?;
+    put_optional(alloc, out, "name", &x.name)?;
+    put_optional(alloc, out, "path", &x.path)?;
+    Ok(())
+}
+
+/// Writes rows 7 to 12, from the last to the first.
+#[tactic(auto, unfolding(manifest_schema::specs::PartForms::product_rows))]
+fn put_build(alloc: Global, out: &mut Table, x: &Product) -> Result<(), AllocError>
+    ensures { OnOk result (table_view out.new ≡ written_part 6 6 product_rows (product_content x.now) (table_view out.old)) }
+{
+    put_optional(alloc, out, "crate-type", &x.crate_type)?;
+    put_row(alloc, out, "required-features", &x.required_features)?;
+    put_optional(alloc, out, "edition", &x.edition)?;
+    put_unless(alloc, out, "harness", x.harness, &x.harness)?;
+    put_unless(alloc, out, "proc-macro", !x.proc_macro, &x.proc_macro)?;
+    put_unless(alloc, out, "plugin", !x.plugin, &x.plugin)?;
+    Ok(())
 }
 
 impl Schema for Product {
@@ -126,29 +199,8 @@ impl Schema for Product {
     #[tactic(auto, unfolding(manifest_schema::specs::PartForms::product_rows))]
     fn to_value(&self, alloc: Global) -> Result<Value, AllocError> {
         let mut out = Table::new(alloc);
-        put_optional(alloc, &mut out, "crate-type", &self.crate_type)?;
-        put_row(
-            alloc,
-            &mut out,
-            "required-features",
-            &self.required_features,
-        )?;
-        put_optional(alloc, &mut out, "edition", &self.edition)?;
-        put_unless(alloc, &mut out, "harness", self.harness, &self.harness)?;
-        put_unless(
-            alloc,
-            &mut out,
-            "proc-macro",
-            !self.proc_macro,
-            &self.proc_macro,
-        )?;
-        put_unless(alloc, &mut out, "plugin", !self.plugin, &self.plugin)?;
-        put_unless(alloc, &mut out, "doc", self.doc, &self.doc)?;
-        put_unless(alloc, &mut out, "bench", self.bench, &self.bench)?;
-        put_unless(alloc, &mut out, "doctest", self.doctest, &self.doctest)?;
-        put_unless(alloc, &mut out, "test", self.test, &self.test)?;
-        put_optional(alloc, &mut out, "name", &self.name)?;
-        put_optional(alloc, &mut out, "path", &self.path)?;
+        put_build(alloc, &mut out, self)?;
+        put_uses(alloc, &mut out, self)?;
         Ok(Value::Table(out))
     }
 

@@ -7,8 +7,7 @@ ghost use Rattle.manifest_schema.specs.Slots.{is_among, without};
 ghost use Rattle.manifest_value.specs.Faults.{FaultIn};
 ghost use Rattle.manifest_value.specs.Entries.{entries_content};
 
-use crate::fault::ReadFault;
-use crate::rows::read_under;
+use crate::fault::{ReadFault, under_key};
 use crate::schema::Schema;
 use std::alloc::Global;
 use std::collections::BTreeMap;
@@ -38,9 +37,15 @@ pub fn others_of<T: Schema>(
     let mut all = BTreeMap::new(alloc);
     for (key, value) in table.iter() {
         if !is_named(named, key.as_str()) {
-            let x = read_under::<T>(alloc, value, key.as_str())?;
+            // `match` in place of `?`: each `?` would copy the item several times, and an item may be wide.
             let name = String::from_str(alloc, key.as_str())?;
-            drop(all.insert(name, x)?);
+            match T::from_value(alloc, value) {
+                Ok(x) => match all.insert(name, x) {
+                    Ok(old) => drop(old),
+                    Err(refused) => return Err(ReadFault::from(refused)),
+                },
+                Err(fault) => return Err(under_key(alloc, key.as_str(), fault)),
+            }
         }
     }
     Ok(all)

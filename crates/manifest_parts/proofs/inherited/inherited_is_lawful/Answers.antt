@@ -1,4 +1,4 @@
-use Rattle.std.proofs.Common.{◌≡◌, true, IsTrue}
+use Rattle.std.proofs.Common.{◌≡◌, true}
 use Rattle.toml.specs.Data.{Data}
 use Rattle.manifest_schema.specs.Kinds.{Kind, Inheritable, inherited, local, inherits, inh, good_inh}
 use Rattle.manifest_schema.specs.Lawful.{IsLawful, IsPlain}
