@@ -5,15 +5,16 @@ ghost use Rattle.toml.specs.View.{view};
 ghost use Rattle.manifest_schema.specs.Contents;
 ghost use Rattle.manifest_completion.specs.Completed.{targets_of, with_targets, autobins, autoexamples, autotests, autobenches};
 ghost use Rattle.manifest_completion.specs.Outcome.{declared_content, completed_content};
-ghost use Rattle.cargo_manifest.specs.Whole.{package_content, manifest_content};
+ghost use Rattle.manifest_tables.specs.Tables.{package_content};
+ghost use Rattle.cargo_manifest.specs.Whole.{manifest_content};
 ghost use Rattle.cargo_manifest.specs.Completes.{Completes};
 
 use crate::manifest::Manifest;
-use crate::package::Package;
 use manifest_completion::{
     AbstractFilesystem, CompletedTargets, DeclaredTargets, complete, discovers, is_legacy,
 };
 use manifest_parts::Error;
+use manifest_tables::Package;
 use manifest_value::Metadata;
 use std::alloc::Global;
 use toml::Value;

@@ -4,10 +4,7 @@
 mod completion;
 pub mod laws;
 pub mod manifest;
-pub mod package;
-pub mod profiles;
 mod reading;
-pub mod workspace;
 mod writing;
 
 pub use manifest::Manifest;
@@ -19,9 +16,7 @@ pub use manifest_parts::{
     Profile, Publish, Resolver, StringOrBool, StripSetting, Target, TargetDepsSet, ToolLintsSet,
     True,
 };
+pub use manifest_tables::{Package, Profiles, Workspace, WorkspacePackage};
 pub use manifest_value::{Cause, KeyPath, Metadata, Plain, ReadFault, Schema, SchemaFault, Step};
-pub use package::Package;
-pub use profiles::Profiles;
 pub use toml::Value;
-pub use workspace::{Workspace, WorkspacePackage};
 pub use writing::INVALID_DATE;

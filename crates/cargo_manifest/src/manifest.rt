@@ -16,15 +16,14 @@ ghost use Rattle.manifest_schema.proofs.ManifestLaws.{manifest_lawful};
 ghost use Rattle.manifest_value.specs.Faults.{FaultIn};
 ghost use Rattle.manifest_parts.specs.Records.{lints_content};
 ghost use Rattle.manifest_parts.specs.Refusals.{RefusedIn};
-ghost use Rattle.cargo_manifest.specs.Whole.{package_content, workspace_content, profiles_content, manifest_content};
+ghost use Rattle.manifest_tables.specs.Tables.{package_content, workspace_content, profiles_content};
+ghost use Rattle.cargo_manifest.specs.Whole.{manifest_content};
 
-use crate::package::Package;
-use crate::profiles::Profiles;
-use crate::workspace::Workspace;
 use manifest_parts::error::{Error, read};
 use manifest_parts::{
     Badges, DepsSet, FeatureSet, MaybeInheritedLintsSet, PatchSet, Product, TargetDepsSet,
 };
+use manifest_tables::{Package, Profiles, Workspace};
 use manifest_value::fault::here;
 use manifest_value::rows::{fill, fill_default, put_nonempty, put_optional};
 use manifest_value::{Cause, Metadata, ReadFault, Schema};

@@ -8,13 +8,15 @@ ghost use Rattle.manifest_schema.specs.Kinds.{kept, tree_of};
 ghost use Rattle.manifest_schema.specs.ManifestForms.{package_rows};
 ghost use Rattle.manifest_schema.specs.Meaning.{has, has_header, old_package, faulty_old, means, unmeant};
 ghost use Rattle.manifest_value.specs.Faults.{FaultIn};
-ghost use Rattle.cargo_manifest.specs.Whole.{package_content, manifest_content};
+ghost use Rattle.manifest_tables.specs.Tables.{package_content};
+ghost use Rattle.cargo_manifest.specs.Whole.{manifest_content};
 ghost use Rattle.cargo_manifest.specs.Answers.{IsDocumentOf, Refuses, RefusesText};
 
 use crate::manifest::{Manifest, manifest_from};
-use crate::package::{Package, package_from};
 use manifest_parts::error::refusal;
 use manifest_parts::{Error, ParseFault};
+use manifest_tables::Package;
+use manifest_tables::package::package_from;
 use manifest_value::rows::read_under;
 use manifest_value::slots::find;
 use manifest_value::{Metadata, ReadFault};

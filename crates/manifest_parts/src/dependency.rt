@@ -3,7 +3,7 @@
 ghost use Rattle.std.specs.Prelude.{◌≡◌, None, IfOk, IfErr, OnOk};
 ghost use Rattle.toml.specs.Data.{table as data_table};
 ghost use Rattle.toml.specs.View.{view, table_view};
-ghost use Rattle.manifest_schema.specs.Forms.{form, first_fit, written_part};
+ghost use Rattle.manifest_schema.specs.Forms.{form, written_part};
 ghost use Rattle.manifest_schema.specs.Contents;
 ghost use Rattle.manifest_schema.specs.Defaults.{no_detail};
 ghost use Rattle.manifest_schema.specs.PartForms.{inherited_rows, detailed_rows, dependency};
@@ -15,7 +15,7 @@ ghost use Rattle.manifest_parts.specs.Refusals.{RefusedIn};
 use crate::error::{Error, read};
 use crate::inherited::{True, has_workspace};
 use manifest_value::fault::here;
-use manifest_value::rows::{fill, optional, put_optional, put_row, required};
+use manifest_value::rows::{optional, put_optional, put_row, required};
 use manifest_value::{Cause, ReadFault, Schema};
 use std::alloc::{AllocError, Global};
 use toml::{Table, Value};
@@ -125,63 +125,20 @@ fn detail_from(alloc: Global, table: &Table) -> Result<DependencyDetail, ReadFau
     ensures ok { IfOk result (λ x. (form detailed_rows).reads (data_table (table_view table.now)) (detail_content x)) }
     ensures fault { IfErr result (FaultIn ((form detailed_rows).faulty (data_table (table_view table.now)))) }
 {
-    let mut x = DependencyDetail::default();
-    match fill_detail(alloc, table, &mut x) {
-        Ok(()) => Ok(x),
-        Err(fault) => Err(fault),
-    }
-}
-
-/// Reads all rows.
-fn fill_detail(alloc: Global, table: &Table, x: &mut DependencyDetail) -> Result<(), ReadFault>
-    ensures ok { OnOk result (first_fit 12 detailed_rows (table_view table.now) (detail_content x.new)) }
-    ensures fault { IfErr result (FaultIn ((form detailed_rows).faulty (data_table (table_view table.now)))) }
-{
-    fill_place(alloc, table, x)?;
-    fill_choice(alloc, table, x)?;
-    Ok(())
-}
-
-/// Reads rows 1 to 6.
-#[tactic(auto, unfolding(manifest_schema::specs::PartForms::detailed_rows))]
-fn fill_place(alloc: Global, table: &Table, x: &mut DependencyDetail) -> Result<(), ReadFault>
-    ensures ok { OnOk result (first_fit 6 detailed_rows (table_view table.now) (detail_content x.new)) }
-    ensures fault { IfErr result (FaultIn ((form detailed_rows).faulty (data_table (table_view table.now)))) }
-{
-    fill(alloc, table, "version", None, &mut x.version)?;
-    fill(alloc, table, "registry", None, &mut x.registry)?;
-    fill(
-        alloc,
-        table,
-        "registry-index",
-        Some("registry_index"),
-        &mut x.registry_index,
-    )?;
-    fill(alloc, table, "path", None, &mut x.path)?;
-    fill(alloc, table, "git", None, &mut x.git)?;
-    fill(alloc, table, "branch", None, &mut x.branch)?;
-    Ok(())
-}
-
-/// Reads rows 7 to 12.
-#[tactic(auto, unfolding(manifest_schema::specs::PartForms::detailed_rows))]
-fn fill_choice(alloc: Global, table: &Table, x: &mut DependencyDetail) -> Result<(), ReadFault>
-    ensures ok { OnOk result (first_fit 6 detailed_rows (table_view table.now) (detail_content x.old) → first_fit 12 detailed_rows (table_view table.now) (detail_content x.new)) }
-    ensures fault { IfErr result (FaultIn ((form detailed_rows).faulty (data_table (table_view table.now)))) }
-{
-    fill(alloc, table, "tag", None, &mut x.tag)?;
-    fill(alloc, table, "rev", None, &mut x.rev)?;
-    fill(alloc, table, "features", None, &mut x.features)?;
-    fill(alloc, table, "optional", None, &mut x.optional)?;
-    fill(
-        alloc,
-        table,
-        "default-features",
-        Some("default_features"),
-        &mut x.default_features,
-    )?;
-    fill(alloc, table, "package", None, &mut x.package)?;
-    Ok(())
+    Ok(DependencyDetail {
+        version: optional(alloc, table, "version", None)?,
+        registry: optional(alloc, table, "registry", None)?,
+        registry_index: optional(alloc, table, "registry-index", Some("registry_index"))?,
+        path: optional(alloc, table, "path", None)?,
+        git: optional(alloc, table, "git", None)?,
+        branch: optional(alloc, table, "branch", None)?,
+        tag: optional(alloc, table, "tag", None)?,
+        rev: optional(alloc, table, "rev", None)?,
+        features: optional(alloc, table, "features", None)?,
+        optional: optional(alloc, table, "optional", None)?,
+        default_features: optional(alloc, table, "default-features", Some("default_features"))?,
+        package: optional(alloc, table, "package", None)?,
+    })
 }
 
 impl Schema for InheritedDependencyDetail {

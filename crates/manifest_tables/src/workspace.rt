@@ -16,7 +16,7 @@ ghost use Rattle.manifest_value.specs.Faults.{FaultIn};
 ghost use Rattle.manifest_value.specs.Entries.{entries_content};
 ghost use Rattle.manifest_parts.specs.Records.{lint_content};
 ghost use Rattle.manifest_parts.specs.Refusals.{RefusedIn};
-ghost use Rattle.cargo_manifest.specs.Whole.{workspace_package_content, workspace_content};
+ghost use Rattle.manifest_tables.specs.Tables.{workspace_package_content, workspace_content};
 
 use manifest_parts::error::{Error, read};
 use manifest_parts::lints::lints_fit;

@@ -3,9 +3,9 @@ use Rattle.std.proofs.lemmas.Bool.{false≢true}
 use Rattle.manifest_schema.specs.Forms.{none_named}
 use Rattle.manifest_schema.specs.PartForms.{profiles_rows}
 use Rattle.manifest_schema.proofs.Exactly.{exactly_both, exactly_neither}
-use Rattle.cargo_manifest.specs.Whole.{profiles_content, NamedAreGood}
-use Rattle.cargo_manifest.proofs.profiles.Profiles.is_well_formed.Goals as goal
-use Rattle.cargo_manifest.proofs.profiles.Profiles.is_well_formed.Goals.{then-named_are_well_formed, else-named_are_well_formed}
+use Rattle.manifest_tables.specs.Tables.{profiles_content, NamedAreGood}
+use Rattle.manifest_tables.proofs.profiles.Profiles.is_well_formed.Goals as goal
+use Rattle.manifest_tables.proofs.profiles.Profiles.is_well_formed.Goals.{then-named_are_well_formed, else-named_are_well_formed}
 
 -- a test that is equal to another tells what the other tells
 exactly_equal : {a b : Bool} → a ≡ b → (IsTrue a ↔ IsTrue b)

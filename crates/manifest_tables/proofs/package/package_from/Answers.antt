@@ -1,5 +1,5 @@
 use Rattle.manifest_schema.specs.ManifestForms.{package_rows}
-use Rattle.cargo_manifest.proofs.package.package_from.Goals as goal
+use Rattle.manifest_tables.proofs.package.package_from.Goals as goal
 
 pub returns-in-Ok-clause-ok : goal.returns-in-Ok-clause-ok
 unfolding package_rows

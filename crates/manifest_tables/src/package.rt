@@ -12,7 +12,7 @@ ghost use Rattle.manifest_schema.proofs.KindLaws.{tree_lawful};
 ghost use Rattle.manifest_schema.proofs.ManifestLaws.{package_lawful};
 ghost use Rattle.manifest_value.specs.Faults.{FaultIn};
 ghost use Rattle.manifest_parts.specs.Refusals.{RefusedIn};
-ghost use Rattle.cargo_manifest.specs.Whole.{package_content};
+ghost use Rattle.manifest_tables.specs.Tables.{package_content};
 
 use manifest_parts::error::{Error, read};
 use manifest_parts::{Edition, MaybeInherited, Publish, Resolver, StringOrBool};
@@ -126,12 +126,12 @@ fn named<M>(name: String) -> Package<M>
     }
 }
 
-/// Reads the rows of a table.
+/// Reads a package from a table: the one reading of the table by the form of a package, as of a value that is this table.
+///
+/// Refuses with the fault of a row, its key path beginning at the table, or with want of memory. The package under an
+/// old header, which is the whole manifest, is read by it.
 #[tactic(auto, unfolding(manifest_schema::specs::ManifestForms::package_rows))]
-pub(crate) fn package_from<M: Metadata>(
-    alloc: Global,
-    table: &Table,
-) -> Result<Package<M>, ReadFault>
+pub fn package_from<M: Metadata>(alloc: Global, table: &Table) -> Result<Package<M>, ReadFault>
     ensures ok { IfOk result (λ x. (form (package_rows (tree_of M.kind))).reads (data_table (table_view table.now)) (package_content (λ m. M.kind.written (M.content m)) x)) }
     ensures fault { IfErr result (FaultIn ((form (package_rows (tree_of M.kind))).faulty (data_table (table_view table.now)))) }
 {

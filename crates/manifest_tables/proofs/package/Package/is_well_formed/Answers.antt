@@ -1,7 +1,7 @@
 use Rattle.manifest_schema.specs.Kinds.{tree_of}
 use Rattle.manifest_schema.proofs.GoodLaws.{package_good, package_metadata_good}
-use Rattle.cargo_manifest.specs.Whole.{package_content}
-use Rattle.cargo_manifest.proofs.package.Package.is_well_formed.Goals as goal
+use Rattle.manifest_tables.specs.Tables.{package_content}
+use Rattle.manifest_tables.proofs.package.Package.is_well_formed.Goals as goal
 
 pub returns : goal.returns
 returns g c =

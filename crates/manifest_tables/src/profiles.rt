@@ -14,7 +14,7 @@ ghost use Rattle.manifest_value.specs.Faults.{FaultIn};
 ghost use Rattle.manifest_value.specs.Entries.{entries_content};
 ghost use Rattle.manifest_parts.specs.Records.{profile_content};
 ghost use Rattle.manifest_parts.specs.Refusals.{RefusedIn};
-ghost use Rattle.cargo_manifest.specs.Whole.{profiles_content, NamedAreGood};
+ghost use Rattle.manifest_tables.specs.Tables.{profiles_content, NamedAreGood};
 
 use manifest_parts::Profile;
 use manifest_parts::error::{Error, read};

@@ -1,7 +1,7 @@
 use Rattle.manifest_schema.specs.Kinds.{tree_of}
 use Rattle.manifest_schema.proofs.GoodLaws.{workspace_good, workspace_metadata_good}
-use Rattle.cargo_manifest.specs.Whole.{workspace_content}
-use Rattle.cargo_manifest.proofs.workspace.Workspace.is_well_formed.Goals as goal
+use Rattle.manifest_tables.specs.Tables.{workspace_content}
+use Rattle.manifest_tables.proofs.workspace.Workspace.is_well_formed.Goals as goal
 
 pub returns : goal.returns
 returns g c =

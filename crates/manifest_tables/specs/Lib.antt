@@ -1,0 +1,3 @@
+pub use Rattle.manifest_schema.specs.Contents
+pub use Rattle.manifest_schema.specs.ManifestForms
+pub mod Tables

@@ -1,0 +1,10 @@
+//! The wide tables of a manifest: the package, the workspace and what it lends, and the profiles.
+#![tactic(auto)]
+
+pub mod package;
+pub mod profiles;
+pub mod workspace;
+
+pub use package::Package;
+pub use profiles::Profiles;
+pub use workspace::{Workspace, WorkspacePackage};
