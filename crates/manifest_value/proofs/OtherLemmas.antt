@@ -4,7 +4,6 @@ use Rattle.std.proofs.lemmas.Cmp.{nat_list_cmp_total}
 use Rattle.std.proofs.lemmas.Map.Text.{is_eq-slice_cmp}
 use Rattle.std.specs.Cmp.Lexicographic.{slice_cmp}
 use Rattle.std.specs.Ordering.{ordering_reverse}
-use Rattle.std.specs.BTreeMap.{insert_entry}
 use Rattle.std.specs.List.{AllByRecursion}
 use Rattle.std.specs.List.Sorted.{IsStrictlySortedBy}
 use Rattle.std.specs.Map.{keys_of}
@@ -44,15 +43,26 @@ pub above_without : (named : List Text) (k : Text) (ms : Members) → IsAbove k 
 above_without named k no_members h = tt
 above_without named k (member l d ms) h = above_kept (is_among named l) k l d (without named ms) (above_without named k ms h.1) h.0
 
--- a key that is above those of the entries goes last
-pub insert_above : {A X : Type 0} (K : Kind A) (f : X → A) (ms : Members) (es : List (String Global × X)) (name : String Global) (k : Text) (v : X)
-    → reads_entries K ms (entries_content f es) → string_bytes name ≡ k → IsAbove k ms → insert_entry string_cmp es name v ≡ es ++ (name, v) ∷ []
-insert_above K f no_members [] name k v r named h = refl
-insert_above K f no_members (e ∷ es) name k v r named h = absurd r
-insert_above K f (member l d ms) [] name k v r named h = absurd r
-insert_above K f (member l d ms) (e ∷ es) name k v r named h =
+pub none_ascend : IsStrictlySortedBy (string_cmp {Z = Global}) []
+unfolding IsStrictlySortedBy
+none_ascend = tt
+
+all_last : {X : Type 0} (first : String Global) (es : List (String Global × X)) (name : String Global) (v : X)
+    → AllByRecursion (λ y. string_cmp first y ≡ Less) (keys_of es) → string_cmp first name ≡ Less → AllByRecursion (λ y. string_cmp first y ≡ Less) (keys_of (es ++ (name, v) ∷ []))
+all_last first [] name v h g = (g, tt)
+all_last first (e ∷ es) name v h g = (h.0, all_last first es name v h.1 g)
+
+-- with a key that is above those of the entries last, the keys ascend
+pub sorted_last : {A X : Type 0} (K : Kind A) (f : X → A) (ms : Members) (es : List (String Global × X)) (name : String Global) (k : Text) (v : X)
+    → reads_entries K ms (entries_content f es) → string_bytes name ≡ k → IsAbove k ms → IsStrictlySortedBy string_cmp (keys_of es) → IsStrictlySortedBy string_cmp (keys_of (es ++ (name, v) ∷ []))
+unfolding IsStrictlySortedBy
+sorted_last K f no_members [] name k v r named h s = (tt, tt)
+sorted_last K f no_members (e ∷ es) name k v r named h s = absurd r
+sorted_last K f (member l d ms) [] name k v r named h s = absurd r
+sorted_last K f (member l d ms) (e ∷ es) name k v r named h s =
     let above : slice_cmp nat_cmp (string_bytes name) (string_bytes e.0) ≡ Greater = rw (named, ← r.0) h.0 in
-    rw above (ap (λ t. e ∷ t) (insert_above K f ms es name k v r.2 named h.1))
+    let below : string_cmp e.0 name ≡ Less = nat_list_cmp_total.antisymm (string_bytes e.0) (string_bytes name) ∙ ap ordering_reverse above in
+    (all_last e.0 es name v s.0 below, sorted_last K f ms es name k v r.2 named h.1 s.1)
 
 -- one more entry is read
 pub reads_last : {A X : Type 0} (K : Kind A) (f : X → A) (ms : Members) (es : List (String Global × X)) (k : Text) (d : Data) (x : String Global × X)

@@ -1,0 +1,16 @@
+use Rattle.std.proofs.Common.{◌≡◌, ◌∙◌, sym, subst}
+use Rattle.std.proofs.lemmas.Iterator.{items_from_drains}
+use Rattle.std.proofs.lemmas.Result.{IfOk-weaker}
+use Rattle.std.proofs.lemmas.Iterator.Adapters.{YieldsList-from_vec}
+use Rattle.std.specs.BTreeMap.{IsFromIterResult}
+use Rattle.std.specs.String.{string_cmp}
+use mathlib.Core.List.{map-id}
+use Rattle.manifest_value.proofs.CollectLemmas.{collected}
+use Rattle.manifest_value.proofs.others.ascending.Goals as goal
+
+pub returns : goal.returns
+returns g c =
+    let es = c.args.entries.items in
+    IfOk-weaker c.from_iter.result _ _ (λ m h.
+    let taken : h.1 ≡ es = sym (map-id h.1) ∙ items_from_drains h.1 h.3 (YieldsList-from_vec es h.2.0 (h.2.1 ∙ c.args.entries.ok.0)) in
+    collected es m c.requires (subst (λ l. IsFromIterResult string_cmp l m) taken h.4)) c.from_iter.ensures.ran
