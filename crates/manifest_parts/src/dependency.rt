@@ -107,6 +107,7 @@ impl Dependency {
 }
 
 /// Reads the rows of a table.
+#[inline(always)]
 #[tactic(auto, unfolding(manifest_schema::specs::PartForms::inherited_rows))]
 fn inherited_from(alloc: Global, table: &Table) -> Result<InheritedDependencyDetail, ReadFault>
     ensures ok { IfOk result (λ x. (form inherited_rows).reads (data_table (table_view table.now)) (inherited_content x)) }
@@ -120,6 +121,7 @@ fn inherited_from(alloc: Global, table: &Table) -> Result<InheritedDependencyDet
 }
 
 /// Reads the rows of a table.
+#[inline(always)]
 #[tactic(auto, unfolding(manifest_schema::specs::PartForms::detailed_rows))]
 fn detail_from(alloc: Global, table: &Table) -> Result<DependencyDetail, ReadFault>
     ensures ok { IfOk result (λ x. (form detailed_rows).reads (data_table (table_view table.now)) (detail_content x)) }
@@ -221,6 +223,7 @@ impl Schema for DependencyDetail {
 }
 
 /// Reads a table, by whether its `workspace` is the boolean true.
+#[inline(always)]
 fn table_dependency(alloc: Global, table: &Table) -> Result<Dependency, ReadFault>
     ensures ok { IfOk result (λ x. dependency.reads (data_table (table_view table.now)) (dependency_content x)) }
     ensures fault { IfErr result (FaultIn (dependency.faulty (data_table (table_view table.now)))) }

@@ -2,6 +2,7 @@ pub mod Behind
 pub mod InsertLemmas
 pub mod EntryLemmas
 pub mod OtherLemmas
+pub mod ReadingLemmas
 pub mod CollectLemmas
 pub mod FloatLemmas
 pub mod TextLemmas

@@ -8,4 +8,5 @@ pub use Rattle.manifest_schema.specs.Lawful
 pub mod Faults
 pub mod Found
 pub mod Entries
+pub mod Others
 pub mod Calls

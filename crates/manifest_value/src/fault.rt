@@ -109,6 +109,7 @@ impl<T: Drop> From<AllocFailed<T>> for ReadFault {
 }
 
 /// The fault at the value itself.
+#[cold]
 pub fn here(alloc: Global, cause: Cause) -> ReadFault
     ensures fault { FaultIn (itself (cause_of cause)) result }
     ensures schema { IsSchema result }
@@ -122,6 +123,7 @@ pub fn here(alloc: Global, cause: Cause) -> ReadFault
 }
 
 /// The fault as it is seen one step further out, or want of memory where the step finds no room.
+#[cold]
 pub fn prefixed(step: Step, fault: ReadFault) -> ReadFault
     ensures { IsBehind (step_of step) fault result }
 {
@@ -136,6 +138,7 @@ pub fn prefixed(step: Step, fault: ReadFault) -> ReadFault
 
 /// The fault as it is seen from the table that has the value at the key, or want of memory where the step finds no
 /// room.
+#[cold]
 #[tactic(auto, using(crate::proofs::Behind::memory_behind))]
 pub fn under_key(alloc: Global, word: &str, fault: ReadFault) -> ReadFault
     ensures { IsBehind (key word.now) fault result }

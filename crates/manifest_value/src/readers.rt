@@ -24,6 +24,7 @@ use toml::{Table, Value};
 /// let value = Value::string(alloc, "serde")?;
 /// let name = text(alloc, &value)?; // "serde"
 /// ```
+#[inline(always)]
 pub fn text(alloc: Global, value: &Value) -> Result<String, ReadFault>
     ensures ok { IfOk result (λ s. text.reads (view value.now) (string_bytes s)) }
     ensures fault { IfErr result (FaultIn (text.faulty (view value.now))) }
@@ -41,6 +42,7 @@ pub fn text(alloc: Global, value: &Value) -> Result<String, ReadFault>
 /// ```ignore
 /// let harness = boolean(alloc, &Value::Boolean(true))?; // true
 /// ```
+#[inline(always)]
 pub fn boolean(alloc: Global, value: &Value) -> Result<bool, ReadFault>
     ensures ok { IfOk result (flag.reads (view value.now)) }
     ensures fault { IfErr result (FaultIn (flag.faulty (view value.now))) }

@@ -15,6 +15,7 @@ use std::alloc::{AllocError, Global};
 use toml::{Table, Value};
 
 /// A fault at a key of the table.
+#[cold]
 #[tactic(auto, using(crate::proofs::Behind::fault_behind))]
 pub fn at_key(alloc: Global, word: &str, cause: Cause) -> ReadFault
     ensures { FaultIn (behind (key word.now) (itself (cause_of cause))) result }
@@ -23,6 +24,7 @@ pub fn at_key(alloc: Global, word: &str, cause: Cause) -> ReadFault
 }
 
 /// The value under a key, with the key before the path of a fault.
+#[inline(always)]
 #[tactic(auto, using(crate::proofs::Behind::fault_behind))]
 pub fn read_under<T: Schema>(alloc: Global, value: &Value, word: &str) -> Result<T, ReadFault>
     ensures ok { IfOk result (λ x. T.kind.reads (view value.now) (T.content x)) }
@@ -35,6 +37,7 @@ pub fn read_under<T: Schema>(alloc: Global, value: &Value, word: &str) -> Result
 }
 
 /// A row that must be there.
+#[inline(always)]
 pub fn required<T: Schema>(
     alloc: Global,
     table: &Table,
@@ -53,6 +56,7 @@ pub fn required<T: Schema>(
 }
 
 /// A row that may be absent.
+#[inline(always)]
 pub fn optional<T: Schema>(
     alloc: Global,
     table: &Table,

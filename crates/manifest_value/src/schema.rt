@@ -44,6 +44,7 @@ impl Schema for String {
 
     ghost kind = { text };
 
+    #[inline(always)]
     fn from_value(alloc: Global, value: &Value) -> Result<String, ReadFault> {
         text(alloc, value)
     }
@@ -62,6 +63,7 @@ impl Schema for bool {
 
     ghost kind = { flag };
 
+    #[inline(always)]
     fn from_value(alloc: Global, value: &Value) -> Result<bool, ReadFault> {
         boolean(alloc, value)
     }
@@ -80,6 +82,7 @@ impl<T: Schema> Schema for Vec<T> {
 
     ghost kind = { list_of T.kind };
 
+    #[inline(always)]
     fn from_value(alloc: Global, value: &Value) -> Result<Vec<T>, ReadFault> {
         list_of(alloc, value, |item| T::from_value(alloc, item))
     }

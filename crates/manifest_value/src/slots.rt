@@ -18,6 +18,7 @@ pub enum Slot<'t, 'k> {
 }
 
 /// The value under a key.
+#[inline(always)]
 pub fn find<'a>(table: &'a Table, key: &str) -> Option<&'a Value>
     ensures { option_map (λ v. view v.now) result ≡ get_member key.now (table_view table.now) }
 {
@@ -25,6 +26,7 @@ pub fn find<'a>(table: &'a Table, key: &str) -> Option<&'a Value>
 }
 
 /// What stands under the spellings of a field.
+#[inline(always)]
 pub fn slot_at<'t, 'k>(table: &'t Table, first: &'k str, second: Option<&'k str>) -> Slot<'t, 'k>
     ensures { slot_view result ≡ at (spellings_of first.now (option_copied second.entry)) (table_view table.now) }
 {

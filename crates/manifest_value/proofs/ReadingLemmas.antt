@@ -1,0 +1,87 @@
+-- Entries that are read of the first members of a table: their keys ascend as the table's do, and they are all where there are
+-- as many as members.
+use Rattle.std.proofs.Common.{◌≡◌, Bool, true, false, List, [], ◌∷◌, length, Option, IfSome, String, Global, Less, nat_cmp, string_bytes, if◌then◌else◌, sym, ap, subst, arith}
+use Rattle.std.specs.Cmp.Lexicographic.{slice_cmp}
+use Rattle.std.specs.Iterator.{Yields}
+use Rattle.std.specs.List.{AllByRecursion}
+use Rattle.std.specs.List.Sorted.{IsStrictlySortedBy}
+use Rattle.std.specs.Map.{keys_of}
+use Rattle.std.specs.String.{string_cmp}
+use Rattle.toml.specs.Data.{Data, Members, no_members, member}
+use Rattle.toml.specs.declared.value.Value.{Value}
+use Rattle.toml.specs.View.{members_view}
+use Rattle.manifest_schema.specs.Paths.{Text}
+use Rattle.manifest_schema.specs.Slots.{is_among, without}
+use Rattle.manifest_schema.specs.Kinds.{Kind, Entries, reads_entries}
+use Rattle.manifest_value.specs.Entries.{entries_content}
+use Rattle.manifest_value.specs.Others.{reads_first, count}
+
+reads_then : {A : Type 0} (K : Kind A) (ms mid rest : Members) (e : Text × A) (es : Entries A) → reads_first K ms (e ∷ []) mid → reads_first K mid es rest → reads_first K ms (e ∷ es) rest
+reads_then K no_members mid rest e es h g = absurd h
+reads_then K (member k d ms) mid rest e es h g = (h.0, h.1, subst (λ x. reads_first K x es rest) (sym h.2) g)
+
+-- the next item is read of the first of the members
+abbrev pub ReadsNext : {A X S : Type 0} → Kind A → (X → A) → (S → Members) → S → Option (String Global × X) → S → Type 0
+ReadsNext K f left s r t = IfSome r (λ e. reads_first K (left s) ((string_bytes e.0, f e.1) ∷ []) (left t))
+
+-- what comes of an iterator, each of whose items is so read, is read of the first members
+pub yields_first : {A X S : Type 0} (K : Kind A) (f : X → A) (left : S → Members) (s : S) (es : List (String Global × X)) (t : S)
+    → Yields (ReadsNext K f left) s es t → reads_first K (left s) (entries_content f es) (left t)
+yields_first K f left s [] t h = ap left h
+yields_first K f left s (e ∷ es) t h = reads_then K (left s) (left h.0) (left t) (string_bytes e.0, f e.1) (entries_content f es) h.1 (yields_first K f left h.0 es t h.2)
+
+-- the key is below each key of the members
+abbrev IsBelow : Text → Members → Type 0
+IsBelow k no_members = Unit {0}
+IsBelow k (member l d ms) = (slice_cmp nat_cmp k l ≡ Less) × IsBelow k ms
+
+-- each key is below those after it
+abbrev pub Ascend : Members → Type 0
+Ascend no_members = Unit {0}
+Ascend (member k d ms) = IsBelow k ms × Ascend ms
+
+below_view : (k : String Global) (es : List (String Global × Value)) → AllByRecursion (λ y. string_cmp k y ≡ Less) (keys_of es) → IsBelow (string_bytes k) (members_view es)
+below_view k [] h = tt
+below_view k (e ∷ es) h = (h.0, below_view k es h.1)
+
+pub ascend_view : (es : List (String Global × Value)) → IsStrictlySortedBy string_cmp (keys_of es) → Ascend (members_view es)
+unfolding IsStrictlySortedBy
+ascend_view [] h = tt
+ascend_view (e ∷ es) h = (below_view e.0 es h.0, ascend_view es h.1)
+
+below_kept : (t : Bool) (k l : Text) (d : Data) (rest : Members) → slice_cmp nat_cmp k l ≡ Less → IsBelow k rest → IsBelow k (if t then rest else member l d rest)
+below_kept true k l d rest g h = h
+below_kept false k l d rest g h = (g, h)
+
+below_without : (names : List Text) (k : Text) (ms : Members) → IsBelow k ms → IsBelow k (without names ms)
+below_without names k no_members h = tt
+below_without names k (member l d ms) h = below_kept (is_among names l) k l d (without names ms) h.0 (below_without names k ms h.1)
+
+ascend_kept : (t : Bool) (l : Text) (d : Data) (rest : Members) → IsBelow l rest → Ascend rest → Ascend (if t then rest else member l d rest)
+ascend_kept true l d rest g h = h
+ascend_kept false l d rest g h = (g, h)
+
+pub ascend_without : (names : List Text) (ms : Members) → Ascend ms → Ascend (without names ms)
+ascend_without names no_members h = tt
+ascend_without names (member l d ms) h = ascend_kept (is_among names l) l d (without names ms) (below_without names l ms h.0) (ascend_without names ms h.1)
+
+all_below : {A X : Type 0} (K : Kind A) (f : X → A) (ms rest : Members) (first : String Global) (es : List (String Global × X))
+    → IsBelow (string_bytes first) ms → reads_first K ms (entries_content f es) rest → AllByRecursion (λ y. string_cmp first y ≡ Less) (keys_of es)
+all_below K f ms rest first [] below h = tt
+all_below K f no_members rest first (e ∷ es) below h = absurd h
+all_below K f (member k d ms) rest first (e ∷ es) below h = (subst (λ l. slice_cmp nat_cmp (string_bytes first) l ≡ Less) h.0 below.0, all_below K f ms rest first es below.1 h.2)
+
+pub first_ascend : {A X : Type 0} (K : Kind A) (f : X → A) (ms rest : Members) (es : List (String Global × X))
+    → Ascend ms → reads_first K ms (entries_content f es) rest → IsStrictlySortedBy string_cmp (keys_of es)
+unfolding IsStrictlySortedBy
+first_ascend K f ms rest [] ascend h = tt
+first_ascend K f no_members rest (e ∷ es) ascend h = absurd h
+first_ascend K f (member k d ms) rest (e ∷ es) ascend h =
+    (all_below K f ms rest e.0 es (subst (λ l. IsBelow l ms) h.0 ascend.0) h.2, first_ascend K f ms rest es ascend.1 h.2)
+
+-- as many as there are members are all of them
+pub all_read : {A X : Type 0} (K : Kind A) (f : X → A) (ms rest : Members) (es : List (String Global × X)) → reads_first K ms (entries_content f es) rest → length es ≡ count ms → reads_entries K ms (entries_content f es)
+all_read K f no_members rest [] h same = tt
+all_read K f no_members rest (e ∷ es) h same = absurd h
+all_read K f (member k d ms) rest [] h same = absurd (omega (arith, same))
+all_read K f (member k d ms) rest (e ∷ es) h same = (h.0, h.1, all_read K f ms rest es h.2 (omega (arith, same)))
