@@ -15,6 +15,7 @@ ghost use Rattle.manifest_parts.specs.Refusals.{RefusedIn};
 use crate::error::{Error, read};
 use crate::inherited::{True, has_workspace};
 use manifest_value::fault::here;
+use manifest_value::keys::Keys;
 use manifest_value::rows::{optional, put_optional, put_row, required};
 use manifest_value::{Cause, ReadFault, Schema};
 use std::alloc::{AllocError, Global};
@@ -120,27 +121,36 @@ fn inherited_from(alloc: Global, table: &Table) -> Result<InheritedDependencyDet
     })
 }
 
-/// Reads the rows of a table.
+/// Reads the rows of a table that has marks of its keys.
 #[inline(always)]
 #[tactic(auto, unfolding(manifest_schema::specs::PartForms::detailed_rows))]
+fn detail_of(alloc: Global, keys: &Keys<'_>) -> Result<DependencyDetail, ReadFault>
+    ensures ok { IfOk result (λ x. (form detailed_rows).reads (data_table (table_view keys.now.table.now)) (detail_content x)) }
+    ensures fault { IfErr result (FaultIn ((form detailed_rows).faulty (data_table (table_view keys.now.table.now)))) }
+{
+    Ok(DependencyDetail {
+        version: optional(alloc, keys, "version", None)?,
+        registry: optional(alloc, keys, "registry", None)?,
+        registry_index: optional(alloc, keys, "registry-index", Some("registry_index"))?,
+        path: optional(alloc, keys, "path", None)?,
+        git: optional(alloc, keys, "git", None)?,
+        branch: optional(alloc, keys, "branch", None)?,
+        tag: optional(alloc, keys, "tag", None)?,
+        rev: optional(alloc, keys, "rev", None)?,
+        features: optional(alloc, keys, "features", None)?,
+        optional: optional(alloc, keys, "optional", None)?,
+        default_features: optional(alloc, keys, "default-features", Some("default_features"))?,
+        package: optional(alloc, keys, "package", None)?,
+    })
+}
+
+/// Reads the rows of a table.
+#[inline(always)]
 fn detail_from(alloc: Global, table: &Table) -> Result<DependencyDetail, ReadFault>
     ensures ok { IfOk result (λ x. (form detailed_rows).reads (data_table (table_view table.now)) (detail_content x)) }
     ensures fault { IfErr result (FaultIn ((form detailed_rows).faulty (data_table (table_view table.now)))) }
 {
-    Ok(DependencyDetail {
-        version: optional(alloc, table, "version", None)?,
-        registry: optional(alloc, table, "registry", None)?,
-        registry_index: optional(alloc, table, "registry-index", Some("registry_index"))?,
-        path: optional(alloc, table, "path", None)?,
-        git: optional(alloc, table, "git", None)?,
-        branch: optional(alloc, table, "branch", None)?,
-        tag: optional(alloc, table, "tag", None)?,
-        rev: optional(alloc, table, "rev", None)?,
-        features: optional(alloc, table, "features", None)?,
-        optional: optional(alloc, table, "optional", None)?,
-        default_features: optional(alloc, table, "default-features", Some("default_features"))?,
-        package: optional(alloc, table, "package", None)?,
-    })
+    detail_of(alloc, &Keys::of(table))
 }
 
 impl Schema for InheritedDependencyDetail {

@@ -3,6 +3,7 @@ pub mod InsertLemmas
 pub mod EntryLemmas
 pub mod OtherLemmas
 pub mod ReadingLemmas
+pub mod MarkLemmas
 pub mod CollectLemmas
 pub mod FloatLemmas
 pub mod TextLemmas

@@ -9,4 +9,5 @@ pub mod Faults
 pub mod Found
 pub mod Entries
 pub mod Others
+pub mod Marks
 pub mod Calls

@@ -5,6 +5,7 @@
 pub mod closures;
 pub mod fault;
 pub mod kept;
+pub mod keys;
 pub mod lenient;
 pub mod maps;
 pub mod metadata;

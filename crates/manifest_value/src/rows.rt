@@ -9,6 +9,7 @@ ghost use Rattle.manifest_schema.specs.Slots.{at, spellings_of, put_some};
 ghost use Rattle.manifest_schema.specs.Needs.{meets_required, meets_optional, meets_default, faulty_required, faulty_free, written_some, written_unless};
 
 use crate::fault::{Cause, ReadFault, here, under_key};
+use crate::keys::Lookup;
 use crate::schema::Schema;
 use crate::slots::{Slot, slot_at};
 use std::alloc::{AllocError, Global};
@@ -38,15 +39,15 @@ pub fn read_under<T: Schema>(alloc: Global, value: &Value, word: &str) -> Result
 
 /// A row that must be there.
 #[inline(always)]
-pub fn required<T: Schema>(
+pub fn required<T: Schema, L: Lookup>(
     alloc: Global,
-    table: &Table,
+    table: &L,
     first: &'static str,
     second: Option<&'static str>,
 ) -> Result<T, ReadFault>
-    ensures ok { IfOk result (λ x. meets_required T.kind (at (spellings_of first.now (option_copied second.entry)) (table_view table.now)) (T.content x)) }
+    ensures ok { IfOk result (λ x. meets_required T.kind (at (spellings_of first.now (option_copied second.entry)) (L.members table.now)) (T.content x)) }
     ensures fault { let spellings = spellings_of first.now (option_copied second.entry) in
-        IfErr result (FaultIn (faulty_required spellings T.kind (at spellings (table_view table.now)))) }
+        IfErr result (FaultIn (faulty_required spellings T.kind (at spellings (L.members table.now)))) }
 {
     match slot_at(table, first, second) {
         Slot::Absent => Err(at_key(alloc, first, Cause::Missing)),
@@ -57,15 +58,15 @@ pub fn required<T: Schema>(
 
 /// A row that may be absent.
 #[inline(always)]
-pub fn optional<T: Schema>(
+pub fn optional<T: Schema, L: Lookup>(
     alloc: Global,
-    table: &Table,
+    table: &L,
     first: &'static str,
     second: Option<&'static str>,
 ) -> Result<Option<T>, ReadFault>
-    ensures ok { IfOk result (λ o. meets_optional T.kind (at (spellings_of first.now (option_copied second.entry)) (table_view table.now)) (option_map T.content o)) }
+    ensures ok { IfOk result (λ o. meets_optional T.kind (at (spellings_of first.now (option_copied second.entry)) (L.members table.now)) (option_map T.content o)) }
     ensures fault { let spellings = spellings_of first.now (option_copied second.entry) in
-        IfErr result (FaultIn (faulty_free spellings T.kind (at spellings (table_view table.now)))) }
+        IfErr result (FaultIn (faulty_free spellings T.kind (at spellings (L.members table.now)))) }
 {
     match slot_at(table, first, second) {
         Slot::Absent => Ok(None),
@@ -75,16 +76,16 @@ pub fn optional<T: Schema>(
 }
 
 /// A row with a value that stands for its absence.
-pub fn or_default<T: Schema>(
+pub fn or_default<T: Schema, L: Lookup>(
     alloc: Global,
-    table: &Table,
+    table: &L,
     first: &'static str,
     second: Option<&'static str>,
     default: T,
 ) -> Result<T, ReadFault>
-    ensures ok { IfOk result (λ x. meets_default (T.content default) T.kind (at (spellings_of first.now (option_copied second.entry)) (table_view table.now)) (T.content x)) }
+    ensures ok { IfOk result (λ x. meets_default (T.content default) T.kind (at (spellings_of first.now (option_copied second.entry)) (L.members table.now)) (T.content x)) }
     ensures fault { let spellings = spellings_of first.now (option_copied second.entry) in
-        IfErr result (FaultIn (faulty_free spellings T.kind (at spellings (table_view table.now)))) }
+        IfErr result (FaultIn (faulty_free spellings T.kind (at spellings (L.members table.now)))) }
 {
     match slot_at(table, first, second) {
         Slot::Absent => Ok(default),
@@ -94,33 +95,33 @@ pub fn or_default<T: Schema>(
 }
 
 /// Reads a row that may be absent into its place.
-pub fn fill<T: Schema>(
+pub fn fill<T: Schema, L: Lookup>(
     alloc: Global,
-    table: &Table,
+    table: &L,
     first: &'static str,
     second: Option<&'static str>,
     place: &mut Option<T>,
 ) -> Result<(), ReadFault>
-    ensures ok { OnOk result (meets_optional T.kind (at (spellings_of first.now (option_copied second.entry)) (table_view table.now)) (option_map T.content place.new)) }
+    ensures ok { OnOk result (meets_optional T.kind (at (spellings_of first.now (option_copied second.entry)) (L.members table.now)) (option_map T.content place.new)) }
     ensures fault { let spellings = spellings_of first.now (option_copied second.entry) in
-        IfErr result (FaultIn (faulty_free spellings T.kind (at spellings (table_view table.now)))) }
+        IfErr result (FaultIn (faulty_free spellings T.kind (at spellings (L.members table.now)))) }
 {
     *place = optional(alloc, table, first, second)?;
     Ok(())
 }
 
 /// Reads a row into its place, or else the value that stands for its absence.
-pub fn fill_default<T: Schema>(
+pub fn fill_default<T: Schema, L: Lookup>(
     alloc: Global,
-    table: &Table,
+    table: &L,
     first: &'static str,
     second: Option<&'static str>,
     default: T,
     place: &mut T,
 ) -> Result<(), ReadFault>
-    ensures ok { OnOk result (meets_default (T.content default) T.kind (at (spellings_of first.now (option_copied second.entry)) (table_view table.now)) (T.content place.new)) }
+    ensures ok { OnOk result (meets_default (T.content default) T.kind (at (spellings_of first.now (option_copied second.entry)) (L.members table.now)) (T.content place.new)) }
     ensures fault { let spellings = spellings_of first.now (option_copied second.entry) in
-        IfErr result (FaultIn (faulty_free spellings T.kind (at spellings (table_view table.now)))) }
+        IfErr result (FaultIn (faulty_free spellings T.kind (at spellings (L.members table.now)))) }
 {
     *place = or_default(alloc, table, first, second, default)?;
     Ok(())

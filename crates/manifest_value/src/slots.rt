@@ -6,6 +6,7 @@ ghost use Rattle.toml.specs.View.{view, table_view};
 ghost use Rattle.manifest_schema.specs.Slots.{at, spellings_of};
 ghost use Rattle.manifest_value.specs.Found.{slot_view};
 
+use crate::keys::Lookup;
 use toml::{Table, Value};
 
 /// What stands under the spellings of a field: nothing, a value under the spelling that is present, or values under
@@ -27,18 +28,22 @@ pub fn find<'a>(table: &'a Table, key: &str) -> Option<&'a Value>
 
 /// What stands under the spellings of a field.
 #[inline(always)]
-pub fn slot_at<'t, 'k>(table: &'t Table, first: &'k str, second: Option<&'k str>) -> Slot<'t, 'k>
-    ensures { slot_view result ≡ at (spellings_of first.now (option_copied second.entry)) (table_view table.now) }
+pub fn slot_at<'t, 'k, L: Lookup>(
+    table: &'t L,
+    first: &'k str,
+    second: Option<&'k str>,
+) -> Slot<'t, 'k>
+    ensures { slot_view result ≡ at (spellings_of first.now (option_copied second.entry)) (L.members table.now) }
 {
     match second {
-        None => match find(table, first) {
+        None => match table.find(first) {
             None => Slot::Absent,
             Some(value) => Slot::One {
                 spelling: first,
                 value,
             },
         },
-        Some(word) => match (find(table, first), find(table, word)) {
+        Some(word) => match (table.find(first), table.find(word)) {
             (None, None) => Slot::Absent,
             (Some(value), None) => Slot::One {
                 spelling: first,
