@@ -11,7 +11,7 @@ use Rattle.std.specs.String.{string_cmp}
 use Rattle.toml.specs.Data.{Data, Members}
 use Rattle.toml.specs.declared.value.Value.{Value}
 use Rattle.toml.specs.View.{view, members_view}
-use Rattle.manifest_schema.specs.Kinds.{Kind, reads_entries, written_entries, has_entry, faulty_entry}
+use Rattle.manifest_schema.specs.Kinds.{Kind, written_entries, has_entry, faulty_entry}
 use Rattle.manifest_schema.specs.Paths.{behind, key}
 use Rattle.manifest_value.specs.Entries.{entries_content}
 use Rattle.manifest_value.specs.Faults.{FaultIn}
@@ -52,15 +52,6 @@ has_entry_within (d ∷ done) e more = inr (has_entry_within done e more)
 -- a fault of a value is a fault of the entries that have it
 pub entry_fault : {A : Type 0} (K : Kind A) (ms : Members) (k : List ℕ) (d : Data) (f : ReadFault) → has_entry k d ms → FaultIn (behind (key k) (K.faulty d)) f → FaultIn (faulty_entry K ms) f
 entry_fault K ms k d f within h = fault_weaker (behind (key k) (K.faulty d)) (faulty_entry K ms) f (λ p c q. (k, d, within, q)) h
-
--- one more entry is read
-pub entries_last : {A X : Type 0} (K : Kind A) (f : X → A) (done : List (String Global × Value)) (e : String Global × Value) (all : List (String Global × X)) (x : String Global × X)
-    → reads_entries K (members_view done) (entries_content f all) → string_bytes e.0 ≡ string_bytes x.0 → K.reads (view e.1) (f x.1)
-    → reads_entries K (members_view (done ++ e ∷ [])) (entries_content f (all ++ x ∷ []))
-entries_last K f [] e [] x h named is = (named, is, tt)
-entries_last K f [] e (y ∷ all) x h named is = absurd h
-entries_last K f (d ∷ done) e [] x h named is = absurd h
-entries_last K f (d ∷ done) e (y ∷ all) x h named is = (h.0, h.1, entries_last K f done e all x h.2 named is)
 
 -- one more entry is written
 pub written_last : {A X : Type 0} (K : Kind A) (f : X → A) (all : List (String Global × Value)) (done : List (String Global × X)) (x : String Global × Value) (e : String Global × X)

@@ -53,6 +53,7 @@ fn next_other<'t>(
 fn count_others(table: &Table, named: &[&'static str]) -> usize
     ensures { result ≡ count (without (map (λ n. n.now) named.now) (table_view table.now)) }
 {
+    // (the length of the table bounds the count)
     let _most = table.len();
     let mut left = table.iter();
     let mut found = 0;
