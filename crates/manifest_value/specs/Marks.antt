@@ -3,7 +3,7 @@ use Rattle.std.specs.Prelude.{ℕ, ◌%◌, Bool, true, false, ◌&&◌, List, [
 use Rattle.toml.specs.Data.{Members, no_members, member}
 use Rattle.manifest_schema.specs.Paths.{Text}
 
--- the place of a key's mark
+-- the place of a key's mark, by its first byte; keys may share one
 abbrev pub place : Text → ℕ
 place [] = 0
 place (byte ∷ bytes) = byte % 32

@@ -26,8 +26,8 @@ impl Lookup for Table {
     }
 }
 
-/// A table, and which first bytes its keys have. Most rows of a form are absent from a table, and for most of these the
-/// marks tell it without a look at the keys.
+/// A table, and marks that its keys leave by their first bytes, at 32 places. Most rows of a form are absent from a
+/// table, and a row is absent where the place of its key has no mark. A mark alone says nothing, as keys may share a place.
 #[derive(Drop)]
 pub struct Keys<'t> {
     pub table: &'t Table,
