@@ -34,13 +34,12 @@ pub fn written<P: Metadata, W: Metadata>(
     alloc: Global,
     read: Result<Manifest<P, W>, Error>,
 ) -> Result<String, AllocError> {
-    let text = match read {
-        Ok(manifest) => manifest.to_toml_string(alloc),
-        Err(error) => Err(error),
-    };
-    match text {
-        Ok(text) => Ok(text),
-        Err(error) => told(alloc, &error),
+    match &read {
+        Ok(manifest) => match manifest.to_toml_string(alloc) {
+            Ok(text) => Ok(text),
+            Err(error) => told(alloc, &error),
+        },
+        Err(error) => told(alloc, error),
     }
 }
 
