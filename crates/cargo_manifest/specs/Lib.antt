@@ -4,3 +4,4 @@ pub use Rattle.manifest_schema.specs.Meaning
 pub mod Whole
 pub mod Answers
 pub mod Completes
+pub mod Taken

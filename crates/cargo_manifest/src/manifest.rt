@@ -18,6 +18,7 @@ ghost use Rattle.manifest_parts.specs.Records.{lints_content};
 ghost use Rattle.manifest_parts.specs.Refusals.{RefusedIn};
 ghost use Rattle.manifest_tables.specs.Tables.{package_content, workspace_content, profiles_content};
 ghost use Rattle.cargo_manifest.specs.Whole.{manifest_content};
+ghost use Rattle.cargo_manifest.specs.Taken.{TakesDependencies, faulty_dependencies, rest};
 
 use manifest_parts::error::{Error, read};
 use manifest_parts::{
@@ -26,6 +27,7 @@ use manifest_parts::{
 use manifest_tables::{Package, Profiles, Workspace};
 use manifest_value::fault::here;
 use manifest_value::rows::{fill, fill_default, put_nonempty, put_optional};
+use manifest_value::taken::take_map;
 use manifest_value::{Cause, Metadata, ReadFault, Schema};
 use std::alloc::{AllocError, Global};
 use toml::{Table, Value};
@@ -159,6 +161,71 @@ pub(crate) fn manifest_from<P: Metadata, W: Metadata>(
     }
 }
 
+/// Reads the rows of a table by value: the tables of dependencies, which are what is long in a manifest, are taken out of
+/// it when their rows come, and the rows after them are read of what is left.
+pub(crate) fn manifest_of<P: Metadata, W: Metadata>(
+    alloc: Global,
+    mut table: Table,
+) -> Result<Manifest<P, W>, ReadFault>
+    ensures ok { IfOk result (λ x. (form (manifest_rows (tree_of P.kind) (tree_of W.kind))).reads (data_table (table_view table)) (manifest_content (λ m. P.kind.written (P.content m)) (λ m. W.kind.written (W.content m)) x)) }
+    ensures fault { IfErr result (FaultIn ((form (manifest_rows (tree_of P.kind) (tree_of W.kind))).faulty (data_table (table_view table)))) }
+{
+    let mut x = Manifest::default(alloc);
+    match fill_taken(alloc, &mut table, &mut x) {
+        Ok(()) => Ok(x),
+        Err(fault) => Err(fault),
+    }
+}
+
+/// Reads all rows, and takes the tables of dependencies.
+fn fill_taken<P: Metadata, W: Metadata>(
+    alloc: Global,
+    table: &mut Table,
+    x: &mut Manifest<P, W>,
+) -> Result<(), ReadFault>
+    ensures ok { OnOk result ((form (manifest_rows (tree_of P.kind) (tree_of W.kind))).reads (data_table (table_view table.old)) (manifest_content (λ m. P.kind.written (P.content m)) (λ m. W.kind.written (W.content m)) x.new)) }
+    ensures fault { IfErr result (FaultIn ((form (manifest_rows (tree_of P.kind) (tree_of W.kind))).faulty (data_table (table_view table.old)))) }
+{
+    fill_header(alloc, table, x)?;
+    let taken = take_dependencies(alloc, table)?;
+    // (the rows of dependencies find nothing any more)
+    match fill_rest(alloc, table, x) {
+        Ok(()) => {
+            x.dependencies = taken.normal;
+            x.dev_dependencies = taken.development;
+            x.build_dependencies = taken.build;
+            Ok(())
+        }
+        Err(fault) => Err(fault),
+    }
+}
+
+/// The dependencies of a manifest by their kinds.
+#[derive(Drop)]
+struct Dependencies {
+    normal: Option<DepsSet>,
+    development: Option<DepsSet>,
+    build: Option<DepsSet>,
+}
+
+/// Takes rows 4 to 6 out of the table.
+fn take_dependencies(alloc: Global, table: &mut Table) -> Result<Dependencies, ReadFault>
+    ensures ok { IfOk result (TakesDependencies (table_view table.old)) }
+    ensures rest { OnOk result (table_view table.new ≡ rest (table_view table.old)) }
+    ensures fault { IfErr result (FaultIn (faulty_dependencies (table_view table.old))) }
+{
+    Ok(Dependencies {
+        normal: take_map(alloc, table, "dependencies", None)?,
+        development: take_map(alloc, table, "dev-dependencies", Some("dev_dependencies"))?,
+        build: take_map(
+            alloc,
+            table,
+            "build-dependencies",
+            Some("build_dependencies"),
+        )?,
+    })
+}
+
 /// Reads all rows.
 fn fill_manifest<P: Metadata, W: Metadata>(
     alloc: Global,
@@ -169,24 +236,51 @@ fn fill_manifest<P: Metadata, W: Metadata>(
     ensures fault { IfErr result (FaultIn ((form (manifest_rows (tree_of P.kind) (tree_of W.kind))).faulty (data_table (table_view table.now)))) }
 {
     fill_header(alloc, table, x)?;
-    fill_features(alloc, table, x)?;
-    fill_settings(alloc, table, x)?;
+    fill_rest(alloc, table, x)?;
     Ok(())
 }
 
-/// Reads rows 1 to 6.
+/// Reads rows 1 to 3.
 #[tactic(auto, unfolding(manifest_schema::specs::ManifestForms::manifest_rows))]
 fn fill_header<P: Metadata, W: Metadata>(
     alloc: Global,
     table: &Table,
     x: &mut Manifest<P, W>,
 ) -> Result<(), ReadFault>
-    ensures ok { OnOk result (first_fit 6 (manifest_rows (tree_of P.kind) (tree_of W.kind)) (table_view table.now) (manifest_content (λ m. P.kind.written (P.content m)) (λ m. W.kind.written (W.content m)) x.new)) }
+    ensures ok { OnOk result (first_fit 3 (manifest_rows (tree_of P.kind) (tree_of W.kind)) (table_view table.now) (manifest_content (λ m. P.kind.written (P.content m)) (λ m. W.kind.written (W.content m)) x.new)) }
     ensures fault { IfErr result (FaultIn ((form (manifest_rows (tree_of P.kind) (tree_of W.kind))).faulty (data_table (table_view table.now)))) }
 {
     fill(alloc, table, "package", None, &mut x.package)?;
     fill(alloc, table, "cargo-features", None, &mut x.cargo_features)?;
     fill(alloc, table, "workspace", None, &mut x.workspace)?;
+    Ok(())
+}
+
+/// Reads the rows after the third.
+fn fill_rest<P: Metadata, W: Metadata>(
+    alloc: Global,
+    table: &Table,
+    x: &mut Manifest<P, W>,
+) -> Result<(), ReadFault>
+    ensures ok { OnOk result (first_fit 3 (manifest_rows (tree_of P.kind) (tree_of W.kind)) (table_view table.now) (manifest_content (λ m. P.kind.written (P.content m)) (λ m. W.kind.written (W.content m)) x.old) → first_fit 17 (manifest_rows (tree_of P.kind) (tree_of W.kind)) (table_view table.now) (manifest_content (λ m. P.kind.written (P.content m)) (λ m. W.kind.written (W.content m)) x.new)) }
+    ensures fault { IfErr result (FaultIn ((form (manifest_rows (tree_of P.kind) (tree_of W.kind))).faulty (data_table (table_view table.now)))) }
+{
+    fill_dependencies(alloc, table, x)?;
+    fill_features(alloc, table, x)?;
+    fill_settings(alloc, table, x)?;
+    Ok(())
+}
+
+/// Reads rows 4 to 6.
+#[tactic(auto, unfolding(manifest_schema::specs::ManifestForms::manifest_rows))]
+fn fill_dependencies<P: Metadata, W: Metadata>(
+    alloc: Global,
+    table: &Table,
+    x: &mut Manifest<P, W>,
+) -> Result<(), ReadFault>
+    ensures ok { OnOk result (first_fit 3 (manifest_rows (tree_of P.kind) (tree_of W.kind)) (table_view table.now) (manifest_content (λ m. P.kind.written (P.content m)) (λ m. W.kind.written (W.content m)) x.old) → first_fit 6 (manifest_rows (tree_of P.kind) (tree_of W.kind)) (table_view table.now) (manifest_content (λ m. P.kind.written (P.content m)) (λ m. W.kind.written (W.content m)) x.new)) }
+    ensures fault { IfErr result (FaultIn ((form (manifest_rows (tree_of P.kind) (tree_of W.kind))).faulty (data_table (table_view table.now)))) }
+{
     fill(alloc, table, "dependencies", None, &mut x.dependencies)?;
     fill(
         alloc,

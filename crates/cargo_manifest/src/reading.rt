@@ -1,18 +1,18 @@
 //! A manifest from bytes or from a text.
 
-ghost use Rattle.std.specs.Prelude.{◌≡◌, codes, IfOk, IfErr, IsUtf8};
+ghost use Rattle.std.specs.Prelude.{◌≡◌, false, codes, IfOk, IfErr, IsUtf8};
 ghost use Rattle.toml.specs.Data.{get_member};
 ghost use Rattle.toml.specs.View.{view, table_view};
 ghost use Rattle.manifest_schema.specs.Forms.{form};
 ghost use Rattle.manifest_schema.specs.Kinds.{kept, tree_of};
 ghost use Rattle.manifest_schema.specs.ManifestForms.{package_rows};
-ghost use Rattle.manifest_schema.specs.Meaning.{has, has_header, old_package, faulty_old, means, unmeant};
+ghost use Rattle.manifest_schema.specs.Meaning.{has, has_header, old_package, faulty_old, means, means_by, unmeant, unmeant_by};
 ghost use Rattle.manifest_value.specs.Faults.{FaultIn};
 ghost use Rattle.manifest_tables.specs.Tables.{package_content};
 ghost use Rattle.cargo_manifest.specs.Whole.{manifest_content};
 ghost use Rattle.cargo_manifest.specs.Answers.{IsDocumentOf, Refuses, RefusesText};
 
-use crate::manifest::{Manifest, manifest_from};
+use crate::manifest::{Manifest, manifest_from, manifest_of};
 use manifest_parts::error::refusal;
 use manifest_parts::{Error, ParseFault};
 use manifest_tables::Package;
@@ -51,23 +51,19 @@ fn read_old_package<P: Metadata>(alloc: Global, table: &Table) -> Result<Package
     }
 }
 
-/// The manifest that a table means. Where it has neither `package` nor `workspace`, its package is that of `project`,
-/// or else of the whole table.
-fn read_table<P: Metadata, W: Metadata>(
+/// The manifest that a table without a header means: its package is that of `project`, or else of the whole table.
+fn read_headless<P: Metadata, W: Metadata>(
     alloc: Global,
     table: &Table,
 ) -> Result<Manifest<P, W>, ReadFault>
-    ensures ok { IfOk result (λ m. means (tree_of P.kind) (tree_of W.kind) (table_view table.now)
+    ensures ok { IfOk result (λ m. means_by (tree_of P.kind) (tree_of W.kind) false (table_view table.now)
         (manifest_content (λ m. P.kind.written (P.content m)) (λ m. W.kind.written (W.content m)) m)) }
-    ensures fault { IfErr result (FaultIn (unmeant (tree_of P.kind) (tree_of W.kind) (table_view table.now))) }
+    ensures fault { IfErr result (FaultIn (unmeant_by (tree_of P.kind) (tree_of W.kind) false (table_view table.now))) }
 {
     let mut manifest = match manifest_from(alloc, table) {
         Ok(manifest) => manifest,
         Err(fault) => return Err(fault),
     };
-    if has_package_or_workspace(table) {
-        return Ok(manifest);
-    }
     match read_old_package(alloc, table) {
         Ok(package) => {
             drop(manifest.package.replace(package));
@@ -77,6 +73,22 @@ fn read_table<P: Metadata, W: Metadata>(
             drop(manifest);
             Err(fault)
         }
+    }
+}
+
+/// The manifest that a table means, with or without a header.
+fn read_table<P: Metadata, W: Metadata>(
+    alloc: Global,
+    table: Table,
+) -> Result<Manifest<P, W>, ReadFault>
+    ensures ok { IfOk result (λ m. means (tree_of P.kind) (tree_of W.kind) (table_view table)
+        (manifest_content (λ m. P.kind.written (P.content m)) (λ m. W.kind.written (W.content m)) m)) }
+    ensures fault { IfErr result (FaultIn (unmeant (tree_of P.kind) (tree_of W.kind) (table_view table))) }
+{
+    if has_package_or_workspace(&table) {
+        manifest_of(alloc, table)
+    } else {
+        read_headless(alloc, &table)
     }
 }
 
@@ -93,7 +105,7 @@ fn read_text<P: Metadata, W: Metadata>(alloc: Global, text: &str) -> Result<Mani
             Err(refused) => return Err(Error::Memory(AllocError::from(refused))),
         },
     };
-    match read_table(alloc, &table) {
+    match read_table(alloc, table) {
         Ok(manifest) => Ok(manifest),
         Err(fault) => Err(refusal(fault)),
     }

@@ -36,6 +36,22 @@ const DOCUMENTS: &[(&[u8], &str)] = &[
     ),
     (b"dependencies = 1\n[project]", "wrong kind at dependencies"),
     (
+        b"bin = {}\n[package]\nname = 'p'\n[dependencies]\na = 1",
+        "wrong kind at dependencies.a",
+    ),
+    (
+        b"[package]\nname = 1\n[dev-dependencies]\n[dev_dependencies]",
+        "wrong kind at package.name",
+    ),
+    (
+        b"[package]\nname = 'p'\n[dependencies]\na = 1\n[dev-dependencies]\n[dev_dependencies]",
+        "wrong kind at dependencies.a",
+    ),
+    (
+        b"bin = {}\n[package]\nname = 'p'\n[build-dependencies]\n[build_dependencies]",
+        "two spellings at build-dependencies",
+    ),
+    (
         b"example = 1\ntest = 1\nbench = 1\nbin = 1\n[package]\nname = 'p'",
         "wrong kind at bin",
     ),

@@ -3,6 +3,7 @@ pub mod KindLaws
 pub mod TableLaws
 pub mod NeedLaws
 pub mod FormLaws
+pub mod WithoutLaws
 pub mod Totals
 pub mod ChoiceLaws
 pub mod RowLaws

@@ -40,7 +40,7 @@ passed Greater a b h = refl
 pub get-member_other : (j l : Text) (e : Data) (ms : Members) → same_key j l ≡ false → get_member j (member l e ms) ≡ get_member j ms
 get-member_other j l e ms h = passed (slice_cmp nat_cmp j l) (get_member j ms) (Some e) h
 
-get-member_same : (k : Text) (e : Data) (ms : Members) → get_member k (member k e ms) ≡ Some e
+pub get-member_same : (k : Text) (e : Data) (ms : Members) → get_member k (member k e ms) ≡ Some e
 get-member_same k e ms = rw (tied_itself nat_list_cmp_total k)
 
 get-put_same_at : (o : Ordering) (k l : Text) (d e : Data) (ms : Members) → o ≡ slice_cmp nat_cmp k l → get_member k (put k d ms) ≡ Some d

@@ -9,3 +9,4 @@ pub mod FloatLemmas
 pub mod TextLemmas
 pub mod CallLemmas
 pub mod KindCalls
+pub mod TakenLemmas

@@ -31,7 +31,7 @@ yields_first K f left s [] t h = ap left h
 yields_first K f left s (e ∷ es) t h = reads_then K (left s) (left h.0) (left t) (string_bytes e.0, f e.1) (entries_content f es) h.1 (yields_first K f left h.0 es t h.2)
 
 -- the key is below each key of the members
-abbrev IsBelow : Text → Members → Type 0
+abbrev pub IsBelow : Text → Members → Type 0
 IsBelow k no_members = Unit {0}
 IsBelow k (member l d ms) = (slice_cmp nat_cmp k l ≡ Less) × IsBelow k ms
 

@@ -17,6 +17,7 @@ pub mod readers;
 pub mod rows;
 pub mod schema;
 pub mod slots;
+pub mod taken;
 pub mod well_formed;
 pub mod writers;
 
