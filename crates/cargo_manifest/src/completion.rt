@@ -70,6 +70,11 @@ impl<P: Metadata> Manifest<P, Value> {
     /// Whether found binaries are added to `bin`: as the package's `autobins` says, and where it says nothing, unless the
     /// edition is absent or 2015 and there is a binary. False without a package. See the
     /// [Cargo reference](https://doc.rust-lang.org/cargo/reference/cargo-targets.html#target-auto-discovery).
+    ///
+    /// ```ignore
+    /// let manifest = Manifest::from_str(alloc, "[package]\nname = 'a'\nautobins = false")?;
+    /// let adds = manifest.autobins(); // false
+    /// ```
     pub fn autobins(&self) -> bool
         ensures { result ≡ autobins (manifest_content (λ m. P.kind.written (P.content m)) view self.now) }
     {
@@ -80,6 +85,10 @@ impl<P: Metadata> Manifest<P, Value> {
     }
 
     /// Whether found examples are added to `example`, as [`Manifest::autobins`] says of binaries.
+    ///
+    /// ```ignore
+    /// let adds = manifest.autoexamples();
+    /// ```
     pub fn autoexamples(&self) -> bool
         ensures { result ≡ autoexamples (manifest_content (λ m. P.kind.written (P.content m)) view self.now) }
     {
@@ -94,6 +103,10 @@ impl<P: Metadata> Manifest<P, Value> {
     }
 
     /// Whether found tests are added to `test`, as [`Manifest::autobins`] says of binaries.
+    ///
+    /// ```ignore
+    /// let adds = manifest.autotests();
+    /// ```
     pub fn autotests(&self) -> bool
         ensures { result ≡ autotests (manifest_content (λ m. P.kind.written (P.content m)) view self.now) }
     {
@@ -104,6 +117,10 @@ impl<P: Metadata> Manifest<P, Value> {
     }
 
     /// Whether found benches are added to `bench`, as [`Manifest::autobins`] says of binaries.
+    ///
+    /// ```ignore
+    /// let adds = manifest.autobenches();
+    /// ```
     pub fn autobenches(&self) -> bool
         ensures { result ≡ autobenches (manifest_content (λ m. P.kind.written (P.content m)) view self.now) }
     {
@@ -127,6 +144,14 @@ impl<P: Metadata> Manifest<P, Value> {
     /// where a listing of a target folder or of an entry finds no memory, and where `.` has a fault; with [`Error::Other`]
     /// where a declared library has no file; and with [`Error::Memory`] where memory is wanting. After a refusal the manifest
     /// is what it was.
+    ///
+    /// ```ignore
+    /// let mut names = BTreeSet::new(alloc);
+    /// names.insert(String::from_str(alloc, "main.rs")?)?;
+    /// let mut listings = Listings::new(alloc);
+    /// listings.put(alloc, "src", Listing::Names(names))?;
+    /// manifest.complete_from_abstract_filesystem(alloc, &listings)?; // one binary, at `src/main.rs`
+    /// ```
     pub fn complete_from_abstract_filesystem<FS: AbstractFilesystem>(
         &mut self,
         alloc: Global,

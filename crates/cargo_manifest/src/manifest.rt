@@ -58,6 +58,11 @@ pub struct Manifest<P = Value, W = Value> {
 impl<P: Metadata, W: Metadata> Manifest<P, W> {
     /// The one reading of the value by the form of a manifest, without old headers. Refuses a value that is no table with
     /// `WrongKind`, and else with the fault of a row, its key path beginning at the table.
+    ///
+    /// ```ignore
+    /// let value = Value::from_str(alloc, "{ package = { name = 'a' } }")?;
+    /// let manifest = Manifest::<Value, Value>::from_value(alloc, &value)?;
+    /// ```
     pub fn from_value(alloc: Global, value: &Value) -> Result<Manifest<P, W>, Error>
         ensures ok { IfOk result (λ x. (form (manifest_rows (tree_of P.kind) (tree_of W.kind))).reads (view value.now) (manifest_content (λ m. P.kind.written (P.content m)) (λ m. W.kind.written (W.content m)) x)) }
         ensures refused { IfErr result (RefusedIn ((form (manifest_rows (tree_of P.kind) (tree_of W.kind))).faulty (view value.now))) }
@@ -68,6 +73,12 @@ impl<P: Metadata, W: Metadata> Manifest<P, W> {
     /// Whether the manifest can be written and read back: its package, its workspace, its profiles and its lints, where they
     /// are there, are well-formed. All else always is. With a custom profile `dev`, or a tool of lints named `workspace`, it is
     /// not well-formed.
+    ///
+    /// ```ignore
+    /// if manifest.is_well_formed() {
+    ///     let text = manifest.to_toml_string(alloc)?; // is read back as this manifest, where it is at most 80 deep
+    /// }
+    /// ```
     pub fn is_well_formed(&self) -> bool
         ensures { IsTrue result ↔ (form (manifest_rows (tree_of P.kind) (tree_of W.kind))).good (manifest_content (λ m. P.kind.written (P.content m)) (λ m. W.kind.written (W.content m)) self.now) }
     {
@@ -120,6 +131,11 @@ fn lints_are_well_formed(lints: &Option<MaybeInheritedLintsSet>) -> bool
 
 impl<P, W> Manifest<P, W> {
     /// A manifest with nothing in it: every option is `None`, and every list is empty.
+    ///
+    /// ```ignore
+    /// let mut manifest = Manifest::<Value, Value>::default(alloc);
+    /// manifest.package = Some(package);
+    /// ```
     pub fn default(alloc: Global) -> Manifest<P, W>
         ensures { (f : P → Data) (g : W → Data) → manifest_content f g result ≡ empty_manifest }
     {
@@ -146,7 +162,6 @@ impl<P, W> Manifest<P, W> {
 }
 
 /// Reads the rows of a table.
-#[tactic(auto, unfolding(manifest_schema::specs::ManifestForms::manifest_rows))]
 pub(crate) fn manifest_from<P: Metadata, W: Metadata>(
     alloc: Global,
     table: &Table,
@@ -155,10 +170,7 @@ pub(crate) fn manifest_from<P: Metadata, W: Metadata>(
     ensures fault { IfErr result (FaultIn ((form (manifest_rows (tree_of P.kind) (tree_of W.kind))).faulty (data_table (table_view table.now)))) }
 {
     let mut x = Manifest::default(alloc);
-    match fill_manifest(alloc, table, &mut x) {
-        Ok(()) => Ok(x),
-        Err(fault) => Err(fault),
-    }
+    fill_manifest(alloc, table, &mut x).and(Ok(x))
 }
 
 /// Reads the rows of a table by value: the tables of dependencies, which are what is long in a manifest, are taken out of
@@ -171,10 +183,7 @@ pub(crate) fn manifest_of<P: Metadata, W: Metadata>(
     ensures fault { IfErr result (FaultIn ((form (manifest_rows (tree_of P.kind) (tree_of W.kind))).faulty (data_table (table_view table)))) }
 {
     let mut x = Manifest::default(alloc);
-    match fill_taken(alloc, &mut table, &mut x) {
-        Ok(()) => Ok(x),
-        Err(fault) => Err(fault),
-    }
+    fill_taken(alloc, &mut table, &mut x).and(Ok(x))
 }
 
 /// Reads all rows, and takes the tables of dependencies.
@@ -227,12 +236,13 @@ fn take_dependencies(alloc: Global, table: &mut Table) -> Result<Dependencies, R
 }
 
 /// Reads all rows.
+#[tactic(auto, unfolding(manifest_schema::specs::ManifestForms::manifest_rows))]
 fn fill_manifest<P: Metadata, W: Metadata>(
     alloc: Global,
     table: &Table,
     x: &mut Manifest<P, W>,
 ) -> Result<(), ReadFault>
-    ensures ok { OnOk result (first_fit 17 (manifest_rows (tree_of P.kind) (tree_of W.kind)) (table_view table.now) (manifest_content (λ m. P.kind.written (P.content m)) (λ m. W.kind.written (W.content m)) x.new)) }
+    ensures ok { OnOk result ((form (manifest_rows (tree_of P.kind) (tree_of W.kind))).reads (data_table (table_view table.now)) (manifest_content (λ m. P.kind.written (P.content m)) (λ m. W.kind.written (W.content m)) x.new)) }
     ensures fault { IfErr result (FaultIn ((form (manifest_rows (tree_of P.kind) (tree_of W.kind))).faulty (data_table (table_view table.now)))) }
 {
     fill_header(alloc, table, x)?;

@@ -120,6 +120,10 @@ impl<P: Metadata> Manifest<P, Value> {
     /// memory is [`Error::Memory`], or a memory fault inside `ParseFault::Toml`.
     ///
     /// Nothing is completed from folders.
+    ///
+    /// ```ignore
+    /// let manifest = Manifest::<Score>::from_slice_with_metadata(alloc, bytes)?; // for a type `Score: Metadata`
+    /// ```
     pub fn from_slice_with_metadata(
         alloc: Global,
         bytes: &[u8],
@@ -137,6 +141,11 @@ impl<P: Metadata> Manifest<P, Value> {
 
 impl Manifest<Value, Value> {
     /// Reads the bytes of a `Cargo.toml`: [`Manifest::from_slice_with_metadata`] with metadata kept as it is.
+    ///
+    /// ```ignore
+    /// let manifest = Manifest::from_slice(alloc, b"[package]\nname = 'a'\nversion = '1.0.0'")?;
+    /// let refused = Manifest::from_slice(alloc, b"[package]\nname = 1"); // `wrong kind at package.name`
+    /// ```
     pub fn from_slice(alloc: Global, bytes: &[u8]) -> Result<Manifest<Value, Value>, Error>
         ensures ok { IfOk result (λ m. IsUtf8 bytes.now × IsDocumentOf (tree_of kept) (tree_of kept) bytes.now (manifest_content view view m)) }
         ensures refused { IfErr result (Refuses (tree_of kept) (tree_of kept) bytes.now) }
@@ -145,6 +154,10 @@ impl Manifest<Value, Value> {
     }
 
     /// Reads the text of a `Cargo.toml`, as [`Manifest::from_slice`] does its bytes.
+    ///
+    /// ```ignore
+    /// let manifest = Manifest::from_str(alloc, "[workspace]\nmembers = ['a']")?;
+    /// ```
     pub fn from_str(alloc: Global, text: &str) -> Result<Manifest<Value, Value>, Error>
         ensures ok { IfOk result (λ m. IsDocumentOf (tree_of kept) (tree_of kept) text.now (manifest_content view view m)) }
         ensures refused { IfErr result (RefusesText (tree_of kept) (tree_of kept) text.now) }

@@ -21,6 +21,11 @@ impl<P: Metadata, W: Metadata> Manifest<P, W> {
     ///
     /// A table that is at most 80 deep, as `toml` counts, is read back from it. Refuses a table with a date-time that
     /// `toml` counts as invalid with [`Error::Other`] of [`INVALID_DATE`], and else only for want of memory.
+    ///
+    /// ```ignore
+    /// let manifest = Manifest::from_str(alloc, "name = 'a'")?; // an old header
+    /// let text = manifest.to_toml_string(alloc)?; // "[package]\nname = \"a\"\n"
+    /// ```
     pub fn to_toml_string(&self, alloc: Global) -> Result<String, Error>
         ensures reads_back { let ms = rewritten (tree_of P.kind) (tree_of W.kind) (manifest_content (λ m. P.kind.written (P.content m)) (λ m. W.kind.written (W.content m)) self.now) in
             IfOk result (λ s. members_depth ms ≤ 80 → parse_document (string_bytes s) ≡ Some ms) }

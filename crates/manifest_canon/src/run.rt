@@ -95,6 +95,10 @@ fn tell<E: Write>(alloc: Global, errors: &mut E, error: &Error) {
 }
 
 /// Writes the usage line, and answers the status of wrong words, 2.
+///
+/// ```ignore
+/// let status = refuse_words(errors); // 2
+/// ```
 pub fn refuse_words<E: Write>(errors: &mut E) -> u8
     ensures { result ≡ 2 }
 {
@@ -108,6 +112,10 @@ pub fn refuse_words<E: Write>(errors: &mut E) -> u8
 /// The lines are `error: toml`, `error: schema: CAUSE at PATH`, `error: io`, `error: utf8`, `error: memory` and
 /// `error: other: TEXT`. A fault of `input` or of `output` is `error: io`; an input that has not ended after
 /// 4,294,967,295 reads is one. A fault of `errors` changes no status.
+///
+/// ```ignore
+/// let status = run(alloc, &[], &mut input, &mut output, &mut errors);
+/// ```
 #[tactic(auto, using(crate::proofs::Printing::none_printed, crate::proofs::Printing::none_kept))]
 pub fn run<R: Read, W: Write, E: Write>(
     alloc: Global,

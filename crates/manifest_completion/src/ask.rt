@@ -15,6 +15,10 @@ use std::io;
 use std::io::ErrorKind;
 
 /// `folder/name`.
+///
+/// ```ignore
+/// let path = join(alloc, "src/bin", "a.rs")?; // "src/bin/a.rs"
+/// ```
 pub fn join(alloc: Global, folder: &str, name: &str) -> Result<String, AllocError>
     ensures { IfOk result (λ s. string_bytes s ≡ joined folder.now name.now) }
 {
@@ -59,6 +63,10 @@ fn names_differ(names: &BTreeSet<String>)
 }
 
 /// Asks at a path.
+///
+/// ```ignore
+/// let names = ask(alloc, &listings, "src");
+/// ```
 #[tactic(auto, using(crate::proofs::AskLemmas::none_distinct))]
 pub fn ask<FS: AbstractFilesystem>(
     alloc: Global,
@@ -136,6 +144,12 @@ impl FolderAnswers {
 
 impl Answers {
     /// Whether one of them found no memory.
+    ///
+    /// ```ignore
+    /// if answers.found_no_memory() {
+    ///     return Err(AllocError);
+    /// }
+    /// ```
     pub fn found_no_memory(&self) -> bool
         ensures { result ≡ some_found_no_memory self.now }
     {
@@ -177,6 +191,10 @@ fn ask_root_if<FS: AbstractFilesystem>(
 
 /// Asks at the folders of targets, at their entries and, where it is to be asked, at the folder of the manifest, up to a
 /// first answer that found no memory.
+///
+/// ```ignore
+/// let answers = ask_folders(alloc, &listings, true)?; // `.` is asked too
+/// ```
 pub fn ask_folders<FS: AbstractFilesystem>(
     alloc: Global,
     fs: &FS,

@@ -63,6 +63,10 @@ pub struct CompletedLists {
 
 /// Whether targets are discovered in the old way: the edition is absent, or 2015 and the package's own. One that the
 /// workspace lends is not 2015, whatever the workspace says.
+///
+/// ```ignore
+/// let legacy = is_legacy(&None); // true: a package without an edition is of 2015
+/// ```
 pub fn is_legacy(edition: &Option<MaybeInherited<Edition>>) -> bool
     ensures { result ≡ is_legacy (option_map (inh_content edition_content) edition.now) }
 {
@@ -74,6 +78,10 @@ pub fn is_legacy(edition: &Option<MaybeInherited<Edition>>) -> bool
 }
 
 /// The edition of the package's own.
+///
+/// ```ignore
+/// let edition = own_edition(&Some(MaybeInherited::Local(Edition::E2021))); // `Some(E2021)`
+/// ```
 pub fn own_edition(edition: &Option<MaybeInherited<Edition>>) -> Option<Edition>
     ensures { option_map edition_content result ≡ own_edition (option_map (inh_content edition_content) edition.now) }
 {
@@ -85,6 +93,10 @@ pub fn own_edition(edition: &Option<MaybeInherited<Edition>>) -> Option<Edition>
 
 /// Whether found targets are added to a list: as the package says, and where it says nothing, unless targets are
 /// discovered in the old way and the list has one.
+///
+/// ```ignore
+/// let adds = discovers(None, false, &declared); // true: the package says nothing, and it is not the old way
+/// ```
 pub fn discovers(own: Option<bool>, legacy: bool, list: &[Product]) -> bool
     ensures { result ≡ discovers (option_map (λ b. b) own) legacy (map product_content list.now) }
 {
@@ -288,6 +300,11 @@ fn completed_lists(
 /// Refuses with `Io` where `src` has another fault than that it is not there, where a folder of targets or an entry of
 /// one finds no memory, and where the folder of the manifest is asked and has a fault; with `Other` where a declared
 /// library has no file; and with `Memory` where memory is wanting.
+///
+/// ```ignore
+/// let completed = complete(alloc, &listings, &declared)?;
+/// manifest.bin = completed.bin;
+/// ```
 pub fn complete<FS: AbstractFilesystem>(
     alloc: Global,
     fs: &FS,

@@ -30,6 +30,10 @@ pub struct Listings {
 
 impl Listings {
     /// A filesystem without any folder.
+    ///
+    /// ```ignore
+    /// let listings = Listings::new(alloc); // each path is `NotFound`
+    /// ```
     pub fn new(alloc: Global) -> Listings
         ensures { (path : List ℕ) → stored_at result.listed path ≡ fault NotFound }
     {
@@ -39,6 +43,12 @@ impl Listings {
     }
 
     /// Puts a listing at a path, in place of one that is there. Where it finds no memory nothing changes.
+    ///
+    /// ```ignore
+    /// let mut names = BTreeSet::new(alloc);
+    /// names.insert(String::from_str(alloc, "lib.rs")?)?;
+    /// listings.put(alloc, "src", Listing::Names(names))?;
+    /// ```
     pub fn put(&mut self, alloc: Global, path: &str, listing: Listing) -> Result<(), AllocError>
         ensures put { OnOk result ((at : List ℕ) → stored_at self.new.listed at ≡ (if bytes_eq path.now at then stored_answer (Some listing) else stored_at self.old.listed at)) }
         ensures refused { OnErr result (self.new.listed.entries ≡ self.old.listed.entries) }

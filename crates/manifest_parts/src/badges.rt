@@ -60,6 +60,11 @@ pub struct Badges {
 impl Badge {
     /// The one reading of the value by the form of a badge. Refuses a value that is no table with `WrongKind`, and else
     /// with the fault of a row: a badge alone is not lenient.
+    ///
+    /// ```ignore
+    /// let value = Value::from_str(alloc, "{ repository = 'a/b' }")?;
+    /// let badge = Badge::from_value(alloc, &value)?; // its branch is `master`
+    /// ```
     pub fn from_value(alloc: Global, value: &Value) -> Result<Badge, Error>
         ensures ok { IfOk result (λ x. (form badge_rows).reads (view value.now) (badge_content x)) }
         ensures refused { IfErr result (RefusedIn ((form badge_rows).faulty (view value.now))) }
@@ -71,6 +76,11 @@ impl Badge {
 impl Maintenance {
     /// The one reading of the value by the form of a maintenance. Refuses a value that is no table with `WrongKind`, and
     /// else with the fault of its row: a maintenance alone is not lenient.
+    ///
+    /// ```ignore
+    /// let value = Value::from_str(alloc, "{ status = 'as-is' }")?;
+    /// let maintenance = Maintenance::from_value(alloc, &value)?; // its status is `AsIs`
+    /// ```
     pub fn from_value(alloc: Global, value: &Value) -> Result<Maintenance, Error>
         ensures ok { IfOk result (λ x. (form maintenance_rows).reads (view value.now) (maintenance_content x)) }
         ensures refused { IfErr result (RefusedIn ((form maintenance_rows).faulty (view value.now))) }
@@ -81,6 +91,11 @@ impl Maintenance {
 
 impl Badges {
     /// The one reading of the value by the form of badges. Refuses only a value that is no table, with `WrongKind`.
+    ///
+    /// ```ignore
+    /// let value = Value::from_str(alloc, "{ gitlab = 1, codecov = { repository = 'a/b' } }")?;
+    /// let badges = Badges::from_value(alloc, &value)?; // `gitlab` is `None`, `codecov` is there
+    /// ```
     pub fn from_value(alloc: Global, value: &Value) -> Result<Badges, Error>
         ensures ok { IfOk result (λ x. (form badges_rows).reads (view value.now) (badges_content x)) }
         ensures refused { IfErr result (RefusedIn ((form badges_rows).faulty (view value.now))) }
@@ -127,10 +142,7 @@ fn badges_from(alloc: Global, table: &Table) -> Result<Badges, AllocError>
     ensures { IfOk result (λ x. (form badges_rows).reads (data_table (table_view table.now)) (badges_content x)) }
 {
     let mut x = Badges::default();
-    match fill_badges(alloc, table, &mut x) {
-        Ok(()) => Ok(x),
-        Err(refused) => Err(refused),
-    }
+    fill_badges(alloc, table, &mut x).and(Ok(x))
 }
 
 /// Reads all rows.

@@ -25,6 +25,10 @@ pub enum Edition {
 
 impl Edition {
     /// The text that stands for it.
+    ///
+    /// ```ignore
+    /// let text = Edition::E2021.as_str(); // "2021"
+    /// ```
     pub fn as_str(&self) -> &'static str
         ensures { result.now ≡ edition_text (edition_content self.now) }
     {
@@ -38,6 +42,11 @@ impl Edition {
 
     /// The one reading of the value: one of the texts. Refuses a value that is no text with `WrongKind`, and another
     /// text with `NotAChoice`, both at the empty path.
+    ///
+    /// ```ignore
+    /// let value = Value::from_str(alloc, "'2021'")?;
+    /// let edition = Edition::from_value(alloc, &value)?; // `E2021`
+    /// ```
     pub fn from_value(alloc: Global, value: &Value) -> Result<Edition, Error>
         ensures ok { IfOk result (λ x. edition.reads (view value.now) (edition_content x)) }
         ensures refused { IfErr result (RefusedIn (edition.faulty (view value.now))) }
@@ -108,6 +117,11 @@ impl Resolver {
 
     /// The one reading of the value: one of the texts. Refuses a value that is no text with `WrongKind`, and another
     /// text with `NotAChoice`, both at the empty path.
+    ///
+    /// ```ignore
+    /// let value = Value::from_str(alloc, "'2'")?;
+    /// let resolver = Resolver::from_value(alloc, &value)?; // `V2`
+    /// ```
     pub fn from_value(alloc: Global, value: &Value) -> Result<Resolver, Error>
         ensures ok { IfOk result (λ x. resolver.reads (view value.now) (resolver_content x)) }
         ensures refused { IfErr result (RefusedIn (resolver.faulty (view value.now))) }
@@ -162,6 +176,10 @@ pub enum LintLevel {
 
 impl LintLevel {
     /// The text that stands for it.
+    ///
+    /// ```ignore
+    /// let text = LintLevel::Deny.as_str(); // "deny"
+    /// ```
     pub fn as_str(&self) -> &'static str
         ensures { result.now ≡ level_text (level_content self.now) }
     {
@@ -175,6 +193,11 @@ impl LintLevel {
 
     /// The one reading of the value: one of the texts. Refuses a value that is no text with `WrongKind`, and another
     /// text with `NotAChoice`, both at the empty path.
+    ///
+    /// ```ignore
+    /// let value = Value::from_str(alloc, "'deny'")?;
+    /// let level = LintLevel::from_value(alloc, &value)?; // `Deny`
+    /// ```
     pub fn from_value(alloc: Global, value: &Value) -> Result<LintLevel, Error>
         ensures ok { IfOk result (λ x. level.reads (view value.now) (level_content x)) }
         ensures refused { IfErr result (RefusedIn (level.faulty (view value.now))) }
@@ -240,6 +263,11 @@ impl MaintenanceStatus {
 
     /// The one reading of the value: one of the texts. Refuses a value that is no text with `WrongKind`, and another
     /// text with `NotAChoice`, both at the empty path.
+    ///
+    /// ```ignore
+    /// let value = Value::from_str(alloc, "'as-is'")?;
+    /// let status = MaintenanceStatus::from_value(alloc, &value)?; // `AsIs`
+    /// ```
     pub fn from_value(alloc: Global, value: &Value) -> Result<MaintenanceStatus, Error>
         ensures ok { IfOk result (λ x. status.reads (view value.now) (status_content x)) }
         ensures refused { IfErr result (RefusedIn (status.faulty (view value.now))) }

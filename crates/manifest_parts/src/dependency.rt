@@ -77,6 +77,11 @@ pub enum Dependency {
 impl InheritedDependencyDetail {
     /// The one reading of the value by the form of an inherited dependency. Refuses a value that is no table with
     /// `WrongKind`, and else with the fault of a row, its key path beginning at the table.
+    ///
+    /// ```ignore
+    /// let value = Value::from_str(alloc, "{ workspace = true, optional = true }")?;
+    /// let inherited = InheritedDependencyDetail::from_value(alloc, &value)?; // `optional` is `Some(true)`
+    /// ```
     pub fn from_value(alloc: Global, value: &Value) -> Result<InheritedDependencyDetail, Error>
         ensures ok { IfOk result (λ x. (form inherited_rows).reads (view value.now) (inherited_content x)) }
         ensures refused { IfErr result (RefusedIn ((form inherited_rows).faulty (view value.now))) }
@@ -88,6 +93,11 @@ impl InheritedDependencyDetail {
 impl DependencyDetail {
     /// The one reading of the value by the form of a detailed dependency. Refuses a value that is no table with
     /// `WrongKind`, and else with the fault of a row, its key path beginning at the table.
+    ///
+    /// ```ignore
+    /// let value = Value::from_str(alloc, "{ version = '1', default-features = false }")?;
+    /// let detail = DependencyDetail::from_value(alloc, &value)?; // `default_features` is `Some(false)`
+    /// ```
     pub fn from_value(alloc: Global, value: &Value) -> Result<DependencyDetail, Error>
         ensures ok { IfOk result (λ x. (form detailed_rows).reads (view value.now) (detail_content x)) }
         ensures refused { IfErr result (RefusedIn ((form detailed_rows).faulty (view value.now))) }
@@ -99,6 +109,11 @@ impl DependencyDetail {
 impl Dependency {
     /// The one reading of the value: a text is `Simple`, a table whose `workspace` is the boolean true `Inherited`, any
     /// other table `Detailed`. Refuses any other value with `WrongKind`, and else with the fault of a row.
+    ///
+    /// ```ignore
+    /// let value = Value::from_str(alloc, "{ workspace = false, version = '1' }")?;
+    /// let dependency = Dependency::from_value(alloc, &value)?; // `Detailed`, with this version
+    /// ```
     pub fn from_value(alloc: Global, value: &Value) -> Result<Dependency, Error>
         ensures ok { IfOk result (λ x. dependency.reads (view value.now) (dependency_content x)) }
         ensures refused { IfErr result (RefusedIn (dependency.faulty (view value.now))) }

@@ -48,6 +48,10 @@ impl Error {
 
     /// An error that says the same: the same answer, with the same fault of `toml` (which is shared), the same path and
     /// cause, the same I/O kind, or the same text.
+    ///
+    /// ```ignore
+    /// let copy = error.clone(alloc)?;
+    /// ```
     pub fn clone(&self, alloc: Global) -> Result<Error, AllocError>
         ensures { IfOk result (SameError self.now) }
     {
@@ -67,6 +71,11 @@ impl Error {
 }
 
 /// Reads a value by the kind of its type.
+///
+/// ```ignore
+/// let value = Value::from_str(alloc, "'2021'")?;
+/// let edition: Edition = read(alloc, &value)?;
+/// ```
 pub fn read<T: Schema>(alloc: Global, value: &Value) -> Result<T, Error>
     ensures ok { IfOk result (λ x. T.kind.reads (view value.now) (T.content x)) }
     ensures refused { IfErr result (RefusedIn (T.kind.faulty (view value.now))) }
@@ -78,6 +87,13 @@ pub fn read<T: Schema>(alloc: Global, value: &Value) -> Result<T, Error>
 }
 
 /// The error that tells a reader's fault.
+///
+/// ```ignore
+/// match Edition::from_value(alloc, value) {
+///     Ok(edition) => Ok(edition),
+///     Err(fault) => Err(refusal(fault)),
+/// }
+/// ```
 pub fn refusal(fault: ReadFault) -> Error
     ensures { IsRefusal fault result }
 {

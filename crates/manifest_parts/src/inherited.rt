@@ -24,6 +24,11 @@ pub struct True;
 impl True {
     /// The one reading of the value: the boolean true. Refuses false with `NotTrue`, and any other value with
     /// `WrongKind`, both at the empty path.
+    ///
+    /// ```ignore
+    /// let value = Value::from_str(alloc, "true")?;
+    /// let word = True::from_value(alloc, &value)?;
+    /// ```
     pub fn from_value(alloc: Global, value: &Value) -> Result<True, Error>
         ensures ok { IfOk result (λ x. truth.reads (view value.now) tt) }
         ensures refused { IfErr result (RefusedIn (truth.faulty (view value.now))) }
@@ -79,6 +84,11 @@ impl<T: Plain> MaybeInherited<T> {
     /// The one reading of the value: `Inherited` of a table whose `workspace` is the boolean true, else `Local` of the
     /// type's own reading. Refuses any other table with `WrongKind` at the empty path, and else with the type's own
     /// fault.
+    ///
+    /// ```ignore
+    /// let value = Value::from_str(alloc, "{ workspace = true }")?;
+    /// let edition = MaybeInherited::<Edition>::from_value(alloc, &value)?; // `Inherited`
+    /// ```
     pub fn from_value(alloc: Global, value: &Value) -> Result<MaybeInherited<T>, Error>
         ensures ok { IfOk result (λ x. (inh T.kind).reads (view value.now) (inh_content T.content x)) }
         ensures refused { IfErr result (RefusedIn ((inh T.kind).faulty (view value.now))) }
@@ -88,6 +98,11 @@ impl<T: Plain> MaybeInherited<T> {
 }
 
 /// Whether the value is a table whose `workspace` is the boolean true.
+///
+/// ```ignore
+/// let value = Value::from_str(alloc, "{ workspace = true, version = '1' }")?;
+/// let is_inherited = says_workspace(&value); // true
+/// ```
 pub fn says_workspace(value: &Value) -> bool
     ensures { result ≡ inherits (view value.now) }
 {
@@ -98,6 +113,10 @@ pub fn says_workspace(value: &Value) -> bool
 }
 
 /// Whether the `workspace` of the table is the boolean true.
+///
+/// ```ignore
+/// let is_inherited = has_workspace(table); // of `workspace = false` false, as without the key
+/// ```
 pub fn has_workspace(table: &Table) -> bool
     ensures { result ≡ inherits (data_table (table_view table.now)) }
 {

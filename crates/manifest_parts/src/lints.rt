@@ -53,6 +53,11 @@ pub struct MaybeInheritedLintsSet {
 impl LintConfig {
     /// The one reading of the value by the form of a lint. Refuses a value that is no table with `WrongKind`, and else
     /// with the fault of a row.
+    ///
+    /// ```ignore
+    /// let value = Value::from_str(alloc, "{ level = 'deny', priority = -1 }")?;
+    /// let config = LintConfig::from_value(alloc, &value)?;
+    /// ```
     pub fn from_value(alloc: Global, value: &Value) -> Result<LintConfig, Error>
         ensures ok { IfOk result (λ x. (form lint_rows).reads (view value.now) (lint_config_content x)) }
         ensures refused { IfErr result (RefusedIn ((form lint_rows).faulty (view value.now))) }
@@ -64,6 +69,11 @@ impl LintConfig {
 impl Lint {
     /// The one reading of the value: a text is a level, a table a level with a priority. Refuses any other value with
     /// `WrongKind`, and else with the fault of the level or of a row.
+    ///
+    /// ```ignore
+    /// let value = Value::from_str(alloc, "'deny'")?;
+    /// let lint = Lint::from_value(alloc, &value)?; // `Level(Deny)`
+    /// ```
     pub fn from_value(alloc: Global, value: &Value) -> Result<Lint, Error>
         ensures ok { IfOk result (λ x. lint.reads (view value.now) (lint_content x)) }
         ensures refused { IfErr result (RefusedIn (lint.faulty (view value.now))) }
@@ -75,6 +85,11 @@ impl Lint {
 impl MaybeInheritedLintsSet {
     /// The one reading of the value by the form of lints: every key but `workspace` is a tool. Refuses a value that is no
     /// table with `WrongKind`, and else with the fault of a row or of a tool.
+    ///
+    /// ```ignore
+    /// let value = Value::from_str(alloc, "{ rust = { unsafe_code = 'forbid' } }")?;
+    /// let lints = MaybeInheritedLintsSet::from_value(alloc, &value)?; // one tool, `rust`, with one lint
+    /// ```
     pub fn from_value(alloc: Global, value: &Value) -> Result<MaybeInheritedLintsSet, Error>
         ensures ok { IfOk result (λ x. (form lints_rows).reads (view value.now) (lints_content x)) }
         ensures refused { IfErr result (RefusedIn ((form lints_rows).faulty (view value.now))) }
@@ -84,6 +99,10 @@ impl MaybeInheritedLintsSet {
 
     /// Whether the lints can be written and read back: no tool is named `workspace`, since under that key stands the
     /// word that the workspace lends them.
+    ///
+    /// ```ignore
+    /// let can_be_written = lints.is_well_formed();
+    /// ```
     pub fn is_well_formed(&self) -> bool
         ensures { IsTrue result ↔ (form lints_rows).good (lints_content self.now) }
     {

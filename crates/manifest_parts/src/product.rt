@@ -53,6 +53,11 @@ pub struct Product {
 impl Product {
     /// The one reading of the value by the form of a product. Refuses a value that is no table with
     /// `WrongKind`, and else with the fault of a row, its key path beginning at the table.
+    ///
+    /// ```ignore
+    /// let value = Value::from_str(alloc, "{ name = 'a', test = false }")?;
+    /// let product = Product::from_value(alloc, &value)?; // not tested, and all else by default
+    /// ```
     pub fn from_value(alloc: Global, value: &Value) -> Result<Product, Error>
         ensures ok { IfOk result (λ x. (form product_rows).reads (view value.now) (product_content x)) }
         ensures refused { IfErr result (RefusedIn ((form product_rows).faulty (view value.now))) }
@@ -61,6 +66,10 @@ impl Product {
     }
 
     /// A product with nothing set: tested, benched and documented, with the harness, of the edition 2015.
+    ///
+    /// ```ignore
+    /// let product = Product::default(alloc);
+    /// ```
     pub fn default(alloc: Global) -> Product
         ensures { product_content result ≡ default_product }
     {
@@ -88,10 +97,7 @@ fn product_from(alloc: Global, table: &Table) -> Result<Product, ReadFault>
     ensures fault { IfErr result (FaultIn ((form product_rows).faulty (data_table (table_view table.now)))) }
 {
     let mut x = Product::default(alloc);
-    match fill_product(alloc, table, &mut x) {
-        Ok(()) => Ok(x),
-        Err(fault) => Err(fault),
-    }
+    fill_product(alloc, table, &mut x).and(Ok(x))
 }
 
 /// Reads all rows.

@@ -44,6 +44,11 @@ pub struct Profile {
 impl Profile {
     /// The one reading of the value by the form of a profile. Refuses a value that is no table with `WrongKind`, and else
     /// with the fault of a row; a float anywhere in a kept value is `HoldsFloat` at the float.
+    ///
+    /// ```ignore
+    /// let value = Value::from_str(alloc, "{ opt-level = 's', codegen-units = 1 }")?;
+    /// let profile = Profile::from_value(alloc, &value)?; // `opt_level` is kept as it is
+    /// ```
     pub fn from_value(alloc: Global, value: &Value) -> Result<Profile, Error>
         ensures ok { IfOk result (λ x. (form profile_rows).reads (view value.now) (profile_content x)) }
         ensures refused { IfErr result (RefusedIn ((form profile_rows).faulty (view value.now))) }
@@ -54,6 +59,10 @@ impl Profile {
     /// Whether the profile can be written and read back: no value that is kept as it is (`opt_level`, `debug`, `lto`,
     /// `build_override`, and those of `package`) holds a float, at any depth. With the `opt_level` `2.5` it is not
     /// well-formed.
+    ///
+    /// ```ignore
+    /// let can_be_written = profile.is_well_formed();
+    /// ```
     pub fn is_well_formed(&self) -> bool
         ensures { IsTrue result ↔ (form profile_rows).good (profile_content self.now) }
     {
@@ -97,10 +106,7 @@ fn profile_from(alloc: Global, table: &Table) -> Result<Profile, ReadFault>
         split_debuginfo: None,
         build_override: None,
     };
-    match fill_profile(alloc, table, &mut x) {
-        Ok(()) => Ok(x),
-        Err(fault) => Err(fault),
-    }
+    fill_profile(alloc, table, &mut x).and(Ok(x))
 }
 
 /// Reads all rows.

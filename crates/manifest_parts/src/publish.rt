@@ -23,6 +23,11 @@ pub enum StringOrBool {
 
 impl StringOrBool {
     /// The one reading of the value: a text or a boolean. Refuses any other with `WrongKind` at the empty path.
+    ///
+    /// ```ignore
+    /// let value = Value::from_str(alloc, "'build.rs'")?;
+    /// let build = StringOrBool::from_value(alloc, &value)?; // `String` of this text
+    /// ```
     pub fn from_value(alloc: Global, value: &Value) -> Result<StringOrBool, Error>
         ensures ok { IfOk result (λ x. text_or_flag.reads (view value.now) (text_or_flag_content x)) }
         ensures refused { IfErr result (RefusedIn (text_or_flag.faulty (view value.now))) }
@@ -71,6 +76,11 @@ pub enum Publish {
 impl Publish {
     /// The one reading of the value: a boolean, or a list of texts. Refuses any other value with `WrongKind`, at the
     /// item where an item is no text.
+    ///
+    /// ```ignore
+    /// let value = Value::from_str(alloc, "['crates-io']")?;
+    /// let publish = Publish::from_value(alloc, &value)?; // `Registry` of one name
+    /// ```
     pub fn from_value(alloc: Global, value: &Value) -> Result<Publish, Error>
         ensures ok { IfOk result (λ x. publish.reads (view value.now) (publish_content x)) }
         ensures refused { IfErr result (RefusedIn (publish.faulty (view value.now))) }

@@ -30,6 +30,11 @@ pub enum StripSetting {
 impl StripSetting {
     /// The one reading of the value: a boolean, or one of the texts. Refuses another text with `NotAChoice`, and
     /// another kind with `WrongKind`, both at the empty path.
+    ///
+    /// ```ignore
+    /// let value = Value::from_str(alloc, "'debuginfo'")?;
+    /// let strip = StripSetting::from_value(alloc, &value)?; // `Debuginfo`
+    /// ```
     pub fn from_value(alloc: Global, value: &Value) -> Result<StripSetting, Error>
         ensures ok { IfOk result (λ x. strip.reads (view value.now) (strip_content x)) }
         ensures refused { IfErr result (RefusedIn (strip.faulty (view value.now))) }
@@ -39,6 +44,10 @@ impl StripSetting {
 
     /// The same reading, with the refusal told as a text: `'X' is not a valid value for 'strip'` of another text X, and
     /// `wrong data type for strip setting` of another kind.
+    ///
+    /// ```ignore
+    /// let strip = StripSetting::try_from(alloc, Value::Boolean(true))?; // `Symbols`
+    /// ```
     pub fn try_from(alloc: Global, value: Value) -> Result<StripSetting, Error>
         ensures ok { IfOk result (λ x. strip.reads (view value) (strip_content x)) }
         ensures refused { IfErr result (RefusesStrip (view value)) }

@@ -32,6 +32,11 @@ pub struct Target {
 impl Target {
     /// The one reading of the value by the form of a platform. Refuses a value that is no table with `WrongKind`, and else
     /// with the fault of a row.
+    ///
+    /// ```ignore
+    /// let value = Value::from_str(alloc, "{ dependencies = { libc = '0.2' } }")?;
+    /// let target = Target::from_value(alloc, &value)?; // one dependency
+    /// ```
     pub fn from_value(alloc: Global, value: &Value) -> Result<Target, Error>
         ensures ok { IfOk result (λ x. (form platform_rows).reads (view value.now) (platform_content x)) }
         ensures refused { IfErr result (RefusedIn ((form platform_rows).faulty (view value.now))) }

@@ -61,6 +61,11 @@ pub struct Package<M = Value> {
 impl<M: Metadata> Package<M> {
     /// The one reading of the value by the form of a package. Refuses a value that is no table with
     /// `WrongKind`, and else with the fault of a row, its key path beginning at the table.
+    ///
+    /// ```ignore
+    /// let value = Value::from_str(alloc, "{ name = 'a', version = '1.0.0', edition = '2021' }")?;
+    /// let package = Package::<Value>::from_value(alloc, &value)?;
+    /// ```
     pub fn from_value(alloc: Global, value: &Value) -> Result<Package<M>, Error>
         ensures ok { IfOk result (λ x. (form (package_rows (tree_of M.kind))).reads (view value.now) (package_content (λ m. M.kind.written (M.content m)) x)) }
         ensures refused { IfErr result (RefusedIn ((form (package_rows (tree_of M.kind))).faulty (view value.now))) }
@@ -70,6 +75,10 @@ impl<M: Metadata> Package<M> {
 
     /// Whether the package can be written and read back: its metadata is absent or well-formed. With a float in metadata of
     /// the type `Value` it is not well-formed.
+    ///
+    /// ```ignore
+    /// let can_be_written = package.is_well_formed();
+    /// ```
     pub fn is_well_formed(&self) -> bool
         ensures { IsTrue result ↔ (form (package_rows (tree_of M.kind))).good (package_content (λ m. M.kind.written (M.content m)) self.now) }
     {
@@ -79,6 +88,11 @@ impl<M: Metadata> Package<M> {
 
 impl<M> Package<M> {
     /// A package of this name and this version of its own, and nothing else.
+    ///
+    /// ```ignore
+    /// let name = String::from_str(alloc, "a")?;
+    /// let package = Package::<Value>::new(name, String::from_str(alloc, "1.0.0")?);
+    /// ```
     pub fn new(name: String, version: String) -> Package<M>
         ensures { (f : M → Data) → package_content f result ≡ record (named (string_bytes name)) { version = Some (local (string_bytes version)) } }
     {
@@ -130,16 +144,18 @@ fn named<M>(name: String) -> Package<M>
 ///
 /// Refuses with the fault of a row, its key path beginning at the table, or with want of memory. The package under an
 /// old header, which is the whole manifest, is read by it.
+///
+/// ```ignore
+/// let table = toml::table_from_str(alloc, "name = 'a'")?;
+/// let package: Package<Value> = package_from(alloc, &table)?; // without a version
+/// ```
 #[tactic(auto, unfolding(manifest_schema::specs::ManifestForms::package_rows))]
 pub fn package_from<M: Metadata>(alloc: Global, table: &Table) -> Result<Package<M>, ReadFault>
     ensures ok { IfOk result (λ x. (form (package_rows (tree_of M.kind))).reads (data_table (table_view table.now)) (package_content (λ m. M.kind.written (M.content m)) x)) }
     ensures fault { IfErr result (FaultIn ((form (package_rows (tree_of M.kind))).faulty (data_table (table_view table.now)))) }
 {
     let mut x = named(required(alloc, table, "name", None)?);
-    match fill_package(alloc, table, &mut x) {
-        Ok(()) => Ok(x),
-        Err(fault) => Err(fault),
-    }
+    fill_package(alloc, table, &mut x).and(Ok(x))
 }
 
 /// Reads all rows but the first, which has been read.

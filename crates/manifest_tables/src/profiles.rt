@@ -42,6 +42,10 @@ pub struct Profiles {
 
 impl Profiles {
     /// No profile at all.
+    ///
+    /// ```ignore
+    /// let profiles = Profiles::default(alloc);
+    /// ```
     pub fn default(alloc: Global) -> Profiles
         ensures { profiles_content result ≡ no_profiles }
     {
@@ -57,6 +61,11 @@ impl Profiles {
 
     /// The one reading of the value by the form of profiles: every key but the five is the name of a custom profile. Refuses
     /// a value that is no table with `WrongKind`, and else with the fault of a profile.
+    ///
+    /// ```ignore
+    /// let value = Value::from_str(alloc, "{ release = { lto = true }, tiny = { inherits = 'release' } }")?;
+    /// let profiles = Profiles::from_value(alloc, &value)?; // `release`, and the custom profile `tiny`
+    /// ```
     pub fn from_value(alloc: Global, value: &Value) -> Result<Profiles, Error>
         ensures ok { IfOk result (λ x. (form profiles_rows).reads (view value.now) (profiles_content x)) }
         ensures refused { IfErr result (RefusedIn ((form profiles_rows).faulty (view value.now))) }
@@ -66,6 +75,10 @@ impl Profiles {
 
     /// Whether the profiles can be written and read back: each is well-formed, and no custom one is named `release`, `dev`,
     /// `test`, `bench` or `doc`. With a custom profile `dev` they are not well-formed.
+    ///
+    /// ```ignore
+    /// let can_be_written = profiles.is_well_formed();
+    /// ```
     pub fn is_well_formed(&self) -> bool
         ensures { IsTrue result ↔ (form profiles_rows).good (profiles_content self.now) }
     {
@@ -109,39 +122,23 @@ fn customs_are_well_formed(custom: &BTreeMap<String, Profile>) -> bool
 }
 
 /// Reads the rows of a table.
-#[tactic(auto, using(crate::proofs::ProfileLemmas::custom_fault), unfolding(manifest_schema::specs::PartForms::profiles_rows))]
 fn profiles_from(alloc: Global, table: &Table) -> Result<Profiles, ReadFault>
     ensures ok { IfOk result (λ x. (form profiles_rows).reads (data_table (table_view table.now)) (profiles_content x)) }
     ensures fault { IfErr result (FaultIn ((form profiles_rows).faulty (data_table (table_view table.now)))) }
 {
-    let mut x = Profiles {
-        release: None,
-        dev: None,
-        test: None,
-        bench: None,
-        doc: None,
-        custom: BTreeMap::new(alloc),
-    };
-    match fill_profiles(alloc, table, &mut x) {
-        Ok(()) => {}
-        Err(fault) => return Err(fault),
-    }
-    match others_of(alloc, table, &["release", "dev", "test", "bench", "doc"]) {
-        Ok(custom) => {
-            x.custom = custom;
-            Ok(x)
-        }
-        Err(fault) => Err(fault),
-    }
+    let mut x = Profiles::default(alloc);
+    fill_profiles(alloc, table, &mut x).and(Ok(x))
 }
 
-/// Reads the profiles that Cargo names.
+/// Reads the profiles that Cargo names, and those of all other names.
+#[tactic(auto, using(crate::proofs::ProfileLemmas::custom_fault), unfolding(manifest_schema::specs::PartForms::profiles_rows))]
 fn fill_profiles(alloc: Global, table: &Table, x: &mut Profiles) -> Result<(), ReadFault>
-    ensures ok { OnOk result (first_fit 5 profiles_rows (table_view table.now) (profiles_content x.new)) }
+    ensures ok { OnOk result ((form profiles_rows).reads (data_table (table_view table.now)) (profiles_content x.new)) }
     ensures fault { IfErr result (FaultIn ((form profiles_rows).faulty (data_table (table_view table.now)))) }
 {
     fill_building(alloc, table, x)?;
     fill_testing(alloc, table, x)?;
+    x.custom = others_of(alloc, table, &["release", "dev", "test", "bench", "doc"])?;
     Ok(())
 }
 

@@ -54,6 +54,11 @@ pub struct WorkspacePackage {
 impl WorkspacePackage {
     /// The one reading of the value by the form of a workspace's package. Refuses a value that is no table with
     /// `WrongKind`, and else with the fault of a row, its key path beginning at the table.
+    ///
+    /// ```ignore
+    /// let value = Value::from_str(alloc, "{ version = '1.0.0', edition = '2021' }")?;
+    /// let lent = WorkspacePackage::from_value(alloc, &value)?; // what members may inherit
+    /// ```
     pub fn from_value(alloc: Global, value: &Value) -> Result<WorkspacePackage, Error>
         ensures ok { IfOk result (λ x. (form workspace_package_rows).reads (view value.now) (workspace_package_content x)) }
         ensures refused { IfErr result (RefusedIn ((form workspace_package_rows).faulty (view value.now))) }
@@ -89,10 +94,7 @@ pub(crate) fn workspace_package_from(
         include: None,
         publish: None,
     };
-    match fill_workspace_package(alloc, table, &mut x) {
-        Ok(()) => Ok(x),
-        Err(fault) => Err(fault),
-    }
+    fill_workspace_package(alloc, table, &mut x).and(Ok(x))
 }
 
 /// Reads all rows.
@@ -242,6 +244,10 @@ pub struct Workspace<M = Value> {
 
 impl<M> Workspace<M> {
     /// A workspace with nothing in it: no members, and every option is `None`.
+    ///
+    /// ```ignore
+    /// let workspace = Workspace::<Value>::default(alloc);
+    /// ```
     pub fn default(alloc: Global) -> Workspace<M>
         ensures { (f : M → Data) → workspace_content f result ≡ empty_workspace }
     {
@@ -261,6 +267,11 @@ impl<M> Workspace<M> {
 impl<M: Metadata> Workspace<M> {
     /// The one reading of the value by the form of a workspace. Refuses a value that is no table with
     /// `WrongKind`, and else with the fault of a row, its key path beginning at the table.
+    ///
+    /// ```ignore
+    /// let value = Value::from_str(alloc, "{ members = ['crates/a'], resolver = '2' }")?;
+    /// let workspace = Workspace::<Value>::from_value(alloc, &value)?;
+    /// ```
     pub fn from_value(alloc: Global, value: &Value) -> Result<Workspace<M>, Error>
         ensures ok { IfOk result (λ x. (form (workspace_rows (tree_of M.kind))).reads (view value.now) (workspace_content (λ m. M.kind.written (M.content m)) x)) }
         ensures refused { IfErr result (RefusedIn ((form (workspace_rows (tree_of M.kind))).faulty (view value.now))) }
@@ -270,6 +281,10 @@ impl<M: Metadata> Workspace<M> {
 
     /// Whether the workspace can be written and read back: its metadata is absent or well-formed. With a float in metadata
     /// of the type `Value` it is not well-formed.
+    ///
+    /// ```ignore
+    /// let can_be_written = workspace.is_well_formed();
+    /// ```
     pub fn is_well_formed(&self) -> bool
         ensures { IsTrue result ↔ (form (workspace_rows (tree_of M.kind))).good (workspace_content (λ m. M.kind.written (M.content m)) self.now) }
     {
@@ -288,7 +303,6 @@ fn lent_lints_fit(lints: &Option<LintsSet>)
 }
 
 /// Reads the rows of a table.
-#[tactic(auto, unfolding(manifest_schema::specs::ManifestForms::workspace_rows))]
 pub(crate) fn workspace_from<M: Metadata>(
     alloc: Global,
     table: &Table,
@@ -296,43 +310,18 @@ pub(crate) fn workspace_from<M: Metadata>(
     ensures ok { IfOk result (λ x. (form (workspace_rows (tree_of M.kind))).reads (data_table (table_view table.now)) (workspace_content (λ m. M.kind.written (M.content m)) x)) }
     ensures fault { IfErr result (FaultIn ((form (workspace_rows (tree_of M.kind))).faulty (data_table (table_view table.now)))) }
 {
-    let mut x = Workspace {
-        members: Vec::new(alloc),
-        default_members: None,
-        exclude: None,
-        resolver: None,
-        dependencies: None,
-        package: None,
-        metadata: None,
-        lints: None,
-    };
-    match fill_workspace(alloc, table, &mut x) {
-        Ok(()) => Ok(x),
-        Err(fault) => Err(fault),
-    }
+    let mut x = Workspace::default(alloc);
+    fill_workspace(alloc, table, &mut x).and(Ok(x))
 }
 
 /// Reads all rows.
+#[tactic(auto, unfolding(manifest_schema::specs::ManifestForms::workspace_rows))]
 fn fill_workspace<M: Metadata>(
     alloc: Global,
     table: &Table,
     x: &mut Workspace<M>,
 ) -> Result<(), ReadFault>
-    ensures ok { OnOk result (first_fit 8 (workspace_rows (tree_of M.kind)) (table_view table.now) (workspace_content (λ m. M.kind.written (M.content m)) x.new)) }
-    ensures fault { IfErr result (FaultIn ((form (workspace_rows (tree_of M.kind))).faulty (data_table (table_view table.now)))) }
-{
-    fill_workspace_rows(alloc, table, x)?;
-    Ok(())
-}
-
-/// Reads rows 1 to 8.
-#[tactic(auto, unfolding(manifest_schema::specs::ManifestForms::workspace_rows))]
-fn fill_workspace_rows<M: Metadata>(
-    alloc: Global,
-    table: &Table,
-    x: &mut Workspace<M>,
-) -> Result<(), ReadFault>
-    ensures ok { OnOk result (first_fit 8 (workspace_rows (tree_of M.kind)) (table_view table.now) (workspace_content (λ m. M.kind.written (M.content m)) x.new)) }
+    ensures ok { OnOk result ((form (workspace_rows (tree_of M.kind))).reads (data_table (table_view table.now)) (workspace_content (λ m. M.kind.written (M.content m)) x.new)) }
     ensures fault { IfErr result (FaultIn ((form (workspace_rows (tree_of M.kind))).faulty (data_table (table_view table.now)))) }
 {
     fill_default(

@@ -74,6 +74,10 @@ impl KeyPath {
 
 impl SchemaFault {
     /// The same cause at the same path, in memory of its own, or `AllocError` where that finds no room.
+    ///
+    /// ```ignore
+    /// let copy = fault.clone(alloc)?; // the same path, the same cause
+    /// ```
     pub fn clone(&self, alloc: Global) -> Result<SchemaFault, AllocError>
         ensures path { IfOk result (λ f. path_of f.path ≡ path_of self.now.path) }
         ensures cause { IfOk result (λ f. f.cause ≡ self.now.cause) }
@@ -109,6 +113,10 @@ impl<T: Drop> From<AllocFailed<T>> for ReadFault {
 }
 
 /// The fault at the value itself.
+///
+/// ```ignore
+/// let fault = here(alloc, Cause::WrongKind); // told as `wrong kind at (top)`
+/// ```
 #[cold]
 pub fn here(alloc: Global, cause: Cause) -> ReadFault
     ensures fault { FaultIn (itself (cause_of cause)) result }
@@ -123,6 +131,10 @@ pub fn here(alloc: Global, cause: Cause) -> ReadFault
 }
 
 /// The fault as it is seen one step further out, or want of memory where the step finds no room.
+///
+/// ```ignore
+/// let fault = prefixed(Step::Index(2), here(alloc, Cause::WrongKind)); // told as `wrong kind at [2]`
+/// ```
 #[cold]
 pub fn prefixed(step: Step, fault: ReadFault) -> ReadFault
     ensures { IsBehind (step_of step) fault result }
@@ -138,6 +150,10 @@ pub fn prefixed(step: Step, fault: ReadFault) -> ReadFault
 
 /// The fault as it is seen from the table that has the value at the key, or want of memory where the step finds no
 /// room.
+///
+/// ```ignore
+/// let fault = under_key(alloc, "name", here(alloc, Cause::WrongKind)); // told as `wrong kind at name`
+/// ```
 #[cold]
 #[tactic(auto, using(crate::proofs::Behind::memory_behind))]
 pub fn under_key(alloc: Global, word: &str, fault: ReadFault) -> ReadFault

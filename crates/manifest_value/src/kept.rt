@@ -13,6 +13,10 @@ use toml::{Table, Value};
 
 /// Whether a float stands anywhere in the value: the value itself, an item of a list, or an entry of a table, at any
 /// depth.
+///
+/// ```ignore
+/// let found = holds_float(&value); // of `{ a = [1, 2.5] }` true
+/// ```
 #[cycle(floats)]
 pub fn holds_float(value: &Value) -> bool
     ensures { result ≡ not (plain (view value.now)) }
@@ -99,6 +103,10 @@ fn refuse_float_in_members(alloc: Global, members: &Table) -> Result<(), ReadFau
 /// Refuses a value in which a float stands, by the path from the value to the first float that is met, items by
 /// their indexes and entries in the order of their keys: in `{ a = [1, 2.5], b = 0.5 }` that is `a[1]`. Refuses with
 /// want of memory where the copy or the path finds no room.
+///
+/// ```ignore
+/// let level = kept(alloc, &value)?; // of `3` the same 3; of `{ a = [1, 2.5] }` a refusal at `a[1]`
+/// ```
 pub fn kept(alloc: Global, value: &Value) -> Result<Value, ReadFault>
     ensures ok { IfOk result (λ v. kept_kind.reads (view value.now) (view v)) }
     ensures fault { IfErr result (FaultIn (kept_kind.faulty (view value.now))) }

@@ -61,6 +61,11 @@ fn marks_of(table: &Table) -> [bool; 32]
 
 impl<'t> Keys<'t> {
     /// The table with marks of its keys, for a form that looks for many.
+    ///
+    /// ```ignore
+    /// let keys = Keys::of(table);
+    /// let version: Option<String> = optional(alloc, &keys, "version", None)?;
+    /// ```
     pub fn of(table: &'t Table) -> Keys<'t>
         ensures { result.table.now ≡ table.now }
     {

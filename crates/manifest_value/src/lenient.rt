@@ -13,6 +13,10 @@ use toml::Table;
 
 /// The value under the spelling that is present, or `None` where there is none, where there are two, and where the
 /// value does not fit. A value that fits and finds no memory is want of memory, never `None`.
+///
+/// ```ignore
+/// let branch: Option<String> = lenient_optional(alloc, table, "branch", None)?; // of `branch = 1` it is `None`
+/// ```
 pub fn lenient_optional<T: Schema>(
     alloc: Global,
     table: &Table,
@@ -34,6 +38,10 @@ pub fn lenient_optional<T: Schema>(
 
 /// The value under the spelling that is present, or the default where there is none, where there are two, and where
 /// the value does not fit. A value that fits and finds no memory is want of memory, never the default.
+///
+/// ```ignore
+/// let tested: bool = lenient_default(alloc, table, "test", None, true)?; // of `test = 1` it is true
+/// ```
 pub fn lenient_default<T: Schema>(
     alloc: Global,
     table: &Table,

@@ -22,6 +22,10 @@ fn entries_of<T: Schema>(alloc: Global, table: &Table) -> Result<BTreeMap<String
 }
 
 /// The table of a map.
+///
+/// ```ignore
+/// let features: Table = entries_table(alloc, &map)?; // the keys of the map, each with what is written of its value
+/// ```
 pub fn entries_table<T: Schema>(
     alloc: Global,
     map: &BTreeMap<String, T>,

@@ -27,6 +27,10 @@ pub trait Metadata: Schema {
 }
 
 /// A row of metadata that may be absent.
+///
+/// ```ignore
+/// let metadata: Option<Value> = optional_tree(alloc, table, "metadata", None)?;
+/// ```
 pub fn optional_tree<M: Metadata>(
     alloc: Global,
     table: &Table,
@@ -41,6 +45,10 @@ pub fn optional_tree<M: Metadata>(
 }
 
 /// Puts a row of metadata into the table where it is there.
+///
+/// ```ignore
+/// put_tree(alloc, &mut table, "metadata", &package.metadata)?;
+/// ```
 #[tactic(auto, unfolding(manifest_schema::specs::Slots::put_some))]
 pub fn put_tree<M: Metadata>(
     alloc: Global,
@@ -54,6 +62,10 @@ pub fn put_tree<M: Metadata>(
 }
 
 /// Reads a row of metadata that may be absent into its place.
+///
+/// ```ignore
+/// fill_tree(alloc, table, "metadata", None, &mut package.metadata)?;
+/// ```
 pub fn fill_tree<M: Metadata>(
     alloc: Global,
     table: &Table,

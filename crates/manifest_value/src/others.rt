@@ -19,6 +19,10 @@ use std::marker::PhantomData;
 use toml::{Table, Value};
 
 /// Whether the key is one of the names.
+///
+/// ```ignore
+/// let is_one = is_named(&["release", "dev"], "dev"); // true
+/// ```
 #[inline(always)]
 pub fn is_named(named: &[&'static str], key: &str) -> bool
     ensures { result ≡ is_among (map (λ n. n.now) named.now) key.now }
@@ -137,6 +141,10 @@ fn first_fault<T: Schema>(alloc: Global, table: &Table, named: &[&'static str]) 
 }
 
 /// The entries of a table under all keys but the named ones, each of one kind, in the order of the keys.
+///
+/// ```ignore
+/// let custom: BTreeMap<String, Profile> = others_of(alloc, table, &["release", "dev"])?;
+/// ```
 pub fn others_of<T: Schema>(
     alloc: Global,
     table: &Table,

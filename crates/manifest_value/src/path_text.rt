@@ -10,6 +10,10 @@ use std::alloc::{AllocError, Global};
 
 impl Cause {
     /// The cause in plain words, as `wrong kind` or `missing`.
+    ///
+    /// ```ignore
+    /// let text = Cause::TwoSpellings.as_str(); // "two spellings"
+    /// ```
     pub fn as_str(&self) -> &'static str
         ensures { result.now ≡ cause_text (cause_of self.now) }
     {
@@ -34,6 +38,10 @@ impl KeyPath {
     /// keys do. Each other key, the empty one among them, stands between quotes, as in `target."cfg(unix)"`, with a
     /// backslash before each quote and each backslash, and with `\u` and four hexadecimal digits for a control
     /// character.
+    ///
+    /// ```ignore
+    /// let text = fault.path.to_text(alloc)?; // "package.authors[0]"
+    /// ```
     pub fn to_text(&self, alloc: Global) -> Result<String, AllocError>
         ensures { IfOk result (λ s. string_bytes s ≡ path_text (path_of self.now)) }
     {

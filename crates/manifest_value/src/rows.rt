@@ -16,6 +16,10 @@ use std::alloc::{AllocError, Global};
 use toml::{Table, Value};
 
 /// A fault at a key of the table.
+///
+/// ```ignore
+/// let fault = at_key(alloc, "name", Cause::Missing); // told as `missing at name`
+/// ```
 #[cold]
 #[tactic(auto, using(crate::proofs::Behind::fault_behind))]
 pub fn at_key(alloc: Global, word: &str, cause: Cause) -> ReadFault
@@ -25,6 +29,10 @@ pub fn at_key(alloc: Global, word: &str, cause: Cause) -> ReadFault
 }
 
 /// The value under a key, with the key before the path of a fault.
+///
+/// ```ignore
+/// let name: String = read_under(alloc, value, "name")?; // of the value 1 it is refused as `wrong kind at name`
+/// ```
 #[inline(always)]
 #[tactic(auto, using(crate::proofs::Behind::fault_behind))]
 pub fn read_under<T: Schema>(alloc: Global, value: &Value, word: &str) -> Result<T, ReadFault>
@@ -38,6 +46,10 @@ pub fn read_under<T: Schema>(alloc: Global, value: &Value, word: &str) -> Result
 }
 
 /// A row that must be there.
+///
+/// ```ignore
+/// let name: String = required(alloc, table, "name", None)?; // without the key it is refused as `missing at name`
+/// ```
 #[inline(always)]
 pub fn required<T: Schema, L: Lookup>(
     alloc: Global,
@@ -57,6 +69,10 @@ pub fn required<T: Schema, L: Lookup>(
 }
 
 /// A row that may be absent.
+///
+/// ```ignore
+/// let proc_macro: Option<bool> = optional(alloc, table, "proc-macro", Some("proc_macro"))?;
+/// ```
 #[inline(always)]
 pub fn optional<T: Schema, L: Lookup>(
     alloc: Global,
@@ -76,6 +92,10 @@ pub fn optional<T: Schema, L: Lookup>(
 }
 
 /// A row with a value that stands for its absence.
+///
+/// ```ignore
+/// let tested: bool = or_default(alloc, table, "test", None, true)?; // without the key it is true
+/// ```
 pub fn or_default<T: Schema, L: Lookup>(
     alloc: Global,
     table: &L,
@@ -95,6 +115,10 @@ pub fn or_default<T: Schema, L: Lookup>(
 }
 
 /// Reads a row that may be absent into its place.
+///
+/// ```ignore
+/// fill(alloc, table, "version", None, &mut package.version)?;
+/// ```
 pub fn fill<T: Schema, L: Lookup>(
     alloc: Global,
     table: &L,
@@ -111,6 +135,10 @@ pub fn fill<T: Schema, L: Lookup>(
 }
 
 /// Reads a row into its place, or else the value that stands for its absence.
+///
+/// ```ignore
+/// fill_default(alloc, table, "test", None, true, &mut product.test)?;
+/// ```
 pub fn fill_default<T: Schema, L: Lookup>(
     alloc: Global,
     table: &L,
@@ -128,6 +156,10 @@ pub fn fill_default<T: Schema, L: Lookup>(
 }
 
 /// Puts a row into the table.
+///
+/// ```ignore
+/// put_row(alloc, &mut table, "name", &package.name)?;
+/// ```
 pub fn put_row<T: Schema>(
     alloc: Global,
     table: &mut Table,
@@ -141,6 +173,10 @@ pub fn put_row<T: Schema>(
 }
 
 /// Puts a row into the table where it is there.
+///
+/// ```ignore
+/// put_optional(alloc, &mut table, "version", &package.version)?;
+/// ```
 #[tactic(auto, unfolding(manifest_schema::specs::Slots::put_some))]
 pub fn put_optional<T: Schema>(
     alloc: Global,
@@ -157,6 +193,10 @@ pub fn put_optional<T: Schema>(
 }
 
 /// Puts a row into the table, unless its value stands for its absence.
+///
+/// ```ignore
+/// put_unless(alloc, &mut table, "test", product.test, &product.test)?; // only false is put
+/// ```
 #[tactic(auto, unfolding(manifest_schema::specs::Slots::put_some))]
 pub fn put_unless<T: Schema>(
     alloc: Global,
@@ -174,6 +214,10 @@ pub fn put_unless<T: Schema>(
 }
 
 /// Puts a row of a list into the table, unless the list is empty.
+///
+/// ```ignore
+/// put_nonempty(alloc, &mut table, "members", &workspace.members)?;
+/// ```
 pub fn put_nonempty<T: Schema>(
     alloc: Global,
     table: &mut Table,

@@ -19,6 +19,10 @@ pub enum Slot<'t, 'k> {
 }
 
 /// The value under a key.
+///
+/// ```ignore
+/// let name = find(table, "name");
+/// ```
 #[inline(always)]
 pub fn find<'a>(table: &'a Table, key: &str) -> Option<&'a Value>
     ensures { option_map (λ v. view v.now) result ≡ get_member key.now (table_view table.now) }
@@ -27,6 +31,14 @@ pub fn find<'a>(table: &'a Table, key: &str) -> Option<&'a Value>
 }
 
 /// What stands under the spellings of a field.
+///
+/// ```ignore
+/// match slot_at(table, "proc-macro", Some("proc_macro")) {
+///     Slot::Absent => false,
+///     Slot::Clash => return Err(at_key(alloc, "proc-macro", Cause::TwoSpellings)),
+///     Slot::One { spelling, value } => read_under(alloc, value, spelling)?,
+/// }
+/// ```
 #[inline(always)]
 pub fn slot_at<'t, 'k, L: Lookup>(
     table: &'t L,

@@ -12,6 +12,10 @@ use crate::schema::Schema;
 use std::collections::BTreeMap;
 
 /// Whether the value is absent or well-formed.
+///
+/// ```ignore
+/// let is_well = optional_is_well_formed(&profiles.release);
+/// ```
 pub fn optional_is_well_formed<M: Metadata>(value: &Option<M>) -> bool
     ensures { IsTrue result ↔ good_some M.kind (option_map M.content value.now) }
 {
@@ -22,6 +26,10 @@ pub fn optional_is_well_formed<M: Metadata>(value: &Option<M>) -> bool
 }
 
 /// Whether the metadata, by the tree that is written of it, is absent or well-formed.
+///
+/// ```ignore
+/// let is_well = tree_is_well_formed(&package.metadata);
+/// ```
 pub fn tree_is_well_formed<M: Metadata>(value: &Option<M>) -> bool
     ensures { IsTrue result ↔ good_some (tree_of M.kind) (option_map (λ m. M.kind.written (M.content m)) value.now) }
 {
@@ -32,6 +40,10 @@ pub fn tree_is_well_formed<M: Metadata>(value: &Option<M>) -> bool
 }
 
 /// Whether each value of the map is well-formed.
+///
+/// ```ignore
+/// let is_well = values_are_well_formed(&profiles.custom);
+/// ```
 pub fn values_are_well_formed<M: Metadata>(all: &BTreeMap<String, M>) -> bool
     ensures { IsTrue result ↔ good_entries M.kind (entries_content M.content all.now.entries) }
 {
@@ -44,6 +56,10 @@ pub fn values_are_well_formed<M: Metadata>(all: &BTreeMap<String, M>) -> bool
 }
 
 /// Whether no key of the map is one of the names.
+///
+/// ```ignore
+/// let is_well = none_is_named(&lints.lints, &["workspace"]); // no tool is named so
+/// ```
 pub fn none_is_named<T: Schema>(all: &BTreeMap<String, T>, named: &[&'static str]) -> bool
     ensures { result ≡ none_named (map (λ n. n.now) named.now) (entries_content T.content all.now.entries) }
 {
