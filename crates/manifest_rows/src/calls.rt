@@ -7,6 +7,7 @@ use manifest_value::{
 };
 use std::alloc::Global;
 use std::collections::BTreeMap;
+use std::process::Abort;
 use std::test::Fail;
 use toml::Value;
 
@@ -18,45 +19,32 @@ fn answer<T: Drop>(read: Result<T, ReadFault>) -> Result<T, Error> {
     }
 }
 
+/// Asserts how the readers of one value answer on a text, on a list of a text and a number, and on a table.
+fn assert_readers(
+    rt: &impl Abort,
+    alloc: Global,
+    name: &Value,
+    names: &Value,
+    entries: &Value,
+) -> Result<(), Fail> {
+    let wrong = "wrong kind at (top)";
+    assert_eq!(rt; answer(text(alloc, name))?.as_str(), "serde");
+    assert_told(rt, alloc, answer(text(alloc, names)), wrong)?;
+    assert!(rt; answer(boolean(alloc, &Value::Boolean(true)))?);
+    assert_told(rt, alloc, answer(boolean(alloc, name)), wrong)?;
+    assert_eq!(rt; answer(table(alloc, entries))?.len(), 1);
+    assert_told(rt, alloc, answer(table(alloc, name)), wrong)?;
+    assert_told(rt, alloc, answer(texts(alloc, names)), "wrong kind at [1]")?;
+    assert_told(rt, alloc, answer(texts(alloc, name)), wrong)
+}
+
 #[test]
 fn readers_of_one_value(rt: HostRuntime) -> Result<(), Fail> {
     let alloc = rt.alloc();
     let name = value(alloc, "'serde'")?;
     let names = value(alloc, "['a', 1]")?;
     let entries = value(alloc, "{ name = 'a' }")?;
-    assert_eq!(rt; answer(text(alloc, &name))?.as_str(), "serde");
-    assert_told(
-        &rt,
-        alloc,
-        answer(text(alloc, &names)),
-        "wrong kind at (top)",
-    )?;
-    assert!(rt; answer(boolean(alloc, &Value::Boolean(true)))?);
-    assert_told(
-        &rt,
-        alloc,
-        answer(boolean(alloc, &name)),
-        "wrong kind at (top)",
-    )?;
-    assert_eq!(rt; answer(table(alloc, &entries))?.len(), 1);
-    assert_told(
-        &rt,
-        alloc,
-        answer(table(alloc, &name)),
-        "wrong kind at (top)",
-    )?;
-    assert_told(
-        &rt,
-        alloc,
-        answer(texts(alloc, &names)),
-        "wrong kind at [1]",
-    )?;
-    assert_told(
-        &rt,
-        alloc,
-        answer(texts(alloc, &name)),
-        "wrong kind at (top)",
-    )
+    assert_readers(&rt, alloc, &name, &names, &entries)
 }
 
 #[test]
@@ -90,26 +78,37 @@ fn whole_numbers_between_limits(rt: HostRuntime) -> Result<(), Fail> {
     Ok(())
 }
 
-#[test]
-fn fields_of_one_spelling_or_two(rt: HostRuntime) -> Result<(), Fail> {
-    let alloc = rt.alloc();
-    let first = value(alloc, "{ crate-type = 1 }")?;
-    let second = value(alloc, "{ crate_type = 2 }")?;
-    let both = value(alloc, "{ crate-type = 1, crate_type = 2 }")?;
+/// Asserts how a field with two spellings is found in tables that have the first, the second and both.
+fn assert_fields(
+    rt: &impl Abort,
+    alloc: Global,
+    first: &Value,
+    second: &Value,
+    both: &Value,
+) -> Result<(), Fail> {
     let other = Some("crate_type");
-    for (held, expected) in [(&first, 1), (&second, 2)] {
+    for (held, expected) in [(first, 1), (second, 2)] {
         let entries = answer(table(alloc, held))?;
         match answer(field(alloc, entries, "crate-type", other))? {
             Some(Value::Integer(n)) => assert_eq!(rt; *n, expected),
             _ => return Err(Fail::from("no number")),
         }
     }
-    let entries = answer(table(alloc, &second))?;
+    let entries = answer(table(alloc, second))?;
     assert!(rt; answer(field(alloc, entries, "crate-type", None))?.is_none());
-    let entries = answer(table(alloc, &both))?;
+    let entries = answer(table(alloc, both))?;
     assert!(rt; answer(field(alloc, entries, "crate-type", None))?.is_some());
     let clash = answer(field(alloc, entries, "crate-type", other));
-    assert_told(&rt, alloc, clash, "two spellings at crate-type")
+    assert_told(rt, alloc, clash, "two spellings at crate-type")
+}
+
+#[test]
+fn fields_of_one_spelling_or_two(rt: HostRuntime) -> Result<(), Fail> {
+    let alloc = rt.alloc();
+    let first = value(alloc, "{ crate-type = 1 }")?;
+    let second = value(alloc, "{ crate_type = 2 }")?;
+    let both = value(alloc, "{ crate-type = 1, crate_type = 2 }")?;
+    assert_fields(&rt, alloc, &first, &second, &both)
 }
 
 #[test]

@@ -41,7 +41,9 @@ fn completed_twice(
 fn completed(alloc: Global, document: &str, folders: &str) -> Result<String, Fail> {
     let listings = listings(alloc, folders)?;
     let mut manifest = Manifest::from_str(alloc, document)?;
-    completed_twice(alloc, &mut manifest, &listings)
+    let answer = completed_twice(alloc, &mut manifest, &listings);
+    drop(manifest);
+    answer
 }
 
 /// Asserts of each row: behind its head, the listings give this table.
