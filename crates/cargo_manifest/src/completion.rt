@@ -150,6 +150,7 @@ impl<P: Metadata> Manifest<P, Value> {
     /// names.insert(String::from_str(alloc, "main.rs")?)?;
     /// let mut listings = Listings::new(alloc);
     /// listings.put(alloc, "src", Listing::Names(names))?;
+    /// listings.put(alloc, ".", Listing::Names(BTreeSet::new(alloc)))?; // no build script
     /// manifest.complete_from_abstract_filesystem(alloc, &listings)?; // one binary, at `src/main.rs`
     /// ```
     pub fn complete_from_abstract_filesystem<FS: AbstractFilesystem>(
