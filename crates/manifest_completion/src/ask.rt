@@ -147,7 +147,7 @@ impl Answers {
     ///
     /// ```ignore
     /// if answers.found_no_memory() {
-    ///     return Err(AllocError);
+    ///     return Err(Error::Io(io::Error::from(ErrorKind::OutOfMemory)));
     /// }
     /// ```
     pub fn found_no_memory(&self) -> bool

@@ -89,8 +89,8 @@ pub fn read<T: Schema>(alloc: Global, value: &Value) -> Result<T, Error>
 /// The error that tells a reader's fault.
 ///
 /// ```ignore
-/// match Edition::from_value(alloc, value) {
-///     Ok(edition) => Ok(edition),
+/// match text(alloc, value) {
+///     Ok(name) => Ok(name),
 ///     Err(fault) => Err(refusal(fault)),
 /// }
 /// ```

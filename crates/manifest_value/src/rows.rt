@@ -216,7 +216,7 @@ pub fn put_unless<T: Schema>(
 /// Puts a row of a list into the table, unless the list is empty.
 ///
 /// ```ignore
-/// put_nonempty(alloc, &mut table, "members", &workspace.members)?;
+/// put_nonempty(alloc, &mut table, "bin", &manifest.bin)?;
 /// ```
 pub fn put_nonempty<T: Schema>(
     alloc: Global,

@@ -14,7 +14,7 @@ use std::collections::BTreeMap;
 /// Whether the value is absent or well-formed.
 ///
 /// ```ignore
-/// let is_well = optional_is_well_formed(&profiles.release);
+/// let is_well = optional_is_well_formed(&profile.opt_level);
 /// ```
 pub fn optional_is_well_formed<M: Metadata>(value: &Option<M>) -> bool
     ensures { IsTrue result ↔ good_some M.kind (option_map M.content value.now) }
@@ -42,7 +42,7 @@ pub fn tree_is_well_formed<M: Metadata>(value: &Option<M>) -> bool
 /// Whether each value of the map is well-formed.
 ///
 /// ```ignore
-/// let is_well = values_are_well_formed(&profiles.custom);
+/// let is_well = values_are_well_formed(&profile.package);
 /// ```
 pub fn values_are_well_formed<M: Metadata>(all: &BTreeMap<String, M>) -> bool
     ensures { IsTrue result ↔ good_entries M.kind (entries_content M.content all.now.entries) }
