@@ -5,11 +5,12 @@ use Rattle.manifest_schema.specs.Paths.{Path, Cause, Text}
 use Rattle.manifest_schema.specs.Slots.{Spellings, only, absent, at}
 use Rattle.manifest_schema.specs.Kinds.{Kind, map_of}
 use Rattle.manifest_schema.specs.Needs.{meets_optional, faulty_free}
-use Rattle.manifest_schema.specs.Forms.{Rows, ◌⨾◌, Fields, gets, spell, spelled, form, fits_beside, unfit_beside, first_fit}
+use Rattle.manifest_schema.specs.Forms.{Rows, ◌⨾◌, Fields, gets, spell, spelled, form, fits_beside, unfit_beside}
 use Rattle.manifest_schema.specs.Contents.{Manifest}
 use Rattle.manifest_schema.specs.PartForms.{dependency, texts}
 use Rattle.manifest_schema.specs.ManifestForms.{package_rows, workspace_rows, manifest_rows}
 use Rattle.manifest_schema.specs.Meaning.{reads_manifest, faulty_manifest}
+use Rattle.manifest_schema.specs.ForProofs.{first_fit}
 use Rattle.manifest_schema.proofs.WithoutLaws.{rows_are_apart, are_apart, at-without, at-gone, fits-without, unfit-without}
 use Rattle.manifest_tables.specs.Tables.{dependencies_content}
 use Rattle.cargo_manifest.specs.Taken.{normal, development, build, less, rest, TakesDependencies, faulty_dependencies}

@@ -2,7 +2,7 @@
 use Rattle.std.specs.Prelude.{[], ◌⊎◌, codes, option_map}
 use Rattle.toml.specs.Data.{Members}
 use Rattle.manifest_schema.specs.Paths.{Faults}
-use Rattle.manifest_schema.specs.Slots.{Spellings, only, both, at, without}
+use Rattle.manifest_schema.specs.Slots.{Spellings, only, also_underscored, at, without}
 use Rattle.manifest_schema.specs.Kinds.{map_of}
 use Rattle.manifest_schema.specs.Forms.{spell}
 use Rattle.manifest_schema.specs.Needs.{meets_optional, faulty_free}
@@ -15,10 +15,10 @@ abbrev pub normal : Spellings
 normal = only (codes "dependencies")
 
 abbrev pub development : Spellings
-development = both (codes "dev-dependencies") (codes "dev_dependencies")
+development = also_underscored (codes "dev-dependencies")
 
 abbrev pub build : Spellings
-build = both (codes "build-dependencies") (codes "build_dependencies")
+build = also_underscored (codes "build-dependencies")
 
 -- the members without what stands under the spellings
 abbrev pub less : Spellings → Members → Members

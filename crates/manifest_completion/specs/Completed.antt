@@ -6,9 +6,9 @@ use Rattle.std.specs.declared.io.ErrorKind.{ErrorKind}
 use Rattle.std.specs.declared.io.ErrorKind.TheVariants.{NotFound, OutOfMemory}
 use Rattle.manifest_schema.specs.Paths.{Text}
 use Rattle.manifest_schema.specs.Kinds.{Inheritable, inherited, local}
-use Rattle.manifest_schema.specs.PartForms.{is_empty}
 use Rattle.manifest_schema.specs.Contents.{Edition, e2015, TextOrFlag, a_text, a_flag, Product, Package, Manifest}
 use Rattle.manifest_schema.specs.Defaults.{default_product}
+use Rattle.manifest_schema.specs.Needs.{is_empty}
 use Rattle.manifest_completion.specs.Listings.{Answer, names, fault, lists, is_memory_fault, TargetFolder, bins, examples, tests, benches, Place, source, folder, entry, root, names_of, path_text, ListingMap, at, HasNoNameTwice}
 use Rattle.manifest_completion.specs.Finds.{finds, bin_finds}
 use Rattle.manifest_completion.specs.Targets.{targets, Defaults}

@@ -3,10 +3,11 @@
 ghost use Rattle.std.specs.Prelude.{◌≡◌, None, IfOk, IfErr, OnOk};
 ghost use Rattle.toml.specs.Data.{table as data_table};
 ghost use Rattle.toml.specs.View.{view, table_view};
-ghost use Rattle.manifest_schema.specs.Forms.{form, written_part};
+ghost use Rattle.manifest_schema.specs.Forms.{form};
 ghost use Rattle.manifest_schema.specs.Contents;
 ghost use Rattle.manifest_schema.specs.Defaults.{no_detail};
 ghost use Rattle.manifest_schema.specs.PartForms.{inherited_rows, detailed_rows, dependency};
+ghost use Rattle.manifest_schema.specs.ForProofs.{written_part};
 ghost use Rattle.manifest_schema.proofs.PartLaws.{inherited_lawful, detailed_lawful, dependency_lawful};
 ghost use Rattle.manifest_value.specs.Faults.{FaultIn};
 ghost use Rattle.manifest_parts.specs.Records.{inherited_content, detail_content, dependency_content};

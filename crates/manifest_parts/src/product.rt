@@ -3,10 +3,11 @@
 ghost use Rattle.std.specs.Prelude.{◌≡◌, IfOk, IfErr, OnOk};
 ghost use Rattle.toml.specs.Data.{table as data_table};
 ghost use Rattle.toml.specs.View.{view, table_view};
-ghost use Rattle.manifest_schema.specs.Forms.{form, first_fit, written_part};
+ghost use Rattle.manifest_schema.specs.Forms.{form};
 ghost use Rattle.manifest_schema.specs.Contents;
 ghost use Rattle.manifest_schema.specs.Defaults.{default_product};
 ghost use Rattle.manifest_schema.specs.PartForms.{product_rows};
+ghost use Rattle.manifest_schema.specs.ForProofs.{first_fit, written_part};
 ghost use Rattle.manifest_schema.proofs.PartLaws.{product_lawful};
 ghost use Rattle.manifest_value.specs.Faults.{FaultIn};
 ghost use Rattle.manifest_parts.specs.Records.{product_content};

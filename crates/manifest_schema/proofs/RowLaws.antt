@@ -1,13 +1,13 @@
 -- The laws that the rows of the forms are found from.
-use Rattle.std.proofs.Common.{◌≡◌, pos, negsuc, Bool, true, false, not, ◌⊎◌, inl, inr, List, [], ◌∷◌, refl, sym, ap, ◌∙◌}
+use Rattle.std.proofs.Common.{◌≡◌, pos, negsuc, Bool, true, false, ◌⊎◌, inl, inr, List, [], ◌∷◌, refl, sym, ap, ◌∙◌}
 use Rattle.std.proofs.lemmas.Bool.{false≢true, not-true}
 use Rattle.manifest_schema.specs.Paths.{Text}
 use Rattle.manifest_schema.specs.Kinds
 use Rattle.manifest_schema.specs.Kinds.{text, flag, list_of, map_of, kept}
-use Rattle.manifest_schema.specs.Needs.{never}
+use Rattle.manifest_schema.specs.Needs.{never, if_true, if_false, is_empty}
 use Rattle.manifest_schema.specs.Lawful.{IsLawful, IsTotal, IsDefault, IsPlain}
 use Rattle.manifest_schema.specs.Contents.{TextOrFlag, a_text, a_flag, Publish, publish_flag, registries}
-use Rattle.manifest_schema.specs.PartForms.{texts, text_or_flag, text_or_flag_side, publish, publish_side, codegen, priority, is_empty}
+use Rattle.manifest_schema.specs.PartForms.{texts, text_or_flag, text_or_flag_side, publish, publish_side, codegen, priority}
 use Rattle.manifest_schema.proofs.KeptLaws.{kept_lawful}
 use Rattle.manifest_schema.proofs.KindLaws.{text_lawful, flag_lawful, whole_lawful, truth_lawful, list_lawful, map_lawful, inh_lawful, split_lawful, plain_from}
 use Rattle.manifest_schema.proofs.NeedLaws.{required_lawful, optional_lawful, default_lawful, lenient_optional_lawful, lenient_default_lawful}
@@ -110,10 +110,10 @@ kept_map_total = map_total kept_total
 pub never_skips : {B : Type 0} {K : Kinds.Kind B} {e : B} → K.good e → IsDefault K e never
 never_skips g = record { well = g; skips = λ x h. absurd (false≢true h) }
 
-pub unless_true : IsDefault flag true (λ b. b)
+pub unless_true : IsDefault flag true if_true
 unless_true = record { well = tt; skips = λ x h. h }
 
-pub unless_false : IsDefault flag false not
+pub unless_false : IsDefault flag false if_false
 unless_false = record { well = tt; skips = λ x h. not-true x h }
 
 empty_to : {A : Type 0} (xs : List A) → is_empty xs ≡ true → xs ≡ []

@@ -2,9 +2,9 @@
 use Rattle.std.specs.Prelude.{Bool, true, [], ◌∷◌, Option, Some, None, codes}
 use Rattle.toml.specs.Data.{Data, Members, no_members, member}
 use Rattle.manifest_schema.specs.Paths.{Text, Path, key}
-use Rattle.manifest_schema.specs.Slots.{only, both}
+use Rattle.manifest_schema.specs.Slots.{only, also_underscored}
 use Rattle.manifest_schema.specs.Kinds.{Entries, text, flag}
-use Rattle.manifest_schema.specs.Needs.{optional, default, lenient_optional}
+use Rattle.manifest_schema.specs.Needs.{optional, default, if_true, lenient_optional}
 use Rattle.manifest_schema.specs.Forms.{Rows, row, no_more, others, ◌⨾◌}
 use Rattle.manifest_schema.specs.Contents.{InheritedDependency, DependencyDetail, Package, Manifest}
 use Rattle.manifest_schema.specs.Defaults.{no_detail, empty_manifest}
@@ -30,7 +30,7 @@ only_package p = record empty_manifest { «package» = Some p }
 
 -- a text under `a-b` or `a_b`
 abbrev pub spelled_rows : Rows (Option Text)
-spelled_rows = row (λ x. x) (both (codes "a-b") (codes "a_b")) (optional text) ⨾ no_more
+spelled_rows = row (λ x. x) (also_underscored (codes "a-b")) (optional text) ⨾ no_more
 
 -- a text under `a`, None where it does not fit
 abbrev pub lenient_rows : Rows (Option Text)
@@ -38,7 +38,7 @@ lenient_rows = row (λ x. x) (only (codes "a")) (lenient_optional text) ⨾ no_m
 
 -- a boolean under `a`, true where it is absent, not written where it is true
 abbrev pub default_rows : Rows Bool
-default_rows = row (λ x. x) (only (codes "a")) (default flag true (λ b. b)) ⨾ no_more
+default_rows = row (λ x. x) (only (codes "a")) (default flag true if_true) ⨾ no_more
 
 -- a boolean under `a`, and texts under all other keys
 pub record Rest : Type 0 where

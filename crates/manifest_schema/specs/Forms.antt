@@ -1,5 +1,5 @@
 -- Forms: a record is read from a table by a list of rows, one for each field.
-use Rattle.std.specs.Prelude.{ℕ, zero, suc, Bool, true, not, ◌&&◌, ◌⊎◌, List, [], ◌∷◌, IsTrue}
+use Rattle.std.specs.Prelude.{Bool, true, not, ◌&&◌, ◌⊎◌, List, [], ◌∷◌, IsTrue}
 use Rattle.toml.specs.Data.{Data, table, Members, no_members}
 use Rattle.manifest_schema.specs.Paths.{Text, wrong_kind, Faults, itself}
 use Rattle.manifest_schema.specs.Slots.{Spellings, only, both, first, at, put_some, is_among, without}
@@ -102,15 +102,3 @@ faulty_form rows _ p c = itself wrong_kind p c
 
 abbrev pub form : {A : Type 0} → Rows A → Kind A
 form rows = record { reads = reads_form rows; faulty = faulty_form rows; written = λ x. table (written_rows rows (gets rows x)); good = good_rows rows }
-
--- PARTS OF A FORM, for a record that is read or written in several steps
--- the first n rows fit
-abbrev pub first_fit : {A : Type 0} → ℕ → Rows A → Members → A → Type 0
-first_fit (suc n) (r ⨾ rs) ms x = r.need.meets (at r.spellings ms) (r.get x) × first_fit n rs ms x
-first_fit _ _ ms x = Unit {0}
-
--- the members with what is written of some rows put above them: the n rows that follow the first k
-abbrev pub written_part : {A : Type 0} → ℕ → ℕ → Rows A → A → Members → Members
-written_part (suc k) n (r ⨾ rs) x ms = written_part k n rs x ms
-written_part zero (suc n) (r ⨾ rs) x ms = put_some (first r.spellings) (r.need.written (r.get x)) (written_part zero n rs x ms)
-written_part _ _ _ x ms = ms

@@ -1,10 +1,9 @@
 -- The laws of kinds, needs and forms.
-use Rattle.std.specs.Prelude.{◌≡◌, ◌⊎◌, Bool, true, false, [], refl}
-use Rattle.std.proofs.Common.{inr}
+use Rattle.std.specs.Prelude.{◌≡◌, ◌⊎◌, Bool, true, false}
 use Rattle.toml.specs.Data.{Data, Members, table}
-use Rattle.manifest_schema.specs.Paths.{Text, Cause, metadata_fault, Path, Faults}
+use Rattle.manifest_schema.specs.Paths.{Text, Cause, Path, Faults}
 use Rattle.manifest_schema.specs.Slots.{Spellings, Slot, slot}
-use Rattle.manifest_schema.specs.Kinds.{Kind, nothing}
+use Rattle.manifest_schema.specs.Kinds.{Kind}
 use Rattle.manifest_schema.specs.Needs.{Need}
 use Rattle.manifest_schema.specs.Forms.{Rows, no_more, others, ◌⨾◌, Fields, gets}
 
@@ -70,10 +69,3 @@ pub record IsSplit {A B C : Type 0} (test : Data → Bool) (K : Kind A) (M : Kin
   pub tied : (x y : C) → side x ≡ side y → x ≡ y
   pub first : (x : A) → K.good x → test (K.written x) ≡ true
   pub second : (x : B) → M.good x → test (M.written x) ≡ false
-
--- THE KIND THAT READS NOTHING keeps the laws: each value has its fault
-pub nothing_laws : IsLawful nothing
-nothing_laws = record { single = λ d x y a b. absurd a; apart = λ d p c x f a. a; well = λ d x a. a; back = λ x g. absurd g }
-
-pub nothing_told : IsTotal nothing
-nothing_told = record { total = λ d. inr ([], metadata_fault, (refl, refl)) }

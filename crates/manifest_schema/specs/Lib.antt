@@ -5,6 +5,7 @@ pub mod Kinds
 pub mod Needs
 pub mod Forms
 pub mod Lawful
+pub mod ForProofs
 pub mod Contents
 pub mod Defaults
 pub mod Choices

@@ -1,13 +1,13 @@
 -- The forms of a package, a workspace and a manifest, as tables: each row has a field, its spellings, its need and its kind.
 use Rattle.std.specs.Prelude.{[], codes}
 use Rattle.toml.specs.Data.{Data}
-use Rattle.manifest_schema.specs.Slots.{only, both}
+use Rattle.manifest_schema.specs.Slots.{only, also_underscored}
 use Rattle.manifest_schema.specs.Kinds.{Kind, text, flag, list_of, map_of, inh}
-use Rattle.manifest_schema.specs.Needs.{required, optional, default, never}
+use Rattle.manifest_schema.specs.Needs.{required, optional, default, never, is_empty}
 use Rattle.manifest_schema.specs.Forms.{Rows, row, no_more, ◌⨾◌, form}
 use Rattle.manifest_schema.specs.Contents.{Package, WorkspacePackage, Workspace, Manifest}
 use Rattle.manifest_schema.specs.Choices.{edition, resolver}
-use Rattle.manifest_schema.specs.PartForms.{texts, text_or_flag, publish, is_empty, dependency, lint, product_rows, badges_rows, profiles_rows, lints_rows, platform_rows}
+use Rattle.manifest_schema.specs.PartForms.{texts, text_or_flag, publish, dependency, lint, product_rows, badges_rows, profiles_rows, lints_rows, platform_rows}
 
 -- PACKAGE, by the kind of its metadata
 unfoldable pub package_rows : Kind Data → Rows Package
@@ -67,7 +67,7 @@ workspace_package_rows =
 unfoldable pub workspace_rows : Kind Data → Rows Workspace
 workspace_rows metadata =
     row (λ w. w.members) (only (codes "members")) (default texts [] never)
-    ⨾ row (λ w. w.default_members) (both (codes "default-members") (codes "default_members")) (optional texts)
+    ⨾ row (λ w. w.default_members) (also_underscored (codes "default-members")) (optional texts)
     ⨾ row (λ w. w.exclude) (only (codes "exclude")) (optional texts)
     ⨾ row (λ w. w.resolver) (only (codes "resolver")) (optional resolver)
     ⨾ row (λ w. w.dependencies) (only (codes "dependencies")) (optional (map_of dependency))
@@ -83,8 +83,8 @@ manifest_rows package_metadata workspace_metadata =
     ⨾ row (λ m. m.cargo_features) (only (codes "cargo-features")) (optional texts)
     ⨾ row (λ m. m.workspace) (only (codes "workspace")) (optional (form (workspace_rows workspace_metadata)))
     ⨾ row (λ m. m.dependencies) (only (codes "dependencies")) (optional (map_of dependency))
-    ⨾ row (λ m. m.dev_dependencies) (both (codes "dev-dependencies") (codes "dev_dependencies")) (optional (map_of dependency))
-    ⨾ row (λ m. m.build_dependencies) (both (codes "build-dependencies") (codes "build_dependencies")) (optional (map_of dependency))
+    ⨾ row (λ m. m.dev_dependencies) (also_underscored (codes "dev-dependencies")) (optional (map_of dependency))
+    ⨾ row (λ m. m.build_dependencies) (also_underscored (codes "build-dependencies")) (optional (map_of dependency))
     ⨾ row (λ m. m.target) (only (codes "target")) (optional (map_of (form platform_rows)))
     ⨾ row (λ m. m.features) (only (codes "features")) (optional (map_of texts))
     ⨾ row (λ m. m.bin) (only (codes "bin")) (default (list_of (form product_rows)) [] is_empty)

@@ -1,5 +1,5 @@
 -- Needs of a field: what its content is, given what the table holds under its spellings.
-use Rattle.std.specs.Prelude.{◌≡◌, Bool, true, false, ◌⊎◌, Option, Some, None}
+use Rattle.std.specs.Prelude.{◌≡◌, Bool, true, false, not, ◌⊎◌, List, [], Option, Some, None}
 use Rattle.toml.specs.Data.{Data}
 use Rattle.manifest_schema.specs.Paths.{missing, two_spellings, key, Faults, itself, behind, no_fault}
 use Rattle.manifest_schema.specs.Slots.{Spellings, first, Slot, absent, one, clash}
@@ -73,9 +73,19 @@ written_unless K false x = Some (K.written x)
 abbrev pub default : {B : Type 0} → Kind B → B → (B → Bool) → Need B
 default K e skipped = record { meets = meets_default e K; faulty = λ names. faulty_free names K; written = λ x. written_unless K (skipped x) x; good = K.good }
 
--- the test of a default that is written always
+-- when a default is not written: never, where it is true, where it is false, where it is the empty list
 abbrev pub never : {B : Type 0} → B → Bool
 never x = false
+
+abbrev pub if_true : Bool → Bool
+if_true b = b
+
+abbrev pub if_false : Bool → Bool
+if_false b = not b
+
+abbrev pub is_empty : {A : Type 0} → List A → Bool
+is_empty [] = true
+is_empty _ = false
 
 -- LENIENT: a value that does not fit, and two spellings, count as absent
 abbrev pub meets_lenient : {B C : Type 0} → (B → C) → C → Kind B → Slot → C → Type 0

@@ -1,10 +1,10 @@
 -- The forms of the parts of a manifest, as tables: each row has a field, its spellings, its need and its kind.
-use Rattle.std.specs.Prelude.{ℤ, pos, negsuc, Bool, true, false, not, ◌⊎◌, List, [], codes}
+use Rattle.std.specs.Prelude.{ℤ, pos, negsuc, Bool, true, false, ◌⊎◌, List, [], codes}
 use Rattle.std.proofs.Common.{inl, inr}
 use Rattle.manifest_schema.specs.Paths.{Text}
-use Rattle.manifest_schema.specs.Slots.{only, both}
+use Rattle.manifest_schema.specs.Slots.{only, also_underscored}
 use Rattle.manifest_schema.specs.Kinds.{Kind, text, flag, whole, truth, list_of, map_of, kept, split, is_text, is_flag, inherits}
-use Rattle.manifest_schema.specs.Needs.{required, optional, default, never, lenient_optional, lenient_default}
+use Rattle.manifest_schema.specs.Needs.{required, optional, default, never, if_true, if_false, lenient_optional, lenient_default}
 use Rattle.manifest_schema.specs.Forms.{Rows, row, no_more, others, ◌⨾◌, form}
 use Rattle.manifest_schema.specs.Contents.{TextOrFlag, a_text, a_flag, Publish, publish_flag, registries, InheritedDependency, DependencyDetail, Dependency, simple, by_workspace, detailed, Level, LintConfig, Lint, lint_level, lint_config, Product, Badge, Maintenance, no_status, Badges, Profile, Profiles, Lints, Platform}
 use Rattle.manifest_schema.specs.Choices.{edition, level, status, strip}
@@ -37,11 +37,6 @@ codegen = whole (pos 0) (pos 65535)
 abbrev pub priority : Kind ℤ
 priority = whole (negsuc 127) (pos 127)
 
--- the test of a list that is not written where it is empty
-abbrev pub is_empty : {A : Type 0} → List A → Bool
-is_empty [] = true
-is_empty _ = false
-
 -- DEPENDENCIES: a text, a table whose `workspace` is the boolean true, or any other table
 unfoldable pub inherited_rows : Rows InheritedDependency
 inherited_rows =
@@ -54,7 +49,7 @@ unfoldable pub detailed_rows : Rows DependencyDetail
 detailed_rows =
     row (λ d. d.version) (only (codes "version")) (optional text)
     ⨾ row (λ d. d.registry) (only (codes "registry")) (optional text)
-    ⨾ row (λ d. d.registry_index) (both (codes "registry-index") (codes "registry_index")) (optional text)
+    ⨾ row (λ d. d.registry_index) (also_underscored (codes "registry-index")) (optional text)
     ⨾ row (λ d. d.path) (only (codes "path")) (optional text)
     ⨾ row (λ d. d.git) (only (codes "git")) (optional text)
     ⨾ row (λ d. d.branch) (only (codes "branch")) (optional text)
@@ -62,7 +57,7 @@ detailed_rows =
     ⨾ row (λ d. d.rev) (only (codes "rev")) (optional text)
     ⨾ row (λ d. d.features) (only (codes "features")) (optional texts)
     ⨾ row (λ d. d.«optional») (only (codes "optional")) (optional flag)
-    ⨾ row (λ d. d.default_features) (both (codes "default-features") (codes "default_features")) (optional flag)
+    ⨾ row (λ d. d.default_features) (also_underscored (codes "default-features")) (optional flag)
     ⨾ row (λ d. d.package) (only (codes "package")) (optional text)
     ⨾ no_more
 
@@ -96,16 +91,16 @@ unfoldable pub product_rows : Rows Product
 product_rows =
     row (λ p. p.path) (only (codes "path")) (optional text)
     ⨾ row (λ p. p.name) (only (codes "name")) (optional text)
-    ⨾ row (λ p. p.test) (only (codes "test")) (default flag true (λ b. b))
-    ⨾ row (λ p. p.doctest) (only (codes "doctest")) (default flag true (λ b. b))
-    ⨾ row (λ p. p.bench) (only (codes "bench")) (default flag true (λ b. b))
-    ⨾ row (λ p. p.doc) (only (codes "doc")) (default flag true (λ b. b))
-    ⨾ row (λ p. p.plugin) (only (codes "plugin")) (default flag false not)
-    ⨾ row (λ p. p.proc_macro) (both (codes "proc-macro") (codes "proc_macro")) (default flag false not)
-    ⨾ row (λ p. p.harness) (only (codes "harness")) (default flag true (λ b. b))
+    ⨾ row (λ p. p.test) (only (codes "test")) (default flag true if_true)
+    ⨾ row (λ p. p.doctest) (only (codes "doctest")) (default flag true if_true)
+    ⨾ row (λ p. p.bench) (only (codes "bench")) (default flag true if_true)
+    ⨾ row (λ p. p.doc) (only (codes "doc")) (default flag true if_true)
+    ⨾ row (λ p. p.plugin) (only (codes "plugin")) (default flag false if_false)
+    ⨾ row (λ p. p.proc_macro) (also_underscored (codes "proc-macro")) (default flag false if_false)
+    ⨾ row (λ p. p.harness) (only (codes "harness")) (default flag true if_true)
     ⨾ row (λ p. p.edition) (only (codes "edition")) (optional edition)
-    ⨾ row (λ p. p.required_features) (both (codes "required-features") (codes "required_features")) (default texts [] never)
-    ⨾ row (λ p. p.crate_type) (both (codes "crate-type") (codes "crate_type")) (optional texts)
+    ⨾ row (λ p. p.required_features) (also_underscored (codes "required-features")) (default texts [] never)
+    ⨾ row (λ p. p.crate_type) (also_underscored (codes "crate-type")) (optional texts)
     ⨾ no_more
 
 -- BADGES: one that does not fit is None
@@ -115,7 +110,7 @@ badge_rows =
     ⨾ row (λ b. b.branch) (only (codes "branch")) (default text (codes "master") never)
     ⨾ row (λ b. b.service) (only (codes "service")) (optional text)
     ⨾ row (λ b. b.id) (only (codes "id")) (optional text)
-    ⨾ row (λ b. b.project_name) (both (codes "project-name") (codes "project_name")) (optional text)
+    ⨾ row (λ b. b.project_name) (also_underscored (codes "project-name")) (optional text)
     ⨾ no_more
 
 unfoldable pub maintenance_rows : Rows Maintenance
@@ -137,16 +132,16 @@ badges_rows =
 -- PROFILE
 unfoldable pub profile_rows : Rows Profile
 profile_rows =
-    row (λ p. p.opt_level) (both (codes "opt-level") (codes "opt_level")) (optional kept)
+    row (λ p. p.opt_level) (also_underscored (codes "opt-level")) (optional kept)
     ⨾ row (λ p. p.debug) (only (codes "debug")) (optional kept)
     ⨾ row (λ p. p.rpath) (only (codes "rpath")) (optional flag)
     ⨾ row (λ p. p.inherits) (only (codes "inherits")) (optional text)
     ⨾ row (λ p. p.lto) (only (codes "lto")) (optional kept)
-    ⨾ row (λ p. p.debug_assertions) (both (codes "debug-assertions") (codes "debug_assertions")) (optional flag)
-    ⨾ row (λ p. p.codegen_units) (both (codes "codegen-units") (codes "codegen_units")) (optional codegen)
+    ⨾ row (λ p. p.debug_assertions) (also_underscored (codes "debug-assertions")) (optional flag)
+    ⨾ row (λ p. p.codegen_units) (also_underscored (codes "codegen-units")) (optional codegen)
     ⨾ row (λ p. p.panic) (only (codes "panic")) (optional text)
     ⨾ row (λ p. p.incremental) (only (codes "incremental")) (optional flag)
-    ⨾ row (λ p. p.overflow_checks) (both (codes "overflow-checks") (codes "overflow_checks")) (optional flag)
+    ⨾ row (λ p. p.overflow_checks) (also_underscored (codes "overflow-checks")) (optional flag)
     ⨾ row (λ p. p.strip) (only (codes "strip")) (optional strip)
     ⨾ row (λ p. p.package) (only (codes "package")) (default (map_of kept) [] never)
     ⨾ row (λ p. p.split_debuginfo) (only (codes "split-debuginfo")) (optional text)
@@ -171,6 +166,6 @@ lints_rows = row (λ l. l.workspace) (only (codes "workspace")) (optional truth)
 unfoldable pub platform_rows : Rows Platform
 platform_rows =
     row (λ p. p.dependencies) (only (codes "dependencies")) (default (map_of dependency) [] never)
-    ⨾ row (λ p. p.dev_dependencies) (both (codes "dev-dependencies") (codes "dev_dependencies")) (default (map_of dependency) [] never)
-    ⨾ row (λ p. p.build_dependencies) (both (codes "build-dependencies") (codes "build_dependencies")) (default (map_of dependency) [] never)
+    ⨾ row (λ p. p.dev_dependencies) (also_underscored (codes "dev-dependencies")) (default (map_of dependency) [] never)
+    ⨾ row (λ p. p.build_dependencies) (also_underscored (codes "build-dependencies")) (default (map_of dependency) [] never)
     ⨾ no_more

@@ -1,5 +1,5 @@
 -- What a table holds under the spellings of a field, and tables with an entry put in or left out.
-use Rattle.std.specs.Prelude.{Bool, false, ◌||◌, if◌then◌else◌, List, [], ◌∷◌, Option, Some, None}
+use Rattle.std.specs.Prelude.{Bool, false, ◌||◌, ◌==◌, if◌then◌else◌, List, [], ◌∷◌, Option, Some, None}
 use Rattle.std.specs.Ordering.{nat_cmp, match_ordering}
 use Rattle.std.specs.Cmp.Lexicographic.{slice_cmp}
 use Rattle.toml.specs.Data.{Data, Members, no_members, member, get_member, same_key}
@@ -10,15 +10,19 @@ pub data Spellings : Type 0 where
   only : Text → Spellings
   both : Text → Text → Spellings
 
+-- the text with a `_` (95) in place of each `-` (45)
+abbrev pub underscored : Text → Text
+underscored [] = []
+underscored (b ∷ bs) = (if b == 45 then 95 else b) ∷ underscored bs
+
+-- a word with `-`, and as its second spelling the same word with `_`
+abbrev pub also_underscored : Text → Spellings
+also_underscored k = both k (underscored k)
+
 -- the first spelling, which is the one that is written
 abbrev pub first : Spellings → Text
 first (only k) = k
 first (both k l) = k
-
--- the spellings, from a word and perhaps a second word
-abbrev pub spellings_of : Text → Option Text → Spellings
-spellings_of k None = only k
-spellings_of k (Some l) = both k l
 
 -- what a table holds for a field: nothing, a value under the spelling that is present, or values under both
 pub data Slot : Type 0 where

@@ -5,7 +5,8 @@ ghost use Rattle.toml.specs.Data.{Data};
 ghost use Rattle.manifest_schema.specs.Kinds.{Kind, text, flag, whole, truth, choice, kept, list_of, map_of, inh, tree_of, nothing};
 ghost use Rattle.manifest_schema.specs.Needs.{required, optional, default, lenient_optional, lenient_default};
 ghost use Rattle.manifest_schema.specs.Forms.{Rows, no_more, form, distinct};
-ghost use Rattle.manifest_schema.specs.Lawful.{IsLawful, IsLawfulNeed, AreLawful, IsBuilt, IsTotal, IsTotalNeed, AreTotal, IsDefault, IsPlain, nothing_laws, nothing_told};
+ghost use Rattle.manifest_schema.specs.Lawful.{IsLawful, IsLawfulNeed, AreLawful, IsBuilt, IsTotal, IsTotalNeed, AreTotal, IsDefault, IsPlain};
+ghost use Rattle.manifest_schema.specs.ForProofs.{nothing_laws, nothing_told};
 
 use std::marker::Brand;
 

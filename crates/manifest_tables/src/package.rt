@@ -3,11 +3,12 @@
 ghost use Rattle.std.specs.Prelude.{◌≡◌, ◌↔◌, IsTrue, IfOk, IfErr, OnOk, Some, string_bytes};
 ghost use Rattle.toml.specs.Data.{Data, table as data_table};
 ghost use Rattle.toml.specs.View.{view, table_view};
-ghost use Rattle.manifest_schema.specs.Forms.{form, first_fit, written_part};
+ghost use Rattle.manifest_schema.specs.Forms.{form};
 ghost use Rattle.manifest_schema.specs.Kinds.{tree_of, local};
 ghost use Rattle.manifest_schema.specs.Defaults.{named};
 ghost use Rattle.manifest_schema.specs.Contents;
 ghost use Rattle.manifest_schema.specs.ManifestForms.{package_rows};
+ghost use Rattle.manifest_schema.specs.ForProofs.{first_fit, written_part};
 ghost use Rattle.manifest_schema.proofs.KindLaws.{tree_lawful};
 ghost use Rattle.manifest_schema.proofs.ManifestLaws.{package_lawful};
 ghost use Rattle.manifest_value.specs.Faults.{FaultIn};

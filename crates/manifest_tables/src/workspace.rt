@@ -3,13 +3,14 @@
 ghost use Rattle.std.specs.Prelude.{◌≡◌, ◌↔◌, IsTrue, option_map, IfOk, IfErr, OnOk};
 ghost use Rattle.toml.specs.Data.{Data, table as data_table};
 ghost use Rattle.toml.specs.View.{view, table_view};
-ghost use Rattle.manifest_schema.specs.Forms.{form, first_fit, written_part};
+ghost use Rattle.manifest_schema.specs.Forms.{form};
 ghost use Rattle.manifest_schema.specs.Kinds.{map_of, tree_of};
 ghost use Rattle.manifest_schema.specs.Needs.{good_some};
 ghost use Rattle.manifest_schema.specs.Contents;
 ghost use Rattle.manifest_schema.specs.Defaults.{no_workspace_package, empty_workspace};
 ghost use Rattle.manifest_schema.specs.PartForms.{lint};
 ghost use Rattle.manifest_schema.specs.ManifestForms.{workspace_package_rows, workspace_rows};
+ghost use Rattle.manifest_schema.specs.ForProofs.{first_fit, written_part};
 ghost use Rattle.manifest_schema.proofs.KindLaws.{tree_lawful};
 ghost use Rattle.manifest_schema.proofs.ManifestLaws.{workspace_package_lawful, workspace_lawful};
 ghost use Rattle.manifest_value.specs.Faults.{FaultIn};

@@ -5,6 +5,7 @@ pub use Rattle.manifest_schema.specs.Kinds
 pub use Rattle.manifest_schema.specs.Needs
 pub use Rattle.manifest_schema.specs.Forms
 pub use Rattle.manifest_schema.specs.Lawful
+pub use Rattle.manifest_schema.specs.ForProofs
 pub mod Faults
 pub mod Found
 pub mod Entries

@@ -2,8 +2,9 @@
 
 ghost use Rattle.std.specs.Prelude.{◌≡◌, Some, None, IfOk, option_map, option_copied};
 ghost use Rattle.toml.specs.View.{table_view};
-ghost use Rattle.manifest_schema.specs.Slots.{at, spellings_of};
+ghost use Rattle.manifest_schema.specs.Slots.{at};
 ghost use Rattle.manifest_schema.specs.Needs.{meets_lenient};
+ghost use Rattle.manifest_schema.specs.ForProofs.{spellings_of};
 
 use crate::fault::ReadFault;
 use crate::schema::Schema;

@@ -3,10 +3,10 @@ ghost use Rattle.std.specs.Prelude.{◌≡◌, ◌↔◌, IsTrue, IfOk, IfErr, O
 ghost use Rattle.std.proofs.Common.{subst};
 ghost use Rattle.toml.specs.View.{view, table_view};
 ghost use Rattle.manifest_value.specs.Faults.{FaultIn};
-ghost use Rattle.manifest_schema.specs.Slots.{at, spellings_of, put_some};
+ghost use Rattle.manifest_schema.specs.Slots.{at, put_some};
 ghost use Rattle.manifest_schema.specs.Kinds.{plain, tree_of, nothing};
-ghost use Rattle.manifest_schema.specs.Lawful.{nothing_laws};
 ghost use Rattle.manifest_schema.specs.Needs.{meets_optional, faulty_free, written_some};
+ghost use Rattle.manifest_schema.specs.ForProofs.{spellings_of, nothing_laws};
 
 use crate::fault::{Cause, ReadFault, here};
 use crate::kept::holds_float;

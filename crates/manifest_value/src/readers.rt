@@ -3,9 +3,10 @@
 ghost use Rattle.std.specs.Prelude.{◌≡◌, map, IfOk, IfErr, Some, string_bytes, option_map, option_copied};
 ghost use Rattle.toml.specs.Data.{table as table_data};
 ghost use Rattle.toml.specs.View.{view, table_view};
-ghost use Rattle.manifest_schema.specs.Slots.{at, clash, spellings_of};
+ghost use Rattle.manifest_schema.specs.Slots.{at, clash};
 ghost use Rattle.manifest_schema.specs.Kinds.{text, flag, whole, list_of};
 ghost use Rattle.manifest_schema.specs.Needs.{clash_at};
+ghost use Rattle.manifest_schema.specs.ForProofs.{spellings_of};
 ghost use Rattle.manifest_value.specs.Faults.{FaultIn, IsSchema, no_table};
 ghost use Rattle.manifest_value.specs.Found.{value_in};
 

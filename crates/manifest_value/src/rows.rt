@@ -1,12 +1,12 @@
 //! Rows of a form.
 ghost use Rattle.std.specs.Prelude.{◌≡◌, Some, map, IfOk, IfErr, OnOk, option_map, option_copied};
 ghost use Rattle.manifest_schema.specs.Kinds.{list_of};
-ghost use Rattle.manifest_schema.specs.PartForms.{is_empty};
 ghost use Rattle.toml.specs.View.{view, table_view};
 ghost use Rattle.manifest_value.specs.Faults.{FaultIn, cause_of};
 ghost use Rattle.manifest_schema.specs.Paths.{itself, behind, key};
-ghost use Rattle.manifest_schema.specs.Slots.{at, spellings_of, put_some};
-ghost use Rattle.manifest_schema.specs.Needs.{meets_required, meets_optional, meets_default, faulty_required, faulty_free, written_some, written_unless};
+ghost use Rattle.manifest_schema.specs.Slots.{at, put_some};
+ghost use Rattle.manifest_schema.specs.Needs.{meets_required, meets_optional, meets_default, faulty_required, faulty_free, written_some, written_unless, is_empty};
+ghost use Rattle.manifest_schema.specs.ForProofs.{spellings_of};
 
 use crate::fault::{Cause, ReadFault, here, under_key};
 use crate::keys::Lookup;

@@ -3,7 +3,8 @@
 ghost use Rattle.std.specs.Prelude.{◌≡◌, option_map, option_copied};
 ghost use Rattle.toml.specs.Data.{get_member};
 ghost use Rattle.toml.specs.View.{view, table_view};
-ghost use Rattle.manifest_schema.specs.Slots.{at, spellings_of};
+ghost use Rattle.manifest_schema.specs.Slots.{at};
+ghost use Rattle.manifest_schema.specs.ForProofs.{spellings_of};
 ghost use Rattle.manifest_value.specs.Found.{slot_view};
 
 use crate::keys::Lookup;

@@ -1,10 +1,10 @@
 use Rattle.std.proofs.Common.{rules, subst, sym}
 use Rattle.toml.specs.Data.{Members, table as data_table}
 use Rattle.toml.specs.View.{table_view}
-use Rattle.manifest_schema.specs.Forms.{first_fit}
 use Rattle.manifest_schema.specs.Kinds.{tree_of}
 use Rattle.manifest_schema.specs.ManifestForms.{manifest_rows}
 use Rattle.manifest_schema.specs.Meaning.{faulty_manifest}
+use Rattle.manifest_schema.specs.ForProofs.{first_fit}
 use Rattle.manifest_value.specs.Faults.{FaultIn}
 use Rattle.manifest_value.proofs.Behind.{fault_weaker}
 use Rattle.cargo_manifest.specs.Taken.{rest, faulty_dependencies}

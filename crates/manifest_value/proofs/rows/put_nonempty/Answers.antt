@@ -1,6 +1,6 @@
 use Rattle.std.proofs.Common.{◌≡◌, ◌==◌, List, [], ◌∷◌, map, length, refl, ap, sym, ◌∙◌}
 use Prim.Native.Nat.compare
-use Rattle.manifest_schema.specs.PartForms.{is_empty}
+use Rattle.manifest_schema.specs.Needs.{is_empty}
 use Rattle.manifest_value.proofs.rows.put_nonempty.Goals as goal
 
 is_empty-map : {A B : Type 0} (f : A → B) (xs : List A) → is_empty (map f xs) ≡ (length xs == 0)

@@ -4,7 +4,7 @@ use Rattle.manifest_schema.specs.Forms.{spell}
 use Rattle.manifest_schema.specs.Kinds.{map_of, reads_map, faulty_map}
 use Rattle.manifest_schema.specs.Needs.{meets_optional, faulty_free}
 use Rattle.manifest_schema.specs.Paths.{behind, key}
-use Rattle.manifest_schema.specs.Slots.{spellings_of}
+use Rattle.manifest_schema.specs.ForProofs.{spellings_of}
 use Rattle.manifest_value.specs.Entries.{entries_content}
 use Rattle.manifest_value.specs.Faults.{FaultIn}
 use Rattle.manifest_value.proofs.ReadingLemmas.{ascend_view}
