@@ -1,7 +1,7 @@
--- Small forms for the worked examples, and tables of one or two entries.
-use Rattle.std.specs.Prelude.{Bool, true, [], ◌∷◌, Option, Some, None, codes}
-use Rattle.toml.specs.Data.{Data, Members, no_members, member}
-use Rattle.manifest_schema.specs.Paths.{Text, Path, key}
+-- Small forms and tables for the worked examples. They are ours, and say nothing of Cargo.
+use Rattle.std.specs.Prelude.{◌≡◌, pos, Bool, true, [], ◌∷◌, Option, Some, None, codes}
+use Rattle.toml.specs.Data.{Data, integer, table, Items, no_items, item, Members, no_members, member}
+use Rattle.manifest_schema.specs.Paths.{Text, Cause, Path, key, Faults}
 use Rattle.manifest_schema.specs.Slots.{only, also_underscored}
 use Rattle.manifest_schema.specs.Kinds.{Entries, text, flag}
 use Rattle.manifest_schema.specs.Needs.{optional, default, if_true, lenient_optional}
@@ -15,6 +15,22 @@ one_entry k d = member k d no_members
 
 abbrev pub two_entries : Text → Data → Text → Data → Members
 two_entries k d l e = member k d (member l e no_members)
+
+-- a list of two items
+abbrev pub two_items : Data → Data → Items
+two_items d e = item d (item e no_items)
+
+-- badges of which the one there is does not fit: `gitlab = 1`
+abbrev pub bad_gitlab : Data
+bad_gitlab = table (one_entry (codes "gitlab") (integer (pos 1)))
+
+-- this is the one fault: it stands there, and every other one is of its cause and at its path
+abbrev pub OnlyFault : Faults → Path → Cause → Type 0
+OnlyFault F path cause = F path cause × ((p : Path) (c : Cause) → F p c → (p ≡ path) × (c ≡ cause))
+
+-- no fault at all
+abbrev pub NoFault : Faults → Type 0
+NoFault F = (p : Path) (c : Cause) → F p c → ⊥
 
 -- a dependency that the workspace lends, and nothing else
 abbrev pub lent : InheritedDependency

@@ -1,18 +1,19 @@
-//! Worked examples of the definitions, on literals: what Cargo's reference says of each table, held against what
-//! the definitions say. The functions do nothing; their contracts are the examples.
+//! Worked examples of the definitions: what they say of small tables. The examples are ours, as are the small forms of
+//! some of them; whether Cargo says the same, they do not show. The functions do nothing; their contracts are the
+//! examples.
 
-ghost use Rattle.std.specs.Prelude.{◌≡◌, pos, true, false, [], ◌∷◌, Some, None, codes};
-ghost use Rattle.toml.specs.Data.{string, integer, boolean, table, no_members, member};
-ghost use Rattle.manifest_schema.specs.Paths.{two_spellings, missing, not_a_choice, wrong_kind};
+ghost use Rattle.std.specs.Prelude.{◌≡◌, pos, negsuc, true, false, [], ◌∷◌, Some, None, codes};
+ghost use Rattle.toml.specs.Data.{string, integer, boolean, array, table, no_members, member};
+ghost use Rattle.manifest_schema.specs.Paths.{two_spellings, missing, not_a_choice, wrong_kind, out_of_range, key, index};
 ghost use Rattle.manifest_schema.specs.Kinds.{kept, inherited, local};
 ghost use Rattle.manifest_schema.specs.Forms.{form};
 ghost use Rattle.manifest_schema.specs.Contents.{by_workspace, detailed, simple, e2021};
 ghost use Rattle.manifest_schema.specs.Choices.{edition};
 ghost use Rattle.manifest_schema.specs.ManifestForms.{package_rows};
-ghost use Rattle.manifest_schema.specs.PartForms.{dependency};
+ghost use Rattle.manifest_schema.specs.PartForms.{texts, codegen, priority, dependency, badges_rows};
 ghost use Rattle.manifest_schema.specs.Meaning.{means, unmeant, rewritten};
-ghost use Rattle.manifest_schema.specs.Defaults.{named, empty_workspace, empty_manifest};
-ghost use Rattle.manifest_schema.specs.Examples.{one_entry, two_entries, lent, of_version, only_package, spelled_rows, lenient_rows, default_rows, rest_rows, at_key};
+ghost use Rattle.manifest_schema.specs.Defaults.{no_badges, named, empty_workspace, empty_manifest};
+ghost use Rattle.manifest_schema.specs.Examples.{one_entry, two_entries, lent, of_version, only_package, spelled_rows, lenient_rows, default_rows, rest_rows, at_key, two_items, bad_gitlab, OnlyFault, NoFault};
 
 /// A key that no row has is ignored, and is not written.
 #[tactic(auto, unfolding(crate::specs::ManifestForms::package_rows, crate::specs::Slots::put_some))]
@@ -99,6 +100,47 @@ pub fn written_in_order()
         ≡ two_entries (codes "dependencies") (table (one_entry (codes "a") (string (codes "1"))))
         (codes "package") (table (member (codes "edition") (string (codes "2021"))
         (two_entries (codes "name") (string (codes "p")) (codes "version") (table (one_entry (codes "workspace") (boolean true)))))) }
+{}
+
+/// Where both spellings are there, that is the only fault, whatever their values are.
+pub fn only_a_clash()
+    ensures { OnlyFault ((form spelled_rows).faulty (table
+        (two_entries (codes "a-b") (string (codes "x")) (codes "a_b") (integer (pos 1)))))
+        (at_key (codes "a-b")) two_spellings }
+{}
+
+/// A value that does not fit is told under the spelling that the table has, and nowhere else.
+pub fn only_the_second_spelling()
+    ensures { OnlyFault ((form spelled_rows).faulty (table (one_entry (codes "a_b") (integer (pos 1)))))
+        (at_key (codes "a_b")) wrong_kind }
+{}
+
+/// A whole number outside the limits is out of range, and has no other fault; at the limit it has none.
+pub fn only_out_of_range()
+    ensures above { OnlyFault (codegen.faulty (integer (pos 65536))) [] out_of_range }
+    ensures below { OnlyFault (priority.faulty (integer (negsuc 128))) [] out_of_range }
+    ensures at_limit { NoFault (priority.faulty (integer (negsuc 127))) }
+{}
+
+/// The fault of an item stands behind its index, and the other items have none.
+pub fn only_one_item()
+    ensures { OnlyFault (texts.faulty (array (two_items (string (codes "x")) (integer (pos 1)))))
+        (index 1 ∷ []) wrong_kind }
+{}
+
+/// Without `package` and `workspace` the only fault is that of the package, behind `project` where the table has it.
+#[tactic(auto, unfolding(crate::specs::ManifestForms::package_rows, crate::specs::ManifestForms::manifest_rows))]
+pub fn only_an_old_fault()
+    ensures project { OnlyFault (unmeant kept kept (one_entry (codes "project") (table no_members)))
+        (key (codes "project") ∷ at_key (codes "name")) missing }
+    ensures top { OnlyFault (unmeant kept kept no_members) (at_key (codes "name")) missing }
+{}
+
+/// A badge that does not fit is no fault: it counts as absent.
+#[tactic(auto, unfolding(crate::specs::PartForms::badges_rows))]
+pub fn unfit_badge()
+    ensures reads { (form badges_rows).reads bad_gitlab no_badges }
+    ensures faultless { NoFault ((form badges_rows).faulty bad_gitlab) }
 {}
 
 /// An edition is one of its texts.
