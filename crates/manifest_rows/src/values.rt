@@ -1,7 +1,7 @@
 //! Values of plain types, read and written by the trait.
 use crate::answers::{assert_told, assert_written, error_of, value};
 use cargo_manifest::{Error, Schema};
-use manifest_value::kept::{holds_float, kept};
+use manifest_value::{holds_float, kept};
 use std::alloc::Global;
 use std::collections::BTreeMap;
 use std::test::Fail;

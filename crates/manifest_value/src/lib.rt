@@ -4,7 +4,7 @@
 
 pub mod closures;
 pub mod fault;
-pub mod kept;
+pub mod kept_values;
 pub mod keys;
 pub mod lenient;
 pub mod maps;
@@ -23,6 +23,7 @@ pub mod writers;
 
 pub use closures::{list_of, map_of};
 pub use fault::{Cause, KeyPath, ReadFault, SchemaFault, Step};
+pub use kept_values::{holds_float, kept};
 pub use metadata::Metadata;
 pub use plain::Plain;
 pub use readers::{boolean, field, table, text, texts, whole};

@@ -9,7 +9,7 @@ ghost use Rattle.manifest_schema.specs.Needs.{meets_optional, faulty_free, writt
 ghost use Rattle.manifest_schema.specs.ForProofs.{spellings_of, nothing_laws};
 
 use crate::fault::{Cause, ReadFault, here};
-use crate::kept::holds_float;
+use crate::kept_values::holds_float;
 use crate::rows::{optional, put_optional};
 use crate::schema::Schema;
 use std::alloc::{AllocError, Global};

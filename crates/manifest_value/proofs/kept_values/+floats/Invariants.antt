@@ -1,7 +1,7 @@
 use Rattle.std.proofs.Common.{◌≡◌, drop}
 use Rattle.toml.specs.View.{items_view, members_view}
 use Rattle.manifest_schema.specs.Kinds.{plain_items, plain_members}
-use Rattle.manifest_value.proofs.kept.+floats.Given as goal
+use Rattle.manifest_value.proofs.kept_values.+floats.Given as goal
 
 abbrev pub invariant-items_hold_float-loop-item : goal.invariant-items_hold_float-loop-item
 invariant-items_hold_float-loop-item l = plain_items (items_view l.item-items) ≡ plain_items (items_view (drop l.item-index l.item-items))

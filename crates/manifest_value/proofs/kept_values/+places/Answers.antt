@@ -5,7 +5,7 @@ use Rattle.manifest_schema.specs.Kinds.{plain_members}
 use Rattle.manifest_schema.specs.Paths.{key}
 use Rattle.manifest_value.specs.Faults.{IsBehind}
 use Rattle.manifest_value.proofs.FloatLemmas.{float_in_item, float_in_entry}
-use Rattle.manifest_value.proofs.kept.+places.Goals as goal
+use Rattle.manifest_value.proofs.kept_values.+places.Goals as goal
 
 abbrev Entry : Type 0
 Entry = String Global × Value
