@@ -17,6 +17,11 @@ RefusedIn F (Parse (Schema f)) = IsOneOf F f
 RefusedIn F (Memory e) = Unit {0}
 RefusedIn F _ = ⊥
 
+-- the error tells a fault of the schema
+abbrev pub TellsSchema : Error → Type 0
+TellsSchema (Parse (Schema f)) = Unit {0}
+TellsSchema _ = ⊥
+
 -- the error that tells what a reader refuses with
 abbrev pub IsRefusal : ReadFault → Error → Type 0
 IsRefusal (read.Schema f) e = e ≡ Parse (Schema f)

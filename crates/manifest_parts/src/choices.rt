@@ -6,9 +6,10 @@ ghost use Rattle.manifest_schema.specs.Contents;
 ghost use Rattle.manifest_schema.specs.Choices.{edition, edition_text, resolver, resolver_text, level, level_text, status, status_text, status_words, meaning_of};
 ghost use Rattle.manifest_schema.proofs.ChoiceLaws.{edition_lawful, edition_plain, resolver_lawful, level_lawful, status_lawful};
 ghost use Rattle.manifest_parts.specs.Parts.{edition_content, resolver_content, level_content, status_content};
-ghost use Rattle.manifest_parts.specs.Refusals.{RefusedIn};
+ghost use Rattle.manifest_value.specs.Faults.{FaultIn, IsSchema};
+ghost use Rattle.manifest_parts.specs.Refusals.{RefusedIn, TellsSchema};
 
-use crate::error::{Error, read};
+use crate::error::{Error, refusal};
 use manifest_value::fault::here;
 use manifest_value::{Cause, Plain, ReadFault, Schema};
 use std::alloc::{AllocError, Global};
@@ -41,7 +42,7 @@ impl Edition {
     }
 
     /// The one reading of the value: one of the texts. Refuses a value that is no text with `WrongKind`, and another
-    /// text with `NotAChoice`, both at the empty path.
+    /// text with `NotAChoice`, both at the empty path. It never wants memory.
     ///
     /// ```ignore
     /// let value = Value::from_str(alloc, "'2021'")?;
@@ -50,8 +51,9 @@ impl Edition {
     pub fn from_value(alloc: Global, value: &Value) -> Result<Edition, Error>
         ensures ok { IfOk result (λ x. edition.reads (view value.now) (edition_content x)) }
         ensures refused { IfErr result (RefusedIn (edition.faulty (view value.now))) }
+        ensures schema { IfErr result TellsSchema }
     {
-        read(alloc, value)
+        <Edition as Schema>::from_value(alloc, value).map_err(refusal)
     }
 }
 
@@ -62,7 +64,12 @@ impl Schema for Edition {
 
     ghost kind = { edition };
 
-    fn from_value(alloc: Global, value: &Value) -> Result<Edition, ReadFault> {
+    /// The one reading of the value, or a fault that it has. It never wants memory.
+    fn from_value(alloc: Global, value: &Value) -> Result<Edition, ReadFault>
+        ensures ok { IfOk result (λ x. edition.reads (view value.now) (edition_content x)) }
+        ensures fault { IfErr result (FaultIn (edition.faulty (view value.now))) }
+        ensures schema { IfErr result IsSchema }
+    {
         match value {
             Value::String(s) => match s.as_str() {
                 "2015" => Ok(Edition::E2015),
@@ -116,7 +123,7 @@ impl Resolver {
     }
 
     /// The one reading of the value: one of the texts. Refuses a value that is no text with `WrongKind`, and another
-    /// text with `NotAChoice`, both at the empty path.
+    /// text with `NotAChoice`, both at the empty path. It never wants memory.
     ///
     /// ```ignore
     /// let value = Value::from_str(alloc, "'2'")?;
@@ -125,8 +132,9 @@ impl Resolver {
     pub fn from_value(alloc: Global, value: &Value) -> Result<Resolver, Error>
         ensures ok { IfOk result (λ x. resolver.reads (view value.now) (resolver_content x)) }
         ensures refused { IfErr result (RefusedIn (resolver.faulty (view value.now))) }
+        ensures schema { IfErr result TellsSchema }
     {
-        read(alloc, value)
+        <Resolver as Schema>::from_value(alloc, value).map_err(refusal)
     }
 }
 
@@ -137,7 +145,12 @@ impl Schema for Resolver {
 
     ghost kind = { resolver };
 
-    fn from_value(alloc: Global, value: &Value) -> Result<Resolver, ReadFault> {
+    /// The one reading of the value, or a fault that it has. It never wants memory.
+    fn from_value(alloc: Global, value: &Value) -> Result<Resolver, ReadFault>
+        ensures ok { IfOk result (λ x. resolver.reads (view value.now) (resolver_content x)) }
+        ensures fault { IfErr result (FaultIn (resolver.faulty (view value.now))) }
+        ensures schema { IfErr result IsSchema }
+    {
         match value {
             Value::String(s) => match s.as_str() {
                 "1" => Ok(Resolver::V1),
@@ -192,7 +205,7 @@ impl LintLevel {
     }
 
     /// The one reading of the value: one of the texts. Refuses a value that is no text with `WrongKind`, and another
-    /// text with `NotAChoice`, both at the empty path.
+    /// text with `NotAChoice`, both at the empty path. It never wants memory.
     ///
     /// ```ignore
     /// let value = Value::from_str(alloc, "'deny'")?;
@@ -201,8 +214,9 @@ impl LintLevel {
     pub fn from_value(alloc: Global, value: &Value) -> Result<LintLevel, Error>
         ensures ok { IfOk result (λ x. level.reads (view value.now) (level_content x)) }
         ensures refused { IfErr result (RefusedIn (level.faulty (view value.now))) }
+        ensures schema { IfErr result TellsSchema }
     {
-        read(alloc, value)
+        <LintLevel as Schema>::from_value(alloc, value).map_err(refusal)
     }
 }
 
@@ -213,7 +227,12 @@ impl Schema for LintLevel {
 
     ghost kind = { level };
 
-    fn from_value(alloc: Global, value: &Value) -> Result<LintLevel, ReadFault> {
+    /// The one reading of the value, or a fault that it has. It never wants memory.
+    fn from_value(alloc: Global, value: &Value) -> Result<LintLevel, ReadFault>
+        ensures ok { IfOk result (λ x. level.reads (view value.now) (level_content x)) }
+        ensures fault { IfErr result (FaultIn (level.faulty (view value.now))) }
+        ensures schema { IfErr result IsSchema }
+    {
         match value {
             Value::String(s) => match s.as_str() {
                 "forbid" => Ok(LintLevel::Forbid),
@@ -262,7 +281,7 @@ impl MaintenanceStatus {
     }
 
     /// The one reading of the value: one of the texts. Refuses a value that is no text with `WrongKind`, and another
-    /// text with `NotAChoice`, both at the empty path.
+    /// text with `NotAChoice`, both at the empty path. It never wants memory.
     ///
     /// ```ignore
     /// let value = Value::from_str(alloc, "'as-is'")?;
@@ -271,8 +290,9 @@ impl MaintenanceStatus {
     pub fn from_value(alloc: Global, value: &Value) -> Result<MaintenanceStatus, Error>
         ensures ok { IfOk result (λ x. status.reads (view value.now) (status_content x)) }
         ensures refused { IfErr result (RefusedIn (status.faulty (view value.now))) }
+        ensures schema { IfErr result TellsSchema }
     {
-        read(alloc, value)
+        <MaintenanceStatus as Schema>::from_value(alloc, value).map_err(refusal)
     }
 }
 
@@ -299,7 +319,12 @@ impl Schema for MaintenanceStatus {
 
     ghost kind = { status };
 
-    fn from_value(alloc: Global, value: &Value) -> Result<MaintenanceStatus, ReadFault> {
+    /// The one reading of the value, or a fault that it has. It never wants memory.
+    fn from_value(alloc: Global, value: &Value) -> Result<MaintenanceStatus, ReadFault>
+        ensures ok { IfOk result (λ x. status.reads (view value.now) (status_content x)) }
+        ensures fault { IfErr result (FaultIn (status.faulty (view value.now))) }
+        ensures schema { IfErr result IsSchema }
+    {
         match value {
             Value::String(s) => match status_of(s.as_str()) {
                 Some(status) => Ok(status),

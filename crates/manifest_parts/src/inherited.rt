@@ -7,9 +7,10 @@ ghost use Rattle.manifest_schema.specs.Paths.{Path, Cause as FaultCause};
 ghost use Rattle.manifest_schema.specs.Kinds.{Inheritable, inh, inherits, truth};
 ghost use Rattle.manifest_schema.proofs.KindLaws.{inh_lawful, truth_lawful};
 ghost use Rattle.manifest_parts.specs.Parts.{inh_content};
-ghost use Rattle.manifest_parts.specs.Refusals.{RefusedIn};
+ghost use Rattle.manifest_value.specs.Faults.{FaultIn, IsSchema};
+ghost use Rattle.manifest_parts.specs.Refusals.{RefusedIn, TellsSchema};
 
-use crate::error::{Error, read};
+use crate::error::{Error, read, refusal};
 use manifest_value::fault::here;
 use manifest_value::rows::put_row;
 use manifest_value::slots::find;
@@ -23,7 +24,7 @@ pub struct True;
 
 impl True {
     /// The one reading of the value: the boolean true. Refuses false with `NotTrue`, and any other value with
-    /// `WrongKind`, both at the empty path.
+    /// `WrongKind`, both at the empty path. It never wants memory.
     ///
     /// ```ignore
     /// let value = Value::from_str(alloc, "true")?;
@@ -32,8 +33,9 @@ impl True {
     pub fn from_value(alloc: Global, value: &Value) -> Result<True, Error>
         ensures ok { IfOk result (λ x. truth.reads (view value.now) tt) }
         ensures refused { IfErr result (RefusedIn (truth.faulty (view value.now))) }
+        ensures schema { IfErr result TellsSchema }
     {
-        read(alloc, value)
+        <True as Schema>::from_value(alloc, value).map_err(refusal)
     }
 }
 
@@ -44,7 +46,12 @@ impl Schema for True {
 
     ghost kind = { truth };
 
-    fn from_value(alloc: Global, value: &Value) -> Result<True, ReadFault> {
+    /// The one reading of the value, or a fault that it has. It never wants memory.
+    fn from_value(alloc: Global, value: &Value) -> Result<True, ReadFault>
+        ensures ok { IfOk result (λ x. truth.reads (view value.now) tt) }
+        ensures fault { IfErr result (FaultIn (truth.faulty (view value.now))) }
+        ensures schema { IfErr result IsSchema }
+    {
         match value {
             Value::Boolean(b) => {
                 if *b {

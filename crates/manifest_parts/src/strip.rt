@@ -7,9 +7,10 @@ ghost use Rattle.manifest_schema.specs.Contents;
 ghost use Rattle.manifest_schema.specs.Choices.{strip, strip_meaning};
 ghost use Rattle.manifest_schema.proofs.ChoiceLaws.{strip_lawful};
 ghost use Rattle.manifest_parts.specs.Parts.{strip_content};
-ghost use Rattle.manifest_parts.specs.Refusals.{RefusedIn, RefusesStrip};
+ghost use Rattle.manifest_value.specs.Faults.{FaultIn, IsSchema};
+ghost use Rattle.manifest_parts.specs.Refusals.{RefusedIn, TellsSchema, RefusesStrip};
 
-use crate::error::{Error, read};
+use crate::error::{Error, refusal};
 use manifest_value::fault::here;
 use manifest_value::{Cause, ReadFault, Schema};
 use std::alloc::{AllocError, Global};
@@ -29,7 +30,7 @@ pub enum StripSetting {
 
 impl StripSetting {
     /// The one reading of the value: a boolean, or one of the texts. Refuses another text with `NotAChoice`, and
-    /// another kind with `WrongKind`, both at the empty path.
+    /// another kind with `WrongKind`, both at the empty path. It never wants memory.
     ///
     /// ```ignore
     /// let value = Value::from_str(alloc, "'debuginfo'")?;
@@ -38,8 +39,9 @@ impl StripSetting {
     pub fn from_value(alloc: Global, value: &Value) -> Result<StripSetting, Error>
         ensures ok { IfOk result (λ x. strip.reads (view value.now) (strip_content x)) }
         ensures refused { IfErr result (RefusedIn (strip.faulty (view value.now))) }
+        ensures schema { IfErr result TellsSchema }
     {
-        read(alloc, value)
+        <StripSetting as Schema>::from_value(alloc, value).map_err(refusal)
     }
 
     /// The same reading, with the refusal told as a text: `'X' is not a valid value for 'strip'` of another text X, and
@@ -91,7 +93,12 @@ impl Schema for StripSetting {
 
     ghost kind = { strip };
 
-    fn from_value(alloc: Global, value: &Value) -> Result<StripSetting, ReadFault> {
+    /// The one reading of the value, or a fault that it has. It never wants memory.
+    fn from_value(alloc: Global, value: &Value) -> Result<StripSetting, ReadFault>
+        ensures ok { IfOk result (λ x. strip.reads (view value.now) (strip_content x)) }
+        ensures fault { IfErr result (FaultIn (strip.faulty (view value.now))) }
+        ensures schema { IfErr result IsSchema }
+    {
         match value {
             Value::Boolean(b) => {
                 if *b {

@@ -2,7 +2,7 @@
 ghost use Rattle.std.specs.Prelude.{◌≡◌, ◌↔◌, IsTrue, IfOk, IfErr, OnOk, option_map, option_copied};
 ghost use Rattle.std.proofs.Common.{subst};
 ghost use Rattle.toml.specs.View.{view, table_view};
-ghost use Rattle.manifest_value.specs.Faults.{FaultIn};
+ghost use Rattle.manifest_value.specs.Faults.{FaultIn, IsSchema};
 ghost use Rattle.manifest_schema.specs.Slots.{at, put_some};
 ghost use Rattle.manifest_schema.specs.Kinds.{plain, tree_of, nothing};
 ghost use Rattle.manifest_schema.specs.Needs.{meets_optional, faulty_free, written_some};
@@ -88,7 +88,12 @@ impl Schema for () {
 
     ghost kind = { nothing };
 
-    fn from_value(alloc: Global, _value: &Value) -> Result<(), ReadFault> {
+    /// The one reading of the value, or a fault that it has. It never wants memory.
+    fn from_value(alloc: Global, _value: &Value) -> Result<(), ReadFault>
+        ensures ok { IfOk result (λ x. nothing.reads (view _value.now) tt) }
+        ensures fault { IfErr result (FaultIn (nothing.faulty (view _value.now))) }
+        ensures schema { IfErr result IsSchema }
+    {
         Err(here(alloc, Cause::Metadata))
     }
 

@@ -5,7 +5,7 @@ ghost use Rattle.toml.specs.View.{view};
 ghost use Rattle.manifest_schema.specs.Kinds.{Kind, text, flag, list_of};
 ghost use Rattle.manifest_schema.specs.Lawful.{IsLawful};
 ghost use Rattle.manifest_schema.proofs.KindLaws.{text_lawful, flag_lawful, list_lawful};
-ghost use Rattle.manifest_value.specs.Faults.{FaultIn};
+ghost use Rattle.manifest_value.specs.Faults.{FaultIn, IsSchema};
 
 use crate::closures::list_of;
 use crate::fault::ReadFault;
@@ -63,8 +63,13 @@ impl Schema for bool {
 
     ghost kind = { flag };
 
+    /// The one reading of the value, or a fault that it has. It never wants memory.
     #[inline(always)]
-    fn from_value(alloc: Global, value: &Value) -> Result<bool, ReadFault> {
+    fn from_value(alloc: Global, value: &Value) -> Result<bool, ReadFault>
+        ensures ok { IfOk result (λ x. flag.reads (view value.now) x) }
+        ensures fault { IfErr result (FaultIn (flag.faulty (view value.now))) }
+        ensures schema { IfErr result IsSchema }
+    {
         boolean(alloc, value)
     }
 
