@@ -143,7 +143,7 @@ pub fn prefixed(step: Step, fault: ReadFault) -> ReadFault
         ReadFault::Memory(refused) => ReadFault::Memory(refused),
         ReadFault::Schema(mut fault) => match fault.path.steps.insert(0, step) {
             Ok(()) => ReadFault::Schema(fault),
-            Err(_) => ReadFault::Memory(AllocError),
+            Err(refused) => ReadFault::Memory(AllocError::from(refused)),
         },
     }
 }
