@@ -10,25 +10,35 @@ use Rattle.std.specs.Str.{bytes_eq}
 use Rattle.std.specs.String.{string_cmp}
 use Rattle.std.proofs.lemmas.Map.Text.{is_eq-slice_cmp}
 use Rattle.manifest_schema.specs.Paths.{Text}
-use Rattle.manifest_completion.specs.Listings.{Answer, joined, is_memory_fault}
+use Rattle.manifest_completion.specs.Listings.{Answer, joined, is_memory_fault, IsAscending}
 use Rattle.manifest_completion.specs.Asking.{Heard, EntriesHeard}
 
--- NAMES of a set differ
+-- NAMES of a set ascend
+above : (x : String Global) (xs : List (String Global)) → AllByRecursion (λ y. string_cmp x y ≡ Less) xs → AllByRecursion (λ n. slice_cmp nat_cmp (string_bytes x) n ≡ Less) (map string_bytes xs)
+above x [] h = tt
+above x (y ∷ ys) h = (h.0, above x ys h.1)
+
+pub set_ascends : (ks : List (String Global)) → IsStrictlySortedBy string_cmp ks → IsAscending (map string_bytes ks)
+unfolding IsStrictlySortedBy
+set_ascends [] h = tt
+set_ascends (k ∷ ks) h = (above k ks h.0, set_ascends ks h.1)
+
+pub none_ascend : IsAscending []
+unfolding IsStrictlySortedBy
+none_ascend = tt
+
+-- NAMES that ascend differ
 below_differs : (a b : Text) → slice_cmp nat_cmp a b ≡ Less → bytes_eq a b ≡ false
 below_differs a b h = sym (is_eq-slice_cmp a b) ∙ ap is_eq h
 
-none_same : (x : String Global) (xs : List (String Global)) → AllByRecursion (λ y. string_cmp x y ≡ Less) xs → AllByRecursion (λ n. bytes_eq (string_bytes x) n ≡ false) (map string_bytes xs)
-none_same x [] h = tt
-none_same x (y ∷ ys) h = (below_differs (string_bytes x) (string_bytes y) h.0, none_same x ys h.1)
+none_same : (n : Text) (ns : List Text) → AllByRecursion (λ m. slice_cmp nat_cmp n m ≡ Less) ns → AllByRecursion (λ m. bytes_eq n m ≡ false) ns
+none_same n [] h = tt
+none_same n (m ∷ ns) h = (below_differs n m h.0, none_same n ns h.1)
 
-pub names_distinct : (ks : List (String Global)) → IsStrictlySortedBy string_cmp ks → IsDistinct bytes_eq (map string_bytes ks)
+pub ascending_differ : (ns : List Text) → IsAscending ns → IsDistinct bytes_eq ns
 unfolding IsStrictlySortedBy IsDistinct
-names_distinct [] h = tt
-names_distinct (k ∷ ks) h = (none_same k ks h.0, names_distinct ks h.1)
-
-pub none_distinct : IsDistinct bytes_eq []
-unfolding IsDistinct
-none_distinct = tt
+ascending_differ [] h = tt
+ascending_differ (n ∷ ns) h = (none_same n ns h.0, ascending_differ ns h.1)
 
 -- LISTS side by side
 pub zip_push : {A B : Type 0} (R : A → B → Type 0) (xs : List A) (ys : List B) (x : A) (y : B) → AllZip R xs ys → R x y → AllZip R (xs ++ x ∷ []) (ys ++ y ∷ [])

@@ -2,8 +2,7 @@
 use Rattle.std.proofs.Common.{◌≡◌, List, [], ◌∷◌, ◌++◌, Bool, true, false, refl, ap, sym, ◌∙◌, map, subst, ◌||◌, Option, Some, None, option_map, Result, Ok, Err, IfOk}
 use Rattle.std.specs.Result.{IsErrAnd}
 use Rattle.std.specs.IoError.{error_kind}
-use Rattle.std.specs.List.{IsDistinct, list_any, flat_map}
-use Rattle.std.specs.Str.{bytes_eq}
+use Rattle.std.specs.List.{list_any, flat_map}
 use Rattle.std.proofs.lemmas.List.Folds.{list_any-append}
 use Rattle.std.specs.declared.io.ErrorKind.{ErrorKind}
 use Rattle.std.specs.declared.io.ErrorKind.TheVariants.{NotFound, OutOfMemory}
@@ -17,13 +16,13 @@ use Rattle.manifest_completion.specs.declared.completion.CompletedTargets.{Compl
 use Rattle.manifest_completion.specs.declared.completion.CompletedLists.{CompletedLists}
 use Rattle.manifest_completion.specs.declared.ask.FolderAnswers.{FolderAnswers}
 use Rattle.manifest_completion.specs.declared.ask.Answers.{Answers}
-use Rattle.manifest_completion.specs.Listings.{Answer, fault, names_of, is_memory_fault, TargetFolder, bins, examples, tests, benches, Place, source, folder, entry, root, folder_text, path_text, FolderListing, ListingMap, folder_of, at, HasNoNameTwice}
+use Rattle.manifest_completion.specs.Listings.{Answer, fault, names_of, is_memory_fault, TargetFolder, bins, examples, tests, benches, Place, source, folder, entry, root, folder_text, path_text, FolderListing, ListingMap, folder_of, at, IsAscending, NamesAscend}
 use Rattle.manifest_completion.specs.Finds.{Find, finds, entry_finds}
 use Rattle.manifest_completion.specs.Completed.{PackageTargets, Explains, folder_places, target_places, has_memory_fault, completed_to, refused, no_library, filled, library, no_file, known, source_fault, root_fault, asked_targets, asks_root, build_of, stops_at_source, completed, asked}
 use Rattle.manifest_completion.specs.Answered.{answer_of, answers_of}
 use Rattle.manifest_completion.specs.Asking.{Heard, EntriesHeard, IsInOrder, folder_listing, listing_map, AllHeard, found_no_memory, some_found_no_memory}
 use Rattle.manifest_completion.specs.Outcome.{completed_content, IsFault, IsWantOfMemory, RefusesLibrary, ByOneMap, TargetsRefused, TargetsCompleted, ListsCompleted, paired_finds, folder_paired}
-use Rattle.manifest_completion.proofs.AskLemmas.{none_distinct}
+use Rattle.manifest_completion.proofs.AskLemmas.{none_ascend, ascending_differ}
 use Rattle.manifest_completion.proofs.HeardLemmas.{folder_fault, entry_answers, padded, match_false, any_map}
 
 -- FINDS: those that are computed are those of the map
@@ -49,7 +48,7 @@ folder_paired_is : (l : ListingMap) (d : TargetFolder) (a : FolderAnswers) → f
 folder_paired_is l d a e h q =
     let own : (folder_of l d).own ≡ answer_of a.own = ap (λ (f : FolderListing). f.own) e in
     let kept : list_any is_memory_fault (answers_of a.entries) ≡ false = any_map is_memory_fault answer_of a.entries.items ∙ right_false (is_memory_fault (answer_of a.own)) _ q in
-    rw own (paired_is (folder_text d) (λ n. at l (entry d n)) (names_of (answer_of a.own)) (answers_of a.entries) (entry_answers l d a e h.own.0) h.entries kept)
+    rw own (paired_is (folder_text d) (λ n. at l (entry d n)) (names_of (answer_of a.own)) (answers_of a.entries) (entry_answers l d a e (ascending_differ (names_of (answer_of a.own)) h.own.0)) h.entries kept)
 
 -- THE MAP of a completion that asks `src` alone
 abbrev no_folder : FolderListing
@@ -58,21 +57,21 @@ no_folder = record { own = fault NotFound; entries = [] }
 abbrev only_source : Answer → ListingMap
 only_source src = record { source = src; bins = no_folder; examples = no_folder; tests = no_folder; benches = no_folder; root = fault NotFound }
 
-only_distinct : (src : Answer) → IsDistinct bytes_eq (names_of src) → HasNoNameTwice (only_source src)
-only_distinct src d source = d
-only_distinct src d (folder bins) = none_distinct
-only_distinct src d (folder examples) = none_distinct
-only_distinct src d (folder tests) = none_distinct
-only_distinct src d (folder benches) = none_distinct
-only_distinct src d (entry bins n) = none_distinct
-only_distinct src d (entry examples n) = none_distinct
-only_distinct src d (entry tests n) = none_distinct
-only_distinct src d (entry benches n) = none_distinct
-only_distinct src d root = none_distinct
+only_ascends : (src : Answer) → IsAscending (names_of src) → NamesAscend (only_source src)
+only_ascends src d source = d
+only_ascends src d (folder bins) = none_ascend
+only_ascends src d (folder examples) = none_ascend
+only_ascends src d (folder tests) = none_ascend
+only_ascends src d (folder benches) = none_ascend
+only_ascends src d (entry bins n) = none_ascend
+only_ascends src d (entry examples n) = none_ascend
+only_ascends src d (entry tests n) = none_ascend
+only_ascends src d (entry benches n) = none_ascend
+only_ascends src d root = none_ascend
 
 module _ (allows : Text → Answer → Type 0) (t : PackageTargets) (src : Answer) (ok : Heard allows (path_text source) src) where
   explains_stop : stops_at_source t src ≡ true → Explains allows (only_source src) (asked_targets t (only_source src))
-  explains_stop e = record { distinct = only_distinct src ok.0; allowed = rw e (ok.1, tt) }
+  explains_stop e = record { ascending = only_ascends src ok.0; allowed = rw e (ok.1, tt) }
 
   -- `src` is a fault
   source_refused : (k : ErrorKind) → source_fault src ≡ Some k → ByOneMap allows t (λ c. c ≡ refused k)
@@ -98,7 +97,7 @@ module _ (allows : Text → Answer → Type 0) (t : PackageTargets) (src : Answe
 
   module _ (none : source_fault src ≡ None) (lib : Option Product) (got : library t src ≡ known lib) (a : Answers) (heard : AllHeard allows (asks_root t.build) a) where
     explains_all : Explains allows (listing_map src a) (asked_targets t (listing_map src a))
-    explains_all = record { distinct = heard.distinct src ok.0; allowed = rw (none, got) (ok.1, heard.allowed src) }
+    explains_all = record { ascending = heard.ascending src ok.0; allowed = rw (none, got) (ok.1, heard.allowed src) }
 
     any_fault : has_memory_fault (at (listing_map src a)) (target_places (listing_map src a)) ≡ some_found_no_memory a
     any_fault =
@@ -168,4 +167,4 @@ of_answer P r x h e = subst (λ s. IfOk s P) e h
 
 -- WITHOUT A PACKAGE nothing is asked, and any map explains it
 pub without_package : (allows : Text → Answer → Type 0) (m : Manifest) → m.«package» ≡ None → (l : ListingMap) × Explains allows l (asked m l) × (completed m l ≡ completed_to m)
-without_package allows m e = (only_source (fault NotFound), record { distinct = only_distinct (fault NotFound) none_distinct; allowed = rw e tt }, rw e refl)
+without_package allows m e = (only_source (fault NotFound), record { ascending = only_ascends (fault NotFound) none_ascend; allowed = rw e tt }, rw e refl)

@@ -8,11 +8,11 @@ use Rattle.std.specs.declared.io.ErrorKind.TheVariants.{NotFound}
 use Rattle.manifest_schema.specs.Paths.{Text}
 use Rattle.manifest_completion.specs.declared.ask.FolderAnswers.{FolderAnswers}
 use Rattle.manifest_completion.specs.declared.ask.Answers.{Answers}
-use Rattle.manifest_completion.specs.Listings.{Answer, fault, names_of, is_memory_fault, TargetFolder, bins, examples, tests, benches, Place, source, folder, entry, root, joined, folder_text, path_text, entry_answer, FolderListing, ListingMap, folder_of, at, HasNoNameTwice}
+use Rattle.manifest_completion.specs.Listings.{Answer, fault, names_of, is_memory_fault, TargetFolder, bins, examples, tests, benches, Place, source, folder, entry, root, joined, folder_text, path_text, entry_answer, FolderListing, ListingMap, folder_of, at, IsAscending, NamesAscend}
 use Rattle.manifest_completion.specs.Completed.{up_to_memory_fault, folder_places, has_memory_fault, target_places, root_places}
 use Rattle.manifest_completion.specs.Answered.{answer_of, answers_of}
 use Rattle.manifest_completion.specs.Asking.{Heard, EntriesHeard, FolderHeard, IsInOrder, folder_listing, listing_map, AllHeard, found_no_memory}
-use Rattle.manifest_completion.proofs.AskLemmas.{none_distinct}
+use Rattle.manifest_completion.proofs.AskLemmas.{none_ascend, ascending_differ}
 
 -- the answers, with NotFound past their end
 abbrev pub padded : List Text → List Answer → List Answer
@@ -36,7 +36,7 @@ lookups (n ∷ ns) (a ∷ heard) h =
     let here : entry_answer ((n, a) ∷ zip ns heard) n ≡ a = rw ((bytes_eq-Decides n n).1 refl) refl in
     cc (here, skip n a (zip ns heard) ns h.0, lookups ns heard h.1)
 
-or_cases : (b x y : Bool) → (b ≡ false → x ≡ y) → (b || x) ≡ (b || y)
+pub or_cases : (b x y : Bool) → (b ≡ false → x ≡ y) → (b || x) ≡ (b || y)
 or_cases true x y h = refl
 or_cases false x y h = h refl
 
@@ -65,7 +65,7 @@ folder_fault l d a e h =
     let own : (folder_of l d).own ≡ answer_of a.own = ap (λ (f : FolderListing). f.own) e in
     rw own (ap (λ b. is_memory_fault (answer_of a.own) || b)
     (any_map (λ p. is_memory_fault (at l p)) (entry d) ns ∙ sym (any_map is_memory_fault (λ n. at l (entry d n)) ns)
-    ∙ ap (list_any is_memory_fault) (entry_answers l d a e h.own.0)
+    ∙ ap (list_any is_memory_fault) (entry_answers l d a e (ascending_differ ns h.own.0))
     ∙ any_padded (λ path answer. Unit {0}) (folder_text d) ns (answers_of a.entries) h.entries
     ∙ any_map is_memory_fault answer_of a.entries.items))
 
@@ -114,57 +114,57 @@ module _ (allows : Text → Answer → Type 0) (l : ListingMap) where
       rw own (
         h.own.1,
         stop_if (is_memory_fault (answer_of a.own)) (up_to_memory_fault (at l) (map (entry d) (names_of (answer_of a.own))))
-            (λ q. entries_held d (names_of (answer_of a.own)) (answers_of a.entries) (entry_answers l d a e h.own.0) h.entries),
+            (λ q. entries_held d (names_of (answer_of a.own)) (answers_of a.entries) (entry_answers l d a e (ascending_differ (names_of (answer_of a.own)) h.own.0)) h.entries),
       )
 
   pub root_held : (asks : Bool) → (asks ≡ true → allows (path_text root) (at l root)) → AllByRecursion Holds (up_to_memory_fault (at l) (root_places asks))
   root_held true h = (h refl, stop_if (is_memory_fault (at l root)) [] (λ q. tt))
   root_held false h = tt
 
--- DISTINCT
-abbrev Distinct : Answer → Type 0
-Distinct a = IsDistinct bytes_eq (names_of a)
+-- ASCENDING
+abbrev Ascends : Answer → Type 0
+Ascends a = IsAscending (names_of a)
 
 match_map : (b : Bool) (P Q Q' : Type 0) → (Q → Q') → MatchBool b P Q → MatchBool b P Q'
 match_map true P Q Q' f m = m
 match_map false P Q Q' f m = f m
 
-entries_distinct : (P : Text → Answer → Type 0) (d : Text) (ns : List Text) (heard : List Answer) → EntriesHeard P d ns heard → AllByRecursion Distinct heard
-entries_distinct P d [] [] h = tt
-entries_distinct P d [] (a ∷ heard) h = absurd h
-entries_distinct P d (n ∷ ns) [] h = absurd h
-entries_distinct P d (n ∷ ns) (a ∷ heard) h = (h.0.0, one (is_memory_fault a) heard h.1 (entries_distinct P d ns heard))
+entries_ascend : (P : Text → Answer → Type 0) (d : Text) (ns : List Text) (heard : List Answer) → EntriesHeard P d ns heard → AllByRecursion Ascends heard
+entries_ascend P d [] [] h = tt
+entries_ascend P d [] (a ∷ heard) h = absurd h
+entries_ascend P d (n ∷ ns) [] h = absurd h
+entries_ascend P d (n ∷ ns) (a ∷ heard) h = (h.0.0, one (is_memory_fault a) heard h.1 (entries_ascend P d ns heard))
   where
-    one : (b : Bool) (bs : List Answer) → MatchBool b (bs ≡ []) (EntriesHeard P d ns bs) → (EntriesHeard P d ns bs → AllByRecursion Distinct bs) → AllByRecursion Distinct bs
+    one : (b : Bool) (bs : List Answer) → MatchBool b (bs ≡ []) (EntriesHeard P d ns bs) → (EntriesHeard P d ns bs → AllByRecursion Ascends bs) → AllByRecursion Ascends bs
     one true bs e k = rw e tt
     one false bs e k = k e
 
-looked_up : (ns : List Text) (heard : List Answer) (n : Text) → AllByRecursion Distinct heard → Distinct (entry_answer (zip ns heard) n)
-looked_up [] heard n h = none_distinct
-looked_up (m ∷ ns) [] n h = none_distinct
+looked_up : (ns : List Text) (heard : List Answer) (n : Text) → AllByRecursion Ascends heard → Ascends (entry_answer (zip ns heard) n)
+looked_up [] heard n h = none_ascend
+looked_up (m ∷ ns) [] n h = none_ascend
 looked_up (m ∷ ns) (a ∷ heard) n h = one (bytes_eq m n) h.0 (looked_up ns heard n h.1)
   where
-    one : (b : Bool) → Distinct a → Distinct (entry_answer (zip ns heard) n) → Distinct (if b then a else entry_answer (zip ns heard) n)
+    one : (b : Bool) → Ascends a → Ascends (entry_answer (zip ns heard) n) → Ascends (if b then a else entry_answer (zip ns heard) n)
     one true x y = x
     one false x y = y
 
-folder_distinct : (a : FolderAnswers) (P : Text → Answer → Type 0) (d : Text) → FolderHeard P d a → (n : Text) → Distinct (entry_answer (folder_listing a).entries n)
-folder_distinct a P d h n = looked_up (names_of (answer_of a.own)) (answers_of a.entries) n (entries_distinct P d (names_of (answer_of a.own)) (answers_of a.entries) h.entries)
+folder_ascends : (a : FolderAnswers) (P : Text → Answer → Type 0) (d : Text) → FolderHeard P d a → (n : Text) → Ascends (entry_answer (folder_listing a).entries n)
+folder_ascends a P d h n = looked_up (names_of (answer_of a.own)) (answers_of a.entries) n (entries_ascend P d (names_of (answer_of a.own)) (answers_of a.entries) h.entries)
 
 abbrev anything : Text → Answer → Type 0
 anything path a = Unit {0}
 
-map_distinct : (src : Answer) (a : Answers) → IsInOrder bins a.bins → IsInOrder examples a.examples → IsInOrder tests a.tests → IsInOrder benches a.benches → Distinct (answer_of a.root) → Distinct src → HasNoNameTwice (listing_map src a)
-map_distinct src a b e t n r s source = s
-map_distinct src a b e t n r s (folder bins) = b.own.0
-map_distinct src a b e t n r s (folder examples) = e.own.0
-map_distinct src a b e t n r s (folder tests) = t.own.0
-map_distinct src a b e t n r s (folder benches) = n.own.0
-map_distinct src a b e t n r s (entry bins x) = folder_distinct a.bins anything (folder_text bins) b x
-map_distinct src a b e t n r s (entry examples x) = folder_distinct a.examples anything (folder_text examples) e x
-map_distinct src a b e t n r s (entry tests x) = folder_distinct a.tests anything (folder_text tests) t x
-map_distinct src a b e t n r s (entry benches x) = folder_distinct a.benches anything (folder_text benches) n x
-map_distinct src a b e t n r s root = r
+map_ascends : (src : Answer) (a : Answers) → IsInOrder bins a.bins → IsInOrder examples a.examples → IsInOrder tests a.tests → IsInOrder benches a.benches → Ascends (answer_of a.root) → Ascends src → NamesAscend (listing_map src a)
+map_ascends src a b e t n r s source = s
+map_ascends src a b e t n r s (folder bins) = b.own.0
+map_ascends src a b e t n r s (folder examples) = e.own.0
+map_ascends src a b e t n r s (folder tests) = t.own.0
+map_ascends src a b e t n r s (folder benches) = n.own.0
+map_ascends src a b e t n r s (entry bins x) = folder_ascends a.bins anything (folder_text bins) b x
+map_ascends src a b e t n r s (entry examples x) = folder_ascends a.examples anything (folder_text examples) e x
+map_ascends src a b e t n r s (entry tests x) = folder_ascends a.tests anything (folder_text tests) t x
+map_ascends src a b e t n r s (entry benches x) = folder_ascends a.benches anything (folder_text benches) n x
+map_ascends src a b e t n r s root = r
 
 -- WEAKER
 module _ (P Q : Text → Answer → Type 0) (weaker : (path : Text) (a : Answer) → P path a → Q path a) where
@@ -189,7 +189,7 @@ goes_on stopped allows d a h e = folder_weaker (λ path answer. stopped ≡ fals
 
 -- of a folder that is not asked
 pub none_heard : (stopped : Bool) (allows : Text → Answer → Type 0) (d : Text) (a : FolderAnswers) → stopped ≡ true → answer_of a.own ≡ fault NotFound → a.entries.items ≡ [] → FolderHeard (λ path answer. stopped ≡ false → allows path answer) d a
-none_heard stopped allows d a e own none = record { own = rw own (none_distinct, λ f. cc (e, f)); entries = rw (own, none) tt }
+none_heard stopped allows d a e own none = record { own = rw own (none_ascend, λ f. cc (e, f)); entries = rw (own, none) tt }
 
 none_of : (x y : Bool) → x ≡ false → y ≡ false → (x || y) ≡ false
 none_of true y e f = cc
@@ -216,7 +216,7 @@ all_heard allows asks a b e t n r =
       examples = oe;
       tests = ot;
       benches = on;
-      distinct = λ src d. map_distinct src a ob oe ot on r.0 d;
+      ascending = λ src d. map_ascends src a ob oe ot on r.0 d;
       allowed = λ src.
           let l = listing_map src a in
           let bp = folder_places l bins in let ep = folder_places l examples in let tp = folder_places l tests in let np = folder_places l benches in let rp = root_places asks in

@@ -1,18 +1,17 @@
 -- What the functions that ask a filesystem say of what they heard.
 use Rattle.std.specs.Prelude.{◌≡◌, List, [], ◌∷◌, ◌++◌, Bool, ◌||◌}
-use Rattle.std.specs.List.{list_any, zip, IsDistinct}
+use Rattle.std.specs.List.{list_any, zip}
 use Rattle.std.specs.Bool.{MatchBool}
-use Rattle.std.specs.Str.{bytes_eq}
 use Rattle.manifest_schema.specs.Paths.{Text}
 use Rattle.manifest_completion.specs.declared.ask.FolderAnswers.{FolderAnswers}
 use Rattle.manifest_completion.specs.declared.ask.Answers.{Answers}
-use Rattle.manifest_completion.specs.Listings.{Answer, TargetFolder, bins, examples, tests, benches, folder_text, joined, names_of, is_memory_fault, FolderListing, ListingMap, at, HasNoNameTwice}
+use Rattle.manifest_completion.specs.Listings.{Answer, TargetFolder, bins, examples, tests, benches, folder_text, joined, names_of, is_memory_fault, FolderListing, ListingMap, at, IsAscending, NamesAscend}
 use Rattle.manifest_completion.specs.Completed.{AllAllowed, up_to_memory_fault, target_places, root_places}
 use Rattle.manifest_completion.specs.Answered.{answer_of, answers_of}
 
--- an answer that is allowed at a path, with no name twice
+-- an answer that is allowed at a path, its names ascending
 abbrev pub Heard : (Text → Answer → Type 0) → Text → Answer → Type 0
-Heard allows path a = IsDistinct bytes_eq (names_of a) × allows path a
+Heard allows path a = IsAscending (names_of a) × allows path a
 
 -- the answers for the names in a folder, in order, up to the first that found no memory
 abbrev pub EntriesHeard : (Text → Answer → Type 0) → Text → List Text → List Answer → Type 0
@@ -50,7 +49,7 @@ pub record AllHeard (allows : Text → Answer → Type 0) (asks : Bool) (a : Ans
   pub examples : IsInOrder examples a.examples
   pub tests : IsInOrder tests a.tests
   pub benches : IsInOrder benches a.benches
-  pub distinct : (src : Answer) → IsDistinct bytes_eq (names_of src) → HasNoNameTwice (listing_map src a)
+  pub ascending : (src : Answer) → IsAscending (names_of src) → NamesAscend (listing_map src a)
   pub allowed : (src : Answer) → AllAllowed allows (listing_map src a) (up_to_memory_fault (at (listing_map src a)) (target_places (listing_map src a) ++ root_places asks))
 
 -- the folder's answer or one of its entries' found no memory

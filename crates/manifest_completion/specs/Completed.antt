@@ -9,7 +9,7 @@ use Rattle.manifest_schema.specs.Kinds.{Inheritable, inherited, local}
 use Rattle.manifest_schema.specs.Contents.{Edition, e2015, TextOrFlag, a_text, a_flag, Product, Package, Manifest}
 use Rattle.manifest_schema.specs.Defaults.{default_product}
 use Rattle.manifest_schema.specs.Needs.{is_empty}
-use Rattle.manifest_completion.specs.Listings.{Answer, names, fault, lists, is_memory_fault, TargetFolder, bins, examples, tests, benches, Place, source, folder, entry, root, names_of, path_text, ListingMap, at, HasNoNameTwice}
+use Rattle.manifest_completion.specs.Listings.{Answer, names, fault, lists, is_memory_fault, TargetFolder, bins, examples, tests, benches, Place, source, folder, entry, root, names_of, path_text, ListingMap, at, NamesAscend}
 use Rattle.manifest_completion.specs.Finds.{finds, bin_finds}
 use Rattle.manifest_completion.specs.Targets.{targets, Defaults}
 
@@ -273,7 +273,7 @@ asked m l = asked_by m.«package» m l
 abbrev pub AllAllowed : (Text → Answer → Type 0) → ListingMap → List Place → Type 0
 AllAllowed allows l ps = AllByRecursion (λ p. allows (path_text p) (at l p)) ps
 
--- THE MAP EXPLAINS what the filesystem answered: at each place that is asked it has an answer that is allowed there
+-- THE MAP EXPLAINS what the filesystem answered: the names of each folder ascend, and at each place that is asked it has an answer that is allowed there
 pub record Explains (allows : Text → Answer → Type 0) (l : ListingMap) (places : List Place) : Type 0 where
-  pub distinct : HasNoNameTwice l
+  pub ascending : NamesAscend l
   pub allowed : AllAllowed allows l places

@@ -1,6 +1,9 @@
 -- What a filesystem answers for a folder, the places that completion asks for, and a map of listings.
 use Rattle.std.specs.Prelude.{Bool, true, false, if◌then◌else◌, List, [], ◌∷◌, ◌++◌, codes}
 use Rattle.std.specs.List.{list_any, IsDistinct}
+use Rattle.std.specs.List.Sorted.{IsStrictlySortedBy}
+use Rattle.std.specs.Ordering.{nat_cmp}
+use Rattle.std.specs.Cmp.Lexicographic.{slice_cmp}
 use Rattle.std.specs.Str.{bytes_eq}
 use Rattle.std.specs.declared.io.ErrorKind.{ErrorKind}
 use Rattle.std.specs.declared.io.ErrorKind.TheVariants.{NotFound, OutOfMemory}
@@ -86,6 +89,14 @@ at l source = l.source
 at l (folder d) = (folder_of l d).own
 at l (entry d n) = entry_answer (folder_of l d).entries n
 at l root = l.root
+
+-- these names ascend in the order of bytes, strictly
+abbrev pub IsAscending : List Text → Type 0
+IsAscending ns = IsStrictlySortedBy (slice_cmp nat_cmp) ns
+
+-- the names of each folder ascend
+abbrev pub NamesAscend : ListingMap → Type 0
+NamesAscend l = (p : Place) → IsAscending (names_of (at l p))
 
 -- no folder has a name twice
 abbrev pub HasNoNameTwice : ListingMap → Type 0

@@ -1,10 +1,8 @@
 //! Asking a filesystem.
 
 ghost use Rattle.std.specs.Prelude.{◌≡◌, [], codes, IfOk, string_bytes, true, false, ◌&&◌, not};
-ghost use Rattle.std.specs.List.{IsDistinct};
-ghost use Rattle.std.specs.Str.{bytes_eq};
 ghost use Rattle.std.specs.declared.io.ErrorKind.TheVariants.{NotFound};
-ghost use Rattle.manifest_completion.specs.Listings.{joined, is_memory_fault, fault};
+ghost use Rattle.manifest_completion.specs.Listings.{joined, is_memory_fault, fault, IsAscending};
 ghost use Rattle.manifest_completion.specs.Answered.{answer_of, answers_of, set_names};
 ghost use Rattle.manifest_completion.specs.Asking.{Heard, EntriesHeard, FolderHeard, AllHeard, found_no_memory, some_found_no_memory};
 
@@ -55,9 +53,9 @@ fn is_memory_fault(answer: &io::Result<BTreeSet<String>>) -> bool
     }
 }
 
-/// No name of a set is in it twice.
-fn names_differ(names: &BTreeSet<String>)
-    ensures { IsDistinct bytes_eq (set_names names.now) }
+/// The names of a set ascend.
+fn names_ascend(names: &BTreeSet<String>)
+    ensures { IsAscending (set_names names.now) }
 {
     let _count = names.len();
 }
@@ -67,7 +65,7 @@ fn names_differ(names: &BTreeSet<String>)
 /// ```ignore
 /// let names = ask(alloc, &listings, "src");
 /// ```
-#[tactic(auto, using(crate::proofs::AskLemmas::none_distinct))]
+#[tactic(auto, using(crate::proofs::AskLemmas::none_ascend))]
 pub fn ask<FS: AbstractFilesystem>(
     alloc: Global,
     fs: &FS,
@@ -77,7 +75,7 @@ pub fn ask<FS: AbstractFilesystem>(
 {
     match fs.file_names_in(alloc, path) {
         Ok(names) => {
-            names_differ(&names);
+            names_ascend(&names);
             Ok(names)
         }
         Err(fault) => Err(fault),
