@@ -4,7 +4,8 @@
 
 ghost use Rattle.manifest_schema.specs.Kinds.{tree_of};
 ghost use Rattle.manifest_schema.specs.Meaning.{MeansOne, WrittenIsRead, AcceptedIsWellFormed, RewrittenMeansTheSame, SameExactly, FaultyMeansNothing};
-ghost use Rattle.manifest_completion.specs.Laws.{AskedDiffer, CompletedIsFixed};
+ghost use Rattle.manifest_completion.specs.Laws.{AskedDiffer, AscendingDiffer, AskedDecides, CompletedIsFixed};
+ghost use Rattle.cargo_manifest.specs.Completes.{StoredDecides};
 
 use manifest_value::Metadata;
 
@@ -41,6 +42,24 @@ pub fn faulty_means_nothing<P: Metadata, W: Metadata>()
 /// All path texts that are asked in one completion differ, whatever names, slashes and empty names are listed.
 pub fn asked_differ()
     ensures { AskedDiffer }
+{}
+
+/// Names that ascend, as those of a map that explains what was answered, are in no folder twice.
+pub fn ascending_differ()
+    ensures { AscendingDiffer }
+{}
+
+/// Two maps of listings that agree at every place that is asked over one of them have the same places asked, and come to the
+/// same.
+pub fn asked_decides()
+    ensures { AskedDecides }
+{}
+
+/// Over a filesystem that has one answer stored for each path text, as [`Listings`](crate::Listings) has, the answer of
+/// [`Manifest::complete_from_abstract_filesystem`](crate::Manifest::complete_from_abstract_filesystem) is the completion of
+/// the map of what is stored; a listing for which no memory was found, or other want of memory, aside.
+pub fn stored_decides()
+    ensures { StoredDecides }
 {}
 
 /// Completing a well-formed manifest, writing it, reading it and completing it again over the same listings changes nothing

@@ -7,7 +7,8 @@ use Rattle.manifest_schema.specs.Paths.{Text}
 use Rattle.manifest_schema.specs.Contents.{Package}
 use Rattle.manifest_completion.specs.Listings.{Answer, is_memory_fault, TargetFolder, bins, examples, tests, benches, Place, source, folder, entry, root, names_of, path_text, ListingMap, at, HasNoNameTwice}
 use Rattle.manifest_completion.specs.Completed.{PackageTargets, folder_places, target_places, root_places, up_to_memory_fault, stops_at_source, asks_root, asked_targets, asked_by, targets_of}
-use Rattle.manifest_completion.specs.Laws.{AskedDiffer}
+use Rattle.manifest_completion.specs.Laws.{AskedDiffer, AscendingDiffer}
+use Rattle.manifest_completion.proofs.AskLemmas.{ascending_differ}
 
 -- the path text of p is not that of any of these
 abbrev AllApart : Place → List Place → Type 0
@@ -164,17 +165,17 @@ source_apart l asks = apart_append source (folder_places l bins) _ (refl, entrie
     entries [] = tt
     entries (m ∷ ms) = (refl, entries ms)
 
-together : (l : ListingMap) (asks : Bool) → folder_places l bins ++ (folder_places l examples ++ (folder_places l tests ++ (folder_places l benches ++ root_places asks))) ≡ target_places l ++ root_places asks
-together l asks =
-    let b = folder_places l bins in let e = folder_places l examples in let t = folder_places l tests in let n = folder_places l benches in let r = root_places asks in
-    sym (append_assoc b (e ++ (t ++ n)) r ∙ ap (λ (ps : List Place). b ++ ps) (append_assoc e (t ++ n) r ∙ ap (λ (ps : List Place). e ++ ps) (append_assoc t n r)))
+pub together : (l : ListingMap) (rest : List Place) → folder_places l bins ++ (folder_places l examples ++ (folder_places l tests ++ (folder_places l benches ++ rest))) ≡ target_places l ++ rest
+together l rest =
+    let b = folder_places l bins in let e = folder_places l examples in let t = folder_places l tests in let n = folder_places l benches in
+    sym (append_assoc b (e ++ (t ++ n)) rest ∙ ap (λ (ps : List Place). b ++ ps) (append_assoc e (t ++ n) rest ∙ ap (λ (ps : List Place). e ++ ps) (append_assoc t n rest)))
 
 targets_differ : (t : PackageTargets) (l : ListingMap) → HasNoNameTwice l → Differ (asked_targets t l)
 unfolding IsDistinct
 targets_differ t l h =
     let asks = asks_root t.build in let ps = target_places l ++ root_places asks in
-    let all : Differ ps = subst Differ (together l asks) (bins_differ l asks h) in
-    let first : AllApart source ps = subst (AllApart source) (together l asks) (source_apart l asks) in
+    let all : Differ ps = subst Differ (together l (root_places asks)) (bins_differ l asks h) in
+    let first : AllApart source ps = subst (AllApart source) (together l (root_places asks)) (source_apart l asks) in
     one (stops_at_source t l.source) (apart_up_to (at l) source ps first) (differ_up_to (at l) ps all)
   where
     one : (b : Bool) → AllApart source (up_to_memory_fault (at l) (target_places l ++ root_places (asks_root t.build))) → Differ (up_to_memory_fault (at l) (target_places l ++ root_places (asks_root t.build)))
@@ -189,3 +190,6 @@ asked_differ m l h = one m.«package»
     one : (o : Option Package) → Differ (asked_by o m l)
     one None = tt
     one (Some p) = targets_differ (targets_of p m) l h
+
+pub no_name_twice : AscendingDiffer
+no_name_twice l h p = ascending_differ (names_of (at l p)) (h p)

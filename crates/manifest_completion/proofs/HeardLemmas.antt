@@ -36,7 +36,7 @@ lookups (n ∷ ns) (a ∷ heard) h =
     let here : entry_answer ((n, a) ∷ zip ns heard) n ≡ a = rw ((bytes_eq-Decides n n).1 refl) refl in
     cc (here, skip n a (zip ns heard) ns h.0, lookups ns heard h.1)
 
-pub or_cases : (b x y : Bool) → (b ≡ false → x ≡ y) → (b || x) ≡ (b || y)
+or_cases : (b x y : Bool) → (b ≡ false → x ≡ y) → (b || x) ≡ (b || y)
 or_cases true x y h = refl
 or_cases false x y h = h refl
 

@@ -1,6 +1,8 @@
 pub mod TargetLaws
 pub mod CompletedLaws
 pub mod AskedLaws
+pub mod StoredLaws
+pub mod DecidesLaws
 pub mod FindLemmas
 pub mod LibraryLemmas
 pub mod ListingLemmas

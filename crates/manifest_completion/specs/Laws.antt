@@ -1,17 +1,38 @@
 -- What is promised of completion.
-use Rattle.std.specs.Prelude.{◌≡◌, List, [], ◌∷◌, map, ◌⊎◌}
+use Rattle.std.specs.Prelude.{◌≡◌, List, [], ◌∷◌, map, ◌⊎◌, Result}
 use Rattle.std.specs.List.{IsDistinct, AllByRecursion}
 use Rattle.std.specs.Str.{bytes_eq}
 use Rattle.toml.specs.Data.{Data}
+use Rattle.manifest_schema.specs.Paths.{Text}
 use Rattle.manifest_schema.specs.Kinds.{Kind}
 use Rattle.manifest_schema.specs.Contents.{Manifest}
 use Rattle.manifest_schema.specs.Meaning.{well_formed, reads_manifest, written_manifest}
-use Rattle.manifest_completion.specs.Listings.{Place, path_text, ListingMap, HasNoNameTwice}
-use Rattle.manifest_completion.specs.Completed.{completed_to, completed, asked}
+use Rattle.manifest_parts.specs.declared.error.Error.{Error}
+use Rattle.manifest_completion.specs.declared.completion.CompletedTargets.{CompletedTargets}
+use Rattle.manifest_completion.specs.Listings.{Answer, Place, path_text, ListingMap, at, NamesAscend, HasNoNameTwice}
+use Rattle.manifest_completion.specs.Completed.{PackageTargets, completed_to, completed, asked}
+use Rattle.manifest_completion.specs.Stored.{AnswersAsStored}
+use Rattle.manifest_completion.specs.Outcome.{TargetsCompleted, TargetsCompletedAsStored}
 
 -- all path texts that are asked differ, whatever names are listed
 abbrev pub AskedDiffer : Type 0
 AskedDiffer = (m : Manifest) (l : ListingMap) → HasNoNameTwice l → IsDistinct bytes_eq (map path_text (asked m l))
+
+-- names that ascend are in no folder twice
+abbrev pub AscendingDiffer : Type 0
+AscendingDiffer = (l : ListingMap) → NamesAscend l → HasNoNameTwice l
+
+-- two maps have the same answer at each of these places
+abbrev pub AgreeAt : ListingMap → ListingMap → List Place → Type 0
+AgreeAt l k ps = AllByRecursion (λ p. at l p ≡ at k p) ps
+
+-- what is asked and what a manifest comes to depend on the answers at the places that are asked alone
+abbrev pub AskedDecides : Type 0
+AskedDecides = (m : Manifest) (l k : ListingMap) → AgreeAt l k (asked m l) → (asked m l ≡ asked m k) × (completed m l ≡ completed m k)
+
+-- where one answer is stored for each path text, what is stored decides what completing answers
+abbrev pub StoredDecides : Type 0
+StoredDecides = (stored : Text → Answer) (t : PackageTargets) (r : Result CompletedTargets Error) → TargetsCompleted (AnswersAsStored stored) t r → TargetsCompletedAsStored stored t r
 
 -- the place is one of these
 abbrev pub IsAmong : List Place → Place → Type 0

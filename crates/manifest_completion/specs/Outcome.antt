@@ -1,8 +1,9 @@
 -- What the code holds and answers, by the definitions.
-use Rattle.std.specs.Prelude.{◌≡◌, List, [], ◌∷◌, ◌++◌, map, codes, option_map, Option, Some, string_bytes, Result, Ok, Err}
+use Rattle.std.specs.Prelude.{◌≡◌, ◌⊎◌, List, [], ◌∷◌, ◌++◌, map, codes, option_map, Option, Some, string_bytes, Result, Ok, Err}
 use Rattle.std.specs.Borrow.{Bor}
 use Rattle.std.specs.IoError.{error_kind}
 use Rattle.std.specs.declared.io.ErrorKind.{ErrorKind}
+use Rattle.std.specs.declared.io.ErrorKind.TheVariants.{OutOfMemory}
 use Rattle.manifest_schema.specs.Paths.{Text}
 use Rattle.manifest_parts.specs.Parts.{edition_content, text_or_flag_content, inh_content}
 use Rattle.manifest_parts.specs.Records.{product_content}
@@ -20,6 +21,7 @@ use Rattle.manifest_completion.specs.Finds.{Find, entry_finds, main_find}
 use Rattle.manifest_completion.specs.Targets.{Defaults, targets}
 use Rattle.manifest_completion.specs.Completed.{PackageTargets, is_legacy, discovers, bin_defaults, example_defaults, test_defaults, Library, no_file, Completion, completed_to, refused, no_library, completed_targets, asked_targets, Explains}
 use Rattle.manifest_completion.specs.Answered.{answer_of, answers_of}
+use Rattle.manifest_completion.specs.Stored.{stored_map}
 
 -- CONTENTS
 abbrev pub find_content : FoundTarget → Find
@@ -102,6 +104,17 @@ TargetsRefused allows t _ = ⊥
 abbrev pub TargetsCompleted : (Text → Answer → Type 0) → PackageTargets → Result CompletedTargets Error → Type 0
 TargetsCompleted allows t (Ok c) = ByOneMap allows t (λ r. r ≡ completed_to (completed_content t c))
 TargetsCompleted allows t (Err e) = TargetsRefused allows t e
+
+-- WHAT IT ANSWERS where one answer is stored for each path text: the completion of the map of what is stored; or memory was wanting, for a listing or for what is made
+abbrev pub TargetsRefusedAsStored : (Text → Answer) → PackageTargets → Error → Type 0
+TargetsRefusedAsStored stored t (Io e) = (completed_targets t (stored_map stored) ≡ refused (error_kind e)) ⊎ (error_kind e ≡ OutOfMemory)
+TargetsRefusedAsStored stored t (Other s) = (completed_targets t (stored_map stored) ≡ no_library) × (string_bytes s ≡ library_text)
+TargetsRefusedAsStored stored t (Memory e) = Unit {0}
+TargetsRefusedAsStored stored t _ = ⊥
+
+abbrev pub TargetsCompletedAsStored : (Text → Answer) → PackageTargets → Result CompletedTargets Error → Type 0
+TargetsCompletedAsStored stored t (Ok c) = completed_targets t (stored_map stored) ≡ completed_to (completed_content t c)
+TargetsCompletedAsStored stored t (Err e) = TargetsRefusedAsStored stored t e
 
 -- THE FINDS of a folder's names beside the answers for its entries
 abbrev pub paired_finds : Text → List Text → List Answer → List Find

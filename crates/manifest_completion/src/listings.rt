@@ -60,7 +60,7 @@ impl Listings {
 }
 
 impl AbstractFilesystem for Listings {
-    ghost allows = { λ it path answer. AnswersAsStored it.listed path answer };
+    ghost allows = { λ it path answer. AnswersAsStored (stored_at it.listed) path answer };
 
     fn file_names_in(&self, _alloc: Global, rel_path: &str) -> io::Result<BTreeSet<String>> {
         match self.listed.get(rel_path) {

@@ -1,0 +1,22 @@
+-- Where one answer is stored for each path text, what is stored decides what completing a manifest answers.
+use Rattle.std.proofs.Common.{◌≡◌, ⊎_elim, inl, inr, Result, Ok, Err}
+use Rattle.std.specs.IoError.{error_kind}
+use Rattle.manifest_parts.specs.declared.error.Error.TheVariants.{Parse, Io, Utf8, Other, Memory}
+use Rattle.manifest_completion.specs.Completed.{completed_to, refused, no_library, completed}
+use Rattle.manifest_completion.specs.Stored.{stored_map}
+use Rattle.manifest_completion.proofs.StoredLaws.{manifest_settled, by_stored}
+use Rattle.cargo_manifest.specs.Completes.{StoredDecides}
+
+pub stored_decides : StoredDecides
+stored_decides stored old new (Ok u) h =
+    ⊎_elim (λ same. same) (λ lost. cc)
+    (by_stored (completed old h.0) (completed old (stored_map stored)) (completed_to new) (manifest_settled stored h.0 old h.1.allowed) h.2)
+stored_decides stored old new (Err (Io e)) h =
+    ⊎_elim (λ same. inl same) (λ lost. inr cc)
+    (by_stored (completed old h.0) (completed old (stored_map stored)) (refused (error_kind e)) (manifest_settled stored h.0 old h.1.allowed) h.2)
+stored_decides stored old new (Err (Other s)) h =
+    ⊎_elim (λ same. (same, h.1)) (λ lost. cc)
+    (by_stored (completed old h.0.0) (completed old (stored_map stored)) no_library (manifest_settled stored h.0.0 old h.0.1.allowed) h.0.2)
+stored_decides stored old new (Err (Memory e)) h = tt
+stored_decides stored old new (Err (Parse e)) h = absurd h
+stored_decides stored old new (Err (Utf8 e)) h = absurd h
