@@ -31,7 +31,7 @@ stored_folder stored d = record {
   entries = map (λ n. (n, stored (path_text (entry d n)))) (names_of (stored (path_text (folder d))));
 }
 
--- THE MAP OF WHAT IS STORED: at each place the answer for its path text
+-- THE MAP OF WHAT IS STORED: at each folder, and at each name in a folder of targets, the answer for its path text
 abbrev pub stored_map : (Text → Answer) → ListingMap
 stored_map stored = record {
   source = stored (path_text source);

@@ -22,7 +22,7 @@ pub enum Listing {
 }
 
 /// A filesystem in memory: at each path it answers what was put there last, and `NotFound` elsewhere. Where the copy of
-/// its names finds no memory it answers `OutOfMemory`.
+/// its names finds no memory it answers `OutOfMemory`. So what was put decides a completion over it: `laws::stored_decides`.
 #[derive(Debug, Drop)]
 pub struct Listings {
     pub listed: BTreeMap<String, Listing>,
