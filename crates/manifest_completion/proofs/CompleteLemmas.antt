@@ -1,5 +1,5 @@
 -- What the steps of a completion come to, by the definitions.
-use Rattle.std.proofs.Common.{◌≡◌, List, [], ◌∷◌, ◌++◌, Bool, true, false, refl, ap, sym, ◌∙◌, map, subst, ◌||◌, Option, Some, None, option_map, Result, Ok, Err, IfOk}
+use Rattle.std.proofs.Common.{◌≡◌, List, [], ◌∷◌, ◌++◌, Bool, true, false, refl, ap, sym, ◌∙◌, map, subst, ◌||◌, Option, Some, None, if◌then◌else◌, Result, Ok, Err, IfOk}
 use Rattle.std.specs.Result.{IsErrAnd}
 use Rattle.std.specs.IoError.{error_kind}
 use Rattle.std.specs.List.{list_any, flat_map}
@@ -8,20 +8,18 @@ use Rattle.std.specs.declared.io.ErrorKind.{ErrorKind}
 use Rattle.std.specs.declared.io.ErrorKind.TheVariants.{NotFound, OutOfMemory}
 use Rattle.manifest_schema.specs.Paths.{Text}
 use Rattle.manifest_schema.specs.Contents.{Product, Manifest}
-use Rattle.manifest_parts.specs.Parts.{text_or_flag_content}
-use Rattle.manifest_parts.specs.Records.{product_content}
 use Rattle.manifest_parts.specs.declared.error.Error.{Error}
 use Rattle.manifest_parts.specs.declared.error.Error.TheVariants.{Parse, Io, Utf8, Other, Memory}
 use Rattle.manifest_completion.specs.declared.completion.CompletedTargets.{CompletedTargets}
-use Rattle.manifest_completion.specs.declared.completion.CompletedLists.{CompletedLists}
 use Rattle.manifest_completion.specs.declared.ask.FolderAnswers.{FolderAnswers}
 use Rattle.manifest_completion.specs.declared.ask.Answers.{Answers}
 use Rattle.manifest_completion.specs.Listings.{Answer, fault, names_of, is_memory_fault, TargetFolder, bins, examples, tests, benches, Place, source, folder, entry, root, folder_text, path_text, FolderListing, ListingMap, folder_of, at, IsAscending, NamesAscend}
 use Rattle.manifest_completion.specs.Finds.{Find, finds, entry_finds}
-use Rattle.manifest_completion.specs.Completed.{PackageTargets, Explains, folder_places, target_places, has_memory_fault, completed_to, refused, no_library, filled, library, no_file, known, source_fault, root_fault, asked_targets, asks_root, build_of, stops_at_source, completed, asked}
+use Rattle.manifest_completion.specs.Completed.{PackageTargets, Explains, folder_places, target_places, has_memory_fault, completed_to, refused, no_library, filled, library, no_file, known, source_fault, root_fault, after_root, completed_targets, asked_targets, asks_root, stops_at_source, completed, asked}
 use Rattle.manifest_completion.specs.Answered.{answer_of, answers_of}
 use Rattle.manifest_completion.specs.Asking.{Heard, EntriesHeard, IsInOrder, folder_listing, listing_map, AllHeard, found_no_memory, some_found_no_memory}
-use Rattle.manifest_completion.specs.Outcome.{completed_content, IsFault, IsWantOfMemory, RefusesLibrary, ByOneMap, TargetsRefused, TargetsCompleted, ListsCompleted, paired_finds, folder_paired}
+use Rattle.manifest_completion.specs.Outcome.{completed_content, IsFault, RefusesLibrary, ByOneMap, TargetsRefused, TargetsCompleted, paired_finds, folder_paired, TargetsMade, heard_fault, CompletesHeard}
+use Rattle.manifest_completion.proofs.DecidesLaws.{with_library}
 use Rattle.manifest_completion.proofs.AskLemmas.{none_ascend, ascending_differ}
 use Rattle.manifest_completion.proofs.HeardLemmas.{folder_fault, entry_answers, padded, match_false, any_map}
 
@@ -107,59 +105,48 @@ module _ (allows : Text → Answer → Type 0) (t : PackageTargets) (src : Answe
         ∙ ap (λ b. list_any t (folder_places l examples) || b) (list_any-append t (folder_places l tests) (folder_places l benches)))
         ∙ cc (folder_fault l bins a.bins refl heard.bins, folder_fault l examples a.examples refl heard.examples, folder_fault l tests a.tests refl heard.tests, folder_fault l benches a.benches refl heard.benches)
 
-    -- a listing found no memory
-    pub memory_refused : some_found_no_memory a ≡ true → ByOneMap allows t (λ c. c ≡ refused OutOfMemory)
-    memory_refused e = (listing_map src a, explains_all, rw (none, got, any_fault, e) refl)
+    -- what is heard decides what the targets come to
+    heard_outcome : completed_targets t (listing_map src a) ≡ after_root t lib (listing_map src a) (heard_fault t a)
+    heard_outcome =
+        with_library t (listing_map src a) lib none got
+        ∙ ap (λ (b : Bool). if b then refused OutOfMemory else after_root t lib (listing_map src a) (root_fault t.build (answer_of a.root))) any_fault
+        ∙ one (some_found_no_memory a)
+      where
+        one : (b : Bool) → (if b then refused OutOfMemory else after_root t lib (listing_map src a) (root_fault t.build (answer_of a.root)))
+            ≡ after_root t lib (listing_map src a) (if b then Some OutOfMemory else root_fault t.build (answer_of a.root))
+        one true = refl
+        one false = refl
 
-    -- the folder of the manifest is a fault
-    root_refused : some_found_no_memory a ≡ false → (k : ErrorKind) → root_fault t.build (answer_of a.root) ≡ Some k → ByOneMap allows t (λ c. c ≡ refused k)
-    root_refused e k f = (listing_map src a, explains_all, rw (none, got, any_fault, e, f) refl)
+    calm : heard_fault t a ≡ None → some_found_no_memory a ≡ false
+    calm e = one (some_found_no_memory a) (root_fault t.build (answer_of a.root)) e
+      where
+        one : (b : Bool) (k : Option ErrorKind) → (if b then Some OutOfMemory else k) ≡ None → b ≡ false
+        one true k f = cc
+        one false k f = refl
 
-    pub root_error : some_found_no_memory a ≡ false → (e : Error) → IsFault (root_fault t.build (answer_of a.root)) e → TargetsRefused allows t e
-    root_error calm (Io e) h = root_refused calm (error_kind e) h
-    root_error calm (Parse f) h = absurd h
-    root_error calm (Utf8 f) h = absurd h
-    root_error calm (Other s) h = absurd h
-    root_error calm (Memory f) h = absurd h
-
-    -- nothing is refused
-    all_done : some_found_no_memory a ≡ false → root_fault t.build (answer_of a.root) ≡ None → ByOneMap allows t (λ c. c ≡ completed_to (filled t lib (listing_map src a)))
-    all_done e f = (listing_map src a, explains_all, rw (none, got, any_fault, e, f) refl)
-
-    filled_is : some_found_no_memory a ≡ false → (c : CompletedTargets) (lists : CompletedLists) → ListsCompleted t src a lists → option_map text_or_flag_content c.build ≡ build_of t.build (answer_of a.root) → option_map product_content c.lib ≡ lib
-        → c.bin ≡ lists.bin → c.example ≡ lists.example → c.test ≡ lists.test → c.bench ≡ lists.bench → filled t lib (listing_map src a) ≡ completed_content t c
+    filled_is : some_found_no_memory a ≡ false → (c : CompletedTargets) → TargetsMade t src lib a c → filled t lib (listing_map src a) ≡ completed_content t c
     unfolding filled
-    filled_is e c lists gives build library b1 e1 t1 n1 =
+    filled_is e c made =
         let l = listing_map src a in
         let q1 = left_false (found_no_memory a.bins) _ e in let r1 = right_false (found_no_memory a.bins) _ e in
         let q2 = left_false (found_no_memory a.examples) _ r1 in let r2 = right_false (found_no_memory a.examples) _ r1 in
         let q3 = left_false (found_no_memory a.tests) (found_no_memory a.benches) r2 in let q4 = right_false (found_no_memory a.tests) (found_no_memory a.benches) r2 in
         let fb = folder_paired_is l bins a.bins refl heard.bins q1 in let fe = folder_paired_is l examples a.examples refl heard.examples q2 in
         let ft = folder_paired_is l tests a.tests refl heard.tests q3 in let fn = folder_paired_is l benches a.benches refl heard.benches q4 in
-        rw (b1, e1, t1, n1, build, library, gives.bin, gives.example, gives.test, gives.bench, fb, fe, ft, fn) refl
+        rw (made.build, made.library, made.lists.bin, made.lists.example, made.lists.test, made.lists.bench, fb, fe, ft, fn) refl
 
-    pub targets_done : some_found_no_memory a ≡ false → root_fault t.build (answer_of a.root) ≡ None → (c : CompletedTargets) (lists : CompletedLists) → ListsCompleted t src a lists → option_map text_or_flag_content c.build ≡ build_of t.build (answer_of a.root) → option_map product_content c.lib ≡ lib
-        → c.bin ≡ lists.bin → c.example ≡ lists.example → c.test ≡ lists.test → c.bench ≡ lists.bench → TargetsCompleted allows t (Ok c)
-    targets_done e f c lists gives build library b1 e1 t1 n1 =
-        let done = all_done e f in
-        (done.0, done.1, done.2 ∙ ap completed_to (filled_is e c lists gives build library b1 e1 t1 n1))
+    pub by_answers : (r : Result CompletedTargets Error) → CompletesHeard t src lib a r → TargetsCompleted allows t r
+    by_answers (Ok c) h = (listing_map src a, explains_all, heard_outcome ∙ ap (after_root t lib (listing_map src a)) h.0 ∙ ap completed_to (filled_is (calm h.0) c h.1))
+    by_answers (Err (Io e)) h = (listing_map src a, explains_all, heard_outcome ∙ ap (after_root t lib (listing_map src a)) h)
+    by_answers (Err (Memory e)) h = tt
+    by_answers (Err (Parse e)) h = absurd h
+    by_answers (Err (Utf8 e)) h = absurd h
+    by_answers (Err (Other e)) h = absurd h
 
 -- a refusal with this error
 pub refused_with : (allows : Text → Answer → Type 0) (t : PackageTargets) (r : Result CompletedTargets Error) (e : Error) → IsErrAnd r (λ x. x ≡ e) → TargetsRefused allows t e → TargetsCompleted allows t r
 refused_with allows t (Ok c) e h g = absurd h
 refused_with allows t (Err x) e h g = subst (TargetsRefused allows t) (sym h) g
-
--- want of memory
-pub refused_by_memory : (allows : Text → Answer → Type 0) (t : PackageTargets) (r : Result CompletedTargets Error) (e : Error) → IsErrAnd r (λ x. x ≡ e) → IsWantOfMemory e → TargetsCompleted allows t r
-refused_by_memory allows t (Ok c) e h g = absurd h
-refused_by_memory allows t (Err x) e h g = subst (TargetsRefused allows t) (sym h) (memory e g)
-  where
-    memory : (f : Error) → IsWantOfMemory f → TargetsRefused allows t f
-    memory (Memory m) k = tt
-    memory (Io f) k = absurd k
-    memory (Parse f) k = absurd k
-    memory (Utf8 f) k = absurd k
-    memory (Other s) k = absurd k
 
 -- what is known of an answer, where it is one
 pub of_answer : {A E : Type 0} (P : A → Type 0) (r : Result A E) (x : A) → IfOk r P → r ≡ Ok x → P x

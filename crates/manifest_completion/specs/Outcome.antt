@@ -1,10 +1,11 @@
 -- What the code holds and answers, by the definitions.
-use Rattle.std.specs.Prelude.{◌≡◌, ◌⊎◌, List, [], ◌∷◌, ◌++◌, map, codes, option_map, Option, Some, string_bytes, Result, Ok, Err}
+use Rattle.std.specs.Prelude.{◌≡◌, ◌⊎◌, List, [], ◌∷◌, ◌++◌, map, codes, option_map, Option, Some, None, if◌then◌else◌, string_bytes, Result, Ok, Err}
 use Rattle.std.specs.Borrow.{Bor}
 use Rattle.std.specs.IoError.{error_kind}
 use Rattle.std.specs.declared.io.ErrorKind.{ErrorKind}
 use Rattle.std.specs.declared.io.ErrorKind.TheVariants.{OutOfMemory}
 use Rattle.manifest_schema.specs.Paths.{Text}
+use Rattle.manifest_schema.specs.Contents.{Product}
 use Rattle.manifest_parts.specs.Parts.{edition_content, text_or_flag_content, inh_content}
 use Rattle.manifest_parts.specs.Records.{product_content}
 use Rattle.manifest_parts.specs.declared.error.Error.{Error}
@@ -19,8 +20,9 @@ use Rattle.manifest_completion.specs.declared.ask.FolderAnswers.{FolderAnswers}
 use Rattle.manifest_completion.specs.Listings.{Answer, ListingMap, folder_text, bins, examples, tests, benches, names_of}
 use Rattle.manifest_completion.specs.Finds.{Find, entry_finds, main_find}
 use Rattle.manifest_completion.specs.Targets.{Defaults, targets}
-use Rattle.manifest_completion.specs.Completed.{PackageTargets, is_legacy, discovers, bin_defaults, example_defaults, test_defaults, Library, no_file, Completion, completed_to, refused, no_library, completed_targets, asked_targets, Explains}
+use Rattle.manifest_completion.specs.Completed.{PackageTargets, is_legacy, discovers, bin_defaults, example_defaults, test_defaults, Library, no_file, Completion, completed_to, refused, no_library, completed_targets, asked_targets, root_fault, build_of, Explains}
 use Rattle.manifest_completion.specs.Answered.{answer_of, answers_of}
+use Rattle.manifest_completion.specs.Asking.{some_found_no_memory}
 use Rattle.manifest_completion.specs.Stored.{stored_map}
 
 -- CONTENTS
@@ -131,3 +133,23 @@ pub record ListsCompleted (t : PackageTargets) (src : Answer) (a : Answers) (lis
   pub example : map product_content lists.example.items ≡ targets (example_defaults t) (discovers t.autoexamples (is_legacy t.edition) t.example) (folder_paired (folder_text examples) a.examples) t.example
   pub test : map product_content lists.test.items ≡ targets (test_defaults t) (discovers t.autotests (is_legacy t.edition) t.test) (folder_paired (folder_text tests) a.tests) t.test
   pub bench : map product_content lists.bench.items ≡ targets (test_defaults t) (discovers t.autobenches (is_legacy t.edition) t.bench) (folder_paired (folder_text benches) a.benches) t.bench
+
+-- the targets are completed with this library, by what was heard
+pub record TargetsMade (t : PackageTargets) (src : Answer) (lib : Option Product) (a : Answers) (c : CompletedTargets) : Type 0 where
+  pub build : option_map text_or_flag_content c.build ≡ build_of t.build (answer_of a.root)
+  pub library : option_map product_content c.lib ≡ lib
+  pub lists : ListsCompleted t src a (record { bin = c.bin; example = c.example; test = c.test; bench = c.bench })
+
+-- the fault that refuses after all was heard: that no memory was found for a folder of targets or an entry, or that of the folder of the manifest
+abbrev pub heard_fault : PackageTargets → Answers → Option ErrorKind
+heard_fault t a = if some_found_no_memory a then Some OutOfMemory else root_fault t.build (answer_of a.root)
+
+abbrev pub RefusesHeard : PackageTargets → Answers → Error → Type 0
+RefusesHeard t a (Io e) = heard_fault t a ≡ Some (error_kind e)
+RefusesHeard t a (Memory e) = Unit {0}
+RefusesHeard t a _ = ⊥
+
+-- what is answered, by what was heard
+abbrev pub CompletesHeard : PackageTargets → Answer → Option Product → Answers → Result CompletedTargets Error → Type 0
+CompletesHeard t src lib a (Ok c) = (heard_fault t a ≡ None) × TargetsMade t src lib a c
+CompletesHeard t src lib a (Err e) = RefusesHeard t a e

@@ -8,7 +8,7 @@ ghost use Rattle.manifest_completion.specs.Answered.{answer_of};
 ghost use Rattle.manifest_completion.specs.Finds.{main_find};
 ghost use Rattle.manifest_completion.specs.Targets.{targets};
 ghost use Rattle.manifest_completion.specs.Completed.{is_legacy, own_edition, discovers, asks_root, build_of, bin_defaults, example_defaults, test_defaults, source_fault, root_fault_if};
-ghost use Rattle.manifest_completion.specs.Outcome.{declared_content, defaults_content, folder_paired, IsFault, TargetsCompleted, ListsCompleted};
+ghost use Rattle.manifest_completion.specs.Outcome.{declared_content, defaults_content, folder_paired, IsFault, TargetsCompleted, ListsCompleted, CompletesHeard};
 
 use crate::ask::{Answers, FolderAnswers, ask, ask_folders};
 use crate::copies::copied;
@@ -135,22 +135,14 @@ fn settled_source(
     }
 }
 
-/// The answer at the folder of the manifest, unless that was asked and is a fault.
-fn settled_root(
-    asks: bool,
-    root: io::Result<BTreeSet<String>>,
-) -> Result<io::Result<BTreeSet<String>>, Error>
-    ensures { MatchResult result (λ s. (s ≡ root) × (root_fault_if asks (answer_of root) ≡ None)) (IsFault (root_fault_if asks (answer_of root))) }
+/// Refuses where the folder of the manifest was asked and is a fault.
+fn settled_root(asks: bool, root: &io::Result<BTreeSet<String>>) -> Result<(), Error>
+    ensures { let fault = root_fault_if asks (answer_of root.now) in
+        MatchResult result (λ u. fault ≡ None) (IsFault fault) }
 {
     match root {
-        Ok(names) => Ok(Ok(names)),
-        Err(fault) => {
-            if asks {
-                Err(Error::Io(fault))
-            } else {
-                Ok(Err(fault))
-            }
-        }
+        Err(fault) if asks => Err(Error::Io(*fault)),
+        _ => Ok(()),
     }
 }
 
@@ -295,6 +287,39 @@ fn completed_lists(
     })
 }
 
+/// The targets completed with this library, by what was answered at `src`, at the folders and at their entries.
+fn completed_by_answers(
+    alloc: Global,
+    declared: &DeclaredTargets<'_>,
+    source: &io::Result<BTreeSet<String>>,
+    lib: Option<Product>,
+    answers: &Answers,
+) -> Result<CompletedTargets, Error>
+    ensures { let t = declared_content declared.now in let src = answer_of source.now in
+        CompletesHeard t src (option_map product_content lib) answers.now result }
+{
+    if answers.found_no_memory() {
+        return Err(Error::Io(io::Error::from(ErrorKind::OutOfMemory)));
+    }
+    let lists = or_memory(completed_lists(alloc, declared, source, answers))?;
+    settled_root(asks_root(declared.build), &answers.root)?;
+    let build = or_memory(completed_build(alloc, declared.build, &answers.root))?;
+    let CompletedLists {
+        bin,
+        example,
+        test,
+        bench,
+    } = lists;
+    Ok(CompletedTargets {
+        build,
+        lib,
+        bin,
+        example,
+        test,
+        bench,
+    })
+}
+
 /// Asks the filesystem, and completes the targets by what it answers. Nothing that was declared is changed.
 ///
 /// Refuses with `Io` where `src` has another fault than that it is not there, where a folder of targets or an entry of
@@ -314,26 +339,9 @@ pub fn complete<FS: AbstractFilesystem>(
 {
     let source = settled_source(ask(alloc, fs, "src"))?;
     let lib = completed_library(alloc, declared, &source)?;
-    let asks = asks_root(declared.build);
-    let answers = or_memory(ask_folders(alloc, fs, asks))?;
-    if answers.found_no_memory() {
-        return Err(Error::Io(io::Error::from(ErrorKind::OutOfMemory)));
-    }
-    let lists = or_memory(completed_lists(alloc, declared, &source, &answers))?;
-    let root = settled_root(asks, answers.root)?;
-    let build = or_memory(completed_build(alloc, declared.build, &root))?;
-    let CompletedLists {
-        bin,
-        example,
-        test,
-        bench,
-    } = lists;
-    Ok(CompletedTargets {
-        build,
-        lib,
-        bin,
-        example,
-        test,
-        bench,
-    })
+    let answers = or_memory(ask_folders(alloc, fs, asks_root(declared.build)))?;
+    let completed = completed_by_answers(alloc, declared, &source, lib, &answers);
+    drop(answers);
+    drop(source);
+    completed
 }
