@@ -3,14 +3,16 @@ use Rattle.std.specs.Prelude.{◌≡◌, ℕ, List, false, Some, None, IsUtf8, c
 use Rattle.toml.specs.Data.{Data, Members, members_have_valid_dates}
 use Rattle.toml.specs.Parse.{parse_document}
 use Rattle.toml.specs.Errors.{IsMemory}
-use Rattle.manifest_schema.specs.Kinds.{Kind}
+use Rattle.manifest_schema.specs.Kinds.{Kind, tree_of}
 use Rattle.manifest_schema.specs.Contents.{Manifest}
-use Rattle.manifest_schema.specs.Meaning.{means, unmeant}
+use Rattle.manifest_schema.specs.Meaning.{means, unmeant, rewritten}
 use Rattle.manifest_value.specs.declared.fault.SchemaFault.{SchemaFault}
 use Rattle.manifest_value.specs.Faults.{IsOneOf}
 use Rattle.manifest_parts.specs.declared.error.Error.{Error}
 use Rattle.manifest_parts.specs.declared.error.Error.TheVariants.{Parse, Utf8, Other, Memory}
 use Rattle.manifest_parts.specs.declared.error.ParseFault.TheVariants.{Toml, Schema}
+use Rattle.cargo_manifest.specs.Whole.{manifest_content}
+use Rattle.cargo_manifest.specs.declared.manifest.Manifest.{Manifest as ManifestOfCode}
 
 -- the bytes are a document of a table that means the manifest
 pub record IsDocumentOf (K W : Kind Data) (bytes : List ℕ) (m : Manifest) : Type 0 where
@@ -36,6 +38,10 @@ RefusesText K W text _ = ⊥
 abbrev pub Refuses : Kind Data → Kind Data → List ℕ → Error → Type 0
 Refuses K W bytes (Utf8 e) = ¬ IsUtf8 bytes
 Refuses K W bytes e = IsUtf8 bytes × RefusesText K W bytes e
+
+-- the table that is written of a manifest of the code, whose metadata has the contents p and w of these kinds
+abbrev pub written_of : {P W A B : Type 0} → Kind A → Kind B → (P → A) → (W → B) → ManifestOfCode P W → Members
+written_of K W p w m = rewritten (tree_of K) (tree_of W) (manifest_content (λ x. K.written (p x)) (λ x. W.written (w x)) m)
 
 -- the refusal to print a table: it has a date-time that TOML cannot write, or memory ran out
 abbrev pub RefusesToPrint : Members → Error → Type 0

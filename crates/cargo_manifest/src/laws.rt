@@ -2,8 +2,8 @@
 //!
 //! Each function returns at once: it is there for its contract, a law of the definitions.
 
-ghost use Rattle.manifest_schema.specs.Kinds.{tree_of};
-ghost use Rattle.manifest_schema.specs.Meaning.{MeansOne, WrittenIsRead, AcceptedIsWellFormed, RewrittenMeansTheSame, SameExactly, FaultyMeansNothing};
+ghost use Rattle.manifest_schema.specs.Kinds.{kept, tree_of};
+ghost use Rattle.manifest_schema.specs.Meaning.{MeansOne, WrittenIsRead, AcceptedIsWellFormed, RewrittenMeansTheSame, SameExactly, FaultyMeansNothing, AcceptedOrFaulty};
 ghost use Rattle.manifest_completion.specs.Laws.{AskedDiffer, AscendingDiffer, AskedDecides, CompletedIsFixed};
 ghost use Rattle.cargo_manifest.specs.Completes.{StoredDecides};
 
@@ -37,6 +37,11 @@ pub fn same_exactly<P: Metadata, W: Metadata>()
 /// A table with a fault means nothing.
 pub fn faulty_means_nothing<P: Metadata, W: Metadata>()
     ensures { FaultyMeansNothing (tree_of P.kind) (tree_of W.kind) }
+{}
+
+/// A table means a manifest or has a fault, with metadata kept as it is: that of the type `Value`.
+pub fn accepted_or_faulty()
+    ensures { AcceptedOrFaulty (tree_of kept) (tree_of kept) }
 {}
 
 /// All path texts that are asked in one completion differ, whatever names, slashes and empty names are listed.

@@ -1,12 +1,10 @@
 //! The text of a manifest.
 
-ghost use Rattle.std.specs.Prelude.{◌≡◌, ◌≤◌, true, Some, IfOk, IfErr, string_bytes};
+ghost use Rattle.std.specs.Prelude.{◌≡◌, ◌≤◌, true, false, Some, IfOk, IfErr, string_bytes};
 ghost use Rattle.toml.specs.Data.{members_depth, members_have_valid_dates};
 ghost use Rattle.toml.specs.Parse.{parse_document};
-ghost use Rattle.manifest_schema.specs.Kinds.{tree_of};
-ghost use Rattle.manifest_schema.specs.Meaning.{rewritten};
-ghost use Rattle.cargo_manifest.specs.Whole.{manifest_content};
-ghost use Rattle.cargo_manifest.specs.Answers.{RefusesToPrint};
+ghost use Rattle.toml.specs.Text.{IsDocumentText};
+ghost use Rattle.cargo_manifest.specs.Answers.{RefusesToPrint, written_of};
 
 use crate::manifest::{Manifest, manifest_table};
 use manifest_parts::Error;
@@ -17,7 +15,7 @@ use std::alloc::{AllocError, Global};
 pub const INVALID_DATE: &str = "a date-time of a kept value is not a valid date";
 
 impl<P: Metadata, W: Metadata> Manifest<P, W> {
-    /// The text of the canonical table, as `toml` lays it out.
+    /// The text of the canonical table: the document that `toml` writes of it, at any depth.
     ///
     /// A table that is at most 80 deep, as `toml` counts, is read back from it. Refuses a table with a date-time that
     /// `toml` counts as invalid with [`Error::Other`] of [`INVALID_DATE`], and else only for want of memory.
@@ -27,11 +25,13 @@ impl<P: Metadata, W: Metadata> Manifest<P, W> {
     /// let text = manifest.to_toml_string(alloc)?; // "[package]\nname = \"a\"\n"
     /// ```
     pub fn to_toml_string(&self, alloc: Global) -> Result<String, Error>
-        ensures reads_back { let ms = rewritten (tree_of P.kind) (tree_of W.kind) (manifest_content (λ m. P.kind.written (P.content m)) (λ m. W.kind.written (W.content m)) self.now) in
+        ensures text { let ms = written_of P.kind W.kind P.content W.content self.now in
+            IfOk result (λ s. IsDocumentText false ms (string_bytes s)) }
+        ensures reads_back { let ms = written_of P.kind W.kind P.content W.content self.now in
             IfOk result (λ s. members_depth ms ≤ 80 → parse_document (string_bytes s) ≡ Some ms) }
-        ensures dates { let ms = rewritten (tree_of P.kind) (tree_of W.kind) (manifest_content (λ m. P.kind.written (P.content m)) (λ m. W.kind.written (W.content m)) self.now) in
+        ensures dates { let ms = written_of P.kind W.kind P.content W.content self.now in
             IfOk result (λ _. members_have_valid_dates ms ≡ true) }
-        ensures refused { let ms = rewritten (tree_of P.kind) (tree_of W.kind) (manifest_content (λ m. P.kind.written (P.content m)) (λ m. W.kind.written (W.content m)) self.now) in
+        ensures refused { let ms = written_of P.kind W.kind P.content W.content self.now in
             IfErr result (RefusesToPrint ms) }
     {
         let table = match manifest_table(alloc, self) {
