@@ -1,8 +1,6 @@
--- Entries that are read of the first members of a table: their keys ascend as the table's do, and they are all where there are
--- as many as members.
-use Rattle.std.proofs.Common.{◌≡◌, Bool, true, false, List, [], ◌∷◌, length, Option, IfSome, String, Global, Less, nat_cmp, string_bytes, if◌then◌else◌, sym, ap, subst, arith}
+-- Entries that are read of the first members of a table: their keys ascend as the table's do.
+use Rattle.std.proofs.Common.{◌≡◌, Bool, true, false, List, [], ◌∷◌, String, Global, Less, nat_cmp, string_bytes, if◌then◌else◌, subst}
 use Rattle.std.specs.Cmp.Lexicographic.{slice_cmp}
-use Rattle.std.specs.Iterator.{Yields}
 use Rattle.std.specs.List.{AllByRecursion}
 use Rattle.std.specs.List.Sorted.{IsStrictlySortedBy}
 use Rattle.std.specs.Map.{keys_of}
@@ -12,23 +10,9 @@ use Rattle.toml.specs.declared.value.Value.{Value}
 use Rattle.toml.specs.View.{members_view}
 use Rattle.manifest_schema.specs.Paths.{Text}
 use Rattle.manifest_schema.specs.Slots.{is_among, without}
-use Rattle.manifest_schema.specs.Kinds.{Kind, Entries, reads_entries}
+use Rattle.manifest_schema.specs.Kinds.{Kind}
 use Rattle.manifest_value.specs.Entries.{entries_content}
-use Rattle.manifest_value.specs.Others.{reads_first, count}
-
-reads_then : {A : Type 0} (K : Kind A) (ms mid rest : Members) (e : Text × A) (es : Entries A) → reads_first K ms (e ∷ []) mid → reads_first K mid es rest → reads_first K ms (e ∷ es) rest
-reads_then K no_members mid rest e es h g = absurd h
-reads_then K (member k d ms) mid rest e es h g = (h.0, h.1, subst (λ x. reads_first K x es rest) (sym h.2) g)
-
--- the next item is read of the first of the members
-abbrev pub ReadsNext : {A X S : Type 0} → Kind A → (X → A) → (S → Members) → S → Option (String Global × X) → S → Type 0
-ReadsNext K f left s r t = IfSome r (λ e. reads_first K (left s) ((string_bytes e.0, f e.1) ∷ []) (left t))
-
--- what comes of an iterator, each of whose items is so read, is read of the first members
-pub yields_first : {A X S : Type 0} (K : Kind A) (f : X → A) (left : S → Members) (s : S) (es : List (String Global × X)) (t : S)
-    → Yields (ReadsNext K f left) s es t → reads_first K (left s) (entries_content f es) (left t)
-yields_first K f left s [] t h = ap left h
-yields_first K f left s (e ∷ es) t h = reads_then K (left s) (left h.0) (left t) (string_bytes e.0, f e.1) (entries_content f es) h.1 (yields_first K f left h.0 es t h.2)
+use Rattle.manifest_value.specs.Others.{reads_first}
 
 -- the key is below each key of the members
 abbrev pub IsBelow : Text → Members → Type 0
@@ -78,10 +62,3 @@ first_ascend K f ms rest [] ascend h = tt
 first_ascend K f no_members rest (e ∷ es) ascend h = absurd h
 first_ascend K f (member k d ms) rest (e ∷ es) ascend h =
     (all_below K f ms rest e.0 es (subst (λ l. IsBelow l ms) h.0 ascend.0) h.2, first_ascend K f ms rest es ascend.1 h.2)
-
--- as many as there are members are all of them
-pub all_read : {A X : Type 0} (K : Kind A) (f : X → A) (ms rest : Members) (es : List (String Global × X)) → reads_first K ms (entries_content f es) rest → length es ≡ count ms → reads_entries K ms (entries_content f es)
-all_read K f no_members rest [] h same = tt
-all_read K f no_members rest (e ∷ es) h same = absurd h
-all_read K f (member k d ms) rest [] h same = absurd (omega (arith, same))
-all_read K f (member k d ms) rest (e ∷ es) h same = (h.0, h.1, all_read K f ms rest es h.2 (omega (arith, same)))

@@ -1,4 +1,5 @@
--- Marks of the keys of a table, by their first bytes.
+-- Marks of the keys of a table, by their first bytes. The look-up of rows cites these; who reads for the meaning may pass over
+-- this file.
 use Rattle.std.specs.Prelude.{ℕ, ◌%◌, Bool, true, false, ◌&&◌, List, [], ◌∷◌, slice_index_or}
 use Rattle.toml.specs.Data.{Members, no_members, member}
 use Rattle.manifest_schema.specs.Paths.{Text}

@@ -1,5 +1,6 @@
--- The entries of a table under other keys than some, and what is read of the first of them.
-use Rattle.std.specs.Prelude.{◌≡◌, ℕ, ◌+◌, List, [], ◌∷◌, String}
+-- The entries of a table under other keys than some, and what is read of the first of them. Contracts of private functions cite
+-- these; who reads for the meaning may pass over this file.
+use Rattle.std.specs.Prelude.{◌≡◌, List, [], ◌∷◌, String}
 use Rattle.std.specs.declared.alloc.Global.{Global}
 use Rattle.toml.specs.Data.{Members, no_members, member}
 use Rattle.toml.specs.declared.value.Value.{Value}
@@ -17,8 +18,3 @@ abbrev pub reads_first : {A : Type 0} → Kind A → Members → Entries A → M
 reads_first K ms [] rest = ms ≡ rest
 reads_first K no_members (e ∷ es) rest = ⊥
 reads_first K (member k d ms) (e ∷ es) rest = (k ≡ e.0) × K.reads d e.1 × reads_first K ms es rest
-
--- how many members there are
-abbrev pub count : Members → ℕ
-count no_members = 0
-count (member k d ms) = 1 + count ms

@@ -1,5 +1,8 @@
 //! Maps by a text.
 ghost use Rattle.std.specs.Prelude.{◌≡◌, IfOk, IfErr};
+ghost use Rattle.std.specs.List.Sorted.{IsStrictlySortedBy};
+ghost use Rattle.std.specs.Map.{keys_of};
+ghost use Rattle.std.specs.String.{string_cmp};
 ghost use Rattle.toml.specs.View.{view, table_view};
 ghost use Rattle.manifest_value.specs.Faults.{FaultIn};
 ghost use Rattle.manifest_value.specs.Entries.{entries_content};
@@ -12,6 +15,18 @@ use crate::schema::Schema;
 use std::alloc::{AllocError, Global};
 use std::collections::BTreeMap;
 use toml::{Table, Value};
+
+/// The map of some entries whose keys ascend. It is made at once, with full nodes.
+pub(crate) fn map_of_list<T: Schema>(
+    alloc: Global,
+    all: Vec<(String, T)>,
+) -> Result<BTreeMap<String, T>, AllocError>
+    requires { IsStrictlySortedBy string_cmp (keys_of all.items) }
+    ensures { IfOk result (λ m. entries_content T.content m.entries
+        ≡ entries_content T.content all.items) }
+{
+    BTreeMap::from_iter(alloc, all)
+}
 
 /// The entries of a table, each of one kind.
 fn entries_of<T: Schema>(alloc: Global, table: &Table) -> Result<BTreeMap<String, T>, ReadFault>

@@ -1,21 +1,21 @@
 //! The map of all keys that no row of a form names.
 
-ghost use Rattle.std.specs.Prelude.{◌≡◌, ◌+◌, ◌<◌, ◌≤◌, ◌∷◌, [], map, length, IfOk, IfErr, IfSome, MatchOption, string_bytes};
-ghost use Rattle.std.specs.Iterator.{at_most};
+ghost use Rattle.std.specs.Prelude.{◌≡◌, ◌<◌, map, length, IfOk, IfErr, MatchOption, string_bytes};
 ghost use Rattle.toml.specs.Data.{Members, no_members, member};
 ghost use Rattle.toml.specs.View.{view, table_view};
 ghost use Rattle.manifest_schema.specs.Kinds.{reads_entries, faulty_entry};
+ghost use Rattle.manifest_schema.specs.Paths.{behind, key};
 ghost use Rattle.manifest_schema.specs.Slots.{is_among, without};
 ghost use Rattle.manifest_value.specs.Faults.{FaultIn};
 ghost use Rattle.manifest_value.specs.Entries.{entries_content};
-ghost use Rattle.manifest_value.specs.Others.{others, reads_first, count};
+ghost use Rattle.manifest_value.specs.Others.{others, reads_first};
 
 use crate::fault::{ReadFault, under_key};
+use crate::maps::map_of_list;
 use crate::schema::Schema;
-use std::alloc::{AllocError, Global};
+use std::alloc::Global;
 use std::collections::BTreeMap;
 use std::collections::btree_map::Iter;
-use std::marker::PhantomData;
 use toml::{Table, Value};
 
 /// Whether the key is one of the names.
@@ -53,91 +53,41 @@ fn next_other<'t>(
     None
 }
 
-/// How many entries stand under other keys than the named ones.
-fn count_others(table: &Table, named: &[&'static str]) -> usize
-    ensures { result ≡ count (without (map (λ n. n.now) named.now) (table_view table.now)) }
-{
-    // (the length of the table bounds the count)
-    let _most = table.len();
-    let mut left = table.iter();
-    let mut found = 0;
-    while let Some(_) = next_other(&mut left, named) {
-        found += 1;
-    }
-    found
-}
-
-/// A copy of the key, and what is read of the value, or `None` where one of them is refused.
+/// A copy of the key, and what is read of the value, with the key before the path of a fault.
 #[inline(always)]
-fn read_entry<T: Schema>(alloc: Global, key: &str, value: &Value) -> Option<(String, T)>
-    ensures { IfSome result (λ e. (key.now ≡ string_bytes e.0) × T.kind.reads (view value.now) (T.content e.1)) }
+#[tactic(auto, using(crate::proofs::Behind::fault_behind))]
+fn read_entry<T: Schema>(alloc: Global, word: &str, value: &Value) -> Result<(String, T), ReadFault>
+    ensures ok { IfOk result (λ e. (string_bytes e.0 ≡ word.now)
+        × T.kind.reads (view value.now) (T.content e.1)) }
+    ensures fault { IfErr result (FaultIn (behind (key word.now) (T.kind.faulty (view value.now)))) }
 {
-    match String::from_str(alloc, key) {
-        Ok(name) => match T::from_value(alloc, value) {
-            Ok(x) => Some((name, x)),
-            Err(fault) => {
-                drop(fault);
-                None
-            }
-        },
-        Err(_) => None,
+    let name = String::from_str(alloc, word)?;
+    match T::from_value(alloc, value) {
+        Ok(x) => Ok((name, x)),
+        Err(fault) => Err(under_key(alloc, word, fault)),
     }
 }
 
-/// The entries of a table under other keys than the named ones, read one after the other, up to the first that is
-/// refused.
-#[derive(Drop)]
-struct Readings<'t, 'n, T> {
-    alloc: Global,
-    left: Iter<'t, String, Value>,
-    named: &'n [&'static str],
-    of: PhantomData<T>,
-}
-
-impl<'t, 'n, T: Schema> Iterator for Readings<'t, 'n, T> {
-    type Item = (String, T);
-
-    ghost next_gives = { λ s r t. IfSome r (λ e. reads_first T.kind (others (map (λ n. n.now) s.named.now) s.left)
-        ((string_bytes e.0, T.content e.1) ∷ []) (others (map (λ n. n.now) t.named.now) t.left)) };
-
-    ghost remaining = { λ s. at_most (length s.left) };
-
-    fn next(&mut self) -> Option<(String, T)> {
-        let (key, value) = next_other(&mut self.left, self.named)?;
-        read_entry(self.alloc, key.as_str(), value)
-    }
-}
-
-/// The map of the entries up to the first that is refused. It is made at once, with full nodes, as the keys ascend.
-fn readable<T: Schema>(
+/// What is read of the entries of a table under other keys than the named ones, in the order of the keys.
+fn list_of_others<T: Schema>(
     alloc: Global,
     table: &Table,
     named: &[&'static str],
-) -> Result<BTreeMap<String, T>, AllocError>
-    ensures { IfOk result (λ m. (rest : Members) × reads_first T.kind (without (map (λ n. n.now) named.now) (table_view table.now)) (entries_content T.content m.entries) rest) }
+) -> Result<Vec<(String, T)>, ReadFault>
+    ensures ok { let ms = without (map (λ n. n.now) named.now) (table_view table.now) in
+        IfOk result (λ v. reads_first T.kind ms (entries_content T.content v.items) no_members) }
+    ensures fault { let ms = without (map (λ n. n.now) named.now) (table_view table.now) in
+        IfErr result (FaultIn (faulty_entry T.kind ms)) }
 {
-    let readings: Readings<'_, '_, T> = Readings {
-        alloc,
-        left: table.iter(),
-        named,
-        of: PhantomData,
-    };
-    BTreeMap::from_iter(alloc, readings)
-}
-
-/// The fault of the first entry that is refused, or want of memory where none is refused any more.
-#[cold]
-fn first_fault<T: Schema>(alloc: Global, table: &Table, named: &[&'static str]) -> ReadFault
-    ensures { FaultIn (faulty_entry T.kind (without (map (λ n. n.now) named.now) (table_view table.now))) result }
-{
+    let mut all = Vec::new(alloc);
     let mut left = table.iter();
     while let Some((key, value)) = next_other(&mut left, named) {
-        match T::from_value(alloc, value) {
-            Ok(x) => drop(x),
-            Err(fault) => return under_key(alloc, key.as_str(), fault),
+        match read_entry(alloc, key.as_str(), value) {
+            Ok(entry) => all.push(entry)?,
+            Err(fault) => return Err(fault),
         }
     }
-    ReadFault::Memory(AllocError)
+    Ok(all)
 }
 
 /// The entries of a table under all keys but the named ones, each of one kind, in the order of the keys.
@@ -153,10 +103,8 @@ pub fn others_of<T: Schema>(
     ensures ok { IfOk result (λ m. reads_entries T.kind (without (map (λ n. n.now) named.now) (table_view table.now)) (entries_content T.content m.entries)) }
     ensures fault { IfErr result (FaultIn (faulty_entry T.kind (without (map (λ n. n.now) named.now) (table_view table.now)))) }
 {
-    let all = readable(alloc, table, named)?;
-    if all.len() == count_others(table, named) {
-        return Ok(all);
-    }
-    drop(all);
-    Err(first_fault::<T>(alloc, table, named))
+    // (the keys of the table ascend)
+    let _in_order = table.len();
+    let all = list_of_others(alloc, table, named)?;
+    Ok(map_of_list(alloc, all)?)
 }

@@ -14,6 +14,7 @@ ghost use Rattle.manifest_value.specs.Entries.{entries_content};
 ghost use Rattle.manifest_value.specs.Others.{reads_first};
 
 use crate::fault::{Cause, ReadFault, under_key};
+use crate::maps::map_of_list;
 use crate::rows::at_key;
 use crate::schema::Schema;
 use crate::slots::{Slot, slot_at};
@@ -61,7 +62,7 @@ fn taken_entries<T: Schema>(alloc: Global, table: Table) -> Result<BTreeMap<Stri
     // (the keys of the table ascend)
     let _in_order = table.len();
     let all = list_of_entries(alloc, table)?;
-    Ok(BTreeMap::from_iter(alloc, all)?)
+    Ok(map_of_list(alloc, all)?)
 }
 
 /// The map that a value under a key is, with the key before the path of a fault.
