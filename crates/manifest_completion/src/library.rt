@@ -6,6 +6,7 @@ ghost use Rattle.manifest_completion.specs.Answered.{answer_of};
 ghost use Rattle.manifest_completion.specs.Completed.{library, known, declared_library, inferred_library, library_path, library_file, library_type, underscored, is_legacy};
 ghost use Rattle.manifest_completion.specs.Outcome.{declared_content, RefusesLibrary};
 
+use crate::ask::join;
 use crate::completion::{DeclaredTargets, is_legacy, own_edition};
 use crate::copies::one_text;
 use crate::finds::lists;
@@ -38,9 +39,7 @@ fn library_file(
     let mut file = String::from_str(alloc, name)?;
     file.push_str(".rs")?;
     if legacy & lists(source, file.as_str()) {
-        let mut path = String::from_str(alloc, "src/")?;
-        path.push_str(file.as_str())?;
-        return Ok(Some(path));
+        return Ok(Some(join(alloc, "src", file.as_str())?));
     }
     Ok(None)
 }
