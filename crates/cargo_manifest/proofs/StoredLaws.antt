@@ -1,5 +1,5 @@
 -- Where one answer is stored for each path text, what is stored decides what completing a manifest answers.
-use Rattle.std.proofs.Common.{◌≡◌, ⊎_elim, inl, inr, Result, Ok, Err}
+use Rattle.std.proofs.Common.{⊎_elim, inl, inr, Ok, Err}
 use Rattle.std.specs.IoError.{error_kind}
 use Rattle.manifest_parts.specs.declared.error.Error.TheVariants.{Parse, Io, Utf8, Other, Memory}
 use Rattle.manifest_completion.specs.Completed.{completed_to, refused, no_library, completed}
