@@ -1,7 +1,6 @@
 -- What completing a manifest answers.
-use Rattle.std.specs.Prelude.{◌≡◌, ◌⊎◌, Result, Ok, Err, string_bytes}
+use Rattle.std.specs.Prelude.{◌≡◌, Result, Ok, Err, string_bytes}
 use Rattle.std.specs.IoError.{error_kind}
-use Rattle.std.specs.declared.io.ErrorKind.TheVariants.{OutOfMemory}
 use Rattle.manifest_schema.specs.Paths.{Text}
 use Rattle.manifest_schema.specs.Contents.{Manifest}
 use Rattle.manifest_parts.specs.declared.error.Error.{Error}
@@ -9,7 +8,7 @@ use Rattle.manifest_parts.specs.declared.error.Error.TheVariants.{Io, Other, Mem
 use Rattle.manifest_completion.specs.Listings.{Answer, ListingMap}
 use Rattle.manifest_completion.specs.Completed.{Completion, completed_to, refused, no_library, completed, asked, Explains}
 use Rattle.manifest_completion.specs.Stored.{AnswersAsStored, stored_map}
-use Rattle.manifest_completion.specs.Outcome.{library_text}
+use Rattle.manifest_completion.specs.Outcome.{library_text, IsRefusalOf}
 
 -- there is one map of listings, with an answer that the filesystem allows at each place that is asked for it, and what the manifest comes to by that map is this
 abbrev pub ByOneMap : (Text → Answer → Type 0) → Manifest → Completion Manifest → Type 0
@@ -27,18 +26,14 @@ abbrev pub Completes : (Text → Answer → Type 0) → Manifest → Manifest �
 Completes allows old new (Ok u) = ByOneMap allows old (completed_to new)
 Completes allows old new (Err e) = RefusesToComplete allows old e
 
--- the refusal to complete where one answer is stored for each path text: that of the map of what is stored; or memory was wanting, for a listing or for what is made
-abbrev pub RefusesAsStored : (Text → Answer) → Manifest → Error → Type 0
-RefusesAsStored stored m (Io e) = (completed m (stored_map stored) ≡ refused (error_kind e)) ⊎ (error_kind e ≡ OutOfMemory)
-RefusesAsStored stored m (Other s) = (completed m (stored_map stored) ≡ no_library) × (string_bytes s ≡ library_text)
-RefusesAsStored stored m (Memory e) = Unit {0}
-RefusesAsStored stored m _ = ⊥
-
--- what completing a manifest answers there: the manifest is left as what it comes to by the map of what is stored
-abbrev pub CompletesAsStored : (Text → Answer) → Manifest → Manifest → Result (Unit {0}) Error → Type 0
+-- what completing answers where one answer is stored for each path text: the manifest is left as what the map of what is stored completes it to, or the refusal is that map's
+abbrev pub CompletesAsStored :
+    (Text → Answer) → Manifest → Manifest → Result (Unit {0}) Error → Type 0
 CompletesAsStored stored old new (Ok u) = completed old (stored_map stored) ≡ completed_to new
-CompletesAsStored stored old new (Err e) = RefusesAsStored stored old e
+CompletesAsStored stored old new (Err e) = IsRefusalOf (completed old (stored_map stored)) e
 
--- where one answer is stored for each path text, what is stored decides what completing answers
+-- there, what is stored decides what completing answers
 abbrev pub StoredDecides : Type 0
-StoredDecides = (stored : Text → Answer) (old new : Manifest) (r : Result (Unit {0}) Error) → Completes (AnswersAsStored stored) old new r → CompletesAsStored stored old new r
+StoredDecides =
+    (stored : Text → Answer) (old new : Manifest) (r : Result (Unit {0}) Error) →
+    Completes (AnswersAsStored stored) old new r → CompletesAsStored stored old new r

@@ -12,7 +12,7 @@ use Rattle.manifest_completion.specs.declared.completion.CompletedTargets.{Compl
 use Rattle.manifest_completion.specs.Listings.{Answer, Place, path_text, ListingMap, at, NamesAscend, HasNoNameTwice}
 use Rattle.manifest_completion.specs.Completed.{PackageTargets, completed_to, completed, asked}
 use Rattle.manifest_completion.specs.Stored.{AnswersAsStored}
-use Rattle.manifest_completion.specs.Outcome.{TargetsCompleted, TargetsCompletedAsStored}
+use Rattle.manifest_completion.specs.Outcome.{TargetsCompleted, CompletedAsStored}
 
 -- all path texts that are asked differ, whatever names are listed
 abbrev pub AskedDiffer : Type 0
@@ -28,11 +28,15 @@ AgreeAt l k ps = AllByRecursion (λ p. at l p ≡ at k p) ps
 
 -- what is asked and what a manifest comes to depend on the answers at the places that are asked alone
 abbrev pub AskedDecides : Type 0
-AskedDecides = (m : Manifest) (l k : ListingMap) → AgreeAt l k (asked m l) → (asked m l ≡ asked m k) × (completed m l ≡ completed m k)
+AskedDecides =
+    (m : Manifest) (l k : ListingMap) → AgreeAt l k (asked m l) →
+    (asked m l ≡ asked m k) × (completed m l ≡ completed m k)
 
 -- where one answer is stored for each path text, what is stored decides what completing answers
 abbrev pub StoredDecides : Type 0
-StoredDecides = (stored : Text → Answer) (t : PackageTargets) (r : Result CompletedTargets Error) → TargetsCompleted (AnswersAsStored stored) t r → TargetsCompletedAsStored stored t r
+StoredDecides =
+    (stored : Text → Answer) (t : PackageTargets) (r : Result CompletedTargets Error) →
+    TargetsCompleted (AnswersAsStored stored) t r → CompletedAsStored stored t r
 
 -- the place is one of these
 abbrev pub IsAmong : List Place → Place → Type 0

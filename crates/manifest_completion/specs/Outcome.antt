@@ -107,16 +107,20 @@ abbrev pub TargetsCompleted : (Text → Answer → Type 0) → PackageTargets �
 TargetsCompleted allows t (Ok c) = ByOneMap allows t (λ r. r ≡ completed_to (completed_content t c))
 TargetsCompleted allows t (Err e) = TargetsRefused allows t e
 
--- WHAT IT ANSWERS where one answer is stored for each path text: the completion of the map of what is stored; or memory was wanting, for a listing or for what is made
-abbrev pub TargetsRefusedAsStored : (Text → Answer) → PackageTargets → Error → Type 0
-TargetsRefusedAsStored stored t (Io e) = (completed_targets t (stored_map stored) ≡ refused (error_kind e)) ⊎ (error_kind e ≡ OutOfMemory)
-TargetsRefusedAsStored stored t (Other s) = (completed_targets t (stored_map stored) ≡ no_library) × (string_bytes s ≡ library_text)
-TargetsRefusedAsStored stored t (Memory e) = Unit {0}
-TargetsRefusedAsStored stored t _ = ⊥
+-- WHAT IT ANSWERS where one answer is stored for each path text
+-- the refusal that this completion is; or memory was wanting, for a listing or for what is made
+abbrev pub IsRefusalOf : {A : Type 0} → Completion A → Error → Type 0
+IsRefusalOf c (Io e) = (c ≡ refused (error_kind e)) ⊎ (error_kind e ≡ OutOfMemory)
+IsRefusalOf c (Other s) = (c ≡ no_library) × (string_bytes s ≡ library_text)
+IsRefusalOf c (Memory e) = Unit {0}
+IsRefusalOf c _ = ⊥
 
-abbrev pub TargetsCompletedAsStored : (Text → Answer) → PackageTargets → Result CompletedTargets Error → Type 0
-TargetsCompletedAsStored stored t (Ok c) = completed_targets t (stored_map stored) ≡ completed_to (completed_content t c)
-TargetsCompletedAsStored stored t (Err e) = TargetsRefusedAsStored stored t e
+-- the targets that the map of what is stored completes them to, or its refusal
+abbrev pub CompletedAsStored :
+    (Text → Answer) → PackageTargets → Result CompletedTargets Error → Type 0
+CompletedAsStored stored t (Ok c) =
+    completed_targets t (stored_map stored) ≡ completed_to (completed_content t c)
+CompletedAsStored stored t (Err e) = IsRefusalOf (completed_targets t (stored_map stored)) e
 
 -- THE FINDS of a folder's names beside the answers for its entries
 abbrev pub paired_finds : Text → List Text → List Answer → List Find
