@@ -40,8 +40,10 @@ Refuses K W bytes (Utf8 e) = ¬ IsUtf8 bytes
 Refuses K W bytes e = IsUtf8 bytes × RefusesText K W bytes e
 
 -- the table that is written of a manifest of the code, whose metadata has the contents p and w of these kinds
-abbrev pub written_of : {P W A B : Type 0} → Kind A → Kind B → (P → A) → (W → B) → ManifestOfCode P W → Members
-written_of K W p w m = rewritten (tree_of K) (tree_of W) (manifest_content (λ x. K.written (p x)) (λ x. W.written (w x)) m)
+abbrev pub written_of : {P W A B : Type 0}
+    → Kind A → Kind B → (P → A) → (W → B) → ManifestOfCode P W → Members
+written_of K W p w m =
+    rewritten (tree_of K) (tree_of W) (manifest_content (λ x. K.written (p x)) (λ x. W.written (w x)) m)
 
 -- the refusal to print a table: it has a date-time that TOML cannot write, or memory ran out
 abbrev pub RefusesToPrint : Members → Error → Type 0

@@ -32,15 +32,18 @@ pub record IsAccepted (bytes : List ℕ) : Type 0 where
   pub utf8 : IsUtf8 bytes
   pub read : IsDocumentOf metadata metadata bytes manifest
 
--- the bytes are a document of an accepted table, and the text is the document that `toml` writes of its rewritten table, and reads as that table
+-- the text is the document that `toml` writes of the rewritten table of what the bytes mean, and reads as that table
 pub record IsCanonicalOf (bytes text : List ℕ) : Type 0 where
   pub accepted : IsAccepted bytes
   pub document : IsDocumentText false (rewritten accepted.manifest) text
-  pub reads_back : members_depth (rewritten accepted.manifest) ≤ 80 → parse_document text ≡ Some (rewritten accepted.manifest)
+  pub reads_back : members_depth (rewritten accepted.manifest) ≤ 80
+      → parse_document text ≡ Some (rewritten accepted.manifest)
 
--- the bytes get no canonical text: they are refused as a manifest, or the rewritten table of what they mean is refused as it is printed
+-- why bytes get no canonical text: they are refused as they are read, or the rewritten table of what they mean as it is printed
 abbrev pub RefusesCanonical : List ℕ → Error → Type 0
-RefusesCanonical bytes e = Refuses metadata metadata bytes e ⊎ ((a : IsAccepted bytes) × RefusesToPrint (rewritten a.manifest) e)
+RefusesCanonical bytes e =
+    Refuses metadata metadata bytes e
+    ⊎ ((a : IsAccepted bytes) × RefusesToPrint (rewritten a.manifest) e)
 
 -- known bytes grow by a beginning of the text
 pub record Begins (old new : Option (List ℕ)) (text : List ℕ) : Type 0 where
@@ -57,7 +60,8 @@ pub record IsPrinted (bytes : List ℕ) (old new : Option (List ℕ)) : Type 0 w
 
 -- nothing was written, or a beginning of the canonical text of the bytes
 abbrev pub IsBegun : List ℕ → Option (List ℕ) → Option (List ℕ) → Type 0
-IsBegun bytes old new = Keeps old new ⊎ ((text : List ℕ) × IsCanonicalOf bytes text × Begins old new text)
+IsBegun bytes old new =
+    Keeps old new ⊎ ((text : List ℕ) × IsCanonicalOf bytes text × Begins old new text)
 
 -- why the bytes were not printed, and what was written: at a fault of the input or of the output at most a beginning, and else nothing
 abbrev pub IsRefused : List ℕ → Option (List ℕ) → Option (List ℕ) → Error → Type 0
