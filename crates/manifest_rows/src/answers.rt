@@ -1,17 +1,15 @@
-//! Answers of the calls as texts.
-use cargo_manifest::{Error, Manifest, Metadata, ParseFault, ReadFault, Schema};
+//! Answers of the calls as texts, and the loops that try rows of them.
+use cargo_manifest::{Error, Manifest, Metadata, ParseFault, Schema};
 use std::alloc::{AllocError, Global};
 use std::process::Abort;
 use std::test::Fail;
 use toml::{Table, Value};
 
-/// The error of a reader's fault.
-pub fn error_of(fault: ReadFault) -> Error {
-    match fault {
-        ReadFault::Schema(fault) => Error::Parse(ParseFault::Schema(fault)),
-        ReadFault::Memory(refused) => Error::Memory(refused),
-    }
-}
+/// A text that is read, and the answer: the text that is written of it, or how it is told to be refused.
+pub type Row = (&'static str, Result<&'static str, &'static str>);
+
+/// The head of a package.
+pub const PACKAGE: &str = "[package]\nname = 'p'\n";
 
 /// What an error tells: the cause and the path of a fault of the schema, else what refused.
 pub fn told(alloc: Global, error: &Error) -> Result<String, AllocError> {
@@ -25,7 +23,7 @@ pub fn told(alloc: Global, error: &Error) -> Result<String, AllocError> {
         Error::Utf8(_) => String::from_str(alloc, "utf8"),
         Error::Io(_) => String::from_str(alloc, "io"),
         Error::Memory(_) => String::from_str(alloc, "memory"),
-        Error::Other(_) => String::from_str(alloc, "other"),
+        Error::Other(text) => format!(in alloc; "other: {text}"),
     }
 }
 
@@ -61,32 +59,123 @@ fn shown(alloc: Global, value: Value) -> Result<String, Fail> {
     Ok(toml::table_to_string(alloc, &table)?)
 }
 
-/// Asserts that what was read is written as the value of the text.
-pub fn assert_written<T: Schema>(
+/// What is written of a value that was read, or how it is told to be refused.
+pub fn answer_of<T: Schema>(alloc: Global, read: Result<T, Error>) -> Result<String, Fail> {
+    match read {
+        Ok(x) => shown(alloc, x.to_value(alloc)?),
+        Err(error) => Ok(told(alloc, &error)?),
+    }
+}
+
+/// The answer that a row expects of a value.
+pub fn expected_of(alloc: Global, answer: Result<&str, &str>) -> Result<String, Fail> {
+    match answer {
+        Ok(written) => shown(alloc, value(alloc, written)?),
+        Err(told) => Ok(String::from_str(alloc, told)?),
+    }
+}
+
+/// Asserts that a text is this one, for the row of this text.
+pub fn assert_is(
     rt: &impl Abort,
-    alloc: Global,
-    read: Result<T, Error>,
+    got: Result<String, Fail>,
     expected: &str,
+    at: &str,
 ) -> Result<(), Fail> {
-    let got = shown(alloc, read?.to_value(alloc)?)?;
-    let wanted = shown(alloc, value(alloc, expected)?)?;
-    assert_eq!(rt; got, wanted);
+    let got = got?;
+    assert_eq!(rt; got.as_str(), expected, "at {at}");
     Ok(())
 }
 
-/// Asserts that nothing was read, for this cause at this path.
-pub fn assert_told<T: Drop>(
+/// What is written of the manifest of a document, or how it is told to be refused: one answer for its bytes and its text.
+fn document_answer(alloc: Global, document: &str) -> Result<String, Fail> {
+    let by_bytes = written(alloc, Manifest::from_slice(alloc, document.as_bytes()))?;
+    let by_text = written(alloc, Manifest::from_str(alloc, document))?;
+    if by_bytes == by_text {
+        Ok(by_text)
+    } else {
+        Err(Fail::from("the text is answered otherwise than its bytes"))
+    }
+}
+
+/// The answer that a row expects of a document: the table that is written, behind the head, or how it is told.
+pub fn expected_behind(
+    alloc: Global,
+    head: &str,
+    answer: Result<&str, &str>,
+) -> Result<String, Fail> {
+    match answer {
+        Ok(written) => laid_out(alloc, format!(in alloc; "{head}{written}")?.as_str()),
+        Err(told) => Ok(String::from_str(alloc, told)?),
+    }
+}
+
+/// Asserts of each row how the document behind the head is answered.
+pub fn assert_documents(
     rt: &impl Abort,
     alloc: Global,
-    read: Result<T, Error>,
-    expected: &str,
+    head: &str,
+    rows: &[Row],
 ) -> Result<(), Fail> {
-    match read {
-        Ok(_) => Err(Fail::from("accepted")),
-        Err(error) => {
-            let got = told(alloc, &error)?;
-            assert_eq!(rt; got.as_str(), expected);
-            Ok(())
-        }
+    for (rest, answer) in rows {
+        let document = format!(in alloc; "{head}{rest}")?;
+        let expected = expected_behind(alloc, head, *answer)?;
+        let got = document_answer(alloc, document.as_str());
+        assert_is(rt, got, expected.as_str(), rest)?;
     }
+    Ok(())
+}
+
+/// A type that is read from a value by a call of its own.
+pub trait FromValue: Schema {
+    fn read(alloc: Global, value: &Value) -> Result<Self, Error>;
+}
+
+/// What is written of the value of a text, read as a `T`, or how it is told to be refused.
+fn value_answer<T: FromValue>(alloc: Global, text: &str) -> Result<String, Fail> {
+    answer_of(alloc, T::read(alloc, &value(alloc, text)?))
+}
+
+/// Asserts of each row how its text is answered as a `T`.
+pub fn assert_values<T: FromValue>(
+    rt: &impl Abort,
+    alloc: Global,
+    rows: &[Row],
+) -> Result<(), Fail> {
+    for (text, answer) in rows {
+        let expected = expected_of(alloc, *answer)?;
+        assert_is(rt, value_answer::<T>(alloc, text), expected.as_str(), text)?;
+    }
+    Ok(())
+}
+
+/// Asserts that the first of two keys is told, where a number stands under both and fits neither, behind these entries.
+fn assert_told_first<T: FromValue>(
+    rt: &impl Abort,
+    alloc: Global,
+    entries: &str,
+    first: &str,
+    second: &str,
+) -> Result<(), Fail> {
+    let text = format!(in alloc; "{{ {entries}{second} = 1, {first} = 1 }}")?;
+    let expected = format!(in alloc; "wrong kind at {first}")?;
+    assert_is(
+        rt,
+        value_answer::<T>(alloc, text.as_str()),
+        expected.as_str(),
+        text.as_str(),
+    )
+}
+
+/// The same of each two neighbouring keys.
+pub fn assert_told_in_order<T: FromValue>(
+    rt: &impl Abort,
+    alloc: Global,
+    entries: &str,
+    keys: &[&str],
+) -> Result<(), Fail> {
+    for (first, second) in keys.iter().zip(keys.iter().skip(1)) {
+        assert_told_first::<T>(rt, alloc, entries, first, second)?;
+    }
+    Ok(())
 }

@@ -1,179 +1,262 @@
-//! Each reader and writer of values, once by its name.
-use crate::answers::{assert_told, assert_written, error_of, value};
-use cargo_manifest::{Error, ReadFault};
+//! Each reader and writer of values, by its name.
+use crate::answers::{answer_of, assert_is, expected_of, told, value};
+use cargo_manifest::ReadFault;
+use manifest_parts::error::refusal;
 use manifest_value::{
     boolean, field, list_of, map_of, table, text, texts, whole, write_list, write_map, write_text,
     write_texts,
 };
-use std::alloc::Global;
+use std::alloc::{AllocError, Global};
 use std::collections::BTreeMap;
 use std::process::Abort;
 use std::test::Fail;
 use toml::Value;
 
-/// An answer with its fault as an error.
-fn answer<T: Drop>(read: Result<T, ReadFault>) -> Result<T, Error> {
+const ACCEPTED: &str = "accepted";
+
+const WRONG_KIND: &str = "wrong kind at (top)";
+
+const OUT_OF_RANGE: &str = "out of range at (top)";
+
+/// Whether a reader accepts, or how it tells its refusal.
+fn told_of<T: Drop>(alloc: Global, read: Result<T, ReadFault>) -> Result<String, Fail> {
     match read {
-        Ok(x) => Ok(x),
-        Err(fault) => Err(error_of(fault)),
+        Ok(_) => Ok(String::from_str(alloc, ACCEPTED)?),
+        Err(fault) => Ok(told(alloc, &refusal(fault))?),
     }
 }
 
-/// Asserts how the readers of one value answer on a text, on a list of a text and a number, and on a table.
-fn assert_readers(
-    rt: &impl Abort,
-    alloc: Global,
-    name: &Value,
-    names: &Value,
-    entries: &Value,
-) -> Result<(), Fail> {
-    let wrong = "wrong kind at (top)";
-    assert_eq!(rt; answer(text(alloc, name))?.as_str(), "serde");
-    assert_told(rt, alloc, answer(text(alloc, names)), wrong)?;
-    assert!(rt; answer(boolean(alloc, &Value::Boolean(true)))?);
-    assert_told(rt, alloc, answer(boolean(alloc, name)), wrong)?;
-    assert_eq!(rt; answer(table(alloc, entries))?.len(), 1);
-    assert_told(rt, alloc, answer(table(alloc, name)), wrong)?;
-    assert_told(rt, alloc, answer(texts(alloc, names)), "wrong kind at [1]")?;
-    assert_told(rt, alloc, answer(texts(alloc, name)), wrong)
+/// The readers of one value.
+#[derive(Clone, Copy, Debug)]
+enum Reader {
+    Text,
+    Boolean,
+    Texts,
+    Table,
 }
+
+/// What a reader answers of the value of a text.
+fn answer_by(alloc: Global, reader: Reader, shown: &str) -> Result<String, Fail> {
+    let value = value(alloc, shown)?;
+    match reader {
+        Reader::Text => told_of(alloc, text(alloc, &value)),
+        Reader::Boolean => told_of(alloc, boolean(alloc, &value)),
+        Reader::Texts => told_of(alloc, texts(alloc, &value)),
+        Reader::Table => told_of(alloc, table(alloc, &value)),
+    }
+}
+
+const READERS: &[(Reader, &str, &str)] = &[
+    (Reader::Text, "'a'", ACCEPTED),
+    (Reader::Text, "true", WRONG_KIND),
+    (Reader::Text, "['b', 'a']", WRONG_KIND),
+    (Reader::Boolean, "true", ACCEPTED),
+    (Reader::Boolean, "'a'", WRONG_KIND),
+    (Reader::Boolean, "1", WRONG_KIND),
+    (Reader::Texts, "['b', 'a']", ACCEPTED),
+    (Reader::Texts, "['a', 1]", "wrong kind at [1]"),
+    (Reader::Texts, "'a'", WRONG_KIND),
+    (Reader::Table, "{ a = 1 }", ACCEPTED),
+    (Reader::Table, "'a'", WRONG_KIND),
+    (Reader::Table, "[{ a = 1 }]", WRONG_KIND),
+];
 
 #[test]
 fn readers_of_one_value(rt: HostRuntime) -> Result<(), Fail> {
-    let alloc = rt.alloc();
-    let name = value(alloc, "'serde'")?;
-    let names = value(alloc, "['a', 1]")?;
-    let entries = value(alloc, "{ name = 'a' }")?;
-    assert_readers(&rt, alloc, &name, &names, &entries)
+    for (reader, shown, answer) in READERS {
+        assert_is(&rt, answer_by(rt.alloc(), *reader, shown), answer, shown)?;
+    }
+    Ok(())
+}
+
+/// A copy of what a reader read, written again.
+fn assert_copies(rt: &impl Abort, alloc: Global, name: &Value, names: &Value) -> Result<(), Fail> {
+    match (
+        text(alloc, name),
+        texts(alloc, names),
+        boolean(alloc, &Value::Boolean(true)),
+    ) {
+        (Ok(name), Ok(names), Ok(flag)) => {
+            assert_eq!(rt; name.as_str(), "serde");
+            assert_eq!(rt; names.len(), 2);
+            assert!(rt; names.iter().map(|text| text.as_str()).eq(["b", "a"]));
+            assert!(rt; flag);
+            Ok(())
+        }
+        _ => Err(Fail::from("refused")),
+    }
 }
 
 #[test]
+fn copies_of_readers(rt: HostRuntime) -> Result<(), Fail> {
+    let name = value(rt.alloc(), "'serde'")?;
+    let names = value(rt.alloc(), "['b', 'a']")?;
+    assert_copies(&rt, rt.alloc(), &name, &names)
+}
+
+const NUMBERS: &[(&str, i64, i64, &str)] = &[
+    ("5", 5, 5, ACCEPTED),
+    ("6", 5, 5, OUT_OF_RANGE),
+    ("'5'", 5, 5, WRONG_KIND),
+    ("4", 6, 4, OUT_OF_RANGE),
+    ("5", 6, 4, OUT_OF_RANGE),
+    ("6", 6, 4, OUT_OF_RANGE),
+];
+
+#[test]
 fn whole_numbers_between_limits(rt: HostRuntime) -> Result<(), Fail> {
-    let alloc = rt.alloc();
-    let five = Value::Integer(5);
-    let six = Value::Integer(6);
-    assert_eq!(rt; answer(whole(alloc, &five, 5, 5))?, 5);
-    assert_told(
-        &rt,
-        alloc,
-        answer(whole(alloc, &six, 5, 5)),
-        "out of range at (top)",
-    )?;
-    let quoted = value(alloc, "'5'")?;
-    assert_told(
-        &rt,
-        alloc,
-        answer(whole(alloc, &quoted, 5, 5)),
-        "wrong kind at (top)",
-    )?;
-    for n in [4, 5, 6] {
-        let number = Value::Integer(n);
-        assert_told(
+    for (shown, low, high, answer) in NUMBERS {
+        let read = whole(rt.alloc(), &value(rt.alloc(), shown)?, *low, *high);
+        assert_is(&rt, told_of(rt.alloc(), read), answer, shown)?;
+    }
+    Ok(())
+}
+
+/// The number that a field has in a document, or how it is told to be refused.
+fn number_of(alloc: Global, document: &str, second: Option<&str>) -> Result<String, Fail> {
+    let entries = toml::table_from_str(alloc, document)?;
+    match field(alloc, &entries, "crate-type", second) {
+        Ok(Some(Value::Integer(n))) => Ok(format!(in alloc; "{n}")?),
+        Ok(Some(_)) => Err(Fail::from("no number")),
+        Ok(None) => Ok(String::from_str(alloc, "absent")?),
+        Err(fault) => Ok(told(alloc, &refusal(fault))?),
+    }
+}
+
+/// A document, and the field with two spellings and with the first alone.
+const FIELDS: &[(&str, &str, &str)] = &[
+    ("crate-type = 1", "1", "1"),
+    ("crate_type = 2", "2", "absent"),
+    (
+        "crate-type = 1\ncrate_type = 2",
+        "two spellings at crate-type",
+        "1",
+    ),
+    ("other = 1", "absent", "absent"),
+];
+
+#[test]
+fn fields_of_one_spelling_or_two(rt: HostRuntime) -> Result<(), Fail> {
+    for (document, by_both, by_first) in FIELDS {
+        let got = number_of(rt.alloc(), document, Some("crate_type"));
+        assert_is(&rt, got, by_both, document)?;
+        assert_is(
             &rt,
-            alloc,
-            answer(whole(alloc, &number, 6, 4)),
-            "out of range at (top)",
+            number_of(rt.alloc(), document, None),
+            by_first,
+            document,
         )?;
     }
     Ok(())
 }
 
-/// Asserts how a field with two spellings is found in tables that have the first, the second and both.
-fn assert_fields(
-    rt: &impl Abort,
-    alloc: Global,
-    first: &Value,
-    second: &Value,
-    both: &Value,
-) -> Result<(), Fail> {
-    let other = Some("crate_type");
-    for (held, expected) in [(first, 1), (second, 2)] {
-        let entries = answer(table(alloc, held))?;
-        match answer(field(alloc, entries, "crate-type", other))? {
-            Some(Value::Integer(n)) => assert_eq!(rt; *n, expected),
-            _ => return Err(Fail::from("no number")),
-        }
-    }
-    let entries = answer(table(alloc, second))?;
-    assert!(rt; answer(field(alloc, entries, "crate-type", None))?.is_none());
-    let entries = answer(table(alloc, both))?;
-    assert!(rt; answer(field(alloc, entries, "crate-type", None))?.is_some());
-    let clash = answer(field(alloc, entries, "crate-type", other));
-    assert_told(rt, alloc, clash, "two spellings at crate-type")
-}
-
-#[test]
-fn fields_of_one_spelling_or_two(rt: HostRuntime) -> Result<(), Fail> {
-    let alloc = rt.alloc();
-    let first = value(alloc, "{ crate-type = 1 }")?;
-    let second = value(alloc, "{ crate_type = 2 }")?;
-    let both = value(alloc, "{ crate-type = 1, crate_type = 2 }")?;
-    assert_fields(&rt, alloc, &first, &second, &both)
-}
+/// A value, and what it is as a list and as a map of numbers from 0 to 3.
+const LEVELS: &[(&str, &str, &str)] = &[
+    ("[0, 3, 1]", ACCEPTED, WRONG_KIND),
+    ("[0, 4, 'x']", "out of range at [1]", WRONG_KIND),
+    ("{ a = 0, b = 3 }", WRONG_KIND, ACCEPTED),
+    (
+        "{ c = 'x', a = 0, 'b d' = 4 }",
+        WRONG_KIND,
+        "out of range at \"b d\"",
+    ),
+];
 
 #[test]
 fn lists_and_maps_by_closures(rt: HostRuntime) -> Result<(), Fail> {
     let alloc = rt.alloc();
     let level = |item: &Value| whole(alloc, item, 0, 3);
-    let levels = value(alloc, "[0, 3, 1]")?;
-    let read = answer(list_of(alloc, &levels, level))?;
-    assert_eq!(rt; read.as_slice(), [0, 3, 1].as_slice());
-    let high = value(alloc, "[0, 4, 'x']")?;
-    assert_told(
+    for (shown, as_list, as_map) in LEVELS {
+        let value = value(alloc, shown)?;
+        assert_is(
+            &rt,
+            told_of(alloc, list_of(alloc, &value, level)),
+            as_list,
+            shown,
+        )?;
+        assert_is(
+            &rt,
+            told_of(alloc, map_of(alloc, &value, level)),
+            as_map,
+            shown,
+        )?;
+    }
+    Ok(())
+}
+
+/// What the readers of lists and of maps that were handed a reader have read.
+fn assert_levels(rt: &impl Abort, alloc: Global, list: &Value, named: &Value) -> Result<(), Fail> {
+    let level = |item: &Value| whole(alloc, item, 0, 3);
+    match (list_of(alloc, list, level), map_of(alloc, named, level)) {
+        (Ok(levels), Ok(by_name)) => {
+            assert_eq!(rt; levels.as_slice(), [0, 3, 1].as_slice());
+            assert_eq!(rt; by_name.len(), 2);
+            assert_eq!(rt; by_name.get("b").copied(), Some(3));
+            Ok(())
+        }
+        _ => Err(Fail::from("refused")),
+    }
+}
+
+#[test]
+fn levels_by_closures(rt: HostRuntime) -> Result<(), Fail> {
+    let list = value(rt.alloc(), "[0, 3, 1]")?;
+    let named = value(rt.alloc(), "{ a = 0, b = 3 }")?;
+    assert_levels(&rt, rt.alloc(), &list, &named)
+}
+
+/// Asserts that a value was written as the value of the text.
+fn assert_shown(
+    rt: &impl Abort,
+    alloc: Global,
+    written: Result<Value, AllocError>,
+    expected: &str,
+) -> Result<(), Fail> {
+    let wanted = expected_of(alloc, Ok(expected))?;
+    assert_is(
+        rt,
+        answer_of(alloc, Ok(written?)),
+        wanted.as_str(),
+        expected,
+    )
+}
+
+/// Texts in a list.
+fn owned(alloc: Global, texts: &[&str]) -> Result<Vec<String>, Fail> {
+    let mut all = Vec::new(alloc);
+    for text in texts {
+        all.push(String::from_str(alloc, text)?)?;
+    }
+    Ok(all)
+}
+
+#[test]
+fn writers_of_texts(rt: HostRuntime) -> Result<(), Fail> {
+    let alloc = rt.alloc();
+    assert_shown(&rt, alloc, write_text(alloc, "a"), "'a'")?;
+    let none = owned(alloc, &[])?;
+    assert_shown(&rt, alloc, write_texts(alloc, none.as_slice()), "[]")?;
+    let names = owned(alloc, &["b", "a"])?;
+    assert_shown(
         &rt,
         alloc,
-        answer(list_of(alloc, &high, level)),
-        "out of range at [1]",
-    )?;
-    assert_told(
-        &rt,
-        alloc,
-        answer(map_of(alloc, &high, level)),
-        "wrong kind at (top)",
-    )?;
-    let named = value(alloc, "{ a = 0, b = 3 }")?;
-    assert_eq!(rt;
-        answer(map_of(alloc, &named, level))?.get("b").copied(),
-        Some(3)
-    );
-    assert_told(
-        &rt,
-        alloc,
-        answer(list_of(alloc, &named, level)),
-        "wrong kind at (top)",
-    )?;
-    let faulty = value(alloc, "{ c = 'x', a = 0, 'b d' = 4 }")?;
-    assert_told(
-        &rt,
-        alloc,
-        answer(map_of(alloc, &faulty, level)),
-        "out of range at \"b d\"",
+        write_texts(alloc, names.as_slice()),
+        "['b', 'a']",
     )
 }
 
 #[test]
-fn writers_by_name(rt: HostRuntime) -> Result<(), Fail> {
+fn writers_of_lists_and_maps(rt: HostRuntime) -> Result<(), Fail> {
     let alloc = rt.alloc();
-    assert_written(&rt, alloc, Ok(write_text(alloc, "a")?), "'a'")?;
-    let mut names = Vec::new(alloc);
-    assert_written(&rt, alloc, Ok(write_texts(alloc, names.as_slice())?), "[]")?;
-    names.push(String::from_str(alloc, "b")?)?;
-    names.push(String::from_str(alloc, "a")?)?;
-    assert_written(
-        &rt,
-        alloc,
-        Ok(write_texts(alloc, names.as_slice())?),
-        "['b', 'a']",
-    )?;
     let flags = write_list(
         alloc,
         [true, false].as_slice(),
         |flag| Ok(Value::Boolean(*flag)),
-    )?;
-    assert_written(&rt, alloc, Ok(flags), "[true, false]")?;
+    );
+    assert_shown(&rt, alloc, flags, "[true, false]")?;
     let mut levels: BTreeMap<String, i64> = BTreeMap::new(alloc);
-    drop(levels.insert(String::from_str(alloc, "b")?, 2)?);
-    drop(levels.insert(String::from_str(alloc, "a")?, 1)?);
-    let written = write_map(alloc, &levels, |level| Ok(Value::Integer(*level)))?;
-    assert_written(&rt, alloc, Ok(written), "{ a = 1, b = 2 }")
+    levels.insert(String::from_str(alloc, "b")?, 2)?;
+    levels.insert(String::from_str(alloc, "a")?, 1)?;
+    let written = write_map(alloc, &levels, |level| Ok(Value::Integer(*level)));
+    assert_shown(&rt, alloc, written, "{ a = 1, b = 2 }")
 }

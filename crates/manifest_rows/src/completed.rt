@@ -1,39 +1,55 @@
 //! Manifests completed from listings, and the tables that are written of them.
-use crate::answers::{laid_out, told};
-use crate::folders::{Recorder, Refusing, listings};
+use crate::answers::{PACKAGE, assert_is, expected_behind, told};
+use crate::folders::{Recorder, listings};
 use cargo_manifest::{
-    Edition, Error, Listings, Manifest, MaybeInherited, Package, Product, True, Value,
+    AbstractFilesystem, Edition, Error, Listings, Manifest, MaybeInherited, Package, Product, True,
+    Value,
 };
 use manifest_completion::is_legacy;
 use std::alloc::Global;
-use std::cell::Cell;
 use std::io::ErrorKind;
 use std::process::Abort;
 use std::test::Fail;
 
+/// A document, the folders that are listed, and the answer: the text that is written of the completed manifest, or how it is
+/// told to be refused.
+type Row = (
+    &'static str,
+    &'static str,
+    Result<&'static str, &'static str>,
+);
+
+/// What completing a manifest leaves: how it is told to be refused, or nothing; and the text that is written of it.
+fn completion<FS: AbstractFilesystem>(
+    alloc: Global,
+    manifest: &mut Manifest<Value, Value>,
+    fs: &FS,
+) -> Result<(String, String), Fail> {
+    let answer = match manifest.complete_from_abstract_filesystem(alloc, fs) {
+        Ok(()) => String::new(alloc),
+        Err(error) => told(alloc, &error)?,
+    };
+    Ok((answer, manifest.to_toml_string(alloc)?))
+}
+
 /// Completes a manifest twice: its table, or what was told. A refusal has to leave it as it was, and completing it again has
-/// to change nothing.
+/// to answer the same and change nothing.
 fn completed_twice(
     alloc: Global,
     manifest: &mut Manifest<Value, Value>,
     listings: &Listings,
 ) -> Result<String, Fail> {
     let before = manifest.to_toml_string(alloc)?;
-    let answer = manifest.complete_from_abstract_filesystem(alloc, listings);
-    let after = manifest.to_toml_string(alloc)?;
-    drop(manifest.complete_from_abstract_filesystem(alloc, listings));
-    let again = manifest.to_toml_string(alloc)?;
-    if after != again {
-        return Err(Fail::from("completing again changes it"));
-    }
-    match answer {
-        Ok(()) => Ok(after),
-        Err(error) => {
-            if before != after {
-                return Err(Fail::from("a refusal changes it"));
-            }
-            Ok(told(alloc, &error)?)
-        }
+    let (refusal, after) = completion(alloc, manifest, listings)?;
+    let (refused_again, again) = completion(alloc, manifest, listings)?;
+    if refusal != refused_again || after != again {
+        Err(Fail::from("completing again changes it, or is answered otherwise"))
+    } else if refusal.is_empty() {
+        Ok(after)
+    } else if after == before {
+        Ok(refusal)
+    } else {
+        Err(Fail::from("a refusal changes it"))
     }
 }
 
@@ -46,275 +62,385 @@ fn completed(alloc: Global, document: &str, folders: &str) -> Result<String, Fai
     answer
 }
 
-/// Asserts of each row: behind its head, the listings give this table.
-fn assert_completed(
-    rt: &impl Abort,
-    alloc: Global,
-    rows: &[(&str, &str, &str)],
-) -> Result<(), Fail> {
-    for (document, folders, expected) in rows {
-        let got = completed(alloc, document, folders)?;
-        assert_eq!(rt;
-            got,
-            laid_out(alloc, expected)?,
-            "at {document} over {folders}"
-        );
+/// Asserts of each row what completing its document over its folders gives.
+fn assert_completed(rt: &impl Abort, alloc: Global, rows: &[Row]) -> Result<(), Fail> {
+    for (document, folders, answer) in rows {
+        let expected = expected_behind(alloc, "", *answer)?;
+        let got = completed(alloc, document, folders);
+        assert_is(rt, got, expected.as_str(), document)?;
     }
     Ok(())
 }
 
-/// Asserts of each row that the completion is refused, and how it is told.
-fn assert_refused(rt: &impl Abort, alloc: Global, rows: &[(&str, &str, &str)]) -> Result<(), Fail> {
-    for (document, folders, expected) in rows {
-        let got = completed(alloc, document, folders)?;
-        assert_eq!(rt; got.as_str(), *expected, "at {document} over {folders}");
-    }
-    Ok(())
-}
+const LIBRARY_AND_MAIN: &[Row] = &[
+    (
+        "[package]\nname = 'foo-bar'\nedition = '2021'",
+        "src|lib.rs|main.rs;.",
+        Ok(
+            "[package]\nname = 'foo-bar'\nedition = '2021'\n[lib]\npath = 'src/lib.rs'\nname = 'foo_bar'\nedition = '2021'\nrequired-features = []\ncrate-type = ['lib']\n[[bin]]\npath = 'src/main.rs'\nname = 'foo-bar'\nedition = '2021'\nrequired-features = []",
+        ),
+    ),
+    // a library in the old way, by its own name
+    (
+        "[package]\nname = 'foo'\n[lib]",
+        "src|foo.rs;.",
+        Ok(
+            "[package]\nname = 'foo'\n[lib]\npath = 'src/foo.rs'\nname = 'foo'\nrequired-features = []\ncrate-type = ['lib']",
+        ),
+    ),
+    (
+        "[package]\nname = 'foo-bar'\n[lib]",
+        "src|foo-bar.rs;.",
+        Ok(
+            "[package]\nname = 'foo-bar'\n[lib]\npath = 'src/foo-bar.rs'\nname = 'foo_bar'\nrequired-features = []\ncrate-type = ['lib']",
+        ),
+    ),
+    // a library that is not wanted
+    (
+        "[package]\nname = 'p'\nautolib = false",
+        "src|lib.rs;.",
+        Ok("[package]\nname = 'p'\nautolib = false"),
+    ),
+    // no folder of sources
+    (
+        "[package]\nname = 'p'\nedition = '2021'",
+        ".",
+        Ok("[package]\nname = 'p'\nedition = '2021'"),
+    ),
+    // a folder of binaries that is a fault
+    (
+        "[package]\nname = 'p'\nedition = '2021'",
+        "src/bin!;.",
+        Ok("[package]\nname = 'p'\nedition = '2021'"),
+    ),
+    // a fault that is not asked for
+    (
+        "[package]\nname = 'p'\nedition = '2021'\nbuild = false",
+        "src|main.rs;.!",
+        Ok(
+            "[package]\nname = 'p'\nedition = '2021'\nbuild = false\n[[bin]]\nname = 'p'\npath = 'src/main.rs'\nedition = '2021'\nrequired-features = []",
+        ),
+    ),
+    // an edition of the workspace
+    (
+        "[package]\nname = 'p'\nedition = { workspace = true, x = 1 }",
+        "src|main.rs;.",
+        Ok(
+            "[package]\nname = 'p'\nedition = { workspace = true }\n[[bin]]\nname = 'p'\npath = 'src/main.rs'\nrequired-features = []",
+        ),
+    ),
+    (
+        "[package]\nname = 'p'\nedition = { workspace = true }\n[[bin]]\nname = 'a'",
+        "src|main.rs;.",
+        Ok(
+            "[package]\nname = 'p'\nedition = { workspace = true }\n[[bin]]\nname = 'a'\nrequired-features = []\n[[bin]]\nname = 'p'\npath = 'src/main.rs'\nrequired-features = []",
+        ),
+    ),
+    // no package: nothing is asked, and nothing changes
+    ("[workspace]", "src!;.!", Ok("[workspace]\nmembers = []")),
+    // put twice at one path: the last listing counts
+    (
+        "[package]\nname = 'p'\nedition = '2021'\nbuild = false",
+        "src|lib.rs;src|main.rs",
+        Ok(
+            "[package]\nname = 'p'\nedition = '2021'\nbuild = false\n[[bin]]\nname = 'p'\npath = 'src/main.rs'\nedition = '2021'\nrequired-features = []",
+        ),
+    ),
+    // a build script that is wanted, and that is not there; one that is named
+    (
+        "[package]\nname = 'p'\nbuild = true",
+        ".|build.rs",
+        Ok("[package]\nname = 'p'\nbuild = 'build.rs'"),
+    ),
+    (
+        "[package]\nname = 'p'\nbuild = true",
+        ".",
+        Ok("[package]\nname = 'p'\nbuild = true"),
+    ),
+    (
+        "[package]\nname = 'p'\nbuild = 'b.rs'",
+        ".|build.rs",
+        Ok("[package]\nname = 'p'\nbuild = 'b.rs'"),
+    ),
+];
 
-const LIBRARY_AND_MAIN: (&str, &str, &str) = (
-    "[package]\nname = 'foo-bar'\nedition = '2021'",
-    "src|lib.rs|main.rs;.",
-    "[package]\nname = 'foo-bar'\nedition = '2021'\n[lib]\npath = 'src/lib.rs'\nname = 'foo_bar'\nedition = '2021'\nrequired-features = []\ncrate-type = ['lib']\n[[bin]]\npath = 'src/main.rs'\nname = 'foo-bar'\nedition = '2021'\nrequired-features = []",
-);
+const BINARIES: &[Row] = &[
+    (
+        "[package]\nname = 'p'\nedition = '2021'\n[[bin]]\nname = 'foo'",
+        "src/bin|foo|foo.rs;src/bin/foo|main.rs;src/bin/foo.rs!;.",
+        Ok(
+            "[package]\nname = 'p'\nedition = '2021'\n[[bin]]\nname = 'foo'\npath = 'src/bin/foo/main.rs'\nedition = '2021'\nrequired-features = []\n[[bin]]\nname = 'foo'\npath = 'src/bin/foo.rs'\nedition = '2021'\nrequired-features = []",
+        ),
+    ),
+    (
+        "[package]\nname = 'p'\n[[bin]]\nname = 'a'",
+        "src|main.rs;.",
+        Ok(
+            "[package]\nname = 'p'\n[[bin]]\nname = 'a'\npath = 'src/main.rs'\nrequired-features = []",
+        ),
+    ),
+    (
+        "[package]\nname = 'p'\nautobins = true\n[[bin]]",
+        "src|main.rs;.",
+        Ok(
+            "[package]\nname = 'p'\nautobins = true\n[[bin]]\npath = 'src/main.rs'\nrequired-features = []\n[[bin]]\nname = 'p'\npath = 'src/main.rs'\nrequired-features = []",
+        ),
+    ),
+    (
+        "[package]\nname = 'p'\nedition = '2021'",
+        "src/bin|a|a/main.rs;src/bin/a|main.rs;.",
+        Ok(
+            "[package]\nname = 'p'\nedition = '2021'\n[[bin]]\nname = 'a'\npath = 'src/bin/a/main.rs'\nedition = '2021'\nrequired-features = []",
+        ),
+    ),
+    (
+        "[package]\nname = 'p'\nedition = '2021'",
+        "src/bin|.rs|x.rs;src/bin/x.rs|main.rs;.",
+        Ok(
+            "[package]\nname = 'p'\nedition = '2021'\n[[bin]]\nname = ''\npath = 'src/bin/.rs'\nedition = '2021'\nrequired-features = []\n[[bin]]\nname = 'x'\npath = 'src/bin/x.rs'\nedition = '2021'\nrequired-features = []\n[[bin]]\nname = 'x.rs'\npath = 'src/bin/x.rs/main.rs'\nedition = '2021'\nrequired-features = []",
+        ),
+    ),
+    (
+        "[package]\nname = 'p'\nedition = '2021'\n[[bin]]\nname = 'p'",
+        "src|main.rs;src/bin|p.rs;.",
+        Ok(
+            "[package]\nname = 'p'\nedition = '2021'\n[[bin]]\nname = 'p'\npath = 'src/bin/p.rs'\nedition = '2021'\nrequired-features = []\n[[bin]]\nname = 'p'\npath = 'src/main.rs'\nedition = '2021'\nrequired-features = []",
+        ),
+    ),
+    (
+        "[package]\nname = 'p'\n[[bin]]\nname = 'p'",
+        "src|main.rs;src/bin|p.rs;.",
+        Ok(
+            "[package]\nname = 'p'\n[[bin]]\nname = 'p'\npath = 'src/bin/p.rs'\nrequired-features = []",
+        ),
+    ),
+    (
+        "[package]\nname = 'p'",
+        "src|main.rs;src/bin|b.rs|a.rs;.",
+        Ok(
+            "[package]\nname = 'p'\n[[bin]]\nname = 'a'\npath = 'src/bin/a.rs'\nrequired-features = []\n[[bin]]\nname = 'b'\npath = 'src/bin/b.rs'\nrequired-features = []\n[[bin]]\nname = 'p'\npath = 'src/main.rs'\nrequired-features = []",
+        ),
+    ),
+    // an empty name, and names with slashes
+    (
+        "[package]\nname = 'p'\nedition = '2021'",
+        "src/bin||/|a//b.rs;src/bin/|main.rs;src/bin//|main.rs;.",
+        Ok(
+            "[package]\nname = 'p'\nedition = '2021'\n[[bin]]\nname = ''\npath = 'src/bin//main.rs'\nedition = '2021'\nrequired-features = []\n[[bin]]\nname = '/'\npath = 'src/bin///main.rs'\nedition = '2021'\nrequired-features = []\n[[bin]]\nname = 'a//b'\npath = 'src/bin/a//b.rs'\nedition = '2021'\nrequired-features = []",
+        ),
+    ),
+];
 
-#[test]
-fn library_and_main(rt: HostRuntime) -> Result<(), Fail> {
-    assert_completed(
-        &rt,
-        rt.alloc(),
-        &[
-            LIBRARY_AND_MAIN,
-            // a library in the old way, by its own name
-            (
-                "[package]\nname = 'foo'\n[lib]",
-                "src|foo.rs;.",
-                "[package]\nname = 'foo'\n[lib]\npath = 'src/foo.rs'\nname = 'foo'\nrequired-features = []\ncrate-type = ['lib']",
-            ),
-            (
-                "[package]\nname = 'foo-bar'\n[lib]",
-                "src|foo-bar.rs;.",
-                "[package]\nname = 'foo-bar'\n[lib]\npath = 'src/foo-bar.rs'\nname = 'foo_bar'\nrequired-features = []\ncrate-type = ['lib']",
-            ),
-            // a library that is not wanted
-            (
-                "[package]\nname = 'p'\nautolib = false",
-                "src|lib.rs;.",
-                "[package]\nname = 'p'\nautolib = false",
-            ),
-            // no folder of sources
-            (
-                "[package]\nname = 'p'\nedition = '2021'",
-                ".",
-                "[package]\nname = 'p'\nedition = '2021'",
-            ),
-            // a folder of binaries that is a fault
-            (
-                "[package]\nname = 'p'\nedition = '2021'",
-                "src/bin!;.",
-                "[package]\nname = 'p'\nedition = '2021'",
-            ),
-            // a fault that is not asked for
-            (
-                "[package]\nname = 'p'\nedition = '2021'\nbuild = false",
-                "src|main.rs;.!",
-                "[package]\nname = 'p'\nedition = '2021'\nbuild = false\n[[bin]]\nname = 'p'\npath = 'src/main.rs'\nedition = '2021'\nrequired-features = []",
-            ),
-            // an edition of the workspace
-            (
-                "[package]\nname = 'p'\nedition = { workspace = true, x = 1 }",
-                "src|main.rs;.",
-                "[package]\nname = 'p'\nedition = { workspace = true }\n[[bin]]\nname = 'p'\npath = 'src/main.rs'\nrequired-features = []",
-            ),
-            (
-                "[package]\nname = 'p'\nedition = { workspace = true }\n[[bin]]\nname = 'a'",
-                "src|main.rs;.",
-                "[package]\nname = 'p'\nedition = { workspace = true }\n[[bin]]\nname = 'a'\nrequired-features = []\n[[bin]]\nname = 'p'\npath = 'src/main.rs'\nrequired-features = []",
-            ),
-        ],
-    )
-}
+const OTHER_TARGETS: &[Row] = &[
+    (
+        "[package]\nname = 'p'\nedition = '2021'",
+        "examples|ex.rs;.|build.rs",
+        Ok(
+            "[package]\nname = 'p'\nedition = '2021'\nbuild = 'build.rs'\n[[example]]\nname = 'ex'\npath = 'examples/ex.rs'\nedition = '2021'\nrequired-features = []\ncrate-type = ['bin']",
+        ),
+    ),
+    (
+        "[package]\nname = 'p'\nedition = '2021'\nautotests = false\n[[test]]\nname = 't'",
+        "tests|t.rs|u.rs;benches|b;benches/b|main.rs;.",
+        Ok(
+            "[package]\nname = 'p'\nedition = '2021'\nautotests = false\n[[test]]\nname = 't'\npath = 'tests/t.rs'\nedition = '2021'\nrequired-features = []\n[[bench]]\nname = 'b'\npath = 'benches/b/main.rs'\nedition = '2021'\nrequired-features = []",
+        ),
+    ),
+    // what is declared stays as it is, but for the required features of a library; a find of its name at another path is added
+    (
+        "[package]\nname = 'p'\nedition = '2021'\n[lib]\npath = 'l.rs'\nname = 'l'\nedition = '2018'\ncrate-type = ['cdylib']\nrequired-features = ['f']\n[[example]]\npath = 'e.rs'\nname = 'e'\nedition = '2018'\ncrate-type = ['lib']\nrequired-features = ['g']\n[[bench]]\npath = 'benches/b.rs'\nname = 'b'\nedition = '2015'\ncrate-type = ['bin']",
+        "src|lib.rs;examples|e.rs;benches|b.rs;.",
+        Ok(
+            "[package]\nname = 'p'\nedition = '2021'\n[lib]\npath = 'l.rs'\nname = 'l'\nedition = '2018'\ncrate-type = ['cdylib']\nrequired-features = []\n[[example]]\npath = 'e.rs'\nname = 'e'\nedition = '2018'\ncrate-type = ['lib']\nrequired-features = ['g']\n[[example]]\npath = 'examples/e.rs'\nname = 'e'\nedition = '2021'\ncrate-type = ['bin']\nrequired-features = []\n[[bench]]\npath = 'benches/b.rs'\nname = 'b'\nedition = '2015'\ncrate-type = ['bin']\nrequired-features = []",
+        ),
+    ),
+    // five names in a folder
+    (
+        "[package]\nname = 'p'\nedition = '2021'",
+        "tests|e.rs|c.rs|a.rs|d.rs|b.rs;.",
+        Ok(
+            "[package]\nname = 'p'\nedition = '2021'\n[[test]]\npath = 'tests/a.rs'\nname = 'a'\nedition = '2021'\nrequired-features = []\n[[test]]\npath = 'tests/b.rs'\nname = 'b'\nedition = '2021'\nrequired-features = []\n[[test]]\npath = 'tests/c.rs'\nname = 'c'\nedition = '2021'\nrequired-features = []\n[[test]]\npath = 'tests/d.rs'\nname = 'd'\nedition = '2021'\nrequired-features = []\n[[test]]\npath = 'tests/e.rs'\nname = 'e'\nedition = '2021'\nrequired-features = []",
+        ),
+    ),
+];
 
-#[test]
-fn binaries(rt: HostRuntime) -> Result<(), Fail> {
-    assert_completed(
-        &rt,
-        rt.alloc(),
-        &[
-            (
-                "[package]\nname = 'p'\nedition = '2021'\n[[bin]]\nname = 'foo'",
-                "src/bin|foo|foo.rs;src/bin/foo|main.rs;src/bin/foo.rs!;.",
-                "[package]\nname = 'p'\nedition = '2021'\n[[bin]]\nname = 'foo'\npath = 'src/bin/foo/main.rs'\nedition = '2021'\nrequired-features = []\n[[bin]]\nname = 'foo'\npath = 'src/bin/foo.rs'\nedition = '2021'\nrequired-features = []",
-            ),
-            (
-                "[package]\nname = 'p'\n[[bin]]\nname = 'a'",
-                "src|main.rs;.",
-                "[package]\nname = 'p'\n[[bin]]\nname = 'a'\npath = 'src/main.rs'\nrequired-features = []",
-            ),
-            (
-                "[package]\nname = 'p'\nautobins = true\n[[bin]]",
-                "src|main.rs;.",
-                "[package]\nname = 'p'\nautobins = true\n[[bin]]\npath = 'src/main.rs'\nrequired-features = []\n[[bin]]\nname = 'p'\npath = 'src/main.rs'\nrequired-features = []",
-            ),
-            (
-                "[package]\nname = 'p'\nedition = '2021'",
-                "src/bin|a|a/main.rs;src/bin/a|main.rs;.",
-                "[package]\nname = 'p'\nedition = '2021'\n[[bin]]\nname = 'a'\npath = 'src/bin/a/main.rs'\nedition = '2021'\nrequired-features = []",
-            ),
-            (
-                "[package]\nname = 'p'\nedition = '2021'",
-                "src/bin|.rs|x.rs;src/bin/x.rs|main.rs;.",
-                "[package]\nname = 'p'\nedition = '2021'\n[[bin]]\nname = ''\npath = 'src/bin/.rs'\nedition = '2021'\nrequired-features = []\n[[bin]]\nname = 'x'\npath = 'src/bin/x.rs'\nedition = '2021'\nrequired-features = []\n[[bin]]\nname = 'x.rs'\npath = 'src/bin/x.rs/main.rs'\nedition = '2021'\nrequired-features = []",
-            ),
-            (
-                "[package]\nname = 'p'\nedition = '2021'\n[[bin]]\nname = 'p'",
-                "src|main.rs;src/bin|p.rs;.",
-                "[package]\nname = 'p'\nedition = '2021'\n[[bin]]\nname = 'p'\npath = 'src/bin/p.rs'\nedition = '2021'\nrequired-features = []\n[[bin]]\nname = 'p'\npath = 'src/main.rs'\nedition = '2021'\nrequired-features = []",
-            ),
-            (
-                "[package]\nname = 'p'\n[[bin]]\nname = 'p'",
-                "src|main.rs;src/bin|p.rs;.",
-                "[package]\nname = 'p'\n[[bin]]\nname = 'p'\npath = 'src/bin/p.rs'\nrequired-features = []",
-            ),
-            (
-                "[package]\nname = 'p'",
-                "src|main.rs;src/bin|b.rs|a.rs;.",
-                "[package]\nname = 'p'\n[[bin]]\nname = 'a'\npath = 'src/bin/a.rs'\nrequired-features = []\n[[bin]]\nname = 'b'\npath = 'src/bin/b.rs'\nrequired-features = []\n[[bin]]\nname = 'p'\npath = 'src/main.rs'\nrequired-features = []",
-            ),
-            // an empty name, and names with slashes
-            (
-                "[package]\nname = 'p'\nedition = '2021'",
-                "src/bin||/|a//b.rs;src/bin/|main.rs;src/bin//|main.rs;.",
-                "[package]\nname = 'p'\nedition = '2021'\n[[bin]]\nname = ''\npath = 'src/bin//main.rs'\nedition = '2021'\nrequired-features = []\n[[bin]]\nname = '/'\npath = 'src/bin///main.rs'\nedition = '2021'\nrequired-features = []\n[[bin]]\nname = 'a//b'\npath = 'src/bin/a//b.rs'\nedition = '2021'\nrequired-features = []",
-            ),
-        ],
-    )
-}
+const NO_LIBRARY: &str =
+    "other: can't find library, rename file to `src/lib.rs` or specify lib.path";
 
-const EXAMPLE_AND_BUILD_SCRIPT: (&str, &str, &str) = (
-    "[package]\nname = 'p'\nedition = '2021'",
-    "examples|ex.rs;.|build.rs",
-    "[package]\nname = 'p'\nedition = '2021'\nbuild = 'build.rs'\n[[example]]\nname = 'ex'\npath = 'examples/ex.rs'\nedition = '2021'\nrequired-features = []\ncrate-type = ['bin']",
-);
-
-#[test]
-fn other_targets(rt: HostRuntime) -> Result<(), Fail> {
-    assert_completed(
-        &rt,
-        rt.alloc(),
-        &[
-            EXAMPLE_AND_BUILD_SCRIPT,
-            (
-                "[package]\nname = 'p'\nedition = '2021'\nautotests = false\n[[test]]\nname = 't'",
-                "tests|t.rs|u.rs;benches|b;benches/b|main.rs;.",
-                "[package]\nname = 'p'\nedition = '2021'\nautotests = false\n[[test]]\nname = 't'\npath = 'tests/t.rs'\nedition = '2021'\nrequired-features = []\n[[bench]]\nname = 'b'\npath = 'benches/b/main.rs'\nedition = '2021'\nrequired-features = []",
-            ),
-        ],
-    )
-}
-
-#[test]
-fn refusals(rt: HostRuntime) -> Result<(), Fail> {
-    assert_refused(
-        &rt,
-        rt.alloc(),
-        &[
-            (
-                "[package]\nname = 'foo'\nedition = '2021'\n[lib]",
-                "src|foo.rs;.",
-                "other",
-            ),
-            (
-                "[package]\nname = 'p'\nedition = '2021'",
-                "src|main.rs;.!",
-                "io",
-            ),
-            ("[package]\nname = 'p'\nedition = '2021'", "src!;.", "io"),
-            ("[package]\nname = 'p'\nedition = '2021'", "elsewhere", "io"),
-        ],
-    )
-}
-
-/// How completing a document over listings refuses.
-fn refusal(alloc: Global, document: &str, folders: &str) -> Result<Error, Fail> {
-    let listings = listings(alloc, folders)?;
-    let mut manifest = Manifest::from_str(alloc, document)?;
-    let answer = manifest.complete_from_abstract_filesystem(alloc, &listings);
-    drop(manifest);
-    match answer {
-        Ok(()) => Err(Fail::from("completed")),
-        Err(error) => Ok(error),
-    }
-}
-
-#[test]
-fn a_library_without_a_file(rt: HostRuntime) -> Result<(), Fail> {
-    match refusal(
-        rt.alloc(),
+const REFUSED: &[Row] = &[
+    (
         "[package]\nname = 'foo'\nedition = '2021'\n[lib]",
         "src|foo.rs;.",
-    )? {
-        Error::Other(text) => {
-            assert_eq!(rt;
-                text.as_str(),
-                "can't find library, rename file to `src/lib.rs` or specify lib.path"
-            );
-            Ok(())
-        }
-        _ => Err(Fail::from("another refusal")),
-    }
+        Err(NO_LIBRARY),
+    ),
+    (
+        "[package]\nname = 'p'\nedition = '2021'",
+        "src|main.rs;.!",
+        Err("io"),
+    ),
+    (
+        "[package]\nname = 'p'\nedition = '2021'",
+        "src!;.",
+        Err("io"),
+    ),
+    (
+        "[package]\nname = 'p'\nedition = '2021'",
+        "elsewhere",
+        Err("io"),
+    ),
+];
+
+#[test]
+fn listed_targets(rt: HostRuntime) -> Result<(), Fail> {
+    assert_completed(&rt, rt.alloc(), LIBRARY_AND_MAIN)?;
+    assert_completed(&rt, rt.alloc(), BINARIES)?;
+    assert_completed(&rt, rt.alloc(), OTHER_TARGETS)?;
+    assert_completed(&rt, rt.alloc(), REFUSED)
+}
+
+/// Whether completing a package over listings is refused for a folder that is not there.
+fn is_not_found(alloc: Global, folders: &str) -> Result<bool, Fail> {
+    let listings = listings(alloc, folders)?;
+    let mut manifest = Manifest::from_str(alloc, PACKAGE)?;
+    let answer = manifest.complete_from_abstract_filesystem(alloc, &listings);
+    drop(manifest);
+    Ok(matches!(&answer, Err(Error::Io(fault)) if fault.kind() == ErrorKind::NotFound))
 }
 
 #[test]
 fn a_folder_of_the_manifest_that_is_not_there(rt: HostRuntime) -> Result<(), Fail> {
-    match refusal(
-        rt.alloc(),
-        "[package]\nname = 'p'\nedition = '2021'",
-        "elsewhere",
-    )? {
-        Error::Io(fault) => {
-            assert!(rt; fault.kind() == ErrorKind::NotFound);
-            Ok(())
-        }
-        _ => Err(Fail::from("another refusal")),
-    }
+    assert!(rt; is_not_found(rt.alloc(), "elsewhere")?);
+    Ok(())
+}
+
+/// What is listed for the questions below.
+const ASKED: &str = "src|lib.rs;examples|ex.rs;.|build.rs";
+
+/// A document, the folders that are listed, the path at which no memory is found, the paths that are asked, and how the
+/// completion is told to be refused, or nothing.
+type Questions = (
+    &'static str,
+    &'static str,
+    &'static str,
+    &'static str,
+    &'static str,
+);
+
+const QUESTIONS: &[Questions] = &[
+    (
+        "[package]\nname = 'p'",
+        ASKED,
+        "none",
+        "src;src/bin;examples;examples/ex.rs;tests;benches;.;",
+        "",
+    ),
+    (
+        "[package]\nname = 'p'\nbuild = true",
+        ASKED,
+        "none",
+        "src;src/bin;examples;examples/ex.rs;tests;benches;.;",
+        "",
+    ),
+    (
+        "[package]\nname = 'p'\nbuild = false",
+        ASKED,
+        "none",
+        "src;src/bin;examples;examples/ex.rs;tests;benches;",
+        "",
+    ),
+    (
+        "[package]\nname = 'p'\nbuild = 'b.rs'",
+        ASKED,
+        "none",
+        "src;src/bin;examples;examples/ex.rs;tests;benches;",
+        "",
+    ),
+    // nothing without a package
+    ("[workspace]", ASKED, "src", "", ""),
+    // nothing after a refusal
+    ("[package]\nname = 'p'", "src!;.", "none", "src;", "io"),
+    (
+        "[package]\nname = 'p'\n[lib]",
+        "examples|ex.rs;.",
+        "none",
+        "src;",
+        NO_LIBRARY,
+    ),
+    ("[package]\nname = 'p'", ASKED, "src", "src;", "io"),
+    (
+        "[package]\nname = 'p'",
+        ASKED,
+        "src/bin",
+        "src;src/bin;",
+        "io",
+    ),
+    (
+        "[package]\nname = 'p'",
+        ASKED,
+        "examples",
+        "src;src/bin;examples;",
+        "io",
+    ),
+    (
+        "[package]\nname = 'p'",
+        ASKED,
+        "examples/ex.rs",
+        "src;src/bin;examples;examples/ex.rs;",
+        "io",
+    ),
+    (
+        "[package]\nname = 'p'",
+        ASKED,
+        "tests",
+        "src;src/bin;examples;examples/ex.rs;tests;",
+        "io",
+    ),
+    (
+        "[package]\nname = 'p'",
+        ASKED,
+        "benches",
+        "src;src/bin;examples;examples/ex.rs;tests;benches;",
+        "io",
+    ),
+    (
+        "[package]\nname = 'p'",
+        ASKED,
+        ".",
+        "src;src/bin;examples;examples/ex.rs;tests;benches;.;",
+        "io",
+    ),
+];
+
+/// Whether completing the manifest asks the paths that the recorder expects, in their order, is answered so, and leaves it as
+/// it was where that is a refusal.
+fn is_asked(
+    alloc: Global,
+    manifest: &mut Manifest<Value, Value>,
+    recorder: &Recorder<'_>,
+    refusal: &str,
+) -> Result<bool, Fail> {
+    let before = manifest.to_toml_string(alloc)?;
+    let (answer, after) = completion(alloc, manifest, recorder)?;
+    let is_kept = refusal.is_empty() | (before == after);
+    Ok(recorder.asked_all() & is_kept & (answer.as_str() == refusal))
+}
+
+/// The same of a row.
+fn asks(alloc: Global, row: &Questions) -> Result<bool, Fail> {
+    let (document, folders, without_memory, expected, refusal) = row;
+    let listings = listings(alloc, folders)?;
+    let mut manifest = Manifest::from_str(alloc, document)?;
+    let recorder = Recorder::new(&listings, expected, without_memory);
+    let asked = is_asked(alloc, &mut manifest, &recorder, refusal);
+    drop(manifest);
+    asked
 }
 
 #[test]
 fn the_order_of_questions(rt: HostRuntime) -> Result<(), Fail> {
-    let (document, folders, _) = EXAMPLE_AND_BUILD_SCRIPT;
-    let listings = listings(rt.alloc(), folders)?;
-    let recorder = Recorder {
-        listings: &listings,
-        expected: &[
-            "src",
-            "src/bin",
-            "examples",
-            "examples/ex.rs",
-            "tests",
-            "benches",
-            ".",
-        ],
-        asked: Cell::new(0),
-        in_order: Cell::new(true),
-    };
-    let mut manifest = Manifest::from_str(rt.alloc(), document)?;
-    let answer = manifest.complete_from_abstract_filesystem(rt.alloc(), &recorder);
-    drop(manifest);
-    assert!(rt; answer.is_ok());
-    assert!(rt; recorder.in_order.get());
-    assert_eq!(rt; recorder.asked.get(), 7);
-    Ok(())
-}
-
-#[test]
-fn nothing_is_asked_without_a_package(rt: HostRuntime) -> Result<(), Fail> {
-    let mut manifest = Manifest::from_str(rt.alloc(), "[workspace]")?;
-    let answer = manifest.complete_from_abstract_filesystem(rt.alloc(), &Refusing);
-    let text = manifest.to_toml_string(rt.alloc());
-    drop(manifest);
-    assert!(rt; answer.is_ok());
-    assert_eq!(rt; text?, laid_out(rt.alloc(), "[workspace]\nmembers = []")?);
+    for row in QUESTIONS {
+        assert!(rt; asks(rt.alloc(), row)?, "at {row:?}");
+    }
     Ok(())
 }
 
@@ -328,43 +454,64 @@ fn flags(manifest: &Manifest<(), Value>) -> [bool; 4] {
     ]
 }
 
-/// Asserts what the flags are while a manifest is changed.
-fn assert_flags(
-    rt: &impl Abort,
-    alloc: Global,
-    manifest: &mut Manifest<(), Value>,
-) -> Result<(), Fail> {
-    assert!(rt; flags(manifest) == [false, false, false, false]);
+/// Puts a package into a manifest that has none.
+fn put_package(alloc: Global, manifest: &mut Manifest<(), Value>) -> Result<(), Fail> {
     let package = Package::new(
         String::from_str(alloc, "foo")?,
         String::from_str(alloc, "1.0.0")?,
     );
     drop(manifest.package.replace(package));
-    assert!(rt; flags(manifest) == [true, true, true, true]);
+    Ok(())
+}
+
+/// The flags while a manifest is changed: without a package, with one, with a binary, and then as the package says.
+fn flags_while_changed(
+    alloc: Global,
+    manifest: &mut Manifest<(), Value>,
+) -> Result<[[bool; 4]; 6], Fail> {
+    let without = flags(manifest);
+    put_package(alloc, manifest)?;
+    let with_package = flags(manifest);
     manifest.bin.push(Product::default(alloc))?;
-    assert!(rt; flags(manifest) == [false, true, true, true]);
+    let with_binary = flags(manifest);
     if let Some(package) = &mut manifest.package {
         package.autotests = Some(false);
     }
-    assert!(rt; flags(manifest) == [false, true, false, true]);
+    let without_tests = flags(manifest);
     if let Some(package) = &mut manifest.package {
         package.autobins = Some(true);
     }
-    assert!(rt; flags(manifest) == [true, true, false, true]);
+    let with_bins = flags(manifest);
     if let Some(package) = &mut manifest.package {
         package.autobins = None;
         package.edition = Some(MaybeInherited::Local(Edition::E2018));
     }
-    assert!(rt; flags(manifest) == [true, true, false, true]);
-    Ok(())
+    Ok([
+        without,
+        with_package,
+        with_binary,
+        without_tests,
+        with_bins,
+        flags(manifest),
+    ])
 }
 
 #[test]
 fn flags_of_a_manifest(rt: HostRuntime) -> Result<(), Fail> {
     let mut manifest: Manifest<(), Value> = Manifest::default(rt.alloc());
-    let asserted = assert_flags(&rt, rt.alloc(), &mut manifest);
+    let all = flags_while_changed(rt.alloc(), &mut manifest);
     drop(manifest);
-    asserted
+    for (got, expected) in all?.iter().zip(&[
+        [false, false, false, false],
+        [true, true, true, true],
+        [false, true, true, true],
+        [false, true, false, true],
+        [true, true, false, true],
+        [true, true, false, true],
+    ]) {
+        assert!(rt; got == expected);
+    }
+    Ok(())
 }
 
 #[test]

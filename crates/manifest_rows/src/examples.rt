@@ -1,6 +1,6 @@
 //! The examples of the README, over a real manifest: a workspace with inherited fields, profiles, lints and tables of a
 //! platform.
-use crate::answers::laid_out;
+use crate::answers::{assert_is, laid_out};
 use crate::folders::listings;
 use cargo_manifest::{Error, Listings, Manifest, ParseFault};
 use std::alloc::{AllocError, Global};
@@ -9,13 +9,14 @@ use std::test::Fail;
 /// The canonical text of a manifest.
 fn canonical(alloc: Global, bytes: &[u8]) -> Result<String, Error> {
     let manifest = Manifest::from_slice(alloc, bytes)?;
-    manifest.to_toml_string(alloc)
+    let text = manifest.to_toml_string(alloc)?;
+    Ok(text)
 }
 
 /// What is wrong with a manifest, as `wrong kind at package.authors[0]`, if its schema is what is wrong.
 fn complaint(alloc: Global, bytes: &[u8]) -> Result<Option<String>, AllocError> {
-    match Manifest::from_slice(alloc, bytes) {
-        Err(Error::Parse(ParseFault::Schema(fault))) => {
+    match Manifest::from_slice(alloc, bytes).err() {
+        Some(Error::Parse(ParseFault::Schema(fault))) => {
             let path = fault.path.to_text(alloc)?;
             let cause = fault.cause.as_str();
             Ok(Some(format!(in alloc; "{cause} at {path}")?))
@@ -128,11 +129,12 @@ edition = '2021'
 #[test]
 fn a_manifest_of_a_workspace(rt: HostRuntime) -> Result<(), Fail> {
     let alloc = rt.alloc();
+    let written = laid_out(alloc, WRITTEN)?;
     let text = canonical(alloc, MANIFEST.as_bytes())?;
-    assert_eq!(rt; text.as_str(), laid_out(alloc, WRITTEN)?.as_str());
+    assert_is(&rt, Ok(text), written.as_str(), "the manifest")?;
     // the written text is a manifest, and is written again as it is
-    let again = canonical(alloc, text.as_bytes())?;
-    assert_eq!(rt; again, text);
+    let again = canonical(alloc, written.as_bytes())?;
+    assert_is(&rt, Ok(again), written.as_str(), "the written manifest")?;
     assert!(rt; complaint(alloc, MANIFEST.as_bytes())?.is_none());
     Ok(())
 }
@@ -158,6 +160,6 @@ fn a_manifest_is_completed(rt: HostRuntime) -> Result<(), Fail> {
     )?;
     let expected =
         "[package]\nname = 'p'\nedition = '2024'\nbuild = 'build.rs'\n[lib]\nname = 'p'\npath = 'src/lib.rs'\nedition = '2024'\nrequired-features = []\ncrate-type = ['lib']";
-    assert_eq!(rt; text, laid_out(rt.alloc(), expected)?);
-    Ok(())
+    let expected = laid_out(rt.alloc(), expected)?;
+    assert_is(&rt, Ok(text), expected.as_str(), "a package")
 }

@@ -31,24 +31,33 @@ fn put_names(listings: &mut Listings, alloc: Global, folder: &str) -> Result<(),
     Ok(())
 }
 
-/// A filesystem that refuses everything.
-pub struct Refusing;
-
-impl AbstractFilesystem for Refusing {
-    ghost allows = { λ _ _ _. Unit {0} };
-
-    fn file_names_in(&self, _alloc: Global, _rel_path: &str) -> io::Result<BTreeSet<String>> {
-        Err(io::Error::from(ErrorKind::Other))
-    }
-}
-
-/// A filesystem that compares each question with the one that is expected.
+/// A filesystem that compares each question with the one that is expected, and finds no memory at one path.
 #[derive(Drop)]
 pub struct Recorder<'a> {
     pub listings: &'a Listings,
-    pub expected: &'a [&'a str],
+    /// The paths that are to be asked, in order, with `;` behind each.
+    pub expected: &'a str,
+    /// The path at which no memory is found.
+    pub without_memory: &'a str,
     pub asked: Cell<usize>,
     pub in_order: Cell<bool>,
+}
+
+impl<'a> Recorder<'a> {
+    pub fn new(listings: &'a Listings, expected: &'a str, without_memory: &'a str) -> Recorder<'a> {
+        Recorder {
+            listings,
+            expected,
+            without_memory,
+            asked: Cell::new(0),
+            in_order: Cell::new(true),
+        }
+    }
+
+    /// Whether exactly the expected paths were asked, in their order.
+    pub fn asked_all(&self) -> bool {
+        self.in_order.get() & (self.asked.get() == self.expected.split_terminator(';').count())
+    }
 }
 
 impl AbstractFilesystem for Recorder<'_> {
@@ -56,12 +65,15 @@ impl AbstractFilesystem for Recorder<'_> {
 
     fn file_names_in(&self, alloc: Global, rel_path: &str) -> io::Result<BTreeSet<String>> {
         let asked = self.asked.get();
-        let expects = match self.expected.get(asked) {
-            Some(path) => *path == rel_path,
+        let expects = match self.expected.split_terminator(';').nth(asked) {
+            Some(path) => path == rel_path,
             None => false,
         };
         self.asked.set(asked.wrapping_add(1));
         self.in_order.set(self.in_order.get() & expects);
+        if rel_path == self.without_memory {
+            return Err(io::Error::from(ErrorKind::OutOfMemory));
+        }
         self.listings.file_names_in(alloc, rel_path)
     }
 }

@@ -1,359 +1,425 @@
 //! Each type, read from a value by its own call and written.
-use crate::answers::{assert_told, assert_written, value};
+use crate::answers::{FromValue, Row, assert_told_in_order, assert_values};
 use cargo_manifest::{
-    Badge, Badges, Dependency, DependencyDetail, Edition, InheritedDependencyDetail, Lint,
+    Badge, Badges, Dependency, DependencyDetail, Edition, Error, InheritedDependencyDetail, Lint,
     LintConfig, LintLevel, Maintenance, MaintenanceStatus, Manifest, MaybeInherited,
-    MaybeInheritedLintsSet, Package, Product, Profile, Profiles, Publish, Resolver, StringOrBool,
-    StripSetting, Target, True, Workspace, WorkspacePackage,
+    MaybeInheritedLintsSet, Package, Plain, Product, Profile, Profiles, Publish, Resolver,
+    StringOrBool, StripSetting, Target, True, Workspace, WorkspacePackage,
 };
+use std::alloc::Global;
 use std::test::Fail;
 use toml::Value;
 
-#[test]
-fn choices_and_texts(rt: HostRuntime) -> Result<(), Fail> {
-    let alloc = rt.alloc();
-    for text in ["'2015'", "'2018'", "'2021'", "'2024'"] {
-        assert_written(
-            &rt,
-            alloc,
-            Edition::from_value(alloc, &value(alloc, text)?),
-            text,
-        )?;
+impl FromValue for Edition {
+    fn read(alloc: Global, value: &Value) -> Result<Edition, Error> {
+        Edition::from_value(alloc, value)
     }
-    for text in ["'1'", "'2'", "'3'"] {
-        assert_written(
-            &rt,
-            alloc,
-            Resolver::from_value(alloc, &value(alloc, text)?),
-            text,
-        )?;
-    }
-    for text in ["'forbid'", "'deny'", "'warn'", "'allow'"] {
-        assert_written(
-            &rt,
-            alloc,
-            LintLevel::from_value(alloc, &value(alloc, text)?),
-            text,
-        )?;
-    }
-    for text in [
-        "'none'",
-        "'actively-developed'",
-        "'passively-maintained'",
-        "'as-is'",
-        "'experimental'",
-        "'looking-for-maintainer'",
-        "'deprecated'",
-    ] {
-        assert_written(
-            &rt,
-            alloc,
-            MaintenanceStatus::from_value(alloc, &value(alloc, text)?),
-            text,
-        )?;
-    }
-    for (text, written) in [
-        ("false", "false"),
-        ("'none'", "false"),
-        ("true", "true"),
-        ("'symbols'", "true"),
-        ("'debuginfo'", "'debuginfo'"),
-    ] {
-        assert_written(
-            &rt,
-            alloc,
-            StripSetting::from_value(alloc, &value(alloc, text)?),
-            written,
-        )?;
-    }
-    for text in ["'a'", "true"] {
-        assert_written(
-            &rt,
-            alloc,
-            StringOrBool::from_value(alloc, &value(alloc, text)?),
-            text,
-        )?;
-    }
-    for text in ["false", "['a']", "[]"] {
-        assert_written(
-            &rt,
-            alloc,
-            Publish::from_value(alloc, &value(alloc, text)?),
-            text,
-        )?;
-    }
-    assert_written(
-        &rt,
-        alloc,
-        True::from_value(alloc, &value(alloc, "true")?),
-        "true",
-    )
 }
 
-#[test]
-fn choices_are_refused(rt: HostRuntime) -> Result<(), Fail> {
-    let alloc = rt.alloc();
-    for (text, told) in [
-        ("'4'", "not a choice at (top)"),
-        ("1", "wrong kind at (top)"),
-    ] {
-        let x = value(alloc, text)?;
-        assert_told(&rt, alloc, Edition::from_value(alloc, &x), told)?;
-        assert_told(&rt, alloc, Resolver::from_value(alloc, &x), told)?;
-        assert_told(&rt, alloc, LintLevel::from_value(alloc, &x), told)?;
-        assert_told(&rt, alloc, MaintenanceStatus::from_value(alloc, &x), told)?;
-        assert_told(&rt, alloc, StripSetting::from_value(alloc, &x), told)?;
+impl FromValue for Resolver {
+    fn read(alloc: Global, value: &Value) -> Result<Resolver, Error> {
+        Resolver::from_value(alloc, value)
     }
-    let list = value(alloc, "['a', 1]")?;
-    assert_told(
-        &rt,
-        alloc,
-        Publish::from_value(alloc, &list),
-        "wrong kind at [1]",
-    )?;
-    assert_told(
-        &rt,
-        alloc,
-        StringOrBool::from_value(alloc, &list),
-        "wrong kind at (top)",
-    )?;
-    let no = value(alloc, "false")?;
-    assert_told(
-        &rt,
-        alloc,
-        True::from_value(alloc, &no),
-        "not true at (top)",
-    )
 }
+
+impl FromValue for LintLevel {
+    fn read(alloc: Global, value: &Value) -> Result<LintLevel, Error> {
+        LintLevel::from_value(alloc, value)
+    }
+}
+
+impl FromValue for MaintenanceStatus {
+    fn read(alloc: Global, value: &Value) -> Result<MaintenanceStatus, Error> {
+        MaintenanceStatus::from_value(alloc, value)
+    }
+}
+
+impl FromValue for StripSetting {
+    fn read(alloc: Global, value: &Value) -> Result<StripSetting, Error> {
+        StripSetting::from_value(alloc, value)
+    }
+}
+
+impl FromValue for StringOrBool {
+    fn read(alloc: Global, value: &Value) -> Result<StringOrBool, Error> {
+        StringOrBool::from_value(alloc, value)
+    }
+}
+
+impl FromValue for Publish {
+    fn read(alloc: Global, value: &Value) -> Result<Publish, Error> {
+        Publish::from_value(alloc, value)
+    }
+}
+
+impl FromValue for True {
+    fn read(alloc: Global, value: &Value) -> Result<True, Error> {
+        True::from_value(alloc, value)
+    }
+}
+
+impl<T: Plain> FromValue for MaybeInherited<T> {
+    fn read(alloc: Global, value: &Value) -> Result<MaybeInherited<T>, Error> {
+        MaybeInherited::<T>::from_value(alloc, value)
+    }
+}
+
+impl FromValue for InheritedDependencyDetail {
+    fn read(alloc: Global, value: &Value) -> Result<InheritedDependencyDetail, Error> {
+        InheritedDependencyDetail::from_value(alloc, value)
+    }
+}
+
+impl FromValue for DependencyDetail {
+    fn read(alloc: Global, value: &Value) -> Result<DependencyDetail, Error> {
+        DependencyDetail::from_value(alloc, value)
+    }
+}
+
+impl FromValue for Dependency {
+    fn read(alloc: Global, value: &Value) -> Result<Dependency, Error> {
+        Dependency::from_value(alloc, value)
+    }
+}
+
+impl FromValue for Target {
+    fn read(alloc: Global, value: &Value) -> Result<Target, Error> {
+        Target::from_value(alloc, value)
+    }
+}
+
+impl FromValue for LintConfig {
+    fn read(alloc: Global, value: &Value) -> Result<LintConfig, Error> {
+        LintConfig::from_value(alloc, value)
+    }
+}
+
+impl FromValue for Lint {
+    fn read(alloc: Global, value: &Value) -> Result<Lint, Error> {
+        Lint::from_value(alloc, value)
+    }
+}
+
+impl FromValue for MaybeInheritedLintsSet {
+    fn read(alloc: Global, value: &Value) -> Result<MaybeInheritedLintsSet, Error> {
+        MaybeInheritedLintsSet::from_value(alloc, value)
+    }
+}
+
+impl FromValue for Product {
+    fn read(alloc: Global, value: &Value) -> Result<Product, Error> {
+        Product::from_value(alloc, value)
+    }
+}
+
+impl FromValue for Profile {
+    fn read(alloc: Global, value: &Value) -> Result<Profile, Error> {
+        Profile::from_value(alloc, value)
+    }
+}
+
+impl FromValue for Profiles {
+    fn read(alloc: Global, value: &Value) -> Result<Profiles, Error> {
+        Profiles::from_value(alloc, value)
+    }
+}
+
+impl FromValue for Badge {
+    fn read(alloc: Global, value: &Value) -> Result<Badge, Error> {
+        Badge::from_value(alloc, value)
+    }
+}
+
+impl FromValue for Maintenance {
+    fn read(alloc: Global, value: &Value) -> Result<Maintenance, Error> {
+        Maintenance::from_value(alloc, value)
+    }
+}
+
+impl FromValue for Badges {
+    fn read(alloc: Global, value: &Value) -> Result<Badges, Error> {
+        Badges::from_value(alloc, value)
+    }
+}
+
+impl FromValue for Package<Value> {
+    fn read(alloc: Global, value: &Value) -> Result<Package<Value>, Error> {
+        Package::from_value(alloc, value)
+    }
+}
+
+impl FromValue for WorkspacePackage {
+    fn read(alloc: Global, value: &Value) -> Result<WorkspacePackage, Error> {
+        WorkspacePackage::from_value(alloc, value)
+    }
+}
+
+impl FromValue for Workspace<Value> {
+    fn read(alloc: Global, value: &Value) -> Result<Workspace<Value>, Error> {
+        Workspace::from_value(alloc, value)
+    }
+}
+
+impl FromValue for Manifest<Value, Value> {
+    fn read(alloc: Global, value: &Value) -> Result<Manifest<Value, Value>, Error> {
+        Manifest::from_value(alloc, value)
+    }
+}
+
+const NOT_A_CHOICE: &str = "not a choice at (top)";
+
+const WRONG_KIND: &str = "wrong kind at (top)";
+
+const EDITIONS: &[Row] = &[
+    ("'2015'", Ok("'2015'")),
+    ("'2018'", Ok("'2018'")),
+    ("'2021'", Ok("'2021'")),
+    ("'2024'", Ok("'2024'")),
+    ("'4'", Err(NOT_A_CHOICE)),
+    ("1", Err(WRONG_KIND)),
+];
+
+const RESOLVERS: &[Row] = &[
+    ("'1'", Ok("'1'")),
+    ("'2'", Ok("'2'")),
+    ("'3'", Ok("'3'")),
+    ("'4'", Err(NOT_A_CHOICE)),
+    ("1", Err(WRONG_KIND)),
+];
+
+const LEVELS: &[Row] = &[
+    ("'forbid'", Ok("'forbid'")),
+    ("'deny'", Ok("'deny'")),
+    ("'warn'", Ok("'warn'")),
+    ("'allow'", Ok("'allow'")),
+    ("'4'", Err(NOT_A_CHOICE)),
+    ("1", Err(WRONG_KIND)),
+];
+
+const STATUSES: &[Row] = &[
+    ("'none'", Ok("'none'")),
+    ("'actively-developed'", Ok("'actively-developed'")),
+    ("'passively-maintained'", Ok("'passively-maintained'")),
+    ("'as-is'", Ok("'as-is'")),
+    ("'experimental'", Ok("'experimental'")),
+    ("'looking-for-maintainer'", Ok("'looking-for-maintainer'")),
+    ("'deprecated'", Ok("'deprecated'")),
+    ("'4'", Err(NOT_A_CHOICE)),
+    ("1", Err(WRONG_KIND)),
+];
+
+const STRIPS: &[Row] = &[
+    ("false", Ok("false")),
+    ("'none'", Ok("false")),
+    ("true", Ok("true")),
+    ("'symbols'", Ok("true")),
+    ("'debuginfo'", Ok("'debuginfo'")),
+    ("'4'", Err(NOT_A_CHOICE)),
+    ("1", Err(WRONG_KIND)),
+];
+
+const TEXTS_OR_BOOLEANS: &[Row] = &[
+    ("'a'", Ok("'a'")),
+    ("true", Ok("true")),
+    ("['a', 1]", Err(WRONG_KIND)),
+];
+
+const PUBLISHED: &[Row] = &[
+    ("false", Ok("false")),
+    ("['a']", Ok("['a']")),
+    ("[]", Ok("[]")),
+    ("['a', 1]", Err("wrong kind at [1]")),
+];
+
+const TRUTHS: &[Row] = &[
+    ("true", Ok("true")),
+    ("false", Err("not true at (top)")),
+    ("1", Err(WRONG_KIND)),
+];
+
+#[test]
+fn choices_and_texts(rt: HostRuntime) -> Result<(), Fail> {
+    assert_values::<Edition>(&rt, rt.alloc(), EDITIONS)?;
+    assert_values::<Resolver>(&rt, rt.alloc(), RESOLVERS)?;
+    assert_values::<LintLevel>(&rt, rt.alloc(), LEVELS)?;
+    assert_values::<MaintenanceStatus>(&rt, rt.alloc(), STATUSES)?;
+    assert_values::<StripSetting>(&rt, rt.alloc(), STRIPS)?;
+    assert_values::<StringOrBool>(&rt, rt.alloc(), TEXTS_OR_BOOLEANS)?;
+    assert_values::<Publish>(&rt, rt.alloc(), PUBLISHED)?;
+    assert_values::<True>(&rt, rt.alloc(), TRUTHS)
+}
+
+const LENT: Row = ("{ workspace = true, x = 1 }", Ok("{ workspace = true }"));
+
+const LENT_TEXTS: &[Row] = &[
+    LENT,
+    ("'2018'", Ok("'2018'")),
+    ("{ workspace = 1 }", Err(WRONG_KIND)),
+];
+
+const LENT_LISTS: &[Row] = &[LENT, ("['a']", Ok("['a']"))];
 
 #[test]
 fn what_may_be_inherited(rt: HostRuntime) -> Result<(), Fail> {
-    let alloc = rt.alloc();
-    let lent = value(alloc, "{ workspace = true, x = 1 }")?;
-    let lends = "{ workspace = true }";
-    assert_written(
-        &rt,
-        alloc,
-        MaybeInherited::<String>::from_value(alloc, &lent),
-        lends,
-    )?;
-    assert_written(
-        &rt,
-        alloc,
-        MaybeInherited::<Vec<String>>::from_value(alloc, &lent),
-        lends,
-    )?;
-    assert_written(
-        &rt,
-        alloc,
-        MaybeInherited::<Edition>::from_value(alloc, &lent),
-        lends,
-    )?;
-    assert_written(
-        &rt,
-        alloc,
-        MaybeInherited::<StringOrBool>::from_value(alloc, &lent),
-        lends,
-    )?;
-    assert_written(
-        &rt,
-        alloc,
-        MaybeInherited::<Publish>::from_value(alloc, &lent),
-        lends,
-    )?;
-    let own = value(alloc, "'2018'")?;
-    assert_written(
-        &rt,
-        alloc,
-        MaybeInherited::<String>::from_value(alloc, &own),
-        "'2018'",
-    )?;
-    assert_written(
-        &rt,
-        alloc,
-        MaybeInherited::<Edition>::from_value(alloc, &own),
-        "'2018'",
-    )?;
-    assert_written(
-        &rt,
-        alloc,
-        MaybeInherited::<StringOrBool>::from_value(alloc, &own),
-        "'2018'",
-    )?;
-    let list = value(alloc, "['a']")?;
-    assert_written(
-        &rt,
-        alloc,
-        MaybeInherited::<Vec<String>>::from_value(alloc, &list),
-        "['a']",
-    )?;
-    assert_written(
-        &rt,
-        alloc,
-        MaybeInherited::<Publish>::from_value(alloc, &list),
-        "['a']",
-    )?;
-    let table = value(alloc, "{ workspace = 1 }")?;
-    assert_told(
-        &rt,
-        alloc,
-        MaybeInherited::<String>::from_value(alloc, &table),
-        "wrong kind at (top)",
-    )
+    assert_values::<MaybeInherited<String>>(&rt, rt.alloc(), LENT_TEXTS)?;
+    assert_values::<MaybeInherited<Edition>>(&rt, rt.alloc(), LENT_TEXTS)?;
+    assert_values::<MaybeInherited<StringOrBool>>(&rt, rt.alloc(), LENT_TEXTS)?;
+    assert_values::<MaybeInherited<Vec<String>>>(&rt, rt.alloc(), LENT_LISTS)?;
+    assert_values::<MaybeInherited<Publish>>(&rt, rt.alloc(), LENT_LISTS)
 }
+
+const BY_WORKSPACE: &str = "{ workspace = true, features = ['f'], optional = false }";
+
+const DETAIL: &str =
+    "{ version = '1', registry = 'r', registry-index = 'i', path = 'p', git = 'g', branch = 'b', tag = 't', rev = 'v', features = [], optional = true, default-features = false, package = 'k' }";
+
+const CONFIG: Row = ("{ level = 'warn' }", Ok("{ level = 'warn', priority = 0 }"));
+
+const LINTS: &str = "{ workspace = true, rust = { a = 'allow' } }";
+
+const INHERITED: &[Row] = &[
+    (BY_WORKSPACE, Ok(BY_WORKSPACE)),
+    (DETAIL, Err("missing at workspace")),
+];
+
+const DETAILS: &[Row] = &[(DETAIL, Ok(DETAIL))];
+
+const DEPENDENCIES: &[Row] = &[
+    (BY_WORKSPACE, Ok(BY_WORKSPACE)),
+    (DETAIL, Ok(DETAIL)),
+    ("'1'", Ok("'1'")),
+    ("1.5", Err(WRONG_KIND)),
+    ("true", Err(WRONG_KIND)),
+    ("['1']", Err(WRONG_KIND)),
+];
+
+const PLATFORMS: &[Row] = &[(
+    "{ dependencies = { a = '1' } }",
+    Ok("{ dependencies = { a = '1' }, dev-dependencies = {}, build-dependencies = {} }"),
+)];
+
+const CONFIGS: &[Row] = &[CONFIG];
+
+const LEVELS_AND_CONFIGS: &[Row] = &[CONFIG, ("'deny'", Ok("'deny'"))];
+
+const LINT_SETS: &[Row] = &[(LINTS, Ok(LINTS))];
 
 #[test]
 fn dependencies_and_lints(rt: HostRuntime) -> Result<(), Fail> {
-    let alloc = rt.alloc();
-    let lent = "{ workspace = true, features = ['f'], optional = false }";
-    let x = value(alloc, lent)?;
-    assert_written(
-        &rt,
-        alloc,
-        InheritedDependencyDetail::from_value(alloc, &x),
-        lent,
-    )?;
-    assert_written(&rt, alloc, Dependency::from_value(alloc, &x), lent)?;
-    let full =
-        "{ version = '1', registry = 'r', registry-index = 'i', path = 'p', git = 'g', branch = 'b', tag = 't', rev = 'v', features = [], optional = true, default-features = false, package = 'k' }";
-    let x = value(alloc, full)?;
-    assert_written(&rt, alloc, DependencyDetail::from_value(alloc, &x), full)?;
-    assert_written(&rt, alloc, Dependency::from_value(alloc, &x), full)?;
-    assert_told(
-        &rt,
-        alloc,
-        InheritedDependencyDetail::from_value(alloc, &x),
-        "missing at workspace",
-    )?;
-    assert_written(
-        &rt,
-        alloc,
-        Dependency::from_value(alloc, &value(alloc, "'1'")?),
-        "'1'",
-    )?;
-    let platform = "{ dependencies = { a = '1' }, dev-dependencies = {}, build-dependencies = {} }";
-    let x = value(alloc, "{ dependencies = { a = '1' } }")?;
-    assert_written(&rt, alloc, Target::from_value(alloc, &x), platform)?;
-    let x = value(alloc, "{ level = 'warn' }")?;
-    let lint = "{ level = 'warn', priority = 0 }";
-    assert_written(&rt, alloc, LintConfig::from_value(alloc, &x), lint)?;
-    assert_written(&rt, alloc, Lint::from_value(alloc, &x), lint)?;
-    assert_written(
-        &rt,
-        alloc,
-        Lint::from_value(alloc, &value(alloc, "'deny'")?),
-        "'deny'",
-    )?;
-    let lints = "{ workspace = true, rust = { a = 'allow' } }";
-    assert_written(
-        &rt,
-        alloc,
-        MaybeInheritedLintsSet::from_value(alloc, &value(alloc, lints)?),
-        lints,
-    )
+    assert_values::<InheritedDependencyDetail>(&rt, rt.alloc(), INHERITED)?;
+    assert_values::<DependencyDetail>(&rt, rt.alloc(), DETAILS)?;
+    assert_values::<Dependency>(&rt, rt.alloc(), DEPENDENCIES)?;
+    assert_values::<Target>(&rt, rt.alloc(), PLATFORMS)?;
+    assert_values::<LintConfig>(&rt, rt.alloc(), CONFIGS)?;
+    assert_values::<Lint>(&rt, rt.alloc(), LEVELS_AND_CONFIGS)?;
+    assert_values::<MaybeInheritedLintsSet>(&rt, rt.alloc(), LINT_SETS)
 }
+
+const DETAIL_KEYS: &[&str] = &[
+    "version",
+    "registry",
+    "registry-index",
+    "path",
+    "git",
+    "branch",
+    "tag",
+    "rev",
+    "features",
+    "optional",
+    "default-features",
+    "package",
+];
+
+const FIRST_BADGE_KEYS: &[&str] = &["repository", "branch"];
+
+const OTHER_BADGE_KEYS: &[&str] = &["branch", "service", "id", "project-name"];
+
+#[test]
+fn neighbouring_rows(rt: HostRuntime) -> Result<(), Fail> {
+    assert_told_in_order::<DependencyDetail>(&rt, rt.alloc(), "", DETAIL_KEYS)?;
+    assert_told_in_order::<Badge>(&rt, rt.alloc(), "", FIRST_BADGE_KEYS)?;
+    assert_told_in_order::<Badge>(&rt, rt.alloc(), "repository = 'r', ", OTHER_BADGE_KEYS)
+}
+
+const PRODUCT: &str =
+    "{ path = 'p', name = 'n', test = false, doctest = false, bench = false, doc = false, plugin = true, proc-macro = true, harness = false, edition = '2021', required-features = ['f'], crate-type = ['lib'] }";
+
+const PROFILE: &str =
+    "{ opt-level = 3, debug = { a = [1] }, rpath = true, inherits = 'i', lto = 'fat', debug-assertions = true, codegen-units = 16, panic = 'abort', incremental = false, overflow-checks = true, strip = true, package = { a = { opt-level = 1 } }, split-debuginfo = 's', build-override = {} }";
+
+const PROFILES: &str =
+    "{ release = { package = {} }, dev = { package = {} }, test = { package = {} }, bench = { package = {} }, doc = { package = {} }, own = { package = {} } }";
+
+const BADGE: &str =
+    "{ repository = 'r', branch = 'b', service = 's', id = 'i', project-name = 'p' }";
+
+const BADGES: &str =
+    "{ appveyor = { repository = 'a', branch = 'b' }, circle-ci = { repository = 'c', branch = 'b' }, gitlab = { repository = 'd', branch = 'b' }, travis-ci = { repository = 'e', branch = 'b' }, codecov = { repository = 'f', branch = 'b' }, coveralls = { repository = 'g', branch = 'b' }, is-it-maintained-issue-resolution = { repository = 'h', branch = 'b' }, is-it-maintained-open-issues = { repository = 'i', branch = 'b' }, maintenance = { status = 'experimental' } }";
+
+const UNMAINTAINED: &str = "{ maintenance = { status = 'none' } }";
+
+const DEPRECATED: &str = "{ status = 'deprecated' }";
+
+const PRODUCTS: &[Row] = &[(PRODUCT, Ok(PRODUCT))];
+
+const PROFILE_ROWS: &[Row] = &[(PROFILE, Ok(PROFILE))];
+
+const PROFILES_ROWS: &[Row] = &[(PROFILES, Ok(PROFILES))];
+
+const BADGE_ROWS: &[Row] = &[(BADGE, Ok(BADGE)), ("{}", Err("missing at repository"))];
+
+const MAINTENANCES: &[Row] = &[
+    (DEPRECATED, Ok(DEPRECATED)),
+    ("{}", Err("missing at status")),
+    ("{ status = 'bad' }", Err("not a choice at status")),
+];
+
+const BADGES_ROWS: &[Row] = &[
+    (BADGES, Ok(BADGES)),
+    ("{}", Ok(UNMAINTAINED)),
+    ("{ maintenance = { status = 'bad' } }", Ok(UNMAINTAINED)),
+];
 
 #[test]
 fn products_profiles_and_badges(rt: HostRuntime) -> Result<(), Fail> {
-    let alloc = rt.alloc();
-    let full =
-        "{ path = 'p', name = 'n', test = false, doctest = false, bench = false, doc = false, plugin = true, proc-macro = true, harness = false, edition = '2021', required-features = ['f'], crate-type = ['lib'] }";
-    assert_written(
-        &rt,
-        alloc,
-        Product::from_value(alloc, &value(alloc, full)?),
-        full,
-    )?;
-    let full =
-        "{ opt-level = 3, debug = { a = [1] }, rpath = true, inherits = 'i', lto = 'fat', debug-assertions = true, codegen-units = 16, panic = 'abort', incremental = false, overflow-checks = true, strip = true, package = { a = { opt-level = 1 } }, split-debuginfo = 's', build-override = {} }";
-    assert_written(
-        &rt,
-        alloc,
-        Profile::from_value(alloc, &value(alloc, full)?),
-        full,
-    )?;
-    let full =
-        "{ release = { package = {} }, dev = { package = {} }, test = { package = {} }, bench = { package = {} }, doc = { package = {} }, own = { package = {} } }";
-    assert_written(
-        &rt,
-        alloc,
-        Profiles::from_value(alloc, &value(alloc, full)?),
-        full,
-    )?;
-    let badge = "{ repository = 'r', branch = 'b', service = 's', id = 'i', project-name = 'p' }";
-    assert_written(
-        &rt,
-        alloc,
-        Badge::from_value(alloc, &value(alloc, badge)?),
-        badge,
-    )?;
-    let none = value(alloc, "{}")?;
-    assert_told(
-        &rt,
-        alloc,
-        Badge::from_value(alloc, &none),
-        "missing at repository",
-    )?;
-    assert_told(
-        &rt,
-        alloc,
-        Maintenance::from_value(alloc, &none),
-        "missing at status",
-    )?;
-    assert_written(
-        &rt,
-        alloc,
-        Badges::from_value(alloc, &none),
-        "{ maintenance = { status = 'none' } }",
-    )?;
-    let given = "{ status = 'deprecated' }";
-    assert_written(
-        &rt,
-        alloc,
-        Maintenance::from_value(alloc, &value(alloc, given)?),
-        given,
-    )?;
-    let full =
-        "{ appveyor = { repository = 'a', branch = 'b' }, circle-ci = { repository = 'c', branch = 'b' }, gitlab = { repository = 'd', branch = 'b' }, travis-ci = { repository = 'e', branch = 'b' }, codecov = { repository = 'f', branch = 'b' }, coveralls = { repository = 'g', branch = 'b' }, is-it-maintained-issue-resolution = { repository = 'h', branch = 'b' }, is-it-maintained-open-issues = { repository = 'i', branch = 'b' }, maintenance = { status = 'experimental' } }";
-    assert_written(
-        &rt,
-        alloc,
-        Badges::from_value(alloc, &value(alloc, full)?),
-        full,
-    )
+    assert_values::<Product>(&rt, rt.alloc(), PRODUCTS)?;
+    assert_values::<Profile>(&rt, rt.alloc(), PROFILE_ROWS)?;
+    assert_values::<Profiles>(&rt, rt.alloc(), PROFILES_ROWS)?;
+    assert_values::<Badge>(&rt, rt.alloc(), BADGE_ROWS)?;
+    assert_values::<Maintenance>(&rt, rt.alloc(), MAINTENANCES)?;
+    assert_values::<Badges>(&rt, rt.alloc(), BADGES_ROWS)
 }
+
+const PACKAGE: &str =
+    "{ name = 'n', edition = '2021', version = '1', build = false, workspace = 'w', authors = ['a'], links = 'l', description = 'd', homepage = 'h', documentation = 'o', readme = 'r', keywords = ['k'], categories = ['c'], license = 'i', license-file = 'f', repository = 'y', metadata = [1], rust-version = '1.80', exclude = ['e'], include = ['u'], default-run = 'x', autolib = true, autobins = false, autoexamples = true, autotests = false, autobenches = true, publish = true, resolver = '2' }";
+/// The same package with ten keys that no row has.
+const PACKAGE_AND_MORE: &str =
+    "{ name = 'n', edition = '2021', version = '1', build = false, workspace = 'w', authors = ['a'], links = 'l', description = 'd', homepage = 'h', documentation = 'o', readme = 'r', keywords = ['k'], categories = ['c'], license = 'i', license-file = 'f', repository = 'y', metadata = [1], rust-version = '1.80', exclude = ['e'], include = ['u'], default-run = 'x', autolib = true, autobins = false, autoexamples = true, autotests = false, autobenches = true, publish = true, resolver = '2', license_file = 1, rust_version = 2, default_run = 3, a = 0.5, bb = [], ccc = {}, forced-target = 't', im-a-teapot = true, z = 1979-05-27, '' = '' }";
+
+const PACKAGE_OF_WORKSPACE: &str =
+    "{ edition = '2021', version = '1', authors = ['a'], description = 'd', homepage = 'h', documentation = 'o', readme = 'r', keywords = ['k'], categories = ['c'], license = 'i', license-file = 'f', repository = 'y', rust-version = '1.80', exclude = ['e'], include = ['u'], publish = true }";
+
+const WORKSPACE: &str =
+    "{ members = ['m'], default-members = ['d'], exclude = ['e'], resolver = '1', dependencies = { a = '1' }, package = { version = '1' }, metadata = 'x', lints = { rust = { a = 'warn' } } }";
+
+const MANIFEST: &str =
+    "{ package = { name = 'p' }, cargo-features = [], workspace = { members = [] }, dependencies = { a = '1' }, dev-dependencies = { b = '1' }, build-dependencies = { c = '1' }, target = {}, features = { f = [] }, bin = [{ required-features = ['b'] }], bench = [{ required-features = ['c'] }], test = [{ required-features = ['t'] }], example = [{ required-features = ['e'] }], patch = { x = {} }, lib = { required-features = ['l'] }, profile = {}, badges = { maintenance = { status = 'none' } }, lints = {} }";
+
+const PACKAGES: &[Row] = &[(PACKAGE, Ok(PACKAGE)), (PACKAGE_AND_MORE, Ok(PACKAGE))];
+
+const PACKAGES_OF_WORKSPACE: &[Row] = &[(PACKAGE, Ok(PACKAGE_OF_WORKSPACE))];
+
+const WORKSPACES: &[Row] = &[(WORKSPACE, Ok(WORKSPACE))];
+
+const MANIFESTS: &[Row] = &[
+    (MANIFEST, Ok(MANIFEST)),
+    ("{ project = { name = 'p' } }", Ok("{}")),
+];
 
 #[test]
 fn packages_and_workspaces(rt: HostRuntime) -> Result<(), Fail> {
-    let alloc = rt.alloc();
-    let full =
-        "{ name = 'n', edition = '2021', version = '1', build = false, workspace = 'w', authors = ['a'], links = 'l', description = 'd', homepage = 'h', documentation = 'o', readme = 'r', keywords = ['k'], categories = ['c'], license = 'i', license-file = 'f', repository = 'y', metadata = [1], rust-version = '1.80', exclude = ['e'], include = ['u'], default-run = 'x', autolib = true, autobins = false, autoexamples = true, autotests = false, autobenches = true, publish = true, resolver = '2' }";
-    let x = value(alloc, full)?;
-    assert_written(&rt, alloc, Package::<Value>::from_value(alloc, &x), full)?;
-    let lends =
-        "{ edition = '2021', version = '1', authors = ['a'], description = 'd', homepage = 'h', documentation = 'o', readme = 'r', keywords = ['k'], categories = ['c'], license = 'i', license-file = 'f', repository = 'y', rust-version = '1.80', exclude = ['e'], include = ['u'], publish = true }";
-    assert_written(&rt, alloc, WorkspacePackage::from_value(alloc, &x), lends)?;
-    let full =
-        "{ members = ['m'], default-members = ['d'], exclude = ['e'], resolver = '1', dependencies = { a = '1' }, package = { version = '1' }, metadata = 'x', lints = { rust = { a = 'warn' } } }";
-    assert_written(
-        &rt,
-        alloc,
-        Workspace::<Value>::from_value(alloc, &value(alloc, full)?),
-        full,
-    )?;
-    let none = value(alloc, "{ project = { name = 'p' } }")?;
-    assert_written(
-        &rt,
-        alloc,
-        Manifest::<Value, Value>::from_value(alloc, &none),
-        "{}",
-    )?;
-    let full =
-        "{ package = { name = 'p' }, cargo-features = [], workspace = { members = [] }, dependencies = { a = '1' }, dev-dependencies = { b = '1' }, build-dependencies = { c = '1' }, target = {}, features = { f = [] }, bin = [{ required-features = ['b'] }], bench = [{ required-features = ['c'] }], test = [{ required-features = ['t'] }], example = [{ required-features = ['e'] }], patch = { x = {} }, lib = { required-features = ['l'] }, profile = {}, badges = { maintenance = { status = 'none' } }, lints = {} }";
-    assert_written(
-        &rt,
-        alloc,
-        Manifest::<Value, Value>::from_value(alloc, &value(alloc, full)?),
-        full,
-    )
+    assert_values::<Package<Value>>(&rt, rt.alloc(), PACKAGES)?;
+    assert_values::<WorkspacePackage>(&rt, rt.alloc(), PACKAGES_OF_WORKSPACE)?;
+    assert_values::<Workspace<Value>>(&rt, rt.alloc(), WORKSPACES)?;
+    assert_values::<Manifest<Value, Value>>(&rt, rt.alloc(), MANIFESTS)
 }

@@ -8,6 +8,8 @@ mod calls;
 #[cfg(test)]
 mod completed;
 #[cfg(test)]
+mod errors;
+#[cfg(test)]
 mod examples;
 #[cfg(test)]
 mod folders;

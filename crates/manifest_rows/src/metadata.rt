@@ -1,55 +1,64 @@
 //! Manifests whose package has metadata of a type.
-use crate::answers::{laid_out, written};
+use crate::answers::{PACKAGE, Row, assert_is, expected_behind, written};
 use crate::score::{Level, Score};
-use cargo_manifest::{Error, Manifest, Metadata};
+use cargo_manifest::{Manifest, Metadata};
+use std::alloc::Global;
+use std::process::Abort;
 use std::test::Fail;
 use toml::Value;
 
-/// Each case stands behind the head of a package.
+/// What is written of the manifest of a document with metadata of the type, or how it is told to be refused.
+fn answer_with<P: Metadata>(alloc: Global, document: &str) -> Result<String, Fail> {
+    let read = Manifest::<P, Value>::from_slice_with_metadata(alloc, document.as_bytes());
+    Ok(written(alloc, read)?)
+}
+
+/// Asserts of each row how the document behind the head of a package is answered with metadata of the type.
+fn assert_metadata<P: Metadata>(rt: &impl Abort, alloc: Global, rows: &[Row]) -> Result<(), Fail> {
+    for (rest, answer) in rows {
+        let document = format!(in alloc; "{PACKAGE}{rest}")?;
+        let expected = expected_behind(alloc, PACKAGE, *answer)?;
+        let got = answer_with::<P>(alloc, document.as_str());
+        assert_is(rt, got, expected.as_str(), rest)?;
+    }
+    Ok(())
+}
+
+const SCORES: &[Row] = &[
+    (
+        "[package.metadata]\nlevel = 9\nx = 0.5",
+        Ok("metadata = { level = 9 }"),
+    ),
+    (
+        "[package.metadata]\nlevel = 0",
+        Ok("metadata = { level = 0 }"),
+    ),
+    (
+        "[package.metadata]\nlevel = 10",
+        Err("out of range at package.metadata.level"),
+    ),
+    (
+        "[package.metadata]\nlevel = -1",
+        Err("out of range at package.metadata.level"),
+    ),
+    (
+        "[package.metadata]\nlevel = 0.5",
+        Err("wrong kind at package.metadata.level"),
+    ),
+    (
+        "[package.metadata]",
+        Err("missing at package.metadata.level"),
+    ),
+    ("metadata = 1", Err("wrong kind at package.metadata")),
+    (
+        "metadata = { level = 1 }\n[workspace.metadata]\nx = 0.5",
+        Err("holds a float at workspace.metadata.x"),
+    ),
+];
+
 #[test]
 fn a_score(rt: HostRuntime) -> Result<(), Fail> {
-    for (rest, level) in [
-        ("[package.metadata]\nlevel = 9\nx = 0.5", 9),
-        ("[package.metadata]\nlevel = 0", 0),
-    ] {
-        let document = format!(in rt.alloc(); "[package]\nname = 'p'\n{rest}")?;
-        let expected = format!(in rt.alloc();
-            "[package]\nname = 'p'\nmetadata = {{ level = {level} }}"
-        )?;
-        let read = Manifest::<Score, Value>::from_slice_with_metadata(
-            rt.alloc(),
-            document.as_bytes(),
-        );
-        let got = written(rt.alloc(), read)?;
-        assert_eq!(rt; got, laid_out(rt.alloc(), expected.as_str())?, "at {rest}");
-    }
-    for (rest, told) in [
-        (
-            "[package.metadata]\nlevel = 10",
-            "out of range at package.metadata.level",
-        ),
-        (
-            "[package.metadata]\nlevel = -1",
-            "out of range at package.metadata.level",
-        ),
-        (
-            "[package.metadata]\nlevel = 0.5",
-            "wrong kind at package.metadata.level",
-        ),
-        ("[package.metadata]", "missing at package.metadata.level"),
-        ("metadata = 1", "wrong kind at package.metadata"),
-        (
-            "metadata = { level = 1 }\n[workspace.metadata]\nx = 0.5",
-            "holds a float at workspace.metadata.x",
-        ),
-    ] {
-        let document = format!(in rt.alloc(); "[package]\nname = 'p'\n{rest}")?;
-        let read = Manifest::<Score, Value>::from_slice_with_metadata(
-            rt.alloc(),
-            document.as_bytes(),
-        );
-        assert_eq!(rt; written(rt.alloc(), read)?.as_str(), told);
-    }
+    assert_metadata::<Score>(&rt, rt.alloc(), SCORES)?;
     for (number, is_well_formed) in [(0, true), (9, true), (12, false)] {
         let score = Score {
             level: Level { number },
@@ -59,23 +68,16 @@ fn a_score(rt: HostRuntime) -> Result<(), Fail> {
     Ok(())
 }
 
-/// Each case stands behind the head of a package.
+const NOTHING: &[Row] = &[
+    ("", Ok("")),
+    ("[package.metadata]", Err("metadata at package.metadata")),
+    (
+        "[workspace.metadata]\nx = 0.5",
+        Err("holds a float at workspace.metadata.x"),
+    ),
+];
+
 #[test]
 fn none_at_all(rt: HostRuntime) -> Result<(), Fail> {
-    for (rest, answer) in [
-        ("", "[package]\nname = \"p\"\n"),
-        ("[package.metadata]", "metadata at package.metadata"),
-        (
-            "[workspace.metadata]\nx = 0.5",
-            "holds a float at workspace.metadata.x",
-        ),
-    ] {
-        let document = format!(in rt.alloc(); "[package]\nname = 'p'\n{rest}")?;
-        let read: Result<Manifest<(), Value>, Error> = Manifest::from_slice_with_metadata(
-            rt.alloc(),
-            document.as_bytes(),
-        );
-        assert_eq!(rt; written(rt.alloc(), read)?.as_str(), answer);
-    }
-    Ok(())
+    assert_metadata::<()>(&rt, rt.alloc(), NOTHING)
 }

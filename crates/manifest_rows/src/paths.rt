@@ -1,4 +1,5 @@
 //! The texts of key paths and causes.
+use crate::answers::assert_is;
 use cargo_manifest::{Cause, KeyPath, Step};
 use std::alloc::{AllocError, Global};
 use std::test::Fail;
@@ -15,44 +16,57 @@ fn path(alloc: Global, keys: &[&str], index: Option<usize>) -> Result<KeyPath, A
     Ok(KeyPath { steps })
 }
 
+/// The keys of a path, the index behind them, and the text.
+const PATHS: &[(&[&str], Option<usize>, &str)] = &[
+    (&[], None, "(top)"),
+    (&["a b", ""], Some(0), "\"a b\".\"\"[0]"),
+    (
+        &["dependencies", "a", "features"],
+        None,
+        "dependencies.a.features",
+    ),
+    (&["package", "authors"], Some(0), "package.authors[0]"),
+    (
+        &["target", "cfg(unix)", "dependencies", "b"],
+        None,
+        "target.\"cfg(unix)\".dependencies.b",
+    ),
+    (&[], Some(12), "[12]"),
+    (&["az-AZ_09"], None, "az-AZ_09"),
+    (&["a\"b\\c"], None, "\"a\\\"b\\\\c\""),
+    (
+        &["\u{1}\n\u{1f}\u{7f} ~"],
+        None,
+        "\"\\u0001\\u000A\\u001F\\u007F ~\"",
+    ),
+    (&["a.b", "\u{e9}"], None, "\"a.b\".\"\u{e9}\""),
+    // nine steps
+    (
+        &["a", "b", "c", "d", "e", "f", "g", "h"],
+        Some(9),
+        "a.b.c.d.e.f.g.h[9]",
+    ),
+];
+
+/// The text of the path of some keys, then perhaps an index.
+fn path_text(alloc: Global, keys: &[&str], index: Option<usize>) -> Result<String, Fail> {
+    Ok(path(alloc, keys, index)?.to_text(alloc)?)
+}
+
 #[test]
 fn paths_are_told_by_dots_brackets_and_quotes(rt: HostRuntime) -> Result<(), Fail> {
-    for (keys, index, text) in [
-        ([].as_slice(), None, "(top)"),
-        (["a b", ""].as_slice(), Some(0), "\"a b\".\"\"[0]"),
-        (
-            ["dependencies", "a", "features"].as_slice(),
-            None,
-            "dependencies.a.features",
-        ),
-        (
-            ["package", "authors"].as_slice(),
-            Some(0),
-            "package.authors[0]",
-        ),
-        (
-            ["target", "cfg(unix)", "dependencies", "b"].as_slice(),
-            None,
-            "target.\"cfg(unix)\".dependencies.b",
-        ),
-        ([].as_slice(), Some(12), "[12]"),
-        (["az-AZ_09"].as_slice(), None, "az-AZ_09"),
-        (["a\"b\\c"].as_slice(), None, "\"a\\\"b\\\\c\""),
-        (
-            ["\u{1}\n\u{1f}\u{7f} ~"].as_slice(),
-            None,
-            "\"\\u0001\\u000A\\u001F\\u007F ~\"",
-        ),
-        (["a.b", "\u{e9}"].as_slice(), None, "\"a.b\".\"\u{e9}\""),
-    ] {
-        let path = path(rt.alloc(), keys, index)?;
-        assert_eq!(rt; path.to_text(rt.alloc())?.as_str(), text);
+    for (keys, index, text) in PATHS {
+        assert_is(&rt, path_text(rt.alloc(), keys, *index), text, text)?;
     }
     let mut path = path(rt.alloc(), &["bin"], Some(2))?;
     path.steps
         .push(Step::Key(String::from_str(rt.alloc(), "test")?))?;
-    assert_eq!(rt; path.to_text(rt.alloc())?.as_str(), "bin[2].test");
-    Ok(())
+    assert_is(
+        &rt,
+        Ok(path.to_text(rt.alloc())?),
+        "bin[2].test",
+        "a key behind an index",
+    )
 }
 
 #[test]

@@ -1,97 +1,118 @@
-//! Values of plain types, read and written by the trait.
-use crate::answers::{assert_told, assert_written, error_of, value};
-use cargo_manifest::{Error, Schema};
+//! Values of plain types and of std's, read by the trait and written.
+use crate::answers::{FromValue, Row, assert_values, value};
+use cargo_manifest::Error;
+use manifest_parts::error::{read, refusal};
 use manifest_value::{holds_float, kept};
 use std::alloc::Global;
 use std::collections::BTreeMap;
 use std::test::Fail;
 use toml::Value;
 
-/// The value of a text, read as a `T`.
-fn read<T: Schema>(alloc: Global, text: &str) -> Result<T, Error> {
-    let value = match Value::from_str(alloc, text) {
-        Ok(value) => value,
-        Err(_) => return Err(Error::Other(String::new(alloc))),
-    };
-    match T::from_value(alloc, &value) {
-        Ok(x) => Ok(x),
-        Err(fault) => Err(error_of(fault)),
+impl FromValue for String {
+    fn read(alloc: Global, value: &Value) -> Result<String, Error> {
+        read(alloc, value)
     }
 }
+
+impl FromValue for bool {
+    fn read(alloc: Global, value: &Value) -> Result<bool, Error> {
+        read(alloc, value)
+    }
+}
+
+impl FromValue for u16 {
+    fn read(alloc: Global, value: &Value) -> Result<u16, Error> {
+        read(alloc, value)
+    }
+}
+
+impl FromValue for i8 {
+    fn read(alloc: Global, value: &Value) -> Result<i8, Error> {
+        read(alloc, value)
+    }
+}
+
+impl FromValue for Vec<String> {
+    fn read(alloc: Global, value: &Value) -> Result<Vec<String>, Error> {
+        read(alloc, value)
+    }
+}
+
+impl FromValue for BTreeMap<String, Vec<String>> {
+    fn read(alloc: Global, value: &Value) -> Result<BTreeMap<String, Vec<String>>, Error> {
+        read(alloc, value)
+    }
+}
+
+/// A kept value, by the call of its own.
+impl FromValue for Value {
+    fn read(alloc: Global, value: &Value) -> Result<Value, Error> {
+        match kept(alloc, value) {
+            Ok(copy) => Ok(copy),
+            Err(fault) => Err(refusal(fault)),
+        }
+    }
+}
+
+const WRONG_KIND: &str = "wrong kind at (top)";
+
+const OUT_OF_RANGE: &str = "out of range at (top)";
+
+const MAP: &str = "{ a = ['b'], c = [] }";
+
+const TEXTS: &[Row] = &[("'a'", Ok("'a'")), ("1", Err(WRONG_KIND))];
+
+const BOOLEANS: &[Row] = &[("true", Ok("true")), ("'true'", Err(WRONG_KIND))];
+
+const LISTS: &[Row] = &[
+    ("['a', '']", Ok("['a', '']")),
+    ("['a', 1]", Err("wrong kind at [1]")),
+];
+
+const UNITS: &[Row] = &[
+    ("0", Ok("0")),
+    ("65535", Ok("65535")),
+    ("-1", Err(OUT_OF_RANGE)),
+    ("65536", Err(OUT_OF_RANGE)),
+];
+
+const PRIORITIES: &[Row] = &[
+    ("-128", Ok("-128")),
+    ("0", Ok("0")),
+    ("127", Ok("127")),
+    ("-129", Err(OUT_OF_RANGE)),
+    ("128", Err(OUT_OF_RANGE)),
+];
+
+const MAPS: &[Row] = &[(MAP, Ok(MAP))];
 
 #[test]
 fn plain_values(rt: HostRuntime) -> Result<(), Fail> {
-    let alloc = rt.alloc();
-    assert_written(&rt, alloc, read::<String>(alloc, "'a'"), "'a'")?;
-    assert_written(&rt, alloc, read::<bool>(alloc, "true"), "true")?;
-    assert_written(
-        &rt,
-        alloc,
-        read::<Vec<String>>(alloc, "['a', '']"),
-        "['a', '']",
-    )?;
-    assert_told(
-        &rt,
-        alloc,
-        read::<String>(alloc, "1"),
-        "wrong kind at (top)",
-    )?;
-    assert_told(
-        &rt,
-        alloc,
-        read::<bool>(alloc, "'true'"),
-        "wrong kind at (top)",
-    )?;
-    assert_told(
-        &rt,
-        alloc,
-        read::<Vec<String>>(alloc, "['a', 1]"),
-        "wrong kind at [1]",
-    )?;
-    for text in ["0", "65535"] {
-        assert_written(&rt, alloc, read::<u16>(alloc, text), text)?;
-    }
-    for text in ["-128", "0", "127"] {
-        assert_written(&rt, alloc, read::<i8>(alloc, text), text)?;
-    }
-    for text in ["-1", "65536"] {
-        assert_told(
-            &rt,
-            alloc,
-            read::<u16>(alloc, text),
-            "out of range at (top)",
-        )?;
-    }
-    for text in ["-129", "128"] {
-        assert_told(&rt, alloc, read::<i8>(alloc, text), "out of range at (top)")?;
-    }
-    let map = "{ a = ['b'], c = [] }";
-    assert_written(
-        &rt,
-        alloc,
-        read::<BTreeMap<String, Vec<String>>>(alloc, map),
-        map,
-    )
+    assert_values::<String>(&rt, rt.alloc(), TEXTS)?;
+    assert_values::<bool>(&rt, rt.alloc(), BOOLEANS)?;
+    assert_values::<Vec<String>>(&rt, rt.alloc(), LISTS)?;
+    assert_values::<u16>(&rt, rt.alloc(), UNITS)?;
+    assert_values::<i8>(&rt, rt.alloc(), PRIORITIES)?;
+    assert_values::<BTreeMap<String, Vec<String>>>(&rt, rt.alloc(), MAPS)
 }
+
+const KEPT: &[Row] = &[
+    ("{ a = [0, 0.5] }", Err("holds a float at a[1]")),
+    ("{ b = 0.5, a = [1, 2.5] }", Err("holds a float at a[1]")),
+    ("[0.5, 1.5]", Err("holds a float at [0]")),
+    ("0.0", Err("holds a float at (top)")),
+    (
+        "{ a = [1, 'b', true, 1979-05-27], c = {} }",
+        Ok("{ a = [1, 'b', true, 1979-05-27], c = {} }"),
+    ),
+];
 
 #[test]
 fn kept_values(rt: HostRuntime) -> Result<(), Fail> {
-    let alloc = rt.alloc();
-    for (text, answer) in [
-        ("{ a = [0, 0.5] }", "holds a float at a[1]"),
-        ("{ b = 0.5, a = [1, 2.5] }", "holds a float at a[1]"),
-        ("0.0", "holds a float at (top)"),
-    ] {
-        let value = value(alloc, text)?;
-        assert!(rt; holds_float(&value), "at {text}");
-        let answered = match kept(alloc, &value) {
-            Ok(copy) => Ok(copy),
-            Err(fault) => Err(error_of(fault)),
-        };
-        assert_told(&rt, alloc, answered, answer)?;
+    assert_values::<Value>(&rt, rt.alloc(), KEPT)?;
+    for (text, answer) in KEPT {
+        let value = value(rt.alloc(), text)?;
+        assert_eq!(rt; holds_float(&value), answer.is_err(), "at {text}");
     }
-    let text = "{ a = [1, 'b', true, 1979-05-27], c = {} }";
-    let value = value(alloc, text)?;
-    assert!(rt; !holds_float(&value));
-    assert_written(&rt, alloc, read::<Value>(alloc, text), text)
+    Ok(())
 }

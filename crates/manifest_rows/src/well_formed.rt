@@ -1,28 +1,34 @@
 //! What is well-formed, of values that no document gives.
 use crate::answers::value;
-use cargo_manifest::{MaybeInheritedLintsSet, Profile, Profiles};
+use cargo_manifest::{MaybeInheritedLintsSet, Profiles, Schema};
+use manifest_parts::error::read;
 use std::alloc::Global;
 use std::collections::BTreeMap;
+use std::mem;
 use std::process::Abort;
 use std::test::Fail;
 
+/// Puts the entries of a text in the place of a map's.
+fn replace<T: Schema>(
+    alloc: Global,
+    map: &mut BTreeMap<String, T>,
+    text: &str,
+) -> Result<(), Fail> {
+    let entries = read(alloc, &value(alloc, text)?)?;
+    drop(mem::replace(map, entries));
+    Ok(())
+}
+
 /// Asserts that a custom profile may have any name but those that Cargo names.
 fn assert_profiles(rt: &impl Abort, alloc: Global, profiles: &mut Profiles) -> Result<(), Fail> {
-    assert!(rt; profiles.is_well_formed());
-    let lto = Profile::from_value(alloc, &value(alloc, "{ lto = true }")?)?;
-    drop(
-        profiles
-            .custom
-            .insert(String::from_str(alloc, "release-lto")?, lto)?,
-    );
-    assert!(rt; profiles.is_well_formed());
-    let dev = Profile::from_value(alloc, &value(alloc, "{ lto = true }")?)?;
-    drop(
-        profiles
-            .custom
-            .insert(String::from_str(alloc, "dev")?, dev)?,
-    );
-    assert!(rt; !profiles.is_well_formed());
+    for (custom, is_well_formed) in [
+        ("{}", true),
+        ("{ release-lto = { lto = true } }", true),
+        ("{ release-lto = {}, dev = { lto = true } }", false),
+    ] {
+        replace(alloc, &mut profiles.custom, custom)?;
+        assert_eq!(rt; profiles.is_well_formed(), is_well_formed, "at {custom}");
+    }
     Ok(())
 }
 
@@ -34,19 +40,30 @@ fn custom_profiles(rt: HostRuntime) -> Result<(), Fail> {
     asserted
 }
 
+/// Asserts that a tool may have any name but `workspace`.
+fn assert_tools(
+    rt: &impl Abort,
+    alloc: Global,
+    lints: &mut MaybeInheritedLintsSet,
+) -> Result<(), Fail> {
+    for (tools, is_well_formed) in [
+        ("{ rust = { unsafe_code = 'forbid' } }", true),
+        ("{ rust = { unsafe_code = 'forbid' }, clippy = {} }", true),
+        ("{ clippy = {}, workspace = {} }", false),
+    ] {
+        replace(alloc, &mut lints.lints, tools)?;
+        assert_eq!(rt; lints.is_well_formed(), is_well_formed, "at {tools}");
+    }
+    Ok(())
+}
+
 #[test]
 fn tools_of_lints(rt: HostRuntime) -> Result<(), Fail> {
-    let alloc = rt.alloc();
-    let read = value(alloc, "{ rust = { unsafe_code = 'forbid' } }")?;
-    let mut lints = MaybeInheritedLintsSet::from_value(alloc, &read)?;
-    assert!(rt; lints.is_well_formed());
-    drop(
-        lints
-            .lints
-            .insert(String::from_str(alloc, "clippy")?, BTreeMap::new(alloc))?,
-    );
-    assert!(rt; lints.is_well_formed());
-    drop(lints.lints.insert(String::from_str(alloc, "workspace")?, BTreeMap::new(alloc))?);
-    assert!(rt; !lints.is_well_formed());
-    Ok(())
+    let mut lints = MaybeInheritedLintsSet {
+        workspace: None,
+        lints: BTreeMap::new(rt.alloc()),
+    };
+    let asserted = assert_tools(&rt, rt.alloc(), &mut lints);
+    drop(lints);
+    asserted
 }
