@@ -1,6 +1,6 @@
 //! Each reader and writer of values, by its name.
 use crate::answers::{answer_of, assert_is, expected_of, told, value};
-use cargo_manifest::ReadFault;
+use cargo_manifest::{ReadFault, Schema};
 use manifest_parts::error::refusal;
 use manifest_value::{
     boolean, field, list_of, map_of, table, text, texts, whole, write_list, write_map, write_text,
@@ -26,72 +26,81 @@ fn told_of<T: Drop>(alloc: Global, read: Result<T, ReadFault>) -> Result<String,
     }
 }
 
-/// The readers of one value.
+/// The readers of one value that read a copy.
 #[derive(Clone, Copy, Debug)]
 enum Reader {
     Text,
     Boolean,
     Texts,
-    Table,
+}
+
+/// What is written of what a reader read, or how it tells its refusal.
+fn copied_by<T: Schema>(alloc: Global, read: Result<T, ReadFault>) -> Result<String, Fail> {
+    match read {
+        Ok(x) => answer_of(alloc, Ok(x)),
+        Err(fault) => Ok(told(alloc, &refusal(fault))?),
+    }
 }
 
 /// What a reader answers of the value of a text.
 fn answer_by(alloc: Global, reader: Reader, shown: &str) -> Result<String, Fail> {
     let value = value(alloc, shown)?;
     match reader {
-        Reader::Text => told_of(alloc, text(alloc, &value)),
-        Reader::Boolean => told_of(alloc, boolean(alloc, &value)),
-        Reader::Texts => told_of(alloc, texts(alloc, &value)),
-        Reader::Table => told_of(alloc, table(alloc, &value)),
+        Reader::Text => copied_by(alloc, text(alloc, &value)),
+        Reader::Boolean => copied_by(alloc, boolean(alloc, &value)),
+        Reader::Texts => copied_by(alloc, texts(alloc, &value)),
     }
 }
 
-const READERS: &[(Reader, &str, &str)] = &[
-    (Reader::Text, "'a'", ACCEPTED),
-    (Reader::Text, "true", WRONG_KIND),
-    (Reader::Text, "['b', 'a']", WRONG_KIND),
-    (Reader::Boolean, "true", ACCEPTED),
-    (Reader::Boolean, "'a'", WRONG_KIND),
-    (Reader::Boolean, "1", WRONG_KIND),
-    (Reader::Texts, "['b', 'a']", ACCEPTED),
-    (Reader::Texts, "['a', 1]", "wrong kind at [1]"),
-    (Reader::Texts, "'a'", WRONG_KIND),
-    (Reader::Table, "{ a = 1 }", ACCEPTED),
-    (Reader::Table, "'a'", WRONG_KIND),
-    (Reader::Table, "[{ a = 1 }]", WRONG_KIND),
+const READERS: &[(Reader, &str, Result<&str, &str>)] = &[
+    (Reader::Text, "'serde'", Ok("'serde'")),
+    (Reader::Text, "true", Err(WRONG_KIND)),
+    (Reader::Text, "['b', 'a']", Err(WRONG_KIND)),
+    (Reader::Boolean, "true", Ok("true")),
+    (Reader::Boolean, "'a'", Err(WRONG_KIND)),
+    (Reader::Boolean, "1", Err(WRONG_KIND)),
+    (Reader::Texts, "['b', 'a']", Ok("['b', 'a']")),
+    (Reader::Texts, "['a', 1]", Err("wrong kind at [1]")),
+    (Reader::Texts, "'a'", Err(WRONG_KIND)),
 ];
 
 #[test]
 fn readers_of_one_value(rt: HostRuntime) -> Result<(), Fail> {
     for (reader, shown, answer) in READERS {
-        assert_is(&rt, answer_by(rt.alloc(), *reader, shown), answer, shown)?;
+        let expected = expected_of(rt.alloc(), *answer)?;
+        assert_is(
+            &rt,
+            answer_by(rt.alloc(), *reader, shown),
+            expected.as_str(),
+            shown,
+        )?;
     }
     Ok(())
 }
 
-/// A copy of what a reader read, written again.
-fn assert_copies(rt: &impl Abort, alloc: Global, name: &Value, names: &Value) -> Result<(), Fail> {
-    match (
-        text(alloc, name),
-        texts(alloc, names),
-        boolean(alloc, &Value::Boolean(true)),
-    ) {
-        (Ok(name), Ok(names), Ok(flag)) => {
-            assert_eq!(rt; name.as_str(), "serde");
-            assert_eq!(rt; names.len(), 2);
-            assert!(rt; names.iter().map(|text| text.as_str()).eq(["b", "a"]));
-            assert!(rt; flag);
-            Ok(())
+/// How many entries the table of a text has, or how it is told to be refused.
+fn entries_of(alloc: Global, shown: &str) -> Result<String, Fail> {
+    let value = value(alloc, shown)?;
+    match table(alloc, &value) {
+        Ok(entries) => {
+            let count = entries.len();
+            Ok(format!(in alloc; "{count}")?)
         }
-        _ => Err(Fail::from("refused")),
+        Err(fault) => Ok(told(alloc, &refusal(fault))?),
     }
 }
 
 #[test]
-fn copies_of_readers(rt: HostRuntime) -> Result<(), Fail> {
-    let name = value(rt.alloc(), "'serde'")?;
-    let names = value(rt.alloc(), "['b', 'a']")?;
-    assert_copies(&rt, rt.alloc(), &name, &names)
+fn tables(rt: HostRuntime) -> Result<(), Fail> {
+    for (shown, answer) in [
+        ("{ a = 1, b = 2 }", "2"),
+        ("{}", "0"),
+        ("'a'", WRONG_KIND),
+        ("[{ a = 1 }]", WRONG_KIND),
+    ] {
+        assert_is(&rt, entries_of(rt.alloc(), shown), answer, shown)?;
+    }
+    Ok(())
 }
 
 const NUMBERS: &[(&str, i64, i64, &str)] = &[
