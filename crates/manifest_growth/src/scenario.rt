@@ -24,24 +24,16 @@ fn names(alloc: Global, names: &[&str]) -> Result<Listing, AllocError> {
     Ok(Listing::Names(set))
 }
 
-/// Adds the listings of [`Scenario::Library`].
-fn put_library(alloc: Global, listings: &mut Listings) -> Result<(), AllocError> {
-    listings.put(alloc, "src", names(alloc, &["lib.rs", "main.rs"])?)?;
-    listings.put(alloc, ".", names(alloc, &[])?)
-}
-
-/// Adds the listings of [`Scenario::Binaries`].
-fn put_binaries(alloc: Global, listings: &mut Listings) -> Result<(), AllocError> {
-    listings.put(alloc, "src/bin", names(alloc, &["foo", "foo.rs"])?)?;
-    listings.put(alloc, "src/bin/foo", names(alloc, &["main.rs"])?)?;
-    listings.put(alloc, "src/bin/foo.rs", Listing::Fault)?;
-    listings.put(alloc, ".", names(alloc, &[])?)
-}
-
-/// Adds the listings of [`Scenario::Example`].
-fn put_example(alloc: Global, listings: &mut Listings) -> Result<(), AllocError> {
-    listings.put(alloc, "examples", names(alloc, &["ex.rs"])?)?;
-    listings.put(alloc, ".", names(alloc, &["build.rs"])?)
+/// Adds a listing of names for each folder.
+fn put_all(
+    alloc: Global,
+    listings: &mut Listings,
+    folders: &[(&str, &[&str])],
+) -> Result<(), AllocError> {
+    for (folder, listed) in folders {
+        listings.put(alloc, folder, names(alloc, listed)?)?;
+    }
+    Ok(())
 }
 
 impl Scenario {
@@ -66,14 +58,30 @@ impl Scenario {
         }
     }
 
+    /// Adds the listings.
+    fn put(self, alloc: Global, listings: &mut Listings) -> Result<(), AllocError> {
+        let root = (".", [].as_slice());
+        match self {
+            Scenario::Library => {
+                let source = ("src", ["lib.rs", "main.rs"].as_slice());
+                put_all(alloc, listings, &[source, root])
+            }
+            Scenario::Binaries => {
+                let binaries = ("src/bin", ["foo", "foo.rs"].as_slice());
+                let foo = ("src/bin/foo", ["main.rs"].as_slice());
+                listings.put(alloc, "src/bin/foo.rs", Listing::Fault)?;
+                put_all(alloc, listings, &[binaries, foo, root])
+            }
+            Scenario::Example => {
+                let examples = ("examples", ["ex.rs"].as_slice());
+                put_all(alloc, listings, &[examples, (".", ["build.rs"].as_slice())])
+            }
+        }
+    }
+
     /// The listings.
     pub fn listings(self, alloc: Global) -> Result<Listings, AllocError> {
         let mut listings = Listings::new(alloc);
-        match self {
-            Scenario::Library => put_library(alloc, &mut listings)?,
-            Scenario::Binaries => put_binaries(alloc, &mut listings)?,
-            Scenario::Example => put_example(alloc, &mut listings)?,
-        }
-        Ok(listings)
+        self.put(alloc, &mut listings).and(Ok(listings))
     }
 }
