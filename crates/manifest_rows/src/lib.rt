@@ -20,6 +20,8 @@ mod metadata;
 #[cfg(test)]
 mod paths;
 #[cfg(test)]
+mod printed;
+#[cfg(test)]
 mod refused;
 #[cfg(test)]
 mod rewritten;
