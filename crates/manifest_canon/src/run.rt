@@ -50,7 +50,8 @@ fn canonical(alloc: Global, bytes: &[u8]) -> Result<String, Error>
 /// not taken the text after 4,294,967,295 writes.
 fn write_text<W: Write>(output: &mut W, text: &[u8]) -> io::Result<()>
     ensures ok { OnOk result (Appends (W.contents output.old) (W.contents output.new) text.now) }
-    ensures refused { OnErr result (Begins (W.contents output.old) (W.contents output.new) text.now) }
+    ensures refused { OnErr result
+        (Begins (W.contents output.old) (W.contents output.new) text.now) }
 {
     let mut rest = text;
     for _ in 0..u32::MAX {
@@ -74,7 +75,8 @@ fn write_text<W: Write>(output: &mut W, text: &[u8]) -> io::Result<()>
 #[tactic(auto, using(crate::proofs::Printing::appends_kept, crate::proofs::Printing::begins_whole))]
 fn print<W: Write>(output: &mut W, text: &str) -> io::Result<()>
     ensures ok { OnOk result (Appends (W.contents output.old) (W.contents output.new) text.now) }
-    ensures refused { OnErr result (Begins (W.contents output.old) (W.contents output.new) text.now) }
+    ensures refused { OnErr result
+        (Begins (W.contents output.old) (W.contents output.new) text.now) }
 {
     write_text(output, text.as_bytes())?;
     output.flush()
@@ -84,7 +86,8 @@ fn print<W: Write>(output: &mut W, text: &str) -> io::Result<()>
 #[tactic(auto, using(crate::proofs::Printing::refused_by_bytes))]
 fn print_canonical<W: Write>(alloc: Global, bytes: &[u8], output: &mut W) -> Result<(), Error>
     ensures ok { OnOk result (IsPrinted bytes.now (W.contents output.old) (W.contents output.new)) }
-    ensures refused { IfErr result (IsRefused bytes.now (W.contents output.old) (W.contents output.new)) }
+    ensures refused { IfErr result
+        (IsRefused bytes.now (W.contents output.old) (W.contents output.new)) }
 {
     let text = match canonical(alloc, bytes) {
         Ok(text) => text,
@@ -181,8 +184,10 @@ pub fn run<R: Read, W: Write, E: Write>(
     ensures refused { IsCanonInput words.now → result ≡ 1 → IfSome (R.remaining input.old)
         (λ bytes. IsBegun bytes (W.contents output.old) (W.contents output.new)) }
     ensures no_document { IsCanonInput words.now → IfSome (R.remaining input.old)
-        (λ bytes. ¬ IsAccepted bytes → (result ≡ 1) × Keeps (W.contents output.old) (W.contents output.new)) }
-    ensures wrong_words { ¬ IsCanonInput words.now → (result ≡ 2) × Keeps (W.contents output.old) (W.contents output.new) }
+        (λ bytes. ¬ IsAccepted bytes
+        → (result ≡ 1) × Keeps (W.contents output.old) (W.contents output.new)) }
+    ensures wrong_words { ¬ IsCanonInput words.now
+        → (result ≡ 2) × Keeps (W.contents output.old) (W.contents output.new) }
 {
     if !is_canon_input(words) {
         return refuse_words(errors);
