@@ -4,3 +4,4 @@ pub use Rattle.manifest_schema.specs.PartForms
 pub mod Refusals
 pub mod Parts
 pub mod Records
+pub mod Queries

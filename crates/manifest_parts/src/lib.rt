@@ -11,6 +11,7 @@ pub mod lints;
 pub mod product;
 pub mod profile;
 pub mod publish;
+mod queries;
 pub mod strip;
 pub mod target;
 

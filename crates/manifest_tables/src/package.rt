@@ -12,6 +12,8 @@ ghost use Rattle.manifest_schema.specs.ForProofs.{first_fit, written_part};
 ghost use Rattle.manifest_schema.proofs.KindLaws.{tree_lawful};
 ghost use Rattle.manifest_schema.proofs.ManifestLaws.{package_lawful};
 ghost use Rattle.manifest_value.specs.Faults.{FaultIn};
+ghost use Rattle.manifest_parts.specs.Parts.{inh_content};
+ghost use Rattle.manifest_parts.specs.Queries.{version_of};
 ghost use Rattle.manifest_parts.specs.Refusals.{RefusedIn};
 ghost use Rattle.manifest_tables.specs.Tables.{package_content};
 
@@ -100,6 +102,22 @@ impl<M> Package<M> {
         Package {
             version: Some(MaybeInherited::Local(version)),
             ..named(name)
+        }
+    }
+
+    /// The version of the package, or the word that the workspace lends it. A package that names none has the version
+    /// 0.0.0, as the [Cargo reference](https://doc.rust-lang.org/cargo/reference/manifest.html#the-version-field) says.
+    ///
+    /// ```ignore
+    /// let version = package.version(); // of `{ name = 'a' }`, `Local("0.0.0")`
+    /// ```
+    pub fn version(&self) -> MaybeInherited<&str>
+        ensures { (f : M → Data) → inh_content (λ s. s.now) result ≡ version_of (package_content f self.now) }
+    {
+        match &self.version {
+            None => MaybeInherited::Local("0.0.0"),
+            Some(MaybeInherited::Inherited { .. }) => MaybeInherited::inherited(),
+            Some(MaybeInherited::Local(version)) => MaybeInherited::Local(version.as_str()),
         }
     }
 }
