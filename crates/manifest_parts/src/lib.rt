@@ -7,6 +7,7 @@ pub mod choices;
 pub mod dependency;
 pub mod error;
 pub mod inherited;
+pub mod laws;
 pub mod lints;
 pub mod product;
 pub mod profile;
