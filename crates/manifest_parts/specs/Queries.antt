@@ -1,11 +1,11 @@
 -- What each query answers, of what a type holds; and of the values of the code, where a query hands out a part of one.
-use Rattle.std.specs.Prelude.{ℤ, pos, Bool, true, false, not, ◌||◌, if◌then◌else◌, List, [], ◌∷◌, Option, Some, None, is_some, unwrap_or, String, Vec, codes}
+use Rattle.std.specs.Prelude.{ℕ, ℤ, pos, Bool, true, false, not, ◌||◌, if◌then◌else◌, List, [], ◌∷◌, Option, Some, None, is_some, unwrap_or, String, Vec, codes}
 use Rattle.std.specs.Bool.{beq}
 use Rattle.std.specs.declared.alloc.Global.{Global}
 use Rattle.manifest_schema.specs.Paths.{Text}
 use Rattle.manifest_schema.specs.Kinds.{Inheritable, inherited, local}
 use Rattle.manifest_schema.specs.Contents
-use Rattle.manifest_schema.specs.Contents.{simple, by_workspace, detailed, lint_level, lint_config, publish_flag, registries}
+use Rattle.manifest_schema.specs.Contents.{simple, by_workspace, detailed, lint_level, lint_config, publish_flag, registries, strip_none, strip_debuginfo, strip_symbols}
 use Rattle.manifest_parts.specs.Parts.{inh_content}
 use Rattle.manifest_parts.specs.declared.inherited.MaybeInherited.{MaybeInherited}
 use Rattle.manifest_parts.specs.declared.dependency.DependencyDetail.{DependencyDetail}
@@ -124,3 +124,9 @@ may_be_published (registries (r ∷ rs)) = true
 -- it may be published exactly where the boolean is true
 abbrev pub eq_bool : Contents.Publish → Bool → Bool
 eq_bool p b = beq (may_be_published p) b
+
+-- STRIP: how much is stripped, from nothing to all symbols
+abbrev pub strip_rank : Contents.Strip → ℕ
+strip_rank strip_none = 0
+strip_rank strip_debuginfo = 1
+strip_rank strip_symbols = 2

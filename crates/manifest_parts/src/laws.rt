@@ -1,6 +1,6 @@
-//! What is promised of the queries, of the texts of choices, and of comparisons and copies.
+//! What is promised of the queries and of the texts of choices.
 //!
-//! The functions without arguments return at once: each is there for its contract, a law of the definitions.
+//! Each function returns at once: it is there for its contract, a law of the definitions.
 
 ghost use Rattle.std.specs.Prelude.{◌≡◌};
 ghost use Rattle.toml.specs.Data.{string};

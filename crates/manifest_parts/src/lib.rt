@@ -4,6 +4,7 @@
 
 pub mod badges;
 pub mod choices;
+pub mod copies;
 pub mod dependency;
 pub mod error;
 pub mod inherited;
