@@ -8,6 +8,8 @@ mod calls;
 #[cfg(test)]
 mod completed;
 #[cfg(test)]
+mod equal;
+#[cfg(test)]
 mod errors;
 #[cfg(test)]
 mod examples;
@@ -21,6 +23,7 @@ mod metadata;
 mod paths;
 #[cfg(test)]
 mod printed;
+mod queries;
 #[cfg(test)]
 mod refused;
 #[cfg(test)]
