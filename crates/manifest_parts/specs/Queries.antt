@@ -1,6 +1,9 @@
--- What each query answers, of what a type holds; and of the values of the code, where a query hands out a part of one.
+-- What each query answers of a content; and which part of a value it is, where a query hands one out.
 use Rattle.std.specs.Prelude.{ℕ, ℤ, pos, Bool, true, false, not, ◌||◌, if◌then◌else◌, List, [], ◌∷◌, Option, Some, None, is_some, unwrap_or, String, Vec, codes}
 use Rattle.std.specs.Bool.{beq}
+use Rattle.std.specs.Option.{option_map_or}
+use Rattle.std.specs.Ordering.{nat_cmp}
+use Rattle.std.specs.declared.cmp.Ordering.{Ordering}
 use Rattle.std.specs.declared.alloc.Global.{Global}
 use Rattle.manifest_schema.specs.Paths.{Text}
 use Rattle.manifest_schema.specs.Kinds.{Inheritable, inherited, local}
@@ -15,23 +18,21 @@ use Rattle.manifest_parts.specs.declared.dependency.Dependency.{Dependency}
 -- a place other than crates.io is named, or a part of one
 abbrev pub is_elsewhere : Contents.DependencyDetail → Bool
 is_elsewhere d =
-    is_some d.path || is_some d.registry || is_some d.registry_index || is_some d.git || is_some d.tag || is_some d.branch || is_some d.rev
+    is_some d.path || is_some d.registry || is_some d.registry_index || is_some d.git
+    || is_some d.tag || is_some d.branch || is_some d.rev
 
 -- more than a version is said
 abbrev pub says_more : Contents.DependencyDetail → Bool
 says_more d =
-    is_elsewhere d || is_some d.features || is_some d.«optional» || is_some d.default_features || is_some d.«package»
-
--- a detail that says a version and no more is that version alone
-abbrev pub simplified : Contents.DependencyDetail → Option Text → Contents.Dependency
-simplified d (Some v) = if says_more d then detailed d else simple v
-simplified d None = detailed d
+    is_elsewhere d || is_some d.features || is_some d.«optional» || is_some d.default_features
+    || is_some d.«package»
 
 -- a version that stands alone in its table is said without the table; any other dependency stays
 abbrev pub simplify : Contents.Dependency → Contents.Dependency
 simplify (simple v) = simple v
 simplify (by_workspace i) = by_workspace i
-simplify (detailed d) = simplified d d.version
+simplify (detailed d) =
+    if says_more d then detailed d else option_map_or simple d.version (detailed d)
 
 -- the version requirement: any version, where none is said
 abbrev pub req : Contents.Dependency → Text
@@ -75,6 +76,7 @@ detail_part (Dependency.Simple v) = None
 detail_part (Dependency.Inherited i) = None
 detail_part (Dependency.Detailed d) = Some d
 
+-- the texts of a list, none where there is no list
 abbrev pub items_part : Option (Vec (String Global) Global) → List (String Global)
 items_part None = []
 items_part (Some v) = v.items
@@ -87,8 +89,8 @@ features_part (Dependency.Detailed d) = items_part d.features
 
 -- WHAT THE WORKSPACE MAY LEND
 -- the value of the code itself, or the word that the workspace lends it
-abbrev pub itself : {T : Type 0} → MaybeInherited T → Inheritable T
-itself = inh_content (λ x. x)
+abbrev pub as_inheritable : {T : Type 0} → MaybeInherited T → Inheritable T
+as_inheritable = inh_content (λ x. x)
 
 -- the value of the package's own
 abbrev pub local_part : {T : Type 0} → Inheritable T → Option T
@@ -130,3 +132,7 @@ abbrev pub strip_rank : Contents.Strip → ℕ
 strip_rank strip_none = 0
 strip_rank strip_debuginfo = 1
 strip_rank strip_symbols = 2
+
+-- by how much is stripped
+abbrev pub strip_cmp : Contents.Strip → Contents.Strip → Ordering
+strip_cmp a b = nat_cmp (strip_rank a) (strip_rank b)

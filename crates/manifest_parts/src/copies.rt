@@ -1,10 +1,9 @@
 //! What is promised of comparisons and copies: they look at the content alone, and at all of it.
 
 ghost use Rattle.std.specs.Prelude.{◌≡◌, ◌↔◌, IsTrue, IsOkAnd};
-ghost use Rattle.std.specs.Ordering.{nat_cmp};
 ghost use Rattle.std.proofs.Common.{rules};
 ghost use Rattle.manifest_parts.specs.Parts.{strip_content};
-ghost use Rattle.manifest_parts.specs.Queries.{strip_rank};
+ghost use Rattle.manifest_parts.specs.Queries.{strip_cmp};
 
 use crate::badges::Maintenance;
 use crate::choices::{Edition, LintLevel, MaintenanceStatus, Resolver};
@@ -43,7 +42,7 @@ pub fn copy_of<T: Copied>(x: &T) -> Result<T, AllocError>
 
 /// The order of two strip settings.
 pub fn strip_order(x: &StripSetting, y: &StripSetting) -> Ordering
-    ensures { result ≡ nat_cmp (strip_rank (strip_content x.now)) (strip_rank (strip_content y.now)) }
+    ensures { result ≡ strip_cmp (strip_content x.now) (strip_content y.now) }
 {
     x.cmp(y)
 }

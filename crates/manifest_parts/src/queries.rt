@@ -2,10 +2,11 @@
 
 ghost use Rattle.std.specs.Prelude.{◌≡◌, false, is_some, map, option_map, string_bytes, unwrap_or};
 ghost use Rattle.std.specs.Option.{option_copied};
+ghost use Rattle.manifest_schema.specs.Contents.{detailed};
 ghost use Rattle.manifest_schema.specs.Kinds.{inherited};
 ghost use Rattle.manifest_parts.specs.Parts.{inh_content, level_content, publish_content};
 ghost use Rattle.manifest_parts.specs.Records.{detail_content, dependency_content, lint_content, lints_content};
-ghost use Rattle.manifest_parts.specs.Queries.{is_elsewhere, says_more, simplified, simplify, req, req_features, is_optional, package_of, git_of, is_crates_io, detail_part, items_part, features_part, itself, local_part, level_of, priority_of, is_inherited, eq_bool};
+ghost use Rattle.manifest_parts.specs.Queries.{is_elsewhere, says_more, simplify, req, req_features, is_optional, package_of, git_of, is_crates_io, detail_part, items_part, features_part, as_inheritable, local_part, level_of, priority_of, is_inherited, eq_bool};
 
 use crate::choices::LintLevel;
 use crate::dependency::{Dependency, DependencyDetail};
@@ -15,7 +16,7 @@ use crate::publish::Publish;
 use manifest_value::Schema;
 
 impl Dependency {
-    /// The detail of a `Detailed` dependency.
+    /// The detail of a `Detailed` dependency; of another there is none.
     ///
     /// ```ignore
     /// let detail = dependency.detail(); // of `{ version = '1', optional = true }`, with these two fields
@@ -212,7 +213,7 @@ fn says_more(detail: &DependencyDetail) -> bool
 
 /// The version alone, where the detail says no more.
 fn simplified(mut detail: DependencyDetail) -> Dependency
-    ensures { dependency_content result ≡ simplified (detail_content detail) (detail_content detail).version }
+    ensures { dependency_content result ≡ simplify (detailed (detail_content detail)) }
 {
     if says_more(&detail) {
         return Dependency::Detailed(detail);
@@ -230,7 +231,7 @@ impl<T> MaybeInherited<T> {
     /// let edition = MaybeInherited::<Edition>::inherited();
     /// ```
     pub fn inherited() -> MaybeInherited<T>
-        ensures { itself result ≡ inherited }
+        ensures { as_inheritable result ≡ inherited }
     {
         MaybeInherited::Inherited { workspace: True }
     }
@@ -241,7 +242,7 @@ impl<T> MaybeInherited<T> {
     /// let edition = MaybeInherited::Local(Edition::E2021).as_local(); // `Some(E2021)`
     /// ```
     pub fn as_local(self) -> Option<T>
-        ensures { result ≡ local_part (itself self) }
+        ensures { result ≡ local_part (as_inheritable self) }
     {
         match self {
             MaybeInherited::Inherited { .. } => None,
@@ -255,7 +256,7 @@ impl<T> MaybeInherited<T> {
     /// let version = version.as_ref(); // of `Local(x)`, `Local(&x)`
     /// ```
     pub fn as_ref(&self) -> MaybeInherited<&T>
-        ensures { inh_content (λ x. x.now) result ≡ itself self.now }
+        ensures { inh_content (λ x. x.now) result ≡ as_inheritable self.now }
     {
         match self {
             MaybeInherited::Inherited { .. } => MaybeInherited::Inherited { workspace: True },
@@ -265,7 +266,8 @@ impl<T> MaybeInherited<T> {
 }
 
 impl Lint {
-    /// The level of the lint.
+    /// The level of the lint. See the
+    /// [Cargo reference](https://doc.rust-lang.org/cargo/reference/manifest.html#the-lints-section).
     ///
     /// ```ignore
     /// let level = lint.level(); // of `{ level = 'deny', priority = -1 }`, `Deny`
