@@ -1,4 +1,16 @@
 //! Cargo manifests: read from bytes, completed from listings of folders, and written as their one canonical table.
+//!
+//! ```ignore
+//! use cargo_manifest::{Error, Listings, Manifest};
+//! use std::alloc::Global;
+//!
+//! /// The canonical text of a manifest, completed from listings of its folders.
+//! fn completed(alloc: Global, text: &str, listings: &Listings) -> Result<String, Error> {
+//!     let mut manifest = Manifest::from_str(alloc, text)?;
+//!     manifest.complete_from_abstract_filesystem(alloc, listings)?;
+//!     manifest.to_toml_string(alloc)
+//! }
+//! ```
 #![tactic(auto)]
 
 mod completion;

@@ -13,10 +13,6 @@ use std::io;
 use std::io::ErrorKind;
 
 /// `folder/name`.
-///
-/// ```ignore
-/// let path = join(alloc, "src/bin", "a.rs")?; // "src/bin/a.rs"
-/// ```
 pub fn join(alloc: Global, folder: &str, name: &str) -> Result<String, AllocError>
     ensures { IfOk result (λ s. string_bytes s ≡ joined folder.now name.now) }
 {
@@ -61,10 +57,6 @@ fn names_ascend(names: &BTreeSet<String>)
 }
 
 /// Asks at a path.
-///
-/// ```ignore
-/// let names = ask(alloc, &listings, "src");
-/// ```
 #[tactic(auto, using(crate::proofs::AskLemmas::none_ascend))]
 pub fn ask<FS: AbstractFilesystem>(
     alloc: Global,
@@ -142,12 +134,6 @@ impl FolderAnswers {
 
 impl Answers {
     /// Whether one of them found no memory.
-    ///
-    /// ```ignore
-    /// if answers.found_no_memory() {
-    ///     return Err(Error::Io(io::Error::from(ErrorKind::OutOfMemory)));
-    /// }
-    /// ```
     pub fn found_no_memory(&self) -> bool
         ensures { result ≡ some_found_no_memory self.now }
     {
@@ -189,10 +175,6 @@ fn ask_root_if<FS: AbstractFilesystem>(
 
 /// Asks at the folders of targets, at their entries and, where it is to be asked, at the folder of the manifest, up to a
 /// first answer that found no memory.
-///
-/// ```ignore
-/// let answers = ask_folders(alloc, &listings, true)?; // `.` is asked too
-/// ```
 pub fn ask_folders<FS: AbstractFilesystem>(
     alloc: Global,
     fs: &FS,

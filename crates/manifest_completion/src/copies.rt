@@ -6,10 +6,6 @@ ghost use Rattle.std.specs.Option.{option_copied};
 use std::alloc::{AllocError, Global};
 
 /// A copy of a text, where there is one.
-///
-/// ```ignore
-/// let copy = copied(alloc, Some("a"))?;
-/// ```
 pub fn copied(alloc: Global, text: Option<&str>) -> Result<Option<String>, AllocError>
     ensures { IfOk result (λ o. option_map string_bytes o ≡ option_copied text.entry) }
 {
@@ -20,10 +16,6 @@ pub fn copied(alloc: Global, text: Option<&str>) -> Result<Option<String>, Alloc
 }
 
 /// A copy of a text that may be absent.
-///
-/// ```ignore
-/// let name = copied_text(alloc, &product.name)?;
-/// ```
 pub fn copied_text(alloc: Global, text: &Option<String>) -> Result<Option<String>, AllocError>
     ensures { IfOk result (λ o. option_map string_bytes o ≡ option_map string_bytes text.now) }
 {
@@ -34,10 +26,6 @@ pub fn copied_text(alloc: Global, text: &Option<String>) -> Result<Option<String
 }
 
 /// A copy of a list of texts.
-///
-/// ```ignore
-/// let features = copied_texts(&product.required_features)?;
-/// ```
 pub fn copied_texts(texts: &Vec<String>) -> Result<Vec<String>, AllocError>
     ensures { IfOk result (λ v. map string_bytes v.items ≡ map string_bytes texts.now.items) }
 {
@@ -45,10 +33,6 @@ pub fn copied_texts(texts: &Vec<String>) -> Result<Vec<String>, AllocError>
 }
 
 /// A list of one text.
-///
-/// ```ignore
-/// let kinds = one_text(alloc, "bin")?;
-/// ```
 pub fn one_text(alloc: Global, text: &str) -> Result<Vec<String>, AllocError>
     ensures { IfOk result (λ v. map string_bytes v.items ≡ text.now ∷ []) }
 {

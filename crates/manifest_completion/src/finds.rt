@@ -27,10 +27,6 @@ fn stem(name: &str) -> Option<&str>
 }
 
 /// Whether an answer has a name.
-///
-/// ```ignore
-/// let has_main = lists(&answer, "main.rs");
-/// ```
 pub fn lists(answer: &io::Result<BTreeSet<String>>, name: &str) -> bool
     ensures { result ≡ lists (answer_of answer.now) name.now }
 {
@@ -67,10 +63,6 @@ fn push_entry_finds(
 }
 
 /// The finds of a folder of targets, in the order of its names.
-///
-/// ```ignore
-/// let finds = folder_finds(alloc, "examples", &answers)?; // of `a.rs` the target `a` at `examples/a.rs`
-/// ```
 #[tactic(auto, using(crate::proofs::FindLemmas::paired_none))]
 pub fn folder_finds(
     alloc: Global,
@@ -96,10 +88,6 @@ pub fn folder_finds(
 }
 
 /// Puts the binary of `src/main.rs` at the end, where `src` lists it.
-///
-/// ```ignore
-/// push_main_find(&mut finds, alloc, "a", &source)?; // the binary `a` at `src/main.rs`
-/// ```
 pub fn push_main_find(
     finds: &mut Vec<FoundTarget>,
     alloc: Global,

@@ -117,10 +117,6 @@ fn inferred_library(
 }
 
 /// The library that the package comes to have. Refuses a declared one that has no file with `Other` and its text.
-///
-/// ```ignore
-/// let lib = completed_library(alloc, &declared, &source)?; // of `src/lib.rs` the library of the package's name
-/// ```
 pub fn completed_library(
     alloc: Global,
     declared: &DeclaredTargets<'_>,

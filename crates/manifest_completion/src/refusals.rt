@@ -10,10 +10,6 @@ use std::alloc::{AllocError, Global};
 const NO_LIBRARY: &str = "can't find library, rename file to `src/lib.rs` or specify lib.path";
 
 /// The refusal of a library without a file, or want of memory for its text.
-///
-/// ```ignore
-/// return Err(no_library(alloc));
-/// ```
 pub fn no_library(alloc: Global) -> Error
     ensures { IsLibraryText result }
 {
@@ -24,10 +20,6 @@ pub fn no_library(alloc: Global) -> Error
 }
 
 /// The answer, with its want of memory as an error.
-///
-/// ```ignore
-/// let name = or_memory(copied_text(alloc, &product.name))?;
-/// ```
 pub fn or_memory<T: Drop>(answer: Result<T, AllocError>) -> Result<T, Error>
     ensures { MatchResult result (λ x. answer ≡ Ok x) IsWantOfMemory }
 {

@@ -74,10 +74,6 @@ fn is_taken(taken: &[&str], path: &str) -> bool
 }
 
 /// A copy of the crate type of a target, or the one that it takes.
-///
-/// ```ignore
-/// let kinds = crate_type_of(alloc, &None, Some("bin"))?; // `bin` alone
-/// ```
 pub fn crate_type_of(
     alloc: Global,
     own: &Option<Vec<String>>,
@@ -180,10 +176,6 @@ fn filled_targets(
 
 /// A completed list of targets: the declared ones filled in, the found ones added to them where `discovers` says so, and
 /// all given their defaults.
-///
-/// ```ignore
-/// let examples = completed_list(alloc, &declared, &finds, true, defaults)?;
-/// ```
 pub fn completed_list(
     alloc: Global,
     declared: &[Product],
