@@ -37,28 +37,47 @@ use toml::{Table, Value};
 /// [Cargo reference](https://doc.rust-lang.org/cargo/reference/manifest.html).
 #[derive(Debug, PartialEq, Drop)]
 pub struct Manifest<P = Value, W = Value> {
+    /// The package; `None` in a virtual workspace.
     pub package: Option<Package<P>>,
+    /// The unstable features of Cargo that are enabled; only a nightly Cargo has them.
     pub cargo_features: Option<Vec<String>>,
+    /// The workspace, where the manifest is that of its root.
     pub workspace: Option<Workspace<W>>,
+    /// The dependencies of the package, by name; one that is renamed by its new name.
     pub dependencies: Option<DepsSet>,
+    /// The dependencies of its tests, examples and benches.
     pub dev_dependencies: Option<DepsSet>,
+    /// The dependencies of its build script.
     pub build_dependencies: Option<DepsSet>,
+    /// The dependencies for single platforms, by target triple or `cfg(..)`.
     pub target: Option<TargetDepsSet>,
+    /// The features, each with what it enables; an optional dependency can be a feature that is not listed.
     pub features: Option<FeatureSet>,
+    /// The declared binaries: not all, unless the manifest is completed, since others are discovered.
     pub bin: Vec<Product>,
+    /// The declared benches: not all, unless the manifest is completed, since others are discovered.
     pub bench: Vec<Product>,
+    /// The declared integration tests: not all, unless the manifest is completed, since others are discovered.
     pub test: Vec<Product>,
+    /// The declared examples: not all, unless the manifest is completed, since others are discovered.
     pub example: Vec<Product>,
+    /// The dependencies that patch others, by the registry or URL of these; Cargo takes those of the root alone.
     pub patch: Option<PatchSet>,
+    /// The declared library; where it is `None` one may be discovered, unless the manifest is completed.
     pub lib: Option<Product>,
+    /// The profiles; Cargo takes those of the workspace's root alone.
     pub profile: Option<Profiles>,
+    /// The badges of the package.
     pub badges: Option<Badges>,
+    /// The lints of the package, its own or inherited.
     pub lints: Option<MaybeInheritedLintsSet>,
 }
 
 impl<P: Metadata, W: Metadata> Manifest<P, W> {
-    /// The one reading of the value by the form of a manifest, without old headers. Refuses a value that is no table with
-    /// `WrongKind`, and else with the fault of a row, its key path beginning at the table.
+    /// The one reading of the value by the form of a manifest, without old headers.
+    ///
+    /// Refuses with `Error::Parse(ParseFault::Schema(..))` of a cause and its key path in the value: `WrongKind` at the
+    /// empty path of a value that is no table, and else the fault of a row. Want of memory is [`Error::Memory`].
     ///
     /// ```ignore
     /// let value = Value::from_str(alloc, "{ package = { name = 'a' } }")?;

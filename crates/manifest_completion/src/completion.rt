@@ -26,43 +26,66 @@ use std::io::ErrorKind;
 /// What completion reads of a package and of its manifest.
 #[derive(Debug, Clone, Copy)]
 pub struct DeclaredTargets<'a> {
+    /// The name of the package.
     pub name: &'a str,
+    /// The edition of the package, its own or inherited.
     pub edition: &'a Option<MaybeInherited<Edition>>,
+    /// What the package says of the discovery of a library.
     pub autolib: Option<bool>,
+    /// What the package says of the discovery of binaries.
     pub autobins: Option<bool>,
+    /// What the package says of the discovery of examples.
     pub autoexamples: Option<bool>,
+    /// What the package says of the discovery of tests.
     pub autotests: Option<bool>,
+    /// What the package says of the discovery of benches.
     pub autobenches: Option<bool>,
+    /// What the package says of its build script.
     pub build: &'a Option<StringOrBool>,
+    /// The declared library.
     pub lib: &'a Option<Product>,
+    /// The declared binaries.
     pub bin: &'a [Product],
+    /// The declared examples.
     pub example: &'a [Product],
+    /// The declared tests.
     pub test: &'a [Product],
+    /// The declared benches.
     pub bench: &'a [Product],
 }
 
 /// What it makes of them: the build script, the library and the four lists.
 #[derive(Debug, Drop)]
 pub struct CompletedTargets {
+    /// The build script: `build.rs` where it is found, else what the package says.
     pub build: Option<StringOrBool>,
+    /// The library, declared or inferred.
     pub lib: Option<Product>,
+    /// The binaries, declared and found.
     pub bin: Vec<Product>,
+    /// The examples, declared and found.
     pub example: Vec<Product>,
+    /// The tests, declared and found.
     pub test: Vec<Product>,
+    /// The benches, declared and found.
     pub bench: Vec<Product>,
 }
 
 /// The four completed lists.
 #[derive(Debug, Drop)]
 pub struct CompletedLists {
+    /// The binaries, declared and found.
     pub bin: Vec<Product>,
+    /// The examples, declared and found.
     pub example: Vec<Product>,
+    /// The tests, declared and found.
     pub test: Vec<Product>,
+    /// The benches, declared and found.
     pub bench: Vec<Product>,
 }
 
-/// Whether targets are discovered in the old way: the edition is absent, or 2015 and the package's own. One that the
-/// workspace lends is not 2015, whatever the workspace says.
+/// Whether targets are discovered in the old way: the edition is absent, or 2015 and the package's own. One that is
+/// inherited is not the old way, whatever the workspace says.
 ///
 /// ```ignore
 /// let legacy = is_legacy(&None); // true: a package without an edition is of 2015

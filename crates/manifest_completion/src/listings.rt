@@ -25,6 +25,7 @@ pub enum Listing {
 /// its names finds no memory it answers `OutOfMemory`. So what was put decides a completion over it: `laws::stored_decides`.
 #[derive(Debug, Drop)]
 pub struct Listings {
+    /// What was put last at each path.
     pub listed: BTreeMap<String, Listing>,
 }
 

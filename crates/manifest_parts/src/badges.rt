@@ -25,42 +25,55 @@ use toml::{Table, Value};
 /// A badge of a service.
 #[derive(Debug, PartialEq, Eq, Drop)]
 pub struct Badge {
-    /// The repository, as the service names it.
+    /// The repository, as the service names it: mostly `user/project`.
     pub repository: String,
     /// The branch: `master` where none is given.
     pub branch: String,
-    /// The service that has the repository.
+    /// The host of the repository, such as `github` or `bitbucket`; AppVeyor, Codecov and Coveralls take it.
     pub service: Option<String>,
-    /// The project's identifier.
+    /// The identifier of the project at AppVeyor, in place of its name.
     pub id: Option<String>,
-    /// The project's name.
+    /// The name of the project at AppVeyor, where the repository has another.
     pub project_name: Option<String>,
 }
 
 /// How a package is maintained.
 #[derive(Clone, Copy, Debug, PartialEq, Eq)]
 pub struct Maintenance {
+    /// The maintenance status.
     pub status: MaintenanceStatus,
 }
 
-/// The badges of a package. One that does not fit is read as `None`, and a `maintenance` that does not fit as the status
-/// `none`. See the [Cargo reference](https://doc.rust-lang.org/cargo/reference/manifest.html#the-badges-section).
+/// The badges of a package, which crates.io shows no more. One that does not fit is read as `None`, and a `maintenance`
+/// that does not fit as the status `none`. See the
+/// [Cargo reference](https://doc.rust-lang.org/cargo/reference/manifest.html#the-badges-section).
 #[derive(Debug, PartialEq, Eq, Drop)]
 pub struct Badges {
+    /// The build at AppVeyor: `repository` is required; all other fields are optional.
     pub appveyor: Option<Badge>,
+    /// The build at Circle CI: `repository` is required, `branch` optional.
     pub circle_ci: Option<Badge>,
+    /// The pipeline at GitLab: `repository` is required, `branch` optional.
     pub gitlab: Option<Badge>,
+    /// The build at Travis CI: `repository` is required, `branch` optional.
     pub travis_ci: Option<Badge>,
+    /// The test coverage at Codecov: `repository` is required, `branch` and `service` optional.
     pub codecov: Option<Badge>,
+    /// The test coverage at Coveralls: `repository` is required, `branch` and `service` optional.
     pub coveralls: Option<Badge>,
+    /// The time in which issues are resolved, by isitmaintained.com: `repository` is required.
     pub is_it_maintained_issue_resolution: Option<Badge>,
+    /// The percentage of issues that are open, by isitmaintained.com: `repository` is required.
     pub is_it_maintained_open_issues: Option<Badge>,
+    /// The maintenance status: `None` where none is given.
     pub maintenance: Maintenance,
 }
 
 impl Badge {
-    /// The one reading of the value by the form of a badge. Refuses a value that is no table with `WrongKind`, and else
-    /// with the fault of a row: a badge alone is not lenient.
+    /// The one reading of the value by the form of a badge: a badge alone is not lenient.
+    ///
+    /// Refuses with `Error::Parse(ParseFault::Schema(..))` of a cause and its key path in the value: `WrongKind` at the
+    /// empty path of a value that is no table, and else the fault of a row. Want of memory is [`Error::Memory`].
     ///
     /// ```ignore
     /// let value = Value::from_str(alloc, "{ repository = 'a/b' }")?;
@@ -75,8 +88,10 @@ impl Badge {
 }
 
 impl Maintenance {
-    /// The one reading of the value by the form of a maintenance. Refuses a value that is no table with `WrongKind`, and
-    /// else with the fault of its row: a maintenance alone is not lenient.
+    /// The one reading of the value by the form of a maintenance: a maintenance alone is not lenient.
+    ///
+    /// Refuses with `Error::Parse(ParseFault::Schema(..))` of a cause and its key path in the value: `WrongKind` at the
+    /// empty path of a value that is no table, and else the fault of its row. Want of memory is [`Error::Memory`].
     ///
     /// ```ignore
     /// let value = Value::from_str(alloc, "{ status = 'as-is' }")?;
@@ -91,7 +106,10 @@ impl Maintenance {
 }
 
 impl Badges {
-    /// The one reading of the value by the form of badges. Refuses only a value that is no table, with `WrongKind`.
+    /// The one reading of the value by the form of badges.
+    ///
+    /// Refuses only a value that is no table, with `Error::Parse(ParseFault::Schema(..))` of the cause `WrongKind` and
+    /// the empty key path. Want of memory is [`Error::Memory`].
     ///
     /// ```ignore
     /// let value = Value::from_str(alloc, "{ gitlab = 1, codecov = { repository = 'a/b' } }")?;

@@ -18,9 +18,13 @@ use toml::Value;
 /// A Rust edition. See the [Cargo reference](https://doc.rust-lang.org/cargo/reference/manifest.html#the-edition-field).
 #[derive(Clone, Copy, Debug, PartialEq, Eq, Hash)]
 pub enum Edition {
+    /// The edition 2015, that of a package without one.
     E2015,
+    /// The edition 2018.
     E2018,
+    /// The edition 2021.
     E2021,
+    /// The edition 2024.
     E2024,
 }
 
@@ -41,8 +45,11 @@ impl Edition {
         }
     }
 
-    /// The one reading of the value: one of the texts. Refuses a value that is no text with `WrongKind`, and another
-    /// text with `NotAChoice`, both at the empty path. It never wants memory.
+    /// The one reading of the value: one of the texts.
+    ///
+    /// Refuses with `Error::Parse(ParseFault::Schema(..))` of a cause and the empty key path: `WrongKind` of a value
+    /// that is no text, and `NotAChoice` of another text. It never wants memory, so it never refuses with
+    /// [`Error::Memory`].
     ///
     /// ```ignore
     /// let value = Value::from_str(alloc, "'2021'")?;
@@ -102,11 +109,15 @@ impl Default for Edition {
     }
 }
 
-/// The resolver of features. See the [Cargo reference](https://doc.rust-lang.org/cargo/reference/resolver.html#resolver-versions).
+/// The version of the resolver of dependencies and their features. See the
+/// [Cargo reference](https://doc.rust-lang.org/cargo/reference/resolver.html#resolver-versions).
 #[derive(Clone, Copy, Debug, PartialEq, Eq, Hash)]
 pub enum Resolver {
+    /// By default that of the editions 2015 and 2018: a package has the features of all its uses together.
     V1,
+    /// By default that of the edition 2021: uses in build scripts, in tests and on other platforms are kept apart.
     V2,
+    /// By default that of the edition 2024: as the second, and versions that fit `rust-version` are preferred.
     V3,
 }
 
@@ -122,8 +133,11 @@ impl Resolver {
         }
     }
 
-    /// The one reading of the value: one of the texts. Refuses a value that is no text with `WrongKind`, and another
-    /// text with `NotAChoice`, both at the empty path. It never wants memory.
+    /// The one reading of the value: one of the texts.
+    ///
+    /// Refuses with `Error::Parse(ParseFault::Schema(..))` of a cause and the empty key path: `WrongKind` of a value
+    /// that is no text, and `NotAChoice` of another text. It never wants memory, so it never refuses with
+    /// [`Error::Memory`].
     ///
     /// ```ignore
     /// let value = Value::from_str(alloc, "'2'")?;
@@ -169,7 +183,7 @@ impl Schema for Resolver {
     ghost lawful = { resolver_lawful };
 }
 
-/// The first resolver.
+/// The first resolver. A package that names none may have another, by its edition.
 impl Default for Resolver {
     ghost is_default = { λ x. resolver_content x ≡ Contents.v1 };
 
@@ -181,9 +195,13 @@ impl Default for Resolver {
 /// The level of a lint. See the [Cargo reference](https://doc.rust-lang.org/cargo/reference/manifest.html#the-lints-section).
 #[derive(Clone, Copy, Debug, PartialEq, Eq, Hash)]
 pub enum LintLevel {
+    /// An error, and no attribute in the code can lower the level.
     Forbid,
+    /// An error.
     Deny,
+    /// A warning.
     Warn,
+    /// Not reported.
     Allow,
 }
 
@@ -204,8 +222,11 @@ impl LintLevel {
         }
     }
 
-    /// The one reading of the value: one of the texts. Refuses a value that is no text with `WrongKind`, and another
-    /// text with `NotAChoice`, both at the empty path. It never wants memory.
+    /// The one reading of the value: one of the texts.
+    ///
+    /// Refuses with `Error::Parse(ParseFault::Schema(..))` of a cause and the empty key path: `WrongKind` of a value
+    /// that is no text, and `NotAChoice` of another text. It never wants memory, so it never refuses with
+    /// [`Error::Memory`].
     ///
     /// ```ignore
     /// let value = Value::from_str(alloc, "'deny'")?;
@@ -255,12 +276,19 @@ impl Schema for LintLevel {
 /// How a package is maintained. See the [Cargo reference](https://doc.rust-lang.org/cargo/reference/manifest.html#the-badges-section).
 #[derive(Clone, Copy, Debug, PartialEq, Eq, Hash)]
 pub enum MaintenanceStatus {
+    /// No status is given, and no badge displayed: the default.
     None,
+    /// New features are added, and bugs fixed.
     ActivelyDeveloped,
+    /// No new features are planned, but the maintainer means to answer issues.
     PassivelyMaintained,
+    /// It is complete and serves its purpose; the maintainer does no more work on it and gives no support.
     AsIs,
+    /// It is shared, but not meant to serve anyone's particular use.
     Experimental,
+    /// The maintainer would like to hand it over.
     LookingForMaintainer,
+    /// The maintainer advises against its use.
     Deprecated,
 }
 
@@ -280,8 +308,11 @@ impl MaintenanceStatus {
         }
     }
 
-    /// The one reading of the value: one of the texts. Refuses a value that is no text with `WrongKind`, and another
-    /// text with `NotAChoice`, both at the empty path. It never wants memory.
+    /// The one reading of the value: one of the texts.
+    ///
+    /// Refuses with `Error::Parse(ParseFault::Schema(..))` of a cause and the empty key path: `WrongKind` of a value
+    /// that is no text, and `NotAChoice` of another text. It never wants memory, so it never refuses with
+    /// [`Error::Memory`].
     ///
     /// ```ignore
     /// let value = Value::from_str(alloc, "'as-is'")?;

@@ -22,13 +22,13 @@ use manifest_value::{Cause, ReadFault, Schema};
 use std::alloc::{AllocError, Global};
 use toml::{Table, Value};
 
-/// A dependency that the workspace lends, and what the member adds. See the
+/// A dependency that is inherited from the workspace, and what the member adds. See the
 /// [Cargo reference](https://doc.rust-lang.org/cargo/reference/specifying-dependencies.html#inheriting-a-dependency-from-a-workspace).
 #[derive(Debug, PartialEq, Eq, Drop)]
 pub struct InheritedDependencyDetail {
-    /// The word that the workspace lends it.
+    /// `workspace = true`: the rest is inherited from `[workspace.dependencies]`.
     pub workspace: True,
-    /// The features that the member adds.
+    /// The features that are enabled besides those that the workspace enables.
     pub features: Option<Vec<String>>,
     /// Whether the dependency is optional in the member.
     pub optional: Option<bool>,
@@ -38,46 +38,48 @@ pub struct InheritedDependencyDetail {
 /// [Cargo reference](https://doc.rust-lang.org/cargo/reference/specifying-dependencies.html).
 #[derive(Debug, PartialEq, Eq, Drop)]
 pub struct DependencyDetail {
-    /// The versions that serve.
+    /// The version requirement, such as `1.2` or `>=1.2, <1.5`.
     pub version: Option<String>,
-    /// The registry, by its name.
+    /// The registry that has the package, by its name; crates.io where no other source is named.
     pub registry: Option<String>,
-    /// The index of the registry.
+    /// The registry that has the package, by the URL of its index.
     pub registry_index: Option<String>,
-    /// The folder, relative to the manifest.
+    /// The path of the package's folder, relative to the manifest.
     pub path: Option<String>,
-    /// The repository.
+    /// The URL of the git repository that has the package.
     pub git: Option<String>,
-    /// The branch of the repository.
+    /// The branch of the git repository.
     pub branch: Option<String>,
-    /// The tag of the repository.
+    /// The tag of the git repository.
     pub tag: Option<String>,
-    /// The revision of the repository.
+    /// The revision of the git repository: a commit's hash, or a reference such as `refs/pull/1/head`.
     pub rev: Option<String>,
-    /// The features that are turned on.
+    /// The features of the package that are enabled.
     pub features: Option<Vec<String>>,
-    /// Whether the dependency is optional.
+    /// Whether the dependency is optional: it is built only where a feature enables it.
     pub optional: Option<bool>,
-    /// Whether the default features are on.
+    /// Whether the default features are enabled; they are where nothing is said.
     pub default_features: Option<bool>,
-    /// The name of the package, where the key is another.
+    /// The name of the package, where the dependency is renamed: its key is then the new name.
     pub package: Option<String>,
 }
 
-/// A dependency: a version alone, a word that the workspace lends it, or in detail.
+/// A dependency: a version requirement alone, inherited from the workspace, or in detail.
 #[derive(Debug, PartialEq, Eq, Drop)]
 pub enum Dependency {
-    /// The versions that serve, as in `a = "1"`.
+    /// A version requirement alone: `a = "1"`.
     Simple(String),
-    /// A table whose `workspace` is the boolean true.
+    /// Inherited from the workspace: a table whose `workspace` is the boolean true.
     Inherited(InheritedDependencyDetail),
-    /// Any other table.
+    /// Any other table: version requirement, source, features.
     Detailed(DependencyDetail),
 }
 
 impl InheritedDependencyDetail {
-    /// The one reading of the value by the form of an inherited dependency. Refuses a value that is no table with
-    /// `WrongKind`, and else with the fault of a row, its key path beginning at the table.
+    /// The one reading of the value by the form of an inherited dependency.
+    ///
+    /// Refuses with `Error::Parse(ParseFault::Schema(..))` of a cause and its key path in the value: `WrongKind` at the
+    /// empty path of a value that is no table, and else the fault of a row. Want of memory is [`Error::Memory`].
     ///
     /// ```ignore
     /// let value = Value::from_str(alloc, "{ workspace = true, optional = true }")?;
@@ -92,8 +94,10 @@ impl InheritedDependencyDetail {
 }
 
 impl DependencyDetail {
-    /// The one reading of the value by the form of a detailed dependency. Refuses a value that is no table with
-    /// `WrongKind`, and else with the fault of a row, its key path beginning at the table.
+    /// The one reading of the value by the form of a detailed dependency.
+    ///
+    /// Refuses with `Error::Parse(ParseFault::Schema(..))` of a cause and its key path in the value: `WrongKind` at the
+    /// empty path of a value that is no table, and else the fault of a row. Want of memory is [`Error::Memory`].
     ///
     /// ```ignore
     /// let value = Value::from_str(alloc, "{ version = '1', default-features = false }")?;
@@ -109,7 +113,10 @@ impl DependencyDetail {
 
 impl Dependency {
     /// The one reading of the value: a text is `Simple`, a table whose `workspace` is the boolean true `Inherited`, any
-    /// other table `Detailed`. Refuses any other value with `WrongKind`, and else with the fault of a row.
+    /// other table `Detailed`.
+    ///
+    /// Refuses with `Error::Parse(ParseFault::Schema(..))` of a cause and its key path in the value: `WrongKind` at the
+    /// empty path of any other value, and else the fault of a row. Want of memory is [`Error::Memory`].
     ///
     /// ```ignore
     /// let value = Value::from_str(alloc, "{ workspace = false, version = '1' }")?;
@@ -297,7 +304,7 @@ impl Schema for Dependency {
     ghost lawful = { dependency_lawful };
 }
 
-/// Nothing but the word that the workspace lends it.
+/// Inherited, with nothing added.
 impl Default for InheritedDependencyDetail {
     ghost is_default = { λ x. inherited_content x ≡ record { features = None; «optional» = None } };
 

@@ -1,4 +1,4 @@
-//! What the workspace may lend.
+//! What may be inherited from the workspace.
 
 ghost use Rattle.std.specs.Prelude.{◌≡◌, IfOk, IfErr, true};
 ghost use Rattle.toml.specs.View.{view, table_view};
@@ -18,13 +18,15 @@ use manifest_value::{Cause, Plain, ReadFault, Schema};
 use std::alloc::{AllocError, Global};
 use toml::{Table, Value};
 
-/// The one value that stands for the boolean true.
+/// The one value that stands for the boolean true, as in `workspace = true`.
 #[derive(Clone, Debug, PartialEq, Eq, Drop)]
 pub struct True;
 
 impl True {
-    /// The one reading of the value: the boolean true. Refuses false with `NotTrue`, and any other value with
-    /// `WrongKind`, both at the empty path. It never wants memory.
+    /// The one reading of the value: the boolean true.
+    ///
+    /// Refuses with `Error::Parse(ParseFault::Schema(..))` of a cause and the empty key path: `NotTrue` of false, and
+    /// `WrongKind` of any other value. It never wants memory, so it never refuses with [`Error::Memory`].
     ///
     /// ```ignore
     /// let value = Value::from_str(alloc, "true")?;
@@ -77,20 +79,22 @@ impl Default for True {
     }
 }
 
-/// A value of the package's own, or the word that the workspace lends it. See the
+/// A value of the package's own, or the mark that it is inherited: the workspace's manifest then has it. See the
 /// [Cargo reference](https://doc.rust-lang.org/cargo/reference/workspaces.html#the-package-table).
 #[derive(Debug, PartialEq, Eq, Drop)]
 pub enum MaybeInherited<T> {
-    /// `{ workspace = true }`.
+    /// Inherited from the workspace: `{ workspace = true }`, as in `version.workspace = true`.
     Inherited { workspace: True },
-    /// The value itself.
+    /// The package's own value.
     Local(T),
 }
 
 impl<T: Plain> MaybeInherited<T> {
     /// The one reading of the value: `Inherited` of a table whose `workspace` is the boolean true, else `Local` of the
-    /// type's own reading. Refuses any other table with `WrongKind` at the empty path, and else with the type's own
-    /// fault.
+    /// type's own reading.
+    ///
+    /// Refuses with `Error::Parse(ParseFault::Schema(..))` of a cause and its key path in the value: `WrongKind` at the
+    /// empty path of any other table, and else the type's own fault. Want of memory is [`Error::Memory`].
     ///
     /// ```ignore
     /// let value = Value::from_str(alloc, "{ workspace = true }")?;

@@ -30,29 +30,36 @@ use toml::{Table, Value};
 /// [Cargo reference](https://doc.rust-lang.org/cargo/reference/manifest.html#the-lints-section).
 #[derive(Clone, Debug, PartialEq, Eq, Drop)]
 pub struct LintConfig {
+    /// The level of the lint or lint group.
     pub level: LintLevel,
-    /// Where levels overlap, the lint with the higher priority wins; 0 where none is given.
+    /// Where lints and lint groups overlap, the one with the higher priority decides; 0 where none is given.
     pub priority: i8,
 }
 
 /// A lint: a level, or a level with a priority.
 #[derive(Clone, Debug, PartialEq, Eq, Drop)]
 pub enum Lint {
+    /// A level alone, with the priority 0: `unsafe_code = "forbid"`.
     Level(LintLevel),
+    /// A table: `unsafe_code = { level = "forbid", priority = 1 }`.
     Config(LintConfig),
 }
 
-/// The lints of a package, by tool and by lint, or the word that the workspace lends them. No tool may be named
-/// `workspace`.
+/// The lints of a package, by tool and by lint, or the mark that they are inherited from the workspace. No tool may
+/// be named `workspace`.
 #[derive(Debug, PartialEq, Eq, Drop)]
 pub struct MaybeInheritedLintsSet {
+    /// Whether the lints are inherited: `Some` where the table has `workspace = true`.
     pub workspace: Option<True>,
+    /// The package's own lints, by tool, such as `rust` or `clippy`, and by the name of the lint or lint group.
     pub lints: BTreeMap<String, BTreeMap<String, Lint>>,
 }
 
 impl LintConfig {
-    /// The one reading of the value by the form of a lint. Refuses a value that is no table with `WrongKind`, and else
-    /// with the fault of a row.
+    /// The one reading of the value by the form of a lint.
+    ///
+    /// Refuses with `Error::Parse(ParseFault::Schema(..))` of a cause and its key path in the value: `WrongKind` at the
+    /// empty path of a value that is no table, and else the fault of a row. Want of memory is [`Error::Memory`].
     ///
     /// ```ignore
     /// let value = Value::from_str(alloc, "{ level = 'deny', priority = -1 }")?;
@@ -67,8 +74,10 @@ impl LintConfig {
 }
 
 impl Lint {
-    /// The one reading of the value: a text is a level, a table a level with a priority. Refuses any other value with
-    /// `WrongKind`, and else with the fault of the level or of a row.
+    /// The one reading of the value: a text is a level, a table a level with a priority.
+    ///
+    /// Refuses with `Error::Parse(ParseFault::Schema(..))` of a cause and its key path in the value: `WrongKind` at the
+    /// empty path of any other value, and else the fault of the level or of a row. Want of memory is [`Error::Memory`].
     ///
     /// ```ignore
     /// let value = Value::from_str(alloc, "'deny'")?;
@@ -83,8 +92,11 @@ impl Lint {
 }
 
 impl MaybeInheritedLintsSet {
-    /// The one reading of the value by the form of lints: every key but `workspace` is a tool. Refuses a value that is no
-    /// table with `WrongKind`, and else with the fault of a row or of a tool.
+    /// The one reading of the value by the form of lints: every key but `workspace` is a tool.
+    ///
+    /// Refuses with `Error::Parse(ParseFault::Schema(..))` of a cause and its key path in the value: `WrongKind` at the
+    /// empty path of a value that is no table, and else the fault of `workspace` or of a tool. Want of memory is
+    /// [`Error::Memory`].
     ///
     /// ```ignore
     /// let value = Value::from_str(alloc, "{ rust = { unsafe_code = 'forbid' } }")?;
@@ -97,8 +109,8 @@ impl MaybeInheritedLintsSet {
         read(alloc, value)
     }
 
-    /// Whether the lints can be written and read back: no tool is named `workspace`, since under that key stands the
-    /// word that the workspace lends them.
+    /// Whether the lints can be written and read back: no tool is named `workspace`, since under that key stands
+    /// whether they are inherited.
     ///
     /// ```ignore
     /// let can_be_written = lints.is_well_formed();

@@ -21,39 +21,42 @@ use manifest_value::{Cause, ReadFault, Schema};
 use std::alloc::{AllocError, Global};
 use toml::{Table, Value};
 
-/// A target of a package: its library, a binary, an example, a test or a bench. See the
+/// A target of a package: its library, a binary, an example, a test or a bench. Cargo calls platforms targets too, and
+/// [`Target`](crate::Target) is one of these. See the
 /// [Cargo reference](https://doc.rust-lang.org/cargo/reference/cargo-targets.html#configuring-a-target).
 #[derive(Debug, PartialEq, Eq, Drop)]
 pub struct Product {
-    /// The source file, relative to the manifest.
+    /// The path of the target's source file, relative to the manifest; discovered where there is none.
     pub path: Option<String>,
-    /// The name of the target, and of the file that is built.
+    /// The name of the target and of what is built; a library's is by default the package's, with `_` for each `-`.
     pub name: Option<String>,
-    /// Whether it is tested by default.
+    /// Whether `cargo test` tests it by default.
     pub test: bool,
-    /// Whether its documentation is tested.
+    /// Whether `cargo test` tests the examples in its documentation; of a library alone.
     pub doctest: bool,
-    /// Whether it is benched by default.
+    /// Whether `cargo bench` benches it by default.
     pub bench: bool,
-    /// Whether its documentation is built by default.
+    /// Whether `cargo doc` documents it by default.
     pub doc: bool,
     /// Whether it is a compiler plugin; obsolete.
     pub plugin: bool,
     /// Whether the library is a procedural macro.
     pub proc_macro: bool,
-    /// Whether it is built with the test harness.
+    /// Whether it is tested and benched by the harness of `libtest`; where not, it has a `main` of its own.
     pub harness: bool,
-    /// The edition of the target, where it is not that of the package.
+    /// The edition of the target; where there is none, the package's.
     pub edition: Option<Edition>,
-    /// The features without which it is not built.
+    /// The features without which it is not built; on a library they have no effect.
     pub required_features: Vec<String>,
-    /// The kinds of crate that are built.
+    /// The crate types that are built, such as `rlib` and `cdylib`; of a library or an example alone.
     pub crate_type: Option<Vec<String>>,
 }
 
 impl Product {
-    /// The one reading of the value by the form of a product. Refuses a value that is no table with
-    /// `WrongKind`, and else with the fault of a row, its key path beginning at the table.
+    /// The one reading of the value by the form of a product.
+    ///
+    /// Refuses with `Error::Parse(ParseFault::Schema(..))` of a cause and its key path in the value: `WrongKind` at the
+    /// empty path of a value that is no table, and else the fault of a row. Want of memory is [`Error::Memory`].
     ///
     /// ```ignore
     /// let value = Value::from_str(alloc, "{ name = 'a', test = false }")?;

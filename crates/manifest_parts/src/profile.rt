@@ -26,25 +26,42 @@ use toml::{Table, Value};
 /// The settings of one profile. See the [Cargo reference](https://doc.rust-lang.org/cargo/reference/profiles.html).
 #[derive(Debug, PartialEq, Drop)]
 pub struct Profile {
+    /// The optimization level, kept as it is: 0 to 3, `"s"` or `"z"`.
     pub opt_level: Option<Value>,
+    /// How much debug information there is, kept as it is: 0 to 2, a boolean, or a text such as `"limited"`.
     pub debug: Option<Value>,
+    /// Whether `rpath` is on: rustc's `-C rpath`.
     pub rpath: Option<bool>,
+    /// The profile from which it inherits what it does not set; Cargo requires it of a custom profile.
     pub inherits: Option<String>,
+    /// The link-time optimization, kept as it is: a boolean, `"fat"`, `"thin"` or `"off"`.
     pub lto: Option<Value>,
+    /// Whether `cfg(debug_assertions)` is on, and `debug_assert!` with it.
     pub debug_assertions: Option<bool>,
+    /// How many code generation units a crate is split into, at most.
     pub codegen_units: Option<u16>,
+    /// The panic strategy: `unwind` or `abort`.
     pub panic: Option<String>,
+    /// Whether incremental compilation is on.
     pub incremental: Option<bool>,
+    /// Whether the overflow of integers is checked at run time.
     pub overflow_checks: Option<bool>,
+    /// What is stripped from a binary: nothing, debug information, or all symbols.
     pub strip: Option<StripSetting>,
+    /// Overrides for single packages, by package ID spec or `*`; each is kept as it is.
     pub package: BTreeMap<String, Value>,
+    /// Whether debug information stands in the binary or beside it: `off`, `packed` or `unpacked`.
     pub split_debuginfo: Option<String>,
+    /// Overrides for build scripts, procedural macros and their dependencies, kept as they are.
     pub build_override: Option<Value>,
 }
 
 impl Profile {
-    /// The one reading of the value by the form of a profile. Refuses a value that is no table with `WrongKind`, and else
-    /// with the fault of a row; a float anywhere in a kept value is `HoldsFloat` at the float.
+    /// The one reading of the value by the form of a profile.
+    ///
+    /// Refuses with `Error::Parse(ParseFault::Schema(..))` of a cause and its key path in the value: `WrongKind` at the
+    /// empty path of a value that is no table, and else the fault of a row; a float anywhere in a kept value is
+    /// `HoldsFloat` at the float. Want of memory is [`Error::Memory`].
     ///
     /// ```ignore
     /// let value = Value::from_str(alloc, "{ opt-level = 's', codegen-units = 1 }")?;

@@ -14,15 +14,20 @@ use manifest_value::{Cause, Plain, ReadFault, Schema};
 use std::alloc::{AllocError, Global};
 use toml::Value;
 
-/// A text or a boolean.
+/// A text or a boolean, as `build` and `readme` have one.
 #[derive(Debug, PartialEq, Eq, Drop)]
 pub enum StringOrBool {
+    /// A text: the path of a file, such as the build script or the readme.
     String(String),
+    /// A boolean: true for the file of the default name, as `build.rs` or `README.md`, false for none.
     Bool(bool),
 }
 
 impl StringOrBool {
-    /// The one reading of the value: a text or a boolean. Refuses any other with `WrongKind` at the empty path.
+    /// The one reading of the value: a text or a boolean.
+    ///
+    /// Refuses any other value with `Error::Parse(ParseFault::Schema(..))` of the cause `WrongKind` and the empty key
+    /// path. Want of memory is [`Error::Memory`].
     ///
     /// ```ignore
     /// let value = Value::from_str(alloc, "'build.rs'")?;
@@ -69,13 +74,17 @@ impl Plain for StringOrBool {
 /// [Cargo reference](https://doc.rust-lang.org/cargo/reference/manifest.html#the-publish-field).
 #[derive(Debug, PartialEq, Eq, Drop)]
 pub enum Publish {
+    /// Whether the package may be published: true to any registry, which is Cargo's default, false to none.
     Flag(bool),
+    /// The names of the registries to which the package may be published; with no name, to none.
     Registry(Vec<String>),
 }
 
 impl Publish {
-    /// The one reading of the value: a boolean, or a list of texts. Refuses any other value with `WrongKind`, at the
-    /// item where an item is no text.
+    /// The one reading of the value: a boolean, or a list of texts.
+    ///
+    /// Refuses any other value with `Error::Parse(ParseFault::Schema(..))` of the cause `WrongKind` and its key path:
+    /// that of an item which is no text, and else the empty one. Want of memory is [`Error::Memory`].
     ///
     /// ```ignore
     /// let value = Value::from_str(alloc, "['crates-io']")?;

@@ -20,17 +20,19 @@ use toml::Value;
 /// [Cargo reference](https://doc.rust-lang.org/cargo/reference/profiles.html#strip).
 #[derive(Clone, Debug, PartialEq, Eq, PartialOrd, Ord, Drop)]
 pub enum StripSetting {
-    /// `false` or `"none"`.
+    /// `false` or `"none"`: nothing is stripped.
     None,
-    /// `"debuginfo"`.
+    /// `"debuginfo"`: debug information is stripped.
     Debuginfo,
-    /// `true` or `"symbols"`.
+    /// `true` or `"symbols"`: debug information and all other symbols are stripped.
     Symbols,
 }
 
 impl StripSetting {
-    /// The one reading of the value: a boolean, or one of the texts. Refuses another text with `NotAChoice`, and
-    /// another kind with `WrongKind`, both at the empty path. It never wants memory.
+    /// The one reading of the value: a boolean, or one of the texts.
+    ///
+    /// Refuses with `Error::Parse(ParseFault::Schema(..))` of a cause and the empty key path: `NotAChoice` of another
+    /// text, and `WrongKind` of another kind. It never wants memory, so it never refuses with [`Error::Memory`].
     ///
     /// ```ignore
     /// let value = Value::from_str(alloc, "'debuginfo'")?;

@@ -20,18 +20,23 @@ use std::alloc::{AllocError, Global};
 use std::collections::BTreeMap;
 use toml::{Table, Value};
 
-/// The dependencies that are added for one platform. See the
+/// The dependencies that are added for one platform. A target that is built is a [`Product`](crate::Product). See the
 /// [Cargo reference](https://doc.rust-lang.org/cargo/reference/specifying-dependencies.html#platform-specific-dependencies).
 #[derive(Debug, PartialEq, Eq, Drop)]
 pub struct Target {
+    /// The dependencies of the package that are built only where the target platform is this one.
     pub dependencies: BTreeMap<String, Dependency>,
+    /// The dependencies of its tests, examples and benches on this platform.
     pub dev_dependencies: BTreeMap<String, Dependency>,
+    /// The dependencies of its build script, built only where the host platform is this one.
     pub build_dependencies: BTreeMap<String, Dependency>,
 }
 
 impl Target {
-    /// The one reading of the value by the form of a platform. Refuses a value that is no table with `WrongKind`, and else
-    /// with the fault of a row.
+    /// The one reading of the value by the form of a platform.
+    ///
+    /// Refuses with `Error::Parse(ParseFault::Schema(..))` of a cause and its key path in the value: `WrongKind` at the
+    /// empty path of a value that is no table, and else the fault of a row. Want of memory is [`Error::Memory`].
     ///
     /// ```ignore
     /// let value = Value::from_str(alloc, "{ dependencies = { libc = '0.2' } }")?;

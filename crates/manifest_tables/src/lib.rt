@@ -1,4 +1,4 @@
-//! The wide tables of a manifest: the package, the workspace and what it lends, and the profiles.
+//! The wide tables of a manifest: the package, the workspace and what its members can inherit, and the profiles.
 #![tactic(auto)]
 
 pub mod package;

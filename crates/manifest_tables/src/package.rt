@@ -27,43 +27,74 @@ use manifest_value::{Cause, Metadata, ReadFault, Schema};
 use std::alloc::{AllocError, Global};
 use toml::{Table, Value};
 
-/// The package of a manifest; `M` is the type of its metadata. See the
+/// The package of a manifest; `M` is the type of its metadata. What is `MaybeInherited` may be inherited: then it
+/// stands in the workspace's manifest alone. See the
 /// [Cargo reference](https://doc.rust-lang.org/cargo/reference/manifest.html#the-package-section).
 #[derive(Debug, PartialEq, Drop)]
 pub struct Package<M = Value> {
+    /// The name, from which its library and its main binary take theirs by default; it may have capital letters.
     pub name: String,
+    /// The edition of its targets, its own or inherited; Cargo takes 2015 where there is none.
     pub edition: Option<MaybeInherited<Edition>>,
+    /// The version, its own or inherited; Cargo takes `0.0.0` where there is none.
     pub version: Option<MaybeInherited<String>>,
+    /// The build script by its path, or false for none; absent or true, it is discovered: completion fills it in.
     pub build: Option<StringOrBool>,
+    /// The path of its workspace's root; Cargo searches the folders above where there is none.
     pub workspace: Option<String>,
+    /// The people and organizations that made it, such as `Alice <alice@example.com>`.
     pub authors: Option<MaybeInherited<Vec<String>>>,
+    /// The name of the native library that it links to.
     pub links: Option<String>,
+    /// What it is, in a few words of plain text, not Markdown.
     pub description: Option<MaybeInherited<String>>,
+    /// The URL of its home page.
     pub homepage: Option<MaybeInherited<String>>,
+    /// The URL of its documentation; crates.io links to docs.rs where there is none.
     pub documentation: Option<MaybeInherited<String>>,
+    /// The readme by its path, relative to the manifest; true for `README.md`, false for none.
     pub readme: Option<MaybeInherited<StringOrBool>>,
+    /// The keywords by which a registry finds it; crates.io takes at most five.
     pub keywords: Option<MaybeInherited<Vec<String>>>,
+    /// The categories of crates.io in which it stands, by their slugs; at most five.
     pub categories: Option<MaybeInherited<Vec<String>>>,
+    /// The licence: an SPDX expression such as `MIT OR Apache-2.0`.
     pub license: Option<MaybeInherited<String>>,
+    /// The path of the licence's text, relative to the manifest, where the licence is not a standard one.
     pub license_file: Option<MaybeInherited<String>>,
+    /// The URL of its source repository.
     pub repository: Option<MaybeInherited<String>>,
+    /// What tools other than Cargo read: `[package.metadata]`.
     pub metadata: Option<M>,
+    /// The oldest version of Rust that it supports, such as `1.75`: a bare version, no requirement.
     pub rust_version: Option<MaybeInherited<String>>,
+    /// The files that are not packaged, by patterns as of gitignore; of no effect beside `include`.
     pub exclude: Option<MaybeInherited<Vec<String>>>,
+    /// The files that are packaged, by patterns as of gitignore.
     pub include: Option<MaybeInherited<Vec<String>>>,
+    /// The name of the binary that `cargo run` takes by default.
     pub default_run: Option<String>,
+    /// False turns the discovery of a library off.
     pub autolib: Option<bool>,
+    /// Whether binaries are discovered, where the package says it; `Manifest::autobins` tells what holds.
     pub autobins: Option<bool>,
+    /// Whether examples are discovered, where the package says it; `Manifest::autoexamples` tells what holds.
     pub autoexamples: Option<bool>,
+    /// Whether tests are discovered, where the package says it; `Manifest::autotests` tells what holds.
     pub autotests: Option<bool>,
+    /// Whether benches are discovered, where the package says it; `Manifest::autobenches` tells what holds.
     pub autobenches: Option<bool>,
+    /// Whether, or to which registries, it may be published; to any where nothing is said.
     pub publish: Option<MaybeInherited<Publish>>,
+    /// The resolver, of a root package alone; by default 1, in the edition 2021 it is 2, and in 2024 it is 3.
     pub resolver: Option<Resolver>,
 }
 
 impl<M: Metadata> Package<M> {
-    /// The one reading of the value by the form of a package. Refuses a value that is no table with
-    /// `WrongKind`, and else with the fault of a row, its key path beginning at the table.
+    /// The one reading of the value by the form of a package.
+    ///
+    /// Refuses with `Error::Parse(ParseFault::Schema(..))` of a cause and its key path in the value: `WrongKind` at the
+    /// empty path of a value that is no table, and else the fault of a row. Want of memory is [`Error::Memory`].
     ///
     /// ```ignore
     /// let value = Value::from_str(alloc, "{ name = 'a', version = '1.0.0', edition = '2021' }")?;

@@ -33,11 +33,17 @@ use toml::{Table, Value};
 /// of the five names. See the [Cargo reference](https://doc.rust-lang.org/cargo/reference/profiles.html).
 #[derive(Debug, PartialEq, Drop)]
 pub struct Profiles {
+    /// The profile of `--release` and of `cargo install`.
     pub release: Option<Profile>,
+    /// The profile that `cargo build` and others take by default.
     pub dev: Option<Profile>,
+    /// The profile of `cargo test`, which inherits from `dev`.
     pub test: Option<Profile>,
+    /// The profile of `cargo bench`, which inherits from `release`.
     pub bench: Option<Profile>,
+    /// The profile of documentation, which Cargo has given up: it has no effect.
     pub doc: Option<Profile>,
+    /// The custom profiles, by name.
     pub custom: BTreeMap<String, Profile>,
 }
 
@@ -60,8 +66,10 @@ impl Profiles {
         }
     }
 
-    /// The one reading of the value by the form of profiles: every key but the five is the name of a custom profile. Refuses
-    /// a value that is no table with `WrongKind`, and else with the fault of a profile.
+    /// The one reading of the value by the form of profiles: every key but the five is the name of a custom profile.
+    ///
+    /// Refuses with `Error::Parse(ParseFault::Schema(..))` of a cause and its key path in the value: `WrongKind` at the
+    /// empty path of a value that is no table, and else the fault of a profile. Want of memory is [`Error::Memory`].
     ///
     /// ```ignore
     /// let value = Value::from_str(alloc, "{ release = { lto = true }, tiny = { inherits = 'release' } }")?;

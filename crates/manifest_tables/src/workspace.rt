@@ -1,4 +1,4 @@
-//! The workspace of a manifest, and the package fields that it lends.
+//! The workspace of a manifest, and the package fields that members can inherit from it.
 
 ghost use Rattle.std.specs.Prelude.{◌≡◌, ◌↔◌, IsTrue, option_map, IfOk, IfErr, OnOk};
 ghost use Rattle.toml.specs.Data.{Data, table as data_table};
@@ -30,31 +30,49 @@ use manifest_value::{Cause, Metadata, ReadFault, Schema};
 use std::alloc::{AllocError, Global};
 use toml::{Table, Value};
 
-/// The package fields that a workspace lends. See the
+/// The package fields that members can inherit from a workspace, each by `{ workspace = true }`. See the
 /// [Cargo reference](https://doc.rust-lang.org/cargo/reference/workspaces.html#the-package-table).
 #[derive(Debug, PartialEq, Eq, Drop)]
 pub struct WorkspacePackage {
+    /// The edition that members can inherit.
     pub edition: Option<Edition>,
+    /// The version that members can inherit.
     pub version: Option<String>,
+    /// The authors that members can inherit.
     pub authors: Option<Vec<String>>,
+    /// The description that members can inherit, in plain text.
     pub description: Option<String>,
+    /// The URL of the home page that members can inherit.
     pub homepage: Option<String>,
+    /// The URL of the documentation that members can inherit.
     pub documentation: Option<String>,
+    /// The readme that members can inherit: its path, relative to the workspace's root, or a boolean.
     pub readme: Option<StringOrBool>,
+    /// The keywords that members can inherit.
     pub keywords: Option<Vec<String>>,
+    /// The categories that members can inherit.
     pub categories: Option<Vec<String>>,
+    /// The licence that members can inherit, as an SPDX expression.
     pub license: Option<String>,
+    /// The path of the licence's text that members can inherit, relative to the workspace's root.
     pub license_file: Option<String>,
+    /// The URL of the source repository that members can inherit.
     pub repository: Option<String>,
+    /// The oldest supported version of Rust that members can inherit.
     pub rust_version: Option<String>,
+    /// The patterns that members can inherit of files that are not packaged, relative to each member.
     pub exclude: Option<Vec<String>>,
+    /// The patterns that members can inherit of files that are packaged, relative to each member.
     pub include: Option<Vec<String>>,
+    /// Whether, or to which registries, members that inherit it may be published.
     pub publish: Option<Publish>,
 }
 
 impl WorkspacePackage {
-    /// The one reading of the value by the form of a workspace's package. Refuses a value that is no table with
-    /// `WrongKind`, and else with the fault of a row, its key path beginning at the table.
+    /// The one reading of the value by the form of a workspace's package.
+    ///
+    /// Refuses with `Error::Parse(ParseFault::Schema(..))` of a cause and its key path in the value: `WrongKind` at the
+    /// empty path of a value that is no table, and else the fault of a row. Want of memory is [`Error::Memory`].
     ///
     /// ```ignore
     /// let value = Value::from_str(alloc, "{ version = '1.0.0', edition = '2021' }")?;
@@ -233,13 +251,21 @@ impl Default for WorkspacePackage {
 /// [Cargo reference](https://doc.rust-lang.org/cargo/reference/workspaces.html#the-workspace-section).
 #[derive(Debug, PartialEq, Eq, Drop)]
 pub struct Workspace<M = Value> {
+    /// The paths of members, or globs; not all, since the root package and path dependencies inside are members too.
     pub members: Vec<String>,
+    /// The members, by paths or globs, on which a command at the workspace's root works by default.
     pub default_members: Option<Vec<String>>,
+    /// The paths that are not members, though `members` or a path dependency names them.
     pub exclude: Option<Vec<String>>,
+    /// The resolver of all members; by default that of the root package, or 1 in a virtual workspace.
     pub resolver: Option<Resolver>,
+    /// The dependencies that members can inherit; Cargo allows no optional one.
     pub dependencies: Option<DepsSet>,
+    /// The package fields that members can inherit.
     pub package: Option<WorkspacePackage>,
+    /// What tools other than Cargo read: `[workspace.metadata]`.
     pub metadata: Option<M>,
+    /// The lints that members can inherit, by tool and by the name of the lint or lint group.
     pub lints: Option<LintsSet>,
 }
 
@@ -266,8 +292,10 @@ impl<M> Workspace<M> {
 }
 
 impl<M: Metadata> Workspace<M> {
-    /// The one reading of the value by the form of a workspace. Refuses a value that is no table with
-    /// `WrongKind`, and else with the fault of a row, its key path beginning at the table.
+    /// The one reading of the value by the form of a workspace.
+    ///
+    /// Refuses with `Error::Parse(ParseFault::Schema(..))` of a cause and its key path in the value: `WrongKind` at the
+    /// empty path of a value that is no table, and else the fault of a row. Want of memory is [`Error::Memory`].
     ///
     /// ```ignore
     /// let value = Value::from_str(alloc, "{ members = ['crates/a'], resolver = '2' }")?;
@@ -294,7 +322,7 @@ impl<M: Metadata> Workspace<M> {
     }
 }
 
-/// Reads the priorities of the lints that a workspace lends: each `i8` is in the range of its row.
+/// Reads the priorities of the lints that members can inherit: each `i8` is in the range of its row.
 fn lent_lints_fit(lints: &Option<LintsSet>)
     ensures { good_some (map_of (map_of lint)) (option_map (λ m. entries_content (λ l. entries_content lint_content l.entries) m.entries) lints.now) }
 {
