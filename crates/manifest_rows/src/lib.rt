@@ -23,6 +23,7 @@ mod metadata;
 mod paths;
 #[cfg(test)]
 mod printed;
+#[cfg(test)]
 mod queries;
 #[cfg(test)]
 mod refused;
