@@ -3,8 +3,8 @@ use crate::answers::{FromValue, Row, assert_told_in_order, assert_values};
 use cargo_manifest::{
     Badge, Badges, Dependency, DependencyDetail, Edition, Error, InheritedDependencyDetail, Lint,
     LintConfig, LintLevel, Maintenance, MaintenanceStatus, Manifest, MaybeInherited,
-    MaybeInheritedLintsSet, Package, Plain, Product, Profile, Profiles, Publish, Resolver,
-    StringOrBool, StripSetting, Target, True, Workspace, WorkspacePackage,
+    MaybeInheritedLintsSet, Metadata, Package, Plain, Product, Profile, Profiles, Publish,
+    Resolver, StringOrBool, StripSetting, Target, True, Workspace, WorkspacePackage,
 };
 use std::alloc::Global;
 use std::test::Fail;
@@ -142,9 +142,9 @@ impl FromValue for Badges {
     }
 }
 
-impl FromValue for Package<Value> {
-    fn read(alloc: Global, value: &Value) -> Result<Package<Value>, Error> {
-        Package::from_value(alloc, value)
+impl<M: Metadata> FromValue for Package<M> {
+    fn read(alloc: Global, value: &Value) -> Result<Package<M>, Error> {
+        Package::<M>::from_value(alloc, value)
     }
 }
 
@@ -154,15 +154,15 @@ impl FromValue for WorkspacePackage {
     }
 }
 
-impl FromValue for Workspace<Value> {
-    fn read(alloc: Global, value: &Value) -> Result<Workspace<Value>, Error> {
-        Workspace::from_value(alloc, value)
+impl<M: Metadata> FromValue for Workspace<M> {
+    fn read(alloc: Global, value: &Value) -> Result<Workspace<M>, Error> {
+        Workspace::<M>::from_value(alloc, value)
     }
 }
 
-impl FromValue for Manifest<Value, Value> {
-    fn read(alloc: Global, value: &Value) -> Result<Manifest<Value, Value>, Error> {
-        Manifest::from_value(alloc, value)
+impl<P: Metadata, W: Metadata> FromValue for Manifest<P, W> {
+    fn read(alloc: Global, value: &Value) -> Result<Manifest<P, W>, Error> {
+        Manifest::<P, W>::from_value(alloc, value)
     }
 }
 
