@@ -72,7 +72,7 @@ impl Profiles {
     /// empty path of a value that is no table, and else the fault of a profile. Want of memory is [`Error::Memory`].
     ///
     /// ```ignore
-    /// let value = Value::from_str(alloc, "{ release = { lto = true }, tiny = { inherits = 'release' } }")?;
+    /// let value = Value::from_str(alloc, "{ release = {}, tiny = { inherits = 'release' } }")?;
     /// let profiles = Profiles::from_value(alloc, &value)?; // `release`, and the custom profile `tiny`
     /// ```
     pub fn from_value(alloc: Global, value: &Value) -> Result<Profiles, Error>
