@@ -1,4 +1,4 @@
--- Causes and key paths as texts.
+-- Causes, key paths and faults as texts.
 use Rattle.std.specs.Prelude.{ℕ, Bool, true, false, ◌||◌, ◌==◌, nat_lt, ◌/◌, ◌%◌, if◌then◌else◌, [], ◌∷◌, ◌++◌, codes, flat_map, decimal}
 use Rattle.std.specs.List.{list_all}
 use Rattle.std.specs.Char.{is_ascii_alphanumeric}
@@ -58,3 +58,7 @@ next_text (index i) = step_text (index i)
 abbrev pub path_text : Path → Text
 path_text [] = codes "(top)"
 path_text (s ∷ p) = step_text s ++ flat_map next_text p
+
+-- the text of a fault: its cause and its path
+abbrev pub fault_text : Path → Cause → Text
+fault_text p c = cause_text c ++ codes " at " ++ path_text p

@@ -1,12 +1,14 @@
-//! Causes and key paths as texts.
-ghost use Rattle.std.specs.Prelude.{◌≡◌, ◌++◌, IfOk, OnOk, flat_map, string_bytes};
+//! Causes, key paths and faults as texts.
+ghost use Rattle.std.specs.Prelude.{◌≡◌, ◌++◌, IfOk, Some, codes, flat_map, string_bytes};
+ghost use Rattle.std.specs.Fmt.{WritesOnOk};
 ghost use Rattle.std.specs.Char.{encode_utf8};
 ghost use Rattle.std.specs.List.{list_all};
-ghost use Rattle.manifest_schema.specs.PathTexts.{cause_text, is_bare, is_bare_key, escaped, quoted_byte, quoted, key_text, step_text, next_text, path_text};
+ghost use Rattle.manifest_schema.specs.PathTexts.{cause_text, is_bare, is_bare_key, escaped, quoted_byte, quoted, key_text, step_text, next_text, path_text, fault_text};
 ghost use Rattle.manifest_value.specs.Faults.{step_of, path_of, cause_of};
 
-use crate::fault::{Cause, KeyPath, Step};
+use crate::fault::{Cause, KeyPath, SchemaFault, Step};
 use std::alloc::{AllocError, Global};
+use std::fmt;
 
 impl Cause {
     /// The cause in plain words, as `wrong kind` or `missing`.
@@ -30,6 +32,15 @@ impl Cause {
     }
 }
 
+/// The text of [`Cause::as_str`].
+impl fmt::Display for Cause {
+    ghost output = { λ c. Some (cause_text (cause_of c)) };
+
+    fn fmt<W: fmt::Write>(&self, f: &mut fmt::Formatter<W>) -> fmt::Result {
+        f.write_str(self.as_str())
+    }
+}
+
 impl KeyPath {
     /// The path as a text, or `AllocError` where it finds no room.
     ///
@@ -45,46 +56,64 @@ impl KeyPath {
     pub fn to_text(&self, alloc: Global) -> Result<String, AllocError>
         ensures { IfOk result (λ s. string_bytes s ≡ path_text (path_of self.now)) }
     {
-        let Some((first, rest)) = self.steps.split_first() else {
-            return String::from_str(alloc, "(top)");
-        };
-        let mut text = String::new(alloc);
-        push_step(&mut text, first)?;
-        for step in rest {
-            push_next_step(&mut text, step)?;
-        }
-        Ok(text)
+        format!(in alloc; "{self}")
     }
 }
 
-/// Appends a step that begins a path.
-fn push_step(text: &mut String, step: &Step) -> Result<(), AllocError>
-    ensures { OnOk result (string_bytes text.new ≡ string_bytes text.old ++ step_text (step_of step.now)) }
+/// The text of [`KeyPath::to_text`].
+impl fmt::Display for KeyPath {
+    ghost output = { λ p. Some (path_text (path_of p)) };
+
+    fn fmt<W: fmt::Write>(&self, f: &mut fmt::Formatter<W>) -> fmt::Result {
+        let Some((first, rest)) = self.steps.split_first() else {
+            return f.write_str("(top)");
+        };
+        write_step(f, first)?;
+        for step in rest {
+            write_next_step(f, step)?;
+        }
+        Ok(())
+    }
+}
+
+/// The cause and the path, as `wrong kind at package.authors[0]`.
+impl fmt::Display for SchemaFault {
+    ghost output = { λ fault. Some (fault_text (path_of fault.path) (cause_of fault.cause)) };
+
+    fn fmt<W: fmt::Write>(&self, f: &mut fmt::Formatter<W>) -> fmt::Result {
+        let (cause, path) = (&self.cause, &self.path);
+        write!(f, "{cause} at {path}")
+    }
+}
+
+/// Writes a step that begins a path.
+fn write_step<W: fmt::Write>(f: &mut fmt::Formatter<W>, step: &Step) -> fmt::Result
+    ensures { WritesOnOk W.write_str_gives f.old result (step_text (step_of step.now)) f.new }
 {
     match step {
-        Step::Key(key) => push_key(text, key.as_str()),
-        Step::Index(index) => write!(text, "[{index}]"),
+        Step::Key(key) => write_key(f, key.as_str()),
+        Step::Index(index) => write!(f, "[{index}]"),
     }
 }
 
-/// Appends a step that follows another.
-fn push_next_step(text: &mut String, step: &Step) -> Result<(), AllocError>
-    ensures { OnOk result (string_bytes text.new ≡ string_bytes text.old ++ next_text (step_of step.now)) }
+/// Writes a step that follows another.
+fn write_next_step<W: fmt::Write>(f: &mut fmt::Formatter<W>, step: &Step) -> fmt::Result
+    ensures { WritesOnOk W.write_str_gives f.old result (next_text (step_of step.now)) f.new }
 {
     if let Step::Key(_) = step {
-        text.push('.')?;
+        f.write_str(".")?;
     }
-    push_step(text, step)
+    write_step(f, step)
 }
 
-/// Appends a key, between quotes where it has to be.
-fn push_key(text: &mut String, key: &str) -> Result<(), AllocError>
-    ensures { OnOk result (string_bytes text.new ≡ string_bytes text.old ++ key_text key.now) }
+/// Writes a key, between quotes where it has to be.
+fn write_key<W: fmt::Write>(f: &mut fmt::Formatter<W>, key: &str) -> fmt::Result
+    ensures { WritesOnOk W.write_str_gives f.old result (key_text key.now) f.new }
 {
     if is_bare_key(key) {
-        text.push_str(key)
+        f.write_str(key)
     } else {
-        push_quoted(text, key)
+        write_quoted(f, key)
     }
 }
 
@@ -110,36 +139,36 @@ fn is_bare(byte: u8) -> bool
     byte.is_ascii_alphanumeric() || byte == b'_' || byte == b'-'
 }
 
-/// Appends a key between quotes.
-fn push_quoted(text: &mut String, key: &str) -> Result<(), AllocError>
-    ensures { OnOk result (string_bytes text.new ≡ string_bytes text.old ++ quoted key.now) }
+/// Writes a key between quotes.
+fn write_quoted<W: fmt::Write>(f: &mut fmt::Formatter<W>, key: &str) -> fmt::Result
+    ensures { WritesOnOk W.write_str_gives f.old result (quoted key.now) f.new }
 {
-    text.push('"')?;
+    f.write_char('"')?;
     for c in key.chars() {
-        push_quoted_char(text, c)?;
+        write_quoted_char(f, c)?;
     }
-    text.push('"')
+    f.write_char('"')
 }
 
-/// Appends a character that stands between quotes.
+/// Writes a character that stands between quotes.
 #[tactic(auto, using(crate::proofs::TextLemmas::plain_char))]
-fn push_quoted_char(text: &mut String, c: char) -> Result<(), AllocError>
-    ensures { OnOk result (string_bytes text.new ≡ string_bytes text.old ++ flat_map quoted_byte (encode_utf8 c)) }
+fn write_quoted_char<W: fmt::Write>(f: &mut fmt::Formatter<W>, c: char) -> fmt::Result
+    ensures { WritesOnOk W.write_str_gives f.old result (flat_map quoted_byte (encode_utf8 c)) f.new }
 {
     if c == '"' || c == '\\' {
-        text.push('\\')?;
-        text.push(c)
+        f.write_char('\\')?;
+        f.write_char(c)
     } else if c.is_ascii_control() {
-        push_escaped(text, c as u8)
+        write_escaped(f, c as u8)
     } else {
-        text.push(c)
+        f.write_char(c)
     }
 }
 
-/// Appends a control character by its number.
+/// Writes a control character by its number.
 #[tactic(auto, using(std::proofs::lemmas::Fmt::hex_byte))]
-fn push_escaped(text: &mut String, byte: u8) -> Result<(), AllocError>
-    ensures { OnOk result (string_bytes text.new ≡ string_bytes text.old ++ escaped byte) }
+fn write_escaped<W: fmt::Write>(f: &mut fmt::Formatter<W>, byte: u8) -> fmt::Result
+    ensures { WritesOnOk W.write_str_gives f.old result (escaped byte) f.new }
 {
-    write!(text, "\\u00{byte:02X}")
+    write!(f, "\\u00{byte:02X}")
 }
