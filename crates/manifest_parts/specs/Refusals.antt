@@ -22,6 +22,11 @@ abbrev pub TellsSchema : Error → Type 0
 TellsSchema (Parse (Schema f)) = Unit {0}
 TellsSchema _ = ⊥
 
+-- want of memory
+abbrev pub IsWantOfMemory : Error → Type 0
+IsWantOfMemory (Memory e) = Unit {0}
+IsWantOfMemory _ = ⊥
+
 -- the error that tells what a reader refuses with
 abbrev pub IsRefusal : ReadFault → Error → Type 0
 IsRefusal (read.Schema f) e = e ≡ Parse (Schema f)

@@ -5,7 +5,7 @@ ghost use Rattle.toml.specs.View.{view};
 ghost use Rattle.manifest_parts.specs.Refusals.{RefusedIn, IsRefusal};
 
 use manifest_value::{ReadFault, Schema, SchemaFault};
-use std::alloc::{AllocError, Global};
+use std::alloc::{AllocError, AllocFailed, Global};
 use std::io;
 use std::rc::Rc;
 use std::str::Utf8Error;
@@ -19,7 +19,7 @@ pub enum ParseFault {
     #[error("toml: {0}")]
     Toml(Rc<toml::de::Error>),
     /// The text is a document, and the cause stands in its table at the path.
-    #[error("schema")]
+    #[error("{0}")]
     Schema(SchemaFault),
 }
 
@@ -80,10 +80,7 @@ pub fn read<T: Schema>(alloc: Global, value: &Value) -> Result<T, Error>
     ensures ok { IfOk result (λ x. T.kind.reads (view value.now) (T.content x)) }
     ensures refused { IfErr result (RefusedIn (T.kind.faulty (view value.now))) }
 {
-    match T::from_value(alloc, value) {
-        Ok(x) => Ok(x),
-        Err(fault) => Err(refusal(fault)),
-    }
+    Ok(T::from_value(alloc, value)?)
 }
 
 /// The error that tells a reader's fault.
@@ -122,5 +119,34 @@ impl From<Utf8Error> for Error {
 
     fn from(fault: Utf8Error) -> Error {
         Error::Utf8(fault)
+    }
+}
+
+impl From<ReadFault> for Error {
+    ghost from_gives = { IsRefusal };
+
+    fn from(fault: ReadFault) -> Error {
+        refusal(fault)
+    }
+}
+
+impl From<AllocError> for Error {
+    ghost use Rattle.std.specs.Prelude.{◌≡◌};
+    ghost use Rattle.manifest_parts.specs.declared.error.Error.TheVariants.{Memory};
+
+    ghost from_gives = { λ refused e. e ≡ Memory refused };
+
+    fn from(refused: AllocError) -> Error {
+        Error::Memory(refused)
+    }
+}
+
+impl<T: Drop> From<AllocFailed<T>> for Error {
+    ghost use Rattle.manifest_parts.specs.Refusals.{IsWantOfMemory};
+
+    ghost from_gives = { λ _ e. IsWantOfMemory e };
+
+    fn from(refused: AllocFailed<T>) -> Error {
+        Error::Memory(AllocError::from(refused))
     }
 }
