@@ -16,6 +16,7 @@ ghost use Rattle.manifest_parts.specs.Refusals.{RefusedIn};
 use crate::choices::LintLevel;
 use crate::error::{Error, read};
 use crate::inherited::True;
+use crate::{LintsSet, ToolLintsSet};
 use manifest_value::fault::here;
 use manifest_value::maps::entries_table;
 use manifest_value::others::others_of;
@@ -23,7 +24,6 @@ use manifest_value::rows::{optional, or_default, put_optional, put_row, required
 use manifest_value::well_formed::none_is_named;
 use manifest_value::{Cause, ReadFault, Schema};
 use std::alloc::{AllocError, Global};
-use std::collections::BTreeMap;
 use toml::{Table, Value};
 
 /// A lint's level and its priority. See the
@@ -52,7 +52,7 @@ pub struct MaybeInheritedLintsSet {
     /// Whether the lints are inherited: `Some` where the table has `workspace = true`.
     pub workspace: Option<True>,
     /// The package's own lints, by tool, such as `rust` or `clippy`, and by the name of the lint or lint group.
-    pub lints: BTreeMap<String, BTreeMap<String, Lint>>,
+    pub lints: LintsSet,
 }
 
 impl LintConfig {
@@ -134,7 +134,7 @@ fn lint_fits(x: &Lint)
 }
 
 /// Reads the priorities of the lints of a tool.
-fn tool_lints_fit(lints: &BTreeMap<String, Lint>)
+fn tool_lints_fit(lints: &ToolLintsSet)
     ensures { good_entries lint (entries_content lint_content lints.now.entries) }
 {
     for (_name, lint) in lints.iter() {
@@ -143,7 +143,7 @@ fn tool_lints_fit(lints: &BTreeMap<String, Lint>)
 }
 
 /// Reads the priorities of all lints, and so finds the lints of each tool well-formed.
-pub fn lints_fit(lints: &BTreeMap<String, BTreeMap<String, Lint>>)
+pub fn lints_fit(lints: &LintsSet)
     ensures { good_entries (map_of lint) (entries_content (λ m. entries_content lint_content m.entries) lints.now.entries) }
 {
     for (_tool, lints) in lints.iter() {

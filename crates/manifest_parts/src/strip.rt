@@ -1,6 +1,6 @@
 //! What is stripped from a binary.
 
-ghost use Rattle.std.specs.Prelude.{◌≡◌, Some, IfOk, IfErr, MatchResult};
+ghost use Rattle.std.specs.Prelude.{◌≡◌, Some, IfOk, IfErr};
 ghost use Rattle.toml.specs.Data.{string};
 ghost use Rattle.toml.specs.View.{view};
 ghost use Rattle.manifest_schema.specs.Contents;
@@ -60,7 +60,10 @@ impl StripSetting {
             Value::Boolean(true) => Ok(StripSetting::Symbols),
             Value::Boolean(false) => Ok(StripSetting::None),
             Value::String(s) => setting_of(alloc, s.as_str()),
-            _ => Err(said(String::from_str(alloc, "wrong data type for strip setting"))),
+            _ => {
+                let text = String::from_str(alloc, "wrong data type for strip setting")?;
+                Err(Error::Other(text))
+            }
         }
     }
 }
@@ -74,17 +77,10 @@ fn setting_of(alloc: Global, text: &str) -> Result<StripSetting, Error>
         "none" => Ok(StripSetting::None),
         "symbols" => Ok(StripSetting::Symbols),
         "debuginfo" => Ok(StripSetting::Debuginfo),
-        _ => Err(said(format!(in alloc; "'{text}' is not a valid value for 'strip'"))),
-    }
-}
-
-/// The error of a text, or want of memory where there was none for it.
-fn said(text: Result<String, AllocError>) -> Error
-    ensures { MatchResult text (λ s. result ≡ Error.Other s) (λ e. result ≡ Error.Memory e) }
-{
-    match text {
-        Ok(text) => Error::Other(text),
-        Err(refused) => Error::Memory(refused),
+        _ => {
+            let text = format!(in alloc; "'{text}' is not a valid value for 'strip'")?;
+            Err(Error::Other(text))
+        }
     }
 }
 

@@ -11,7 +11,7 @@ ghost use Rattle.manifest_value.specs.Faults.{FaultIn};
 ghost use Rattle.manifest_parts.specs.Records.{platform_content};
 ghost use Rattle.manifest_parts.specs.Refusals.{RefusedIn};
 
-use crate::dependency::Dependency;
+use crate::DepsSet;
 use crate::error::{Error, read};
 use manifest_value::fault::here;
 use manifest_value::rows::{or_default, put_row};
@@ -25,11 +25,11 @@ use toml::{Table, Value};
 #[derive(Debug, PartialEq, Eq, Drop)]
 pub struct Target {
     /// The dependencies of the package that are built only where the target platform is this one.
-    pub dependencies: BTreeMap<String, Dependency>,
+    pub dependencies: DepsSet,
     /// The dependencies of its tests, examples and benches on this platform.
-    pub dev_dependencies: BTreeMap<String, Dependency>,
+    pub dev_dependencies: DepsSet,
     /// The dependencies of its build script, built only where the host platform is this one.
-    pub build_dependencies: BTreeMap<String, Dependency>,
+    pub build_dependencies: DepsSet,
 }
 
 impl Target {
