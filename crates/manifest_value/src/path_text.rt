@@ -1,5 +1,5 @@
 //! Causes, key paths and faults as texts.
-ghost use Rattle.std.specs.Prelude.{◌≡◌, ◌++◌, IfOk, Some, codes, flat_map, string_bytes};
+ghost use Rattle.std.specs.Prelude.{◌≡◌, IfOk, Some, flat_map, string_bytes};
 ghost use Rattle.std.specs.Fmt.{WritesOnOk};
 ghost use Rattle.std.specs.Char.{encode_utf8};
 ghost use Rattle.std.specs.List.{list_all};
