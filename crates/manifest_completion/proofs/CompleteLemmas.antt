@@ -1,5 +1,5 @@
 -- What the steps of a completion come to, by the definitions.
-use Rattle.std.proofs.Common.{◌≡◌, List, [], ◌∷◌, ◌++◌, Bool, true, false, refl, ap, sym, ◌∙◌, map, subst, ◌||◌, Option, Some, None, if◌then◌else◌, Result, Ok, Err, IfOk}
+use Rattle.std.proofs.Common.{◌≡◌, List, [], ◌∷◌, ◌++◌, Bool, true, false, refl, ap, sym, ◌∙◌, map, subst, ◌||◌, Option, Some, None, if◌then◌else◌, Result, Ok, Err}
 use Rattle.std.specs.Result.{IsErrAnd}
 use Rattle.std.specs.IoError.{error_kind}
 use Rattle.std.specs.List.{list_any, flat_map}
@@ -147,10 +147,6 @@ module _ (allows : Text → Answer → Type 0) (t : PackageTargets) (src : Answe
 pub refused_with : (allows : Text → Answer → Type 0) (t : PackageTargets) (r : Result CompletedTargets Error) (e : Error) → IsErrAnd r (λ x. x ≡ e) → TargetsRefused allows t e → TargetsCompleted allows t r
 refused_with allows t (Ok c) e h g = absurd h
 refused_with allows t (Err x) e h g = subst (TargetsRefused allows t) (sym h) g
-
--- what is known of an answer, where it is one
-pub of_answer : {A E : Type 0} (P : A → Type 0) (r : Result A E) (x : A) → IfOk r P → r ≡ Ok x → P x
-of_answer P r x h e = subst (λ s. IfOk s P) e h
 
 -- WITHOUT A PACKAGE nothing is asked, and any map explains it
 pub without_package : (allows : Text → Answer → Type 0) (m : Manifest) → m.«package» ≡ None → (l : ListingMap) × Explains allows l (asked m l) × (completed m l ≡ completed_to m)

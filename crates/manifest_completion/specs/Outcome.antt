@@ -82,17 +82,6 @@ RefusesLibrary lib (Other t) = (lib ≡ no_file) × (string_bytes t ≡ library_
 RefusesLibrary lib (Memory e) = Unit {0}
 RefusesLibrary lib _ = ⊥
 
--- want of memory
-abbrev pub IsWantOfMemory : Error → Type 0
-IsWantOfMemory (Memory e) = Unit {0}
-IsWantOfMemory _ = ⊥
-
--- its text, or want of memory for it
-abbrev pub IsLibraryText : Error → Type 0
-IsLibraryText (Other t) = string_bytes t ≡ library_text
-IsLibraryText (Memory e) = Unit {0}
-IsLibraryText _ = ⊥
-
 -- WHAT COMPLETING ANSWERS: there is one map of listings, by answers that the filesystem allows, of which it is the completion; or memory was wanting
 abbrev pub ByOneMap : (Text → Answer → Type 0) → PackageTargets → (Completion PackageTargets → Type 0) → Type 0
 ByOneMap allows t P = (l : ListingMap) × Explains allows l (asked_targets t l) × P (completed_targets t l)

@@ -15,7 +15,6 @@ use crate::copies::copied;
 use crate::filesystem::AbstractFilesystem;
 use crate::finds::{folder_finds, lists, push_main_find};
 use crate::library::completed_library;
-use crate::refusals::or_memory;
 use crate::targets::{TargetDefaults, completed_list};
 use manifest_parts::{Edition, Error, MaybeInherited, Product, StringOrBool};
 use std::alloc::{AllocError, Global};
@@ -324,9 +323,9 @@ fn completed_by_answers(
     if answers.found_no_memory() {
         return Err(Error::Io(io::Error::from(ErrorKind::OutOfMemory)));
     }
-    let lists = or_memory(completed_lists(alloc, declared, source, answers))?;
+    let lists = completed_lists(alloc, declared, source, answers)?;
     settled_root(asks_root(declared.build), &answers.root)?;
-    let build = or_memory(completed_build(alloc, declared.build, &answers.root))?;
+    let build = completed_build(alloc, declared.build, &answers.root)?;
     let CompletedLists {
         bin,
         example,
@@ -362,7 +361,7 @@ pub fn complete<FS: AbstractFilesystem>(
 {
     let source = settled_source(ask(alloc, fs, "src"))?;
     let lib = completed_library(alloc, declared, &source)?;
-    let answers = or_memory(ask_folders(alloc, fs, asks_root(declared.build)))?;
+    let answers = ask_folders(alloc, fs, asks_root(declared.build))?;
     let completed = completed_by_answers(alloc, declared, &source, lib, &answers);
     drop(answers);
     drop(source);

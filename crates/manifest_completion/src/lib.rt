@@ -10,7 +10,6 @@ mod finds;
 pub mod laws;
 mod library;
 pub mod listings;
-mod refusals;
 mod targets;
 
 pub use completion::{CompletedTargets, DeclaredTargets, complete, discovers, is_legacy};

@@ -10,12 +10,14 @@ use crate::ask::join;
 use crate::completion::{DeclaredTargets, is_legacy, own_edition};
 use crate::copies::one_text;
 use crate::finds::lists;
-use crate::refusals::{no_library, or_memory};
 use crate::targets::crate_type_of;
 use manifest_parts::{Error, Product};
 use std::alloc::{AllocError, Global};
 use std::collections::BTreeSet;
 use std::io;
+
+/// The text of the refusal of a library without a file.
+const NO_LIBRARY: &str = "can't find library, rename file to `src/lib.rs` or specify lib.path";
 
 /// The name of the package, with `_` in place of each `-`.
 fn underscored(alloc: Global, name: &str) -> Result<String, AllocError>
@@ -125,13 +127,16 @@ pub fn completed_library(
     ensures { MatchResult result (λ o. library (declared_content declared.now) (answer_of source.now) ≡ known (option_map product_content o)) (RefusesLibrary (library (declared_content declared.now) (answer_of source.now))) }
 {
     let Some(lib) = declared.lib else {
-        return or_memory(inferred_library(alloc, declared, source));
+        return Ok(inferred_library(alloc, declared, source)?);
     };
-    match or_memory(library_path(alloc, declared, source, lib))? {
+    match library_path(alloc, declared, source, lib)? {
         Some(path) => {
-            let product = or_memory(declared_library(alloc, declared, lib, path))?;
+            let product = declared_library(alloc, declared, lib, path)?;
             Ok(Some(product))
         }
-        None => Err(no_library(alloc)),
+        None => {
+            let text = String::from_str(alloc, NO_LIBRARY)?;
+            Err(Error::Other(text))
+        }
     }
 }

@@ -4,7 +4,7 @@ use Rattle.manifest_completion.specs.Completed.{source_fault}
 use Rattle.manifest_completion.specs.Answered.{answer_of}
 use Rattle.manifest_completion.specs.Asking.{Heard, AllHeard}
 use Rattle.manifest_completion.specs.Outcome.{declared_content}
-use Rattle.manifest_completion.proofs.CompleteLemmas.{source_error, library_error, by_answers, refused_with, of_answer}
+use Rattle.manifest_completion.proofs.CompleteLemmas.{source_error, library_error, by_answers, refused_with}
 use Rattle.manifest_completion.proofs.completion.complete.Goals as goal
 
 pub returns-in_err-source : goal.returns-in_err-source
@@ -28,5 +28,5 @@ returns g c =
     let s = c.in_ok-source.source in let a = c.in_ok-answers.answers in
     let ok = subst (λ x. Heard allows (codes "src") (answer_of x)) (sym c.in_ok-source.ensures.0) c.ask.ensures in
     let none : source_fault (answer_of s) ≡ None = ap (λ x. source_fault (answer_of x)) c.in_ok-source.ensures.0 ∙ c.in_ok-source.ensures.1 in
-    let heard = subst (λ x. AllHeard allows x a) c.asks_root.ensures (of_answer (AllHeard allows c.asks_root.result) c.ask_folders.result a c.ask_folders.ensures c.in_ok-answers.ensures) in
+    let heard = subst (λ x. AllHeard allows x a) c.asks_root.ensures c.in_ok-answers.ensures in
     by_answers allows t (answer_of s) ok none (option_map product_content c.in_ok-lib.lib) c.in_ok-lib.ensures a heard c.completed_by_answers-completed.result c.completed_by_answers-completed.ensures
