@@ -20,7 +20,7 @@ use manifest_tables::package::package_from;
 use manifest_value::rows::read_under;
 use manifest_value::slots::find;
 use manifest_value::{Metadata, ReadFault};
-use std::alloc::{AllocError, Global};
+use std::alloc::Global;
 use std::rc::Rc;
 use toml::{Table, Value};
 
@@ -100,10 +100,10 @@ fn read_text<P: Metadata, W: Metadata>(alloc: Global, text: &str) -> Result<Mani
 {
     let table = match toml::table_from_str(alloc, text) {
         Ok(table) => table,
-        Err(fault) => match Rc::new(alloc, fault) {
-            Ok(shared) => return Err(Error::Parse(ParseFault::Toml(shared))),
-            Err(refused) => return Err(Error::Memory(AllocError::from(refused))),
-        },
+        Err(fault) => {
+            let shared = Rc::new(alloc, fault)?;
+            return Err(Error::Parse(ParseFault::Toml(shared)));
+        }
     };
     match read_table(alloc, table) {
         Ok(manifest) => Ok(manifest),

@@ -34,16 +34,13 @@ impl<P: Metadata, W: Metadata> Manifest<P, W> {
         ensures refused { let ms = written_of P.kind W.kind P.content W.content self.now in
             IfErr result (RefusesToPrint ms) }
     {
-        let table = match manifest_table(alloc, self) {
-            Ok(table) => table,
-            Err(refused) => return Err(Error::Memory(refused)),
-        };
+        let table = manifest_table(alloc, self)?;
         match toml::table_to_string(alloc, &table) {
             Ok(text) => Ok(text),
-            Err(toml::ser::Error::DateInvalid) => match String::from_str(alloc, INVALID_DATE) {
-                Ok(text) => Err(Error::Other(text)),
-                Err(refused) => Err(Error::Memory(refused)),
-            },
+            Err(toml::ser::Error::DateInvalid) => {
+                let text = String::from_str(alloc, INVALID_DATE)?;
+                Err(Error::Other(text))
+            }
             Err(toml::ser::Error::OutOfMemory) => Err(Error::Memory(AllocError)),
         }
     }

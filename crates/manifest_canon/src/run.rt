@@ -4,7 +4,7 @@ ghost use Rattle.std.specs.Prelude.{◌≡◌, ◌⊎◌, IsTrue, ◌↔◌, IfO
 ghost use Rattle.std.specs.Io.KnownBytes.{Keeps, Appends};
 ghost use Rattle.manifest_canon.specs.Run.{IsCanonInput, IsCanonicalOf, RefusesCanonical, Begins, IsPrinted, IsBegun, IsRefused, IsAccepted};
 
-use cargo_manifest::{Error, Manifest, ParseFault, SchemaFault};
+use cargo_manifest::{Error, Manifest, ParseFault};
 use std::alloc::{AllocError, Global};
 use std::io;
 use std::io::{ErrorKind, Read, Write};
@@ -119,18 +119,11 @@ fn is_canon_input(words: &[String]) -> bool
     }
 }
 
-/// The line that tells a fault of the schema: its cause, and its key path.
-fn schema_line(alloc: Global, fault: &SchemaFault) -> Result<String, AllocError> {
-    let path = fault.path.to_text(alloc)?;
-    let cause = fault.cause.as_str();
-    format!(in alloc; "error: schema: {cause} at {path}\n")
-}
-
 /// The line that tells an error.
 fn line_of(alloc: Global, error: &Error) -> Result<String, AllocError> {
     match error {
         Error::Parse(ParseFault::Toml(_)) => String::from_str(alloc, "error: toml\n"),
-        Error::Parse(ParseFault::Schema(fault)) => schema_line(alloc, fault),
+        Error::Parse(ParseFault::Schema(fault)) => format!(in alloc; "error: schema: {fault}\n"),
         Error::Io(_) => String::from_str(alloc, "error: io\n"),
         Error::Utf8(_) => String::from_str(alloc, "error: utf8\n"),
         Error::Other(text) => format!(in alloc; "error: other: {text}\n"),

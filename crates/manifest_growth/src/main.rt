@@ -82,10 +82,7 @@ fn complete<W: Write>(
 
 /// Completes the manifest of a scenario and prints what came of it.
 fn run<W: Write>(alloc: Global, scenario: Scenario, output: &mut W) -> Result<(), Error> {
-    let listings = match scenario.listings(alloc) {
-        Ok(listings) => listings,
-        Err(refused) => return Err(Error::Memory(refused)),
-    };
+    let listings = scenario.listings(alloc)?;
     let mut manifest = Manifest::from_str(alloc, scenario.manifest())?;
     let printed = complete(alloc, &mut manifest, &listings, output);
     drop(manifest);
