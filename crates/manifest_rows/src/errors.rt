@@ -1,6 +1,7 @@
-//! Copies of errors, and the second way to read what is stripped.
+//! Copies of errors and their texts, errors that `?` makes, and the second way to read what is stripped.
 use crate::answers::{assert_is, told};
-use cargo_manifest::{Error, Manifest, ParseFault, StripSetting};
+use cargo_manifest::{Error, Manifest, ParseFault, SchemaFault, StripSetting};
+use manifest_value::text;
 use std::alloc::{AllocError, Global};
 use std::io;
 use std::io::ErrorKind;
@@ -68,22 +69,65 @@ fn copies_of_errors(rt: HostRuntime) -> Result<(), Fail> {
     assert_copied(&rt, rt.alloc(), Ok(Error::Memory(AllocError)), "memory")
 }
 
-/// A copy of a fault of the schema by its own call, told.
-fn copy_of_fault(alloc: Global, error: &Error) -> Result<String, Fail> {
+/// The fault of the schema that an error tells.
+fn schema_fault(error: &Error) -> Result<&SchemaFault, Fail> {
     match error {
-        Error::Parse(ParseFault::Schema(fault)) => {
-            let copy = fault.clone(alloc)?;
-            Ok(told(alloc, &Error::Parse(ParseFault::Schema(copy)))?)
-        }
+        Error::Parse(ParseFault::Schema(fault)) => Ok(fault),
         _ => Err(Fail::from("another refusal")),
     }
 }
 
+/// A document with a fault at a path of three steps, and what is told of it.
+const AUTHORS: &[u8] = b"[package]\nname = 'p'\nauthors = ['a', 1]";
+
+const AUTHORS_FAULT: &str = "wrong kind at package.authors[1]";
+
 #[test]
 fn copies_of_faults(rt: HostRuntime) -> Result<(), Fail> {
-    let error = refusal(rt.alloc(), b"[package]\nname = 'p'\nauthors = ['a', 1]")?;
-    let expected = "wrong kind at package.authors[1]";
-    assert_is(&rt, copy_of_fault(rt.alloc(), &error), expected, "a copy")
+    let error = refusal(rt.alloc(), AUTHORS)?;
+    let fault = schema_fault(&error)?;
+    let copy = fault.clone(rt.alloc())?;
+    assert_eq!(rt; copy.path.steps.len(), 3);
+    assert!(rt;
+        copy.path == fault.path && copy.cause == fault.cause,
+        "a copy"
+    );
+    let text = format!(in rt.alloc(); "{copy}")?;
+    assert_is(&rt, Ok(text), AUTHORS_FAULT, "a copy")
+}
+
+#[test]
+fn texts_of_errors(rt: HostRuntime) -> Result<(), Fail> {
+    let error = refusal(rt.alloc(), AUTHORS)?;
+    let fault = schema_fault(&error)?;
+    let (cause, path) = (&fault.cause, &fault.path);
+    for (text, expected) in [
+        (format!(in rt.alloc(); "{error}")?, AUTHORS_FAULT),
+        (format!(in rt.alloc(); "{fault}")?, AUTHORS_FAULT),
+        (format!(in rt.alloc(); "{cause}")?, "wrong kind"),
+        (format!(in rt.alloc(); "{path}")?, "package.authors[1]"),
+    ] {
+        assert_is(&rt, Ok(text), expected, expected)?;
+    }
+    Ok(())
+}
+
+/// A text in a list, and then a value that is none: `?` hands on a reader's fault, and want of memory of every kind.
+fn listed(alloc: Global, value: &str) -> Result<Vec<String>, Error> {
+    let value = Value::string(alloc, value)?;
+    let mut texts = Vec::new(alloc);
+    texts.push(text(alloc, &value)?)?;
+    texts.push(text(alloc, &Value::Integer(1))?)?;
+    Ok(texts)
+}
+
+#[test]
+fn faults_of_readers_are_errors_by_a_question_mark(rt: HostRuntime) -> Result<(), Fail> {
+    let told = match listed(rt.alloc(), "a").err() {
+        Some(error) => told(rt.alloc(), &error)?,
+        None => return Err(Fail::from("accepted")),
+    };
+    assert_is(&rt, Ok(told), "wrong kind at (top)", "a list")
 }
 
 /// The setting that a value stands for, or how it is told to be refused.

@@ -16,11 +16,7 @@ fn canonical(alloc: Global, bytes: &[u8]) -> Result<String, Error> {
 /// What is wrong with a manifest, as `wrong kind at package.authors[0]`, if its schema is what is wrong.
 fn complaint(alloc: Global, bytes: &[u8]) -> Result<Option<String>, AllocError> {
     match Manifest::from_slice(alloc, bytes).err() {
-        Some(Error::Parse(ParseFault::Schema(fault))) => {
-            let path = fault.path.to_text(alloc)?;
-            let cause = fault.cause.as_str();
-            Ok(Some(format!(in alloc; "{cause} at {path}")?))
-        }
+        Some(Error::Parse(ParseFault::Schema(fault))) => Ok(Some(format!(in alloc; "{fault}")?)),
         _ => Ok(None),
     }
 }
