@@ -77,9 +77,10 @@ fn schema_fault(error: &Error) -> Result<&SchemaFault, Fail> {
     }
 }
 
-/// A document with a fault at a path of three steps, and what is told of it.
+/// A document with a fault at a path of three steps.
 const AUTHORS: &[u8] = b"[package]\nname = 'p'\nauthors = ['a', 1]";
 
+/// What is told of this document.
 const AUTHORS_FAULT: &str = "wrong kind at package.authors[1]";
 
 #[test]
