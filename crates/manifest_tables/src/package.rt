@@ -36,7 +36,7 @@ pub struct Package<M = Value> {
     pub name: String,
     /// The edition of its targets, its own or inherited; Cargo takes 2015 where there is none.
     pub edition: Option<MaybeInherited<Edition>>,
-    /// The version, its own or inherited; Cargo takes `0.0.0` where there is none.
+    /// The version, its own or inherited; Cargo takes `0.0.0` where there is none: [`Package::version`] tells what holds.
     pub version: Option<MaybeInherited<String>>,
     /// The build script by its path, or false for none; absent or true, it is discovered: completion fills it in.
     pub build: Option<StringOrBool>,
