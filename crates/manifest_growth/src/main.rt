@@ -1,22 +1,48 @@
-//! Completes a small manifest from listings in memory, and prints what came of it. It is run with each request for memory
-//! refused in turn, and tells whether a completion that was refused kept the manifest and can be tried again.
+//! Completes a small manifest from listings in memory, or copies an error, and prints what came of it. It is run with each
+//! request for memory refused in turn, and tells whether a completion that was refused kept the manifest, or a copy the
+//! error, and can be tried again.
 #![tactic(auto)]
 
+mod copying;
+mod kept;
 mod scenario;
 
 use cargo_manifest::{Error, Listings, Manifest, Value};
+use copying::Original;
+use kept::print_kept;
 use scenario::Scenario;
 use std::alloc::Global;
 use std::io::{ErrorKind, Write};
 use std::process::ExitCode;
 use std::{env, io};
 
-const USAGE: &str = "usage: manifest_growth library | binaries | example\n";
+const USAGE: &str = "usage: manifest_growth library | binaries | example | fault | text\n";
 
-/// The scenario that the first word after the program's name names.
-fn asked_scenario(rt: &HostRuntime) -> io::Result<Option<Scenario>> {
+/// What is tried.
+#[derive(Clone, Copy)]
+enum Trial {
+    /// The completion of a manifest.
+    Completion(Scenario),
+    /// The copy of an error.
+    Copy(Original),
+}
+
+/// The trial of a name.
+fn named(name: &str) -> Option<Trial> {
+    match name {
+        "library" => Some(Trial::Completion(Scenario::Library)),
+        "binaries" => Some(Trial::Completion(Scenario::Binaries)),
+        "example" => Some(Trial::Completion(Scenario::Example)),
+        "fault" => Some(Trial::Copy(Original::Fault)),
+        "text" => Some(Trial::Copy(Original::Text)),
+        _ => None,
+    }
+}
+
+/// The trial that the first word after the program's name names.
+fn asked_trial(rt: &HostRuntime) -> io::Result<Option<Trial>> {
     let word = env::args(rt)?.nth(1);
-    Ok(word.and_then(|word| Scenario::named(word.as_str())))
+    Ok(word.and_then(|word| named(word.as_str())))
 }
 
 /// The line that tells what a completion was refused with.
@@ -57,11 +83,7 @@ fn print_refused<W: Write>(
 ) -> Result<(), Error> {
     output.write_all(cause(refusal).as_bytes())?;
     let after = manifest.to_toml_string(alloc)?;
-    if after.as_str() == before {
-        output.write_all(b"kept\n")?;
-    } else {
-        output.write_all(b"changed\n")?;
-    }
+    print_kept(before, after.as_str(), output)?;
     manifest.complete_from_abstract_filesystem(alloc, listings)?;
     print_completed(alloc, manifest, output)
 }
@@ -81,7 +103,11 @@ fn complete<W: Write>(
 }
 
 /// Completes the manifest of a scenario and prints what came of it.
-fn run<W: Write>(alloc: Global, scenario: Scenario, output: &mut W) -> Result<(), Error> {
+fn complete_scenario<W: Write>(
+    alloc: Global,
+    scenario: Scenario,
+    output: &mut W,
+) -> Result<(), Error> {
     let listings = scenario.listings(alloc)?;
     let mut manifest = Manifest::from_str(alloc, scenario.manifest())?;
     let printed = complete(alloc, &mut manifest, &listings, output);
@@ -89,17 +115,25 @@ fn run<W: Write>(alloc: Global, scenario: Scenario, output: &mut W) -> Result<()
     printed
 }
 
+/// Tries what is asked for and prints what came of it.
+fn run<W: Write>(alloc: Global, trial: Trial, output: &mut W) -> Result<(), Error> {
+    match trial {
+        Trial::Completion(scenario) => complete_scenario(alloc, scenario, output),
+        Trial::Copy(original) => original.copy(alloc, output),
+    }
+}
+
 fn main(rt: HostRuntime) -> ExitCode {
     let mut output = rt.stdout();
-    let ran = match asked_scenario(&rt) {
-        Ok(Some(scenario)) => run(rt.alloc(), scenario, &mut output),
+    let ran = match asked_trial(&rt) {
+        Ok(Some(trial)) => run(rt.alloc(), trial, &mut output),
         Ok(None) => {
             let _ = rt.stderr().write_all(USAGE.as_bytes());
             return ExitCode::from(2);
         }
         Err(fault) => Err(Error::Io(fault)),
     };
-    // a completion that is refused is printed by the run, so what is refused here stands before it or after it
+    // a completion or a copy that is refused is printed by the run, so what is refused here stands before it or after it
     match ran.or_else(|_| output.write_all(b"elsewhere\n")) {
         Ok(()) => ExitCode::SUCCESS,
         Err(_) => ExitCode::FAILURE,

@@ -37,16 +37,6 @@ fn put_all(
 }
 
 impl Scenario {
-    /// The scenario of a name.
-    pub fn named(name: &str) -> Option<Scenario> {
-        match name {
-            "library" => Some(Scenario::Library),
-            "binaries" => Some(Scenario::Binaries),
-            "example" => Some(Scenario::Example),
-            _ => None,
-        }
-    }
-
     /// The text of the manifest.
     pub fn manifest(self) -> &'static str {
         match self {
