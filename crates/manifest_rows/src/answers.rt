@@ -87,6 +87,18 @@ pub fn assert_is(
     Ok(())
 }
 
+/// Asserts what is written of a value that was read: the value of this text.
+pub fn assert_written<T: Schema>(
+    rt: &impl Abort,
+    alloc: Global,
+    read: Result<T, Fail>,
+    text: &str,
+) -> Result<(), Fail> {
+    let got = answer_of(alloc, Ok(read?))?;
+    let expected = expected_of(alloc, Ok(text))?;
+    assert_is(rt, Ok(got), expected.as_str(), text)
+}
+
 /// What is written of the manifest of a document, or how it is told to be refused: one answer for its bytes and its text.
 fn document_answer(alloc: Global, document: &str) -> Result<String, Fail> {
     let by_bytes = written(alloc, Manifest::from_slice(alloc, document.as_bytes()))?;

@@ -1,8 +1,7 @@
 //! The examples of the README, over a real manifest: a workspace with inherited fields, profiles, lints and tables of a
 //! platform.
 use crate::answers::{assert_is, laid_out};
-use crate::folders::listings;
-use cargo_manifest::{Error, Listings, Manifest, ParseFault};
+use cargo_manifest::{Error, Manifest, ParseFault};
 use std::alloc::{AllocError, Global};
 use std::test::Fail;
 
@@ -19,13 +18,6 @@ fn complaint(alloc: Global, bytes: &[u8]) -> Result<Option<String>, AllocError> 
         Some(Error::Parse(ParseFault::Schema(fault))) => Ok(Some(format!(in alloc; "{fault}")?)),
         _ => Ok(None),
     }
-}
-
-/// The canonical text of a manifest, completed from listings of its folders.
-fn completed(alloc: Global, text: &str, listings: &Listings) -> Result<String, Error> {
-    let mut manifest = Manifest::from_str(alloc, text)?;
-    manifest.complete_from_abstract_filesystem(alloc, listings)?;
-    manifest.to_toml_string(alloc)
 }
 
 /// A manifest at the top of a workspace, with a key that is not listed and two second spellings.
@@ -144,18 +136,4 @@ fn a_complaint(rt: HostRuntime) -> Result<(), Fail> {
         None => return Err(Fail::from("no complaint")),
     }
     Ok(())
-}
-
-#[test]
-fn a_manifest_is_completed(rt: HostRuntime) -> Result<(), Fail> {
-    let listings = listings(rt.alloc(), "src|lib.rs;.|build.rs")?;
-    let text = completed(
-        rt.alloc(),
-        "[package]\nname = 'p'\nedition = '2024'",
-        &listings,
-    )?;
-    let expected =
-        "[package]\nname = 'p'\nedition = '2024'\nbuild = 'build.rs'\n[lib]\nname = 'p'\npath = 'src/lib.rs'\nedition = '2024'\nrequired-features = []\ncrate-type = ['lib']";
-    let expected = laid_out(rt.alloc(), expected)?;
-    assert_is(&rt, Ok(text), expected.as_str(), "a package")
 }

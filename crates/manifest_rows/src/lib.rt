@@ -12,7 +12,15 @@ mod equal;
 #[cfg(test)]
 mod errors;
 #[cfg(test)]
+mod example_of_completion;
+#[cfg(test)]
 mod examples;
+#[cfg(test)]
+mod examples_of_manifests;
+#[cfg(test)]
+mod examples_of_parts;
+#[cfg(test)]
+mod examples_of_tables;
 #[cfg(test)]
 mod folders;
 #[cfg(test)]

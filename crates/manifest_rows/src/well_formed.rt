@@ -27,7 +27,8 @@ fn assert_profiles(rt: &impl Abort, alloc: Global, profiles: &mut Profiles) -> R
         ("{ release-lto = {}, dev = { lto = true } }", false),
     ] {
         replace(alloc, &mut profiles.custom, custom)?;
-        assert_eq!(rt; profiles.is_well_formed(), is_well_formed, "at {custom}");
+        let can_be_written = profiles.is_well_formed();
+        assert_eq!(rt; can_be_written, is_well_formed, "at {custom}");
     }
     Ok(())
 }
@@ -52,7 +53,8 @@ fn assert_tools(
         ("{ clippy = {}, workspace = {} }", false),
     ] {
         replace(alloc, &mut lints.lints, tools)?;
-        assert_eq!(rt; lints.is_well_formed(), is_well_formed, "at {tools}");
+        let can_be_written = lints.is_well_formed();
+        assert_eq!(rt; can_be_written, is_well_formed, "at {tools}");
     }
     Ok(())
 }
