@@ -1,4 +1,4 @@
-//! The example at the head of `cargo_manifest`, which the README has too: a manifest, completed and written.
+//! The example at the head of `cargo_manifest`, which is the README's last one: a manifest, completed and written.
 use crate::answers::{assert_is, laid_out};
 use crate::folders::listings;
 use cargo_manifest::{Error, Listings, Manifest};
