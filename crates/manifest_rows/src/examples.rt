@@ -1,5 +1,5 @@
-//! The first examples of the README, over a real manifest: a workspace with inherited fields, profiles, lints and tables
-//! of a platform.
+//! The first examples of the README, over a real manifest: a workspace with inherited fields, profiles, lints and
+//! tables of a platform.
 use crate::answers::{assert_is, laid_out};
 use cargo_manifest::{Error, Manifest, ParseFault};
 use std::alloc::{AllocError, Global};
