@@ -22,6 +22,7 @@ abbrev pub inherited_content : InheritedDependencyDetail → Contents.InheritedD
 inherited_content d = record {
   features = option_map (λ v. map string_bytes v.items) d.features;
   «optional» = option_map (λ b. b) d.«optional»;
+  default_features = option_map (λ b. b) d.default_features;
 }
 
 abbrev pub detail_content : DependencyDetail → Contents.DependencyDetail

@@ -1,11 +1,11 @@
 //! Dependencies.
 
-ghost use Rattle.std.specs.Prelude.{◌≡◌, None, IfOk, IfErr, OnOk};
+ghost use Rattle.std.specs.Prelude.{◌≡◌, IfOk, IfErr, OnOk};
 ghost use Rattle.toml.specs.Data.{table as data_table};
 ghost use Rattle.toml.specs.View.{view, table_view};
 ghost use Rattle.manifest_schema.specs.Forms.{form};
 ghost use Rattle.manifest_schema.specs.Contents;
-ghost use Rattle.manifest_schema.specs.Defaults.{no_detail};
+ghost use Rattle.manifest_schema.specs.Defaults.{lent, no_detail};
 ghost use Rattle.manifest_schema.specs.PartForms.{inherited_rows, detailed_rows, dependency};
 ghost use Rattle.manifest_schema.specs.ForProofs.{written_part};
 ghost use Rattle.manifest_schema.proofs.PartLaws.{inherited_lawful, detailed_lawful, dependency_lawful};
@@ -32,6 +32,8 @@ pub struct InheritedDependencyDetail {
     pub features: Option<Vec<String>>,
     /// Whether the dependency is optional in the member.
     pub optional: Option<bool>,
+    /// Whether the default features are enabled, where the member chooses; where it does not, the workspace does.
+    pub default_features: Option<bool>,
 }
 
 /// A dependency in detail. See the
@@ -141,6 +143,7 @@ fn inherited_from(alloc: Global, table: &Table) -> Result<InheritedDependencyDet
         workspace: required(alloc, table, "workspace", None)?,
         features: optional(alloc, table, "features", None)?,
         optional: optional(alloc, table, "optional", None)?,
+        default_features: optional(alloc, table, "default-features", Some("default_features"))?,
     })
 }
 
@@ -193,6 +196,7 @@ impl Schema for InheritedDependencyDetail {
     #[tactic(auto, unfolding(manifest_schema::specs::PartForms::inherited_rows))]
     fn to_value(&self, alloc: Global) -> Result<Value, AllocError> {
         let mut out = Table::new(alloc);
+        put_optional(alloc, &mut out, "default-features", &self.default_features)?;
         put_optional(alloc, &mut out, "optional", &self.optional)?;
         put_optional(alloc, &mut out, "features", &self.features)?;
         put_row(alloc, &mut out, "workspace", &self.workspace)?;
@@ -306,13 +310,14 @@ impl Schema for Dependency {
 
 /// Inherited, with nothing added.
 impl Default for InheritedDependencyDetail {
-    ghost is_default = { λ x. inherited_content x ≡ record { features = None; «optional» = None } };
+    ghost is_default = { λ x. inherited_content x ≡ lent };
 
     fn default() -> InheritedDependencyDetail {
         InheritedDependencyDetail {
             workspace: True,
             features: None,
             optional: None,
+            default_features: None,
         }
     }
 }

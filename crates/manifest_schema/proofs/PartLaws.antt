@@ -22,6 +22,7 @@ inherited_built = record {
   build = λ t. record {
     features = t.1.0;
     «optional» = t.1.1.0;
+    default_features = t.1.1.1.0;
   };
   all = λ x. refl;
   each = λ t. refl;

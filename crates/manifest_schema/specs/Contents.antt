@@ -33,6 +33,7 @@ pub data Publish : Type 0 where
 pub record InheritedDependency : Type 0 where
   pub features : Option (List Text)
   pub «optional» : Option Bool
+  pub default_features : Option Bool
 
 pub record DependencyDetail : Type 0 where
   pub version : Option Text

@@ -1,7 +1,11 @@
 -- The records with nothing in them, and the product that a target begins as.
 use Rattle.std.specs.Prelude.{true, false, [], Some, None}
 use Rattle.manifest_schema.specs.Paths.{Text}
-use Rattle.manifest_schema.specs.Contents.{DependencyDetail, e2015, Product, no_status, Badges, Profiles, Package, WorkspacePackage, Workspace, Manifest}
+use Rattle.manifest_schema.specs.Contents.{InheritedDependency, DependencyDetail, e2015, Product, no_status, Badges, Profiles, Package, WorkspacePackage, Workspace, Manifest}
+
+-- a dependency that the workspace lends, and nothing else
+abbrev pub lent : InheritedDependency
+lent = record { features = None; «optional» = None; default_features = None }
 
 -- a dependency without any detail
 abbrev pub no_detail : DependencyDetail

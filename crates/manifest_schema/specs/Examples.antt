@@ -1,13 +1,13 @@
 -- Small forms and tables for the worked examples. They are ours, and say nothing of Cargo.
-use Rattle.std.specs.Prelude.{◌≡◌, pos, Bool, true, [], ◌∷◌, Option, Some, None, codes}
-use Rattle.toml.specs.Data.{Data, integer, table, Items, no_items, item, Members, no_members, member}
+use Rattle.std.specs.Prelude.{◌≡◌, pos, Bool, true, false, [], ◌∷◌, Option, Some, codes}
+use Rattle.toml.specs.Data.{Data, integer, boolean, table, Items, no_items, item, Members, no_members, member}
 use Rattle.manifest_schema.specs.Paths.{Text, Cause, Path, key, Faults}
 use Rattle.manifest_schema.specs.Slots.{only, also_underscored}
 use Rattle.manifest_schema.specs.Kinds.{Entries, text, flag}
 use Rattle.manifest_schema.specs.Needs.{optional, default, if_true, lenient_optional}
 use Rattle.manifest_schema.specs.Forms.{Rows, row, no_more, others, ◌⨾◌}
-use Rattle.manifest_schema.specs.Contents.{InheritedDependency, DependencyDetail, Package, Manifest}
-use Rattle.manifest_schema.specs.Defaults.{no_detail, empty_manifest}
+use Rattle.manifest_schema.specs.Contents.{InheritedDependency, DependencyDetail, Dependency, by_workspace, Package, Manifest}
+use Rattle.manifest_schema.specs.Defaults.{lent, no_detail, empty_workspace, empty_manifest}
 
 -- a table of one entry, and of two in the order of their keys
 abbrev pub one_entry : Text → Data → Members
@@ -32,10 +32,6 @@ OnlyFault F path cause = F path cause × ((p : Path) (c : Cause) → F p c → (
 abbrev pub NoFault : Faults → Type 0
 NoFault F = (p : Path) (c : Cause) → F p c → ⊥
 
--- a dependency that the workspace lends, and nothing else
-abbrev pub lent : InheritedDependency
-lent = record { features = None; «optional» = None }
-
 -- a dependency of this version, and nothing else
 abbrev pub of_version : Text → DependencyDetail
 of_version v = record no_detail { version = Some v }
@@ -43,6 +39,27 @@ of_version v = record no_detail { version = Some v }
 -- a manifest of this package, and nothing else
 abbrev pub only_package : Package → Manifest
 only_package p = record empty_manifest { «package» = Some p }
+
+-- a dependency that the workspace lends, without its default features
+abbrev pub bare : InheritedDependency
+bare = record lent { default_features = Some false }
+
+-- a table of that dependency, with this spelling
+abbrev pub bare_by : Text → Data
+bare_by k = table (two_entries k (boolean false) (codes "workspace") (boolean true))
+
+-- a manifest with this inherited dependency at each place of it, and nothing else
+abbrev pub everywhere : InheritedDependency → Manifest
+everywhere i =
+    let each : Entries Dependency = (codes "a", by_workspace i) ∷ [] in
+    record empty_manifest {
+      workspace = Some (record empty_workspace { dependencies = Some each });
+      dependencies = Some each;
+      dev_dependencies = Some each;
+      build_dependencies = Some each;
+      target = Some ((codes "t", record { dependencies = each; dev_dependencies = each; build_dependencies = each }) ∷ []);
+      patch = Some ((codes "p", each) ∷ []);
+    }
 
 -- a text under `a-b` or `a_b`
 abbrev pub spelled_rows : Rows (Option Text)

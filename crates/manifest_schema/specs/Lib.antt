@@ -12,4 +12,5 @@ pub mod Choices
 pub mod PartForms
 pub mod ManifestForms
 pub mod Meaning
+pub mod Former
 pub mod Examples

@@ -43,6 +43,7 @@ inherited_rows =
     row (λ d. tt) (only (codes "workspace")) (required truth)
     ⨾ row (λ d. d.features) (only (codes "features")) (optional texts)
     ⨾ row (λ d. d.«optional») (only (codes "optional")) (optional flag)
+    ⨾ row (λ d. d.default_features) (also_underscored (codes "default-features")) (optional flag)
     ⨾ no_more
 
 unfoldable pub detailed_rows : Rows DependencyDetail

@@ -11,9 +11,10 @@ ghost use Rattle.manifest_schema.specs.Contents.{by_workspace, detailed, simple,
 ghost use Rattle.manifest_schema.specs.Choices.{edition};
 ghost use Rattle.manifest_schema.specs.ManifestForms.{package_rows};
 ghost use Rattle.manifest_schema.specs.PartForms.{texts, codegen, priority, dependency, badges_rows};
-ghost use Rattle.manifest_schema.specs.Meaning.{means, unmeant, rewritten};
-ghost use Rattle.manifest_schema.specs.Defaults.{no_badges, named, empty_workspace, empty_manifest};
-ghost use Rattle.manifest_schema.specs.Examples.{one_entry, two_entries, lent, of_version, only_package, spelled_rows, lenient_rows, default_rows, rest_rows, at_key, two_items, bad_gitlab, OnlyFault, NoFault};
+ghost use Rattle.manifest_schema.specs.Meaning.{means, unmeant, written_manifest, rewritten};
+ghost use Rattle.manifest_schema.specs.Former.{former_written, ManifestLeavesDefaults};
+ghost use Rattle.manifest_schema.specs.Defaults.{lent, no_badges, named, empty_workspace, empty_manifest};
+ghost use Rattle.manifest_schema.specs.Examples.{one_entry, two_entries, bare, bare_by, everywhere, of_version, only_package, spelled_rows, lenient_rows, default_rows, rest_rows, at_key, two_items, bad_gitlab, OnlyFault, NoFault};
 
 /// A key that no row has is ignored, and is not written.
 #[tactic(auto, unfolding(crate::specs::ManifestForms::package_rows, crate::specs::Slots::put_some))]
@@ -31,6 +32,21 @@ pub fn lent_dependency()
         (by_workspace lent) }
     ensures written { dependency.written (by_workspace lent)
         ≡ table (one_entry (codes "workspace") (boolean true)) }
+{}
+
+/// An inherited dependency may choose its default features, by either spelling.
+#[tactic(auto, unfolding(crate::specs::PartForms::inherited_rows, crate::specs::Slots::put_some))]
+pub fn chosen_default_features()
+    ensures reads { dependency.reads (bare_by (codes "default_features")) (by_workspace bare) }
+    ensures written { dependency.written (by_workspace bare) ≡ bare_by (codes "default-features") }
+{}
+
+/// Of that choice the former schema wrote nothing, at any place of a manifest.
+#[tactic(auto, unfolding(crate::specs::PartForms::inherited_rows, crate::specs::Slots::put_some, crate::specs::PartForms::platform_rows, crate::specs::ManifestForms::workspace_rows, crate::specs::ManifestForms::manifest_rows))]
+pub fn former_tables()
+    ensures chosen { former_written kept kept (everywhere bare)
+        ≡ written_manifest kept kept (everywhere lent) }
+    ensures left { ManifestLeavesDefaults (everywhere lent) }
 {}
 
 /// `workspace = false` beside `version`: the dependency is the member's own, and `workspace` is ignored.

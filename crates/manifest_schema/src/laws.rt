@@ -5,6 +5,7 @@
 
 ghost use Rattle.manifest_schema.specs.Kinds.{tree_of};
 ghost use Rattle.manifest_schema.specs.Meaning.{MeansOne, WrittenIsRead, AcceptedIsWellFormed, RewrittenMeansTheSame, SameExactly, FaultyMeansNothing, AcceptedOrFaulty};
+ghost use Rattle.manifest_schema.specs.Former.{OldWrittenIsRead};
 
 use crate::kinds::{LawfulKind, TotalKind};
 
@@ -41,4 +42,10 @@ pub fn faulty_means_nothing<P: LawfulKind, W: LawfulKind>()
 /// A table means a manifest or has a fault, where each value has a reading or a fault as metadata.
 pub fn accepted_or_faulty<P: TotalKind, W: TotalKind>()
     ensures { AcceptedOrFaulty (tree_of P.kind) (tree_of W.kind) }
+{}
+
+/// Where no inherited dependency of a manifest chooses its default features, what is written of the manifest is what was
+/// written before they could; where it is well-formed besides, what was written then is read as it.
+pub fn old_written_is_read<P: LawfulKind, W: LawfulKind>()
+    ensures { OldWrittenIsRead (tree_of P.kind) (tree_of W.kind) }
 {}

@@ -17,13 +17,17 @@ use std::collections::BTreeMap;
 use toml::{Table, Value};
 
 /// The map of some entries whose keys ascend. It is made at once, with full nodes.
-pub(crate) fn map_of_list<T: Schema>(
+///
+/// ```ignore
+/// let map = map_of_list(alloc, list)?; // the entries of the list
+/// ```
+pub fn map_of_list<X: Drop>(
     alloc: Global,
-    all: Vec<(String, T)>,
-) -> Result<BTreeMap<String, T>, AllocError>
+    all: Vec<(String, X)>,
+) -> Result<BTreeMap<String, X>, AllocError>
     requires { IsStrictlySortedBy string_cmp (keys_of all.items) }
-    ensures { IfOk result (λ m. entries_content T.content m.entries
-        ≡ entries_content T.content all.items) }
+    ensures { IfOk result (λ m. entries_content (λ x. x) m.entries
+        ≡ entries_content (λ x. x) all.items) }
 {
     BTreeMap::from_iter(alloc, all)
 }

@@ -4,7 +4,7 @@ use Rattle.std.proofs.lemmas.Iterator.Adapters.{YieldsList-from_vec}
 use Rattle.std.proofs.lemmas.Result.{IfOk-weaker}
 use Rattle.std.specs.BTreeMap.{IsFromIterResult}
 use Rattle.std.specs.String.{string_cmp}
-use Rattle.manifest_value.proofs.CollectLemmas.{collected, same_content}
+use Rattle.manifest_value.proofs.CollectLemmas.{collected}
 use Rattle.manifest_value.proofs.maps.map_of_list.Goals as goal
 
 pub returns : goal.returns
@@ -12,4 +12,4 @@ returns g c =
     let es = c.args.all.items in
     IfOk-weaker c.from_iter.result _ _ (λ m h.
     let same : h.1 ≡ es = sym (map-id h.1) ∙ items_from_drains h.1 h.3 (YieldsList-from_vec es h.2.0 (h.2.1 ∙ c.args.all.ok.0)) in
-    same_content g.T.Schema.content m.entries es (collected es m c.requires (subst (λ xs. IsFromIterResult string_cmp xs m) same h.4))) c.from_iter.ensures.ran
+    collected es m c.requires (subst (λ xs. IsFromIterResult string_cmp xs m) same h.4)) c.from_iter.ensures.ran

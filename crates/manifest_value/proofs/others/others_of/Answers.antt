@@ -6,6 +6,7 @@ use Rattle.manifest_schema.specs.Paths.{Text}
 use Rattle.manifest_schema.specs.Slots.{without}
 use Rattle.manifest_value.specs.Entries.{entries_content}
 use Rattle.manifest_value.proofs.ReadingLemmas.{Ascend, ascend_view, ascend_without, first_ascend}
+use Rattle.manifest_value.proofs.CollectLemmas.{same_content}
 use Rattle.manifest_value.proofs.TakenLemmas.{none_left}
 use Rattle.manifest_value.proofs.others.others_of.Goals as goal
 
@@ -20,4 +21,4 @@ pub returns-clause-ok : goal.returns-clause-ok
 returns-clause-ok g c =
     let K = g.T.Schema.kind in
     let ms : Members = without (map (λ n. n.now) c.args.named.now) (table_view c.args.table.now) in
-    subst (reads_entries K ms) (sym c.in_ok-map_of_list.ensures) (none_left K ms (entries_content g.T.Schema.content c.in_ok-all.all.items) c.in_ok-all.ensures.ok)
+    subst (reads_entries K ms) (sym (same_content g.T.Schema.content c.in_ok-map_of_list.field-0.entries c.in_ok-all.all.items c.in_ok-map_of_list.ensures)) (none_left K ms (entries_content g.T.Schema.content c.in_ok-all.all.items) c.in_ok-all.ensures.ok)

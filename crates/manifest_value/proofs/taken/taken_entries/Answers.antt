@@ -4,6 +4,7 @@ use Rattle.toml.specs.View.{table_view}
 use Rattle.manifest_schema.specs.Kinds.{reads_entries}
 use Rattle.manifest_value.specs.Entries.{entries_content}
 use Rattle.manifest_value.proofs.ReadingLemmas.{ascend_view, first_ascend}
+use Rattle.manifest_value.proofs.CollectLemmas.{same_content}
 use Rattle.manifest_value.proofs.TakenLemmas.{none_left}
 use Rattle.manifest_value.proofs.taken.taken_entries.Goals as goal
 
@@ -15,4 +16,4 @@ pub returns-clause-ok : goal.returns-clause-ok
 returns-clause-ok g c =
     let K = g.T.Schema.kind in
     let ms = table_view c.args.table in
-    subst (reads_entries K ms) (sym c.in_ok-map_of_list.ensures) (none_left K ms (entries_content g.T.Schema.content c.in_ok-all.all.items) c.in_ok-all.ensures.ok)
+    subst (reads_entries K ms) (sym (same_content g.T.Schema.content c.in_ok-map_of_list.field-0.entries c.in_ok-all.all.items c.in_ok-map_of_list.ensures)) (none_left K ms (entries_content g.T.Schema.content c.in_ok-all.all.items) c.in_ok-all.ensures.ok)
