@@ -14,10 +14,10 @@ use Rattle.manifest_schema.specs.Paths.{Text}
 use Rattle.manifest_completion.specs.Finds.{stem}
 use Rattle.manifest_completion.specs.Outcome.{paired_finds}
 
--- a set has a text where its names do
-pub has_name : (n : Text) (ks : List (String Global)) → list_any (λ k. is_eq (slice_cmp nat_cmp n (string_bytes k))) ks ≡ list_any (bytes_eq n) (map string_bytes ks)
-has_name n [] = refl
-has_name n (k ∷ ks) = rw (is_eq-slice_cmp n (string_bytes k)) (ap (λ b. bytes_eq n (string_bytes k) || b) (has_name n ks))
+-- a set has a text where the texts of its keys do
+pub has_text : {K : Type 0} (text : K → Text) (n : Text) (ks : List K) → list_any (λ k. is_eq (slice_cmp nat_cmp n (text k))) ks ≡ list_any (bytes_eq n) (map text ks)
+has_text text n [] = refl
+has_text text n (k ∷ ks) = rw (is_eq-slice_cmp n (text k)) (ap (λ b. bytes_eq n (text k) || b) (has_text text n ks))
 
 -- copies of texts have the same bytes
 pub bytes_of_copies : {R : String Global → String Global → Type 0} → ((s n : String Global) → R s n → string_bytes n ≡ string_bytes s) → (ks ns : List (String Global)) → AllZip R ks ns → map string_bytes ns ≡ map string_bytes ks

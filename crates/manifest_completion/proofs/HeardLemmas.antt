@@ -11,7 +11,7 @@ use Rattle.manifest_completion.specs.declared.ask.Answers.{Answers}
 use Rattle.manifest_completion.specs.Listings.{Answer, fault, names_of, is_memory_fault, TargetFolder, bins, examples, tests, benches, Place, source, folder, entry, root, joined, folder_text, path_text, entry_answer, FolderListing, ListingMap, folder_of, at, IsAscending, NamesAscend}
 use Rattle.manifest_completion.specs.Completed.{up_to_memory_fault, folder_places, has_memory_fault, target_places, root_places}
 use Rattle.manifest_completion.specs.Answered.{answer_of, answers_of}
-use Rattle.manifest_completion.specs.Asking.{Heard, EntriesHeard, FolderHeard, IsInOrder, folder_listing, listing_map, AllHeard, found_no_memory}
+use Rattle.manifest_completion.specs.Asking.{Heard, EntriesHeard, FolderHeard, HeardInTurn, folder_listing, listing_map, AllHeard, found_no_memory}
 use Rattle.manifest_completion.proofs.AskLemmas.{none_ascend, ascending_differ}
 
 -- the answers, with NotFound past their end
@@ -59,7 +59,7 @@ pub entry_answers : (l : ListingMap) (d : TargetFolder) (a : FolderAnswers) → 
 entry_answers l d a e h = rw e (lookups (names_of (answer_of a.own)) (answers_of a.entries) h)
 
 -- whether the folder or an entry found no memory
-pub folder_fault : (l : ListingMap) (d : TargetFolder) (a : FolderAnswers) → folder_of l d ≡ folder_listing a → IsInOrder d a → has_memory_fault (at l) (folder_places l d) ≡ found_no_memory a
+pub folder_fault : (l : ListingMap) (d : TargetFolder) (a : FolderAnswers) → folder_of l d ≡ folder_listing a → HeardInTurn d a → has_memory_fault (at l) (folder_places l d) ≡ found_no_memory a
 folder_fault l d a e h =
     let ns = names_of (answer_of a.own) in
     let own : (folder_of l d).own ≡ answer_of a.own = ap (λ (f : FolderListing). f.own) e in
@@ -154,17 +154,17 @@ folder_ascends a P d h n = looked_up (names_of (answer_of a.own)) (answers_of a.
 abbrev anything : Text → Answer → Type 0
 anything path a = Unit {0}
 
-map_ascends : (src : Answer) (a : Answers) → IsInOrder bins a.bins → IsInOrder examples a.examples → IsInOrder tests a.tests → IsInOrder benches a.benches → Ascends (answer_of a.root) → Ascends src → NamesAscend (listing_map src a)
-map_ascends src a b e t n r s source = s
-map_ascends src a b e t n r s (folder bins) = b.own.0
-map_ascends src a b e t n r s (folder examples) = e.own.0
-map_ascends src a b e t n r s (folder tests) = t.own.0
-map_ascends src a b e t n r s (folder benches) = n.own.0
-map_ascends src a b e t n r s (entry bins x) = folder_ascends a.bins anything (folder_text bins) b x
-map_ascends src a b e t n r s (entry examples x) = folder_ascends a.examples anything (folder_text examples) e x
-map_ascends src a b e t n r s (entry tests x) = folder_ascends a.tests anything (folder_text tests) t x
-map_ascends src a b e t n r s (entry benches x) = folder_ascends a.benches anything (folder_text benches) n x
-map_ascends src a b e t n r s root = r
+map_ascends : (a : Answers) → HeardInTurn bins a.bins → HeardInTurn examples a.examples → HeardInTurn tests a.tests → HeardInTurn benches a.benches → Ascends (answer_of a.root) → Ascends (answer_of a.source) → NamesAscend (listing_map a)
+map_ascends a b e t n r s source = s
+map_ascends a b e t n r s (folder bins) = b.own.0
+map_ascends a b e t n r s (folder examples) = e.own.0
+map_ascends a b e t n r s (folder tests) = t.own.0
+map_ascends a b e t n r s (folder benches) = n.own.0
+map_ascends a b e t n r s (entry bins x) = folder_ascends a.bins anything (folder_text bins) b x
+map_ascends a b e t n r s (entry examples x) = folder_ascends a.examples anything (folder_text examples) e x
+map_ascends a b e t n r s (entry tests x) = folder_ascends a.tests anything (folder_text tests) t x
+map_ascends a b e t n r s (entry benches x) = folder_ascends a.benches anything (folder_text benches) n x
+map_ascends a b e t n r s root = r
 
 -- WEAKER
 module _ (P Q : Text → Answer → Type 0) (weaker : (path : Text) (a : Answer) → P path a → Q path a) where
@@ -177,8 +177,8 @@ module _ (P Q : Text → Answer → Type 0) (weaker : (path : Text) (a : Answer)
   pub folder_weaker : (d : Text) (a : FolderAnswers) → FolderHeard P d a → FolderHeard Q d a
   folder_weaker d a h = record { own = (h.own.0, weaker d (answer_of a.own) h.own.1); entries = entries_weaker d (names_of (answer_of a.own)) (answers_of a.entries) h.entries }
 
-in_order : (P : Text → Answer → Type 0) (d : TargetFolder) (a : FolderAnswers) → FolderHeard P (folder_text d) a → IsInOrder d a
-in_order P d a h = folder_weaker P anything (λ path answer p. tt) (folder_text d) a h
+heard_in_turn : (P : Text → Answer → Type 0) (d : TargetFolder) (a : FolderAnswers) → FolderHeard P (folder_text d) a → HeardInTurn d a
+heard_in_turn P d a h = folder_weaker P anything (λ path answer p. tt) (folder_text d) a h
 
 -- of a folder that is asked only where completion goes on
 abbrev pub HeardUnless : Bool → (Text → Answer → Type 0) → TargetFolder → FolderAnswers → Type 0
@@ -202,33 +202,39 @@ asks_and false stopped e f = cc
 
 -- ALL that was heard
 pub all_heard : (allows : Text → Answer → Type 0) (asks : Bool) (a : Answers) →
+    Heard allows (path_text source) (answer_of a.source) →
     FolderHeard allows (folder_text bins) a.bins →
     HeardUnless (found_no_memory a.bins) allows examples a.examples →
     HeardUnless (found_no_memory a.bins || found_no_memory a.examples) allows tests a.tests →
     HeardUnless ((found_no_memory a.bins || found_no_memory a.examples) || found_no_memory a.tests) allows benches a.benches →
     Heard (λ path answer. (asks && not (((found_no_memory a.bins || found_no_memory a.examples) || found_no_memory a.tests) || found_no_memory a.benches)) ≡ true → allows path answer) (path_text root) (answer_of a.root) →
     AllHeard allows asks a
-all_heard allows asks a b e t n r =
-    let ob = in_order _ bins a.bins b in let oe = in_order _ examples a.examples e in
-    let ot = in_order _ tests a.tests t in let on = in_order _ benches a.benches n in
+all_heard allows asks a s b e t n r =
+    let ob = heard_in_turn _ bins a.bins b in let oe = heard_in_turn _ examples a.examples e in
+    let ot = heard_in_turn _ tests a.tests t in let on = heard_in_turn _ benches a.benches n in
     record {
       bins = ob;
       examples = oe;
       tests = ot;
       benches = on;
-      ascending = λ src d. map_ascends src a ob oe ot on r.0 d;
-      allowed = λ src.
-          let l = listing_map src a in
-          let bp = folder_places l bins in let ep = folder_places l examples in let tp = folder_places l tests in let np = folder_places l benches in let rp = root_places asks in
-          let together : target_places l ++ rp ≡ bp ++ (ep ++ (tp ++ (np ++ rp))) = append_assoc bp (ep ++ (tp ++ np)) rp ∙ ap (λ (ps : List Place). bp ++ ps) (append_assoc ep (tp ++ np) rp ∙ ap (λ (ps : List Place). ep ++ ps) (append_assoc tp np rp)) in
-          subst (λ (ps : List Place). AllByRecursion (λ p. allows (path_text p) (at l p)) (up_to_memory_fault (at l) ps)) (sym together)
-          (allowed_append allows l bp (ep ++ (tp ++ (np ++ rp))) (folder_held allows l bins a.bins refl b) (λ q1.
-          let f1 : found_no_memory a.bins ≡ false = sym (folder_fault l bins a.bins refl ob) ∙ q1 in
-          allowed_append allows l ep (tp ++ (np ++ rp)) (folder_held allows l examples a.examples refl (goes_on (found_no_memory a.bins) allows examples a.examples e f1)) (λ q2.
-          let f2 = none_of (found_no_memory a.bins) (found_no_memory a.examples) f1 (sym (folder_fault l examples a.examples refl oe) ∙ q2) in
-          allowed_append allows l tp (np ++ rp) (folder_held allows l tests a.tests refl (goes_on _ allows tests a.tests t f2)) (λ q3.
-          let f3 = none_of (found_no_memory a.bins || found_no_memory a.examples) (found_no_memory a.tests) f2 (sym (folder_fault l tests a.tests refl ot) ∙ q3) in
-          allowed_append allows l np rp (folder_held allows l benches a.benches refl (goes_on _ allows benches a.benches n f3)) (λ q4.
-          let f4 = none_of ((found_no_memory a.bins || found_no_memory a.examples) || found_no_memory a.tests) (found_no_memory a.benches) f3 (sym (folder_fault l benches a.benches refl on) ∙ q4) in
-          root_held allows l asks (λ y. r.1 (asks_and asks _ y f4)))))));
+      explained = record {
+        ascending = map_ascends a ob oe ot on r.0 s.0;
+        allowed = (
+          s.1,
+          (
+              let l = listing_map a in
+              let bp = folder_places l bins in let ep = folder_places l examples in let tp = folder_places l tests in let np = folder_places l benches in let rp = root_places asks in
+              let together : target_places l ++ rp ≡ bp ++ (ep ++ (tp ++ (np ++ rp))) = append_assoc bp (ep ++ (tp ++ np)) rp ∙ ap (λ (ps : List Place). bp ++ ps) (append_assoc ep (tp ++ np) rp ∙ ap (λ (ps : List Place). ep ++ ps) (append_assoc tp np rp)) in
+              subst (λ (ps : List Place). AllByRecursion (λ p. allows (path_text p) (at l p)) (up_to_memory_fault (at l) ps)) (sym together)
+              (allowed_append allows l bp (ep ++ (tp ++ (np ++ rp))) (folder_held allows l bins a.bins refl b) (λ q1.
+              let f1 : found_no_memory a.bins ≡ false = sym (folder_fault l bins a.bins refl ob) ∙ q1 in
+              allowed_append allows l ep (tp ++ (np ++ rp)) (folder_held allows l examples a.examples refl (goes_on (found_no_memory a.bins) allows examples a.examples e f1)) (λ q2.
+              let f2 = none_of (found_no_memory a.bins) (found_no_memory a.examples) f1 (sym (folder_fault l examples a.examples refl oe) ∙ q2) in
+              allowed_append allows l tp (np ++ rp) (folder_held allows l tests a.tests refl (goes_on _ allows tests a.tests t f2)) (λ q3.
+              let f3 = none_of (found_no_memory a.bins || found_no_memory a.examples) (found_no_memory a.tests) f2 (sym (folder_fault l tests a.tests refl ot) ∙ q3) in
+              allowed_append allows l np rp (folder_held allows l benches a.benches refl (goes_on _ allows benches a.benches n f3)) (λ q4.
+              let f4 = none_of ((found_no_memory a.bins || found_no_memory a.examples) || found_no_memory a.tests) (found_no_memory a.benches) f3 (sym (folder_fault l benches a.benches refl on) ∙ q4) in
+              root_held allows l asks (λ y. r.1 (asks_and asks _ y f4)))))))),
+        );
+      };
     }

@@ -4,6 +4,7 @@ pub mod AskedLaws
 pub mod StoredLaws
 pub mod DecidesLaws
 pub mod FindLemmas
+pub mod IndexLemmas
 pub mod LibraryLemmas
 pub mod ListingLemmas
 pub mod AskLemmas

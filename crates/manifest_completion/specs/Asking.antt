@@ -5,8 +5,8 @@ use Rattle.std.specs.Bool.{MatchBool}
 use Rattle.manifest_schema.specs.Paths.{Text}
 use Rattle.manifest_completion.specs.declared.ask.FolderAnswers.{FolderAnswers}
 use Rattle.manifest_completion.specs.declared.ask.Answers.{Answers}
-use Rattle.manifest_completion.specs.Listings.{Answer, TargetFolder, bins, examples, tests, benches, folder_text, joined, names_of, is_memory_fault, FolderListing, ListingMap, at, IsAscending, NamesAscend}
-use Rattle.manifest_completion.specs.Completed.{AllAllowed, up_to_memory_fault, target_places, root_places}
+use Rattle.manifest_completion.specs.Listings.{Answer, TargetFolder, bins, examples, tests, benches, Place, source, folder_text, joined, names_of, is_memory_fault, FolderListing, ListingMap, at, IsAscending}
+use Rattle.manifest_completion.specs.Completed.{Explains, up_to_memory_fault, target_places, root_places}
 use Rattle.manifest_completion.specs.Answered.{answer_of, answers_of}
 
 -- an answer that is allowed at a path, its names ascending
@@ -25,17 +25,17 @@ pub record FolderHeard (allows : Text → Answer → Type 0) (d : Text) (a : Fol
   pub own : Heard allows d (answer_of a.own)
   pub entries : EntriesHeard allows d (names_of (answer_of a.own)) (answers_of a.entries)
 
--- the same, where nothing is said of what is allowed
-abbrev pub IsInOrder : TargetFolder → FolderAnswers → Type 0
-IsInOrder d a = FolderHeard (λ path answer. Unit {0}) (folder_text d) a
+-- the names in the folder ascend, and its entries were answered in turn, up to the first that found no memory
+abbrev pub HeardInTurn : TargetFolder → FolderAnswers → Type 0
+HeardInTurn d a = FolderHeard (λ path answer. Unit {0}) (folder_text d) a
 
--- the map of what was heard, with an answer for `src`
+-- the map of what was heard
 abbrev pub folder_listing : FolderAnswers → FolderListing
 folder_listing a = record { own = answer_of a.own; entries = zip (names_of (answer_of a.own)) (answers_of a.entries) }
 
-abbrev pub listing_map : Answer → Answers → ListingMap
-listing_map src a = record {
-  source = src;
+abbrev pub listing_map : Answers → ListingMap
+listing_map a = record {
+  source = answer_of a.source;
   bins = folder_listing a.bins;
   examples = folder_listing a.examples;
   tests = folder_listing a.tests;
@@ -43,14 +43,17 @@ listing_map src a = record {
   root = answer_of a.root;
 }
 
--- what was heard at all folders of targets, their entries, and at the folder of the manifest where it was asked
+-- the places that are asked where completion goes on after `src`
+abbrev pub all_places : Bool → ListingMap → List Place
+all_places asks l = source ∷ up_to_memory_fault (at l) (target_places l ++ root_places asks)
+
+-- what was heard at `src`, at all folders of targets, their entries, and at the folder of the manifest where it was asked
 pub record AllHeard (allows : Text → Answer → Type 0) (asks : Bool) (a : Answers) : Type 0 where
-  pub bins : IsInOrder bins a.bins
-  pub examples : IsInOrder examples a.examples
-  pub tests : IsInOrder tests a.tests
-  pub benches : IsInOrder benches a.benches
-  pub ascending : (src : Answer) → IsAscending (names_of src) → NamesAscend (listing_map src a)
-  pub allowed : (src : Answer) → AllAllowed allows (listing_map src a) (up_to_memory_fault (at (listing_map src a)) (target_places (listing_map src a) ++ root_places asks))
+  pub bins : HeardInTurn bins a.bins
+  pub examples : HeardInTurn examples a.examples
+  pub tests : HeardInTurn tests a.tests
+  pub benches : HeardInTurn benches a.benches
+  pub explained : Explains allows (listing_map a) (all_places asks (listing_map a))
 
 -- the folder's answer or one of its entries' found no memory
 abbrev pub found_no_memory : FolderAnswers → Bool

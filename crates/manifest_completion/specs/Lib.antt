@@ -1,6 +1,7 @@
 pub mod Listings
 pub mod Finds
 pub mod Targets
+pub mod Index
 pub mod Completed
 pub mod Laws
 pub mod Answered

@@ -94,6 +94,10 @@ at l root = l.root
 abbrev pub IsAscending : List Text → Type 0
 IsAscending ns = IsStrictlySortedBy (slice_cmp nat_cmp) ns
 
+-- THE FOLDERS OF A REAL FILESYSTEM may be answered anything, at each path: names that ascend, or a fault
+abbrev pub AnyAscending : Text → Answer → Type 0
+AnyAscending path a = IsAscending (names_of a)
+
 -- the names of each folder ascend
 abbrev pub NamesAscend : ListingMap → Type 0
 NamesAscend l = (p : Place) → IsAscending (names_of (at l p))

@@ -121,17 +121,17 @@ abbrev pub folder_paired : Text → FolderAnswers → List Find
 folder_paired d a = paired_finds d (names_of (answer_of a.own)) (answers_of a.entries)
 
 -- the four lists are completed, by what was heard
-pub record ListsCompleted (t : PackageTargets) (src : Answer) (a : Answers) (lists : CompletedLists) : Type 0 where
-  pub bin : map product_content lists.bin.items ≡ targets (bin_defaults t src) (discovers t.autobins (is_legacy t.edition) t.bin) (folder_paired (folder_text bins) a.bins ++ main_find t.name src) t.bin
+pub record ListsCompleted (t : PackageTargets) (a : Answers) (lists : CompletedLists) : Type 0 where
+  pub bin : map product_content lists.bin.items ≡ targets (bin_defaults t (answer_of a.source)) (discovers t.autobins (is_legacy t.edition) t.bin) (folder_paired (folder_text bins) a.bins ++ main_find t.name (answer_of a.source)) t.bin
   pub example : map product_content lists.example.items ≡ targets (example_defaults t) (discovers t.autoexamples (is_legacy t.edition) t.example) (folder_paired (folder_text examples) a.examples) t.example
   pub test : map product_content lists.test.items ≡ targets (test_defaults t) (discovers t.autotests (is_legacy t.edition) t.test) (folder_paired (folder_text tests) a.tests) t.test
   pub bench : map product_content lists.bench.items ≡ targets (test_defaults t) (discovers t.autobenches (is_legacy t.edition) t.bench) (folder_paired (folder_text benches) a.benches) t.bench
 
 -- the targets are completed with this library, by what was heard
-pub record TargetsMade (t : PackageTargets) (src : Answer) (lib : Option Product) (a : Answers) (c : CompletedTargets) : Type 0 where
+pub record TargetsMade (t : PackageTargets) (lib : Option Product) (a : Answers) (c : CompletedTargets) : Type 0 where
   pub build : option_map text_or_flag_content c.build ≡ build_of t.build (answer_of a.root)
   pub library : option_map product_content c.lib ≡ lib
-  pub lists : ListsCompleted t src a (record { bin = c.bin; example = c.example; test = c.test; bench = c.bench })
+  pub lists : ListsCompleted t a (record { bin = c.bin; example = c.example; test = c.test; bench = c.bench })
 
 -- the fault that refuses after all was heard: that no memory was found for a folder of targets or an entry, or that of the folder of the manifest
 abbrev pub heard_fault : PackageTargets → Answers → Option ErrorKind
@@ -143,6 +143,6 @@ RefusesHeard t a (Memory e) = Unit {0}
 RefusesHeard t a _ = ⊥
 
 -- what is answered, by what was heard
-abbrev pub CompletesHeard : PackageTargets → Answer → Option Product → Answers → Result CompletedTargets Error → Type 0
-CompletesHeard t src lib a (Ok c) = (heard_fault t a ≡ None) × TargetsMade t src lib a c
-CompletesHeard t src lib a (Err e) = RefusesHeard t a e
+abbrev pub CompletesHeard : PackageTargets → Option Product → Answers → Result CompletedTargets Error → Type 0
+CompletesHeard t lib a (Ok c) = (heard_fault t a ≡ None) × TargetsMade t lib a c
+CompletesHeard t lib a (Err e) = RefusesHeard t a e

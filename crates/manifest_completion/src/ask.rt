@@ -16,7 +16,8 @@ use std::io::ErrorKind;
 pub fn join(alloc: Global, folder: &str, name: &str) -> Result<String, AllocError>
     ensures { IfOk result (λ s. string_bytes s ≡ joined folder.now name.now) }
 {
-    let mut path = String::from_str(alloc, folder)?;
+    let mut path = String::with_capacity(alloc, folder.len() + 1 + name.len())?;
+    path.push_str(folder)?;
     path.push_str("/")?;
     path.push_str(name)?;
     Ok(path)
@@ -29,9 +30,10 @@ pub struct FolderAnswers {
     pub entries: Vec<io::Result<BTreeSet<String>>>,
 }
 
-/// What was answered at the folders of targets and at that of the manifest.
+/// What was answered at `src`, at the folders of targets and at that of the manifest.
 #[derive(Debug, Drop)]
 pub struct Answers {
+    pub source: io::Result<BTreeSet<String>>,
     pub bins: FolderAnswers,
     pub examples: FolderAnswers,
     pub tests: FolderAnswers,
@@ -50,7 +52,7 @@ fn is_memory_fault(answer: &io::Result<BTreeSet<String>>) -> bool
 }
 
 /// The names of a set ascend.
-fn names_ascend(names: &BTreeSet<String>)
+pub fn names_ascend(names: &BTreeSet<String>)
     ensures { IsAscending (set_names names.now) }
 {
     let _count = names.len();
@@ -133,7 +135,7 @@ impl FolderAnswers {
 }
 
 impl Answers {
-    /// Whether one of them found no memory.
+    /// Whether a folder of targets or an entry of one found no memory.
     pub fn found_no_memory(&self) -> bool
         ensures { result ≡ some_found_no_memory self.now }
     {
@@ -173,14 +175,17 @@ fn ask_root_if<FS: AbstractFilesystem>(
     }
 }
 
-/// Asks at the folders of targets, at their entries and, where it is to be asked, at the folder of the manifest, up to a
-/// first answer that found no memory.
+/// Asks, after `src` was answered, at the folders of targets, at their entries and, where it is to be asked, at the folder
+/// of the manifest, up to a first answer that found no memory.
 pub fn ask_folders<FS: AbstractFilesystem>(
     alloc: Global,
     fs: &FS,
+    source: io::Result<BTreeSet<String>>,
     asks_root: bool,
 ) -> Result<Answers, AllocError>
-    ensures { IfOk result (λ a. AllHeard (FS.allows fs.now) asks_root a) }
+    requires { Heard (FS.allows fs.now) (codes "src") (answer_of source) }
+    ensures source { IfOk result (λ a. a.source ≡ source) }
+    ensures heard { IfOk result (λ a. AllHeard (FS.allows fs.now) asks_root a) }
 {
     let bins = ask_folder(alloc, fs, "src/bin")?;
     let after_bins = bins.found_no_memory();
@@ -192,6 +197,7 @@ pub fn ask_folders<FS: AbstractFilesystem>(
     let after_benches = after_tests | benches.found_no_memory();
     let root = ask_root_if(asks_root & !after_benches, alloc, fs);
     Ok(Answers {
+        source,
         bins,
         examples,
         tests,

@@ -270,13 +270,12 @@ fn completed_bins(
 fn completed_lists(
     alloc: Global,
     declared: &DeclaredTargets<'_>,
-    source: &io::Result<BTreeSet<String>>,
     answers: &Answers,
 ) -> Result<CompletedLists, AllocError>
-    ensures { IfOk result (ListsCompleted (declared_content declared.now) (answer_of source.now) answers.now) }
+    ensures { IfOk result (ListsCompleted (declared_content declared.now) answers.now) }
 {
     let legacy = is_legacy(declared.edition);
-    let bin = completed_bins(alloc, declared, source, &answers.bins)?;
+    let bin = completed_bins(alloc, declared, &answers.source, &answers.bins)?;
     let example = completed_folder(
         alloc,
         "examples",
@@ -309,21 +308,19 @@ fn completed_lists(
     })
 }
 
-/// The targets completed with this library, by what was answered at `src`, at the folders and at their entries.
+/// The targets completed with this library, by what was answered.
 fn completed_by_answers(
     alloc: Global,
     declared: &DeclaredTargets<'_>,
-    source: &io::Result<BTreeSet<String>>,
     lib: Option<Product>,
     answers: &Answers,
 ) -> Result<CompletedTargets, Error>
-    ensures { let t = declared_content declared.now in let src = answer_of source.now in
-        CompletesHeard t src (option_map product_content lib) answers.now result }
+    ensures { let t = declared_content declared.now in
+        CompletesHeard t (option_map product_content lib) answers.now result }
 {
     if answers.found_no_memory() {
         return Err(Error::Io(io::Error::from(ErrorKind::OutOfMemory)));
     }
-    let lists = completed_lists(alloc, declared, source, answers)?;
     settled_root(asks_root(declared.build), &answers.root)?;
     let build = completed_build(alloc, declared.build, &answers.root)?;
     let CompletedLists {
@@ -331,7 +328,7 @@ fn completed_by_answers(
         example,
         test,
         bench,
-    } = lists;
+    } = completed_lists(alloc, declared, answers)?;
     Ok(CompletedTargets {
         build,
         lib,
@@ -361,9 +358,8 @@ pub fn complete<FS: AbstractFilesystem>(
 {
     let source = settled_source(ask(alloc, fs, "src"))?;
     let lib = completed_library(alloc, declared, &source)?;
-    let answers = ask_folders(alloc, fs, asks_root(declared.build))?;
-    let completed = completed_by_answers(alloc, declared, &source, lib, &answers);
+    let answers = ask_folders(alloc, fs, source, asks_root(declared.build))?;
+    let completed = completed_by_answers(alloc, declared, lib, &answers);
     drop(answers);
-    drop(source);
     completed
 }

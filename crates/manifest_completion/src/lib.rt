@@ -7,6 +7,8 @@ pub mod completion;
 mod copies;
 pub mod filesystem;
 mod finds;
+pub mod folders;
+mod index;
 pub mod laws;
 mod library;
 pub mod listings;
@@ -14,4 +16,5 @@ mod targets;
 
 pub use completion::{CompletedTargets, DeclaredTargets, complete, discovers, is_legacy};
 pub use filesystem::AbstractFilesystem;
+pub use folders::Filesystem;
 pub use listings::{Listing, Listings};

@@ -3,13 +3,16 @@
 ghost use Rattle.std.specs.Prelude.{◌≡◌, ◌++◌, ◌∷◌, [], map, option_map, OnOk, IfOk, string_bytes, if◌then◌else◌};
 ghost use Rattle.std.specs.Option.{option_copied, option_or};
 ghost use Rattle.manifest_parts.specs.Records.{product_content};
-ghost use Rattle.manifest_completion.specs.Targets.{first_path, path_by_name, paths_of, pathed, has_path, found, added, with_defaults, targets};
+ghost use Rattle.manifest_completion.specs.Targets.{paths_of, pathed, found, added, with_defaults, targets};
+ghost use Rattle.manifest_completion.specs.Index.{paths_in, SamePaths};
 ghost use Rattle.manifest_completion.specs.Outcome.{find_content, finds_content, defaults_content};
 
 use crate::copies::{copied, copied_text, copied_texts, one_text};
 use crate::finds::FoundTarget;
+use crate::index::{IndexedFinds, take_path};
 use manifest_parts::{Edition, Product};
 use std::alloc::{AllocError, Global};
+use std::collections::BTreeSet;
 
 /// What targets take where they have none.
 #[derive(Debug, Clone, Copy)]
@@ -19,26 +22,14 @@ pub struct TargetDefaults {
     pub path: Option<&'static str>,
 }
 
-/// The path of the first find of a name.
-fn first_path<'a>(finds: &'a [FoundTarget], name: &str) -> Option<&'a str>
-    ensures { option_copied result ≡ first_path (finds_content finds.now) name.now }
-{
-    for find in finds {
-        if name == find.name.as_str() {
-            return Some(find.path.as_str());
-        }
-    }
-    None
-}
-
 /// A target's own path, or that of the first find of its name.
-fn path_of<'a>(target: &'a Product, finds: &'a [FoundTarget]) -> Option<&'a str>
-    ensures { option_copied result ≡ (pathed (finds_content finds.now) (product_content target.now)).path }
+fn path_of<'a>(target: &'a Product, finds: &IndexedFinds<'a>) -> Option<&'a str>
+    ensures { option_copied result ≡ (pathed finds.now (product_content target.now)).path }
 {
     match &target.path {
         Some(path) => Some(path.as_str()),
         None => match &target.name {
-            Some(name) => first_path(finds, name.as_str()),
+            Some(name) => finds.first_path(name.as_str()),
             None => None,
         },
     }
@@ -48,29 +39,18 @@ fn path_of<'a>(target: &'a Product, finds: &'a [FoundTarget]) -> Option<&'a str>
 fn taken_paths<'a>(
     alloc: Global,
     targets: &'a [Product],
-    finds: &'a [FoundTarget],
-) -> Result<Vec<&'a str>, AllocError>
-    ensures { IfOk result (λ v. map (λ x. x.now) v.items ≡ paths_of (map (pathed (finds_content finds.now)) (map product_content targets.now))) }
+    finds: &IndexedFinds<'a>,
+) -> Result<BTreeSet<&'a str>, AllocError>
+    ensures { let filled = map (pathed finds.now) (map product_content targets.now) in
+        IfOk result (λ s. SamePaths (paths_in s) (paths_of filled)) }
 {
-    let mut taken = Vec::new(alloc);
+    let mut taken = BTreeSet::new(alloc);
     for target in targets {
         if let Some(path) = path_of(target, finds) {
-            taken.push(path)?;
+            take_path(&mut taken, path)?;
         }
     }
     Ok(taken)
-}
-
-/// Whether a path is one of these.
-fn is_taken(taken: &[&str], path: &str) -> bool
-    ensures { result ≡ has_path (map (λ x. x.now) taken.now) path.now }
-{
-    for other in taken {
-        if path == *other {
-            return true;
-        }
-    }
-    false
 }
 
 /// A copy of the crate type of a target, or the one that it takes.
@@ -91,13 +71,14 @@ pub fn crate_type_of(
 }
 
 /// A declared target, filled in from the finds and given its defaults.
-fn filled_target(
+fn filled_target<'a>(
     alloc: Global,
-    target: &Product,
-    finds: &[FoundTarget],
+    target: &'a Product,
+    finds: &IndexedFinds<'a>,
     defaults: TargetDefaults,
 ) -> Result<Product, AllocError>
-    ensures { IfOk result (λ p. product_content p ≡ with_defaults (defaults_content defaults) (pathed (finds_content finds.now) (product_content target.now))) }
+    ensures { let filled = pathed finds.now (product_content target.now) in
+        IfOk result (λ p. product_content p ≡ with_defaults (defaults_content defaults) filled) }
 {
     let path = copied(alloc, path_of(target, finds).or(defaults.path))?;
     let name = copied_text(alloc, &target.name)?;
@@ -143,29 +124,33 @@ fn found_target(
 fn push_found<'a>(
     list: &mut Vec<Product>,
     alloc: Global,
-    mut taken: Vec<&'a str>,
+    mut taken: BTreeSet<&'a str>,
     finds: &'a [FoundTarget],
     defaults: TargetDefaults,
 ) -> Result<(), AllocError>
-    ensures { OnOk result (map product_content list.new.items ≡ map product_content list.old.items ++ map (with_defaults (defaults_content defaults)) (added (map (λ x. x.now) taken.entry.items) (finds_content finds.now))) }
+    ensures { let give = with_defaults (defaults_content defaults) in
+        let more = map give (added (paths_in taken.entry) (finds_content finds.now)) in
+        let before = map product_content list.old.items in
+        OnOk result (map product_content list.new.items ≡ before ++ more) }
 {
     for find in finds {
-        if !is_taken(taken.as_slice(), find.path.as_str()) {
+        if take_path(&mut taken, find.path.as_str())? {
             list.push(found_target(alloc, find, defaults)?)?;
         }
-        taken.push(find.path.as_str())?;
     }
     Ok(())
 }
 
 /// The declared targets, filled in from the finds and given their defaults.
-fn filled_targets(
+fn filled_targets<'a>(
     alloc: Global,
-    declared: &[Product],
-    finds: &[FoundTarget],
+    declared: &'a [Product],
+    finds: &IndexedFinds<'a>,
     defaults: TargetDefaults,
 ) -> Result<Vec<Product>, AllocError>
-    ensures { IfOk result (λ v. map product_content v.items ≡ map (with_defaults (defaults_content defaults)) (map (pathed (finds_content finds.now)) (map product_content declared.now))) }
+    ensures { let give = with_defaults (defaults_content defaults) in
+        let filled = map give (map (pathed finds.now) (map product_content declared.now)) in
+        IfOk result (λ v. map product_content v.items ≡ filled) }
 {
     let mut list = Vec::new(alloc);
     for target in declared {
@@ -185,9 +170,10 @@ pub fn completed_list(
 ) -> Result<Vec<Product>, AllocError>
     ensures { IfOk result (λ v. map product_content v.items ≡ targets (defaults_content defaults) discovers (finds_content finds.now) (map product_content declared.now)) }
 {
-    let mut list = filled_targets(alloc, declared, finds, defaults)?;
+    let indexed = IndexedFinds::new(alloc, finds)?;
+    let mut list = filled_targets(alloc, declared, &indexed, defaults)?;
     if discovers {
-        let taken = taken_paths(alloc, declared, finds)?;
+        let taken = taken_paths(alloc, declared, &indexed)?;
         push_found(&mut list, alloc, taken, finds, defaults)?;
     }
     Ok(list)

@@ -1,6 +1,6 @@
 use Rattle.std.proofs.Common.{◌≡◌, ap, sym, subst, ◌∙◌, None, codes, option_map}
 use Rattle.manifest_parts.specs.Records.{product_content}
-use Rattle.manifest_completion.specs.Completed.{source_fault}
+use Rattle.manifest_completion.specs.Completed.{source_fault, library, known}
 use Rattle.manifest_completion.specs.Answered.{answer_of}
 use Rattle.manifest_completion.specs.Asking.{Heard, AllHeard}
 use Rattle.manifest_completion.specs.Outcome.{declared_content}
@@ -22,11 +22,15 @@ returns-in_err-lib g c =
     refused_with allows t c.from_residual-in_err-lib.result c.in_err-lib.field-0.0 c.from_residual-in_err-lib.ensures.1
     (library_error allows t (answer_of s) ok none c.in_err-lib.field-0.0 c.in_err-lib.ensures)
 
+pub ask_folders-requires : goal.ask_folders-requires
+ask_folders-requires g c = subst (λ x. Heard (g.FS.AbstractFilesystem.allows c.args.fs.now) (codes "src") (answer_of x)) (sym c.in_ok-source.ensures.0) c.ask.ensures
+
 pub returns : goal.returns
 returns g c =
     let allows = g.FS.AbstractFilesystem.allows c.args.fs.now in let t = declared_content c.args.declared.now in
     let s = c.in_ok-source.source in let a = c.in_ok-answers.answers in
-    let ok = subst (λ x. Heard allows (codes "src") (answer_of x)) (sym c.in_ok-source.ensures.0) c.ask.ensures in
-    let none : source_fault (answer_of s) ≡ None = ap (λ x. source_fault (answer_of x)) c.in_ok-source.ensures.0 ∙ c.in_ok-source.ensures.1 in
-    let heard = subst (λ x. AllHeard allows x a) c.asks_root.ensures c.in_ok-answers.ensures in
-    by_answers allows t (answer_of s) ok none (option_map product_content c.in_ok-lib.lib) c.in_ok-lib.ensures a heard c.completed_by_answers-completed.result c.completed_by_answers-completed.ensures
+    let same = c.in_ok-answers.ensures.source in
+    let none : source_fault (answer_of a.source) ≡ None = ap (λ x. source_fault (answer_of x)) (same ∙ c.in_ok-source.ensures.0) ∙ c.in_ok-source.ensures.1 in
+    let got = subst (λ x. library t (answer_of x) ≡ known (option_map product_content c.in_ok-lib.lib)) (sym same) c.in_ok-lib.ensures in
+    let heard = subst (λ x. AllHeard allows x a) c.asks_root.ensures c.in_ok-answers.ensures.heard in
+    by_answers allows t a heard none (option_map product_content c.in_ok-lib.lib) got c.completed_by_answers-completed.result c.completed_by_answers-completed.ensures

@@ -1,0 +1,57 @@
+//! What is looked up while a list of targets is completed: the path of a name, and whether a path is taken.
+
+ghost use Rattle.std.specs.Prelude.{◌≡◌, List, ◌++◌, ◌∷◌, [], IfOk, OnOk, not};
+ghost use Rattle.std.specs.Option.{option_copied};
+ghost use Rattle.manifest_completion.specs.Finds.{Find};
+ghost use Rattle.manifest_completion.specs.Targets.{first_path, has_path};
+ghost use Rattle.manifest_completion.specs.Outcome.{finds_content};
+ghost use Rattle.manifest_completion.specs.Index.{Indexes, paths_in, SamePaths};
+
+use crate::finds::FoundTarget;
+use std::alloc::{AllocError, Global};
+use std::collections::{BTreeMap, BTreeSet};
+use std::marker::Model;
+
+/// Some finds, with the path of the first find of each name.
+#[derive(Drop)]
+pub struct IndexedFinds<'a> {
+    finds: &'a [FoundTarget],
+    paths: BTreeMap<&'a str, &'a str>,
+}
+
+impl<'a> Model for IndexedFinds<'a> {
+    ghost Value = { List Find };
+
+    ghost view = { λ it. finds_content it.finds.now };
+
+    ghost invariant = { λ it. Indexes it.paths (finds_content it.finds.now) };
+}
+
+impl<'a> IndexedFinds<'a> {
+    /// Makes the index. It goes from the last find to the first, so that the first of a name is what stays.
+    pub fn new(alloc: Global, finds: &'a [FoundTarget]) -> Result<IndexedFinds<'a>, AllocError>
+        ensures { IfOk result (λ it. it ≡ finds_content finds.now) }
+    {
+        let mut paths = BTreeMap::new(alloc);
+        for find in finds.iter().rev() {
+            paths.insert(find.name.as_str(), find.path.as_str())?;
+        }
+        Ok(IndexedFinds { finds, paths })
+    }
+
+    /// The path of the first find of a name.
+    pub fn first_path(&self, name: &str) -> Option<&'a str>
+        ensures { option_copied result ≡ first_path self.now name.now }
+    {
+        self.paths.get(name).copied()
+    }
+}
+
+/// Takes a path. Answers whether it was not taken before.
+pub fn take_path<'a>(taken: &mut BTreeSet<&'a str>, path: &'a str) -> Result<bool, AllocError>
+    ensures new { IfOk result (λ is_new. is_new ≡ not (has_path (paths_in taken.old) path.now)) }
+    ensures taken { let more = paths_in taken.old ++ path.now ∷ [] in
+        OnOk result (SamePaths (paths_in taken.new) more) }
+{
+    Ok(taken.insert(path)?)
+}
