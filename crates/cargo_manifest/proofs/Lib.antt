@@ -1,3 +1,4 @@
 pub mod FaultLemmas
 pub mod TakenLemmas
 pub mod StoredLaws
+pub mod WellFormedLaws

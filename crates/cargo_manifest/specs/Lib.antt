@@ -1,7 +1,10 @@
 pub use Rattle.manifest_schema.specs.Contents
 pub use Rattle.manifest_schema.specs.ManifestForms
 pub use Rattle.manifest_schema.specs.Meaning
+pub mod WellFormed
 pub mod Whole
 pub mod Answers
 pub mod Completes
+pub mod Folders
 pub mod Taken
+pub mod Canonical

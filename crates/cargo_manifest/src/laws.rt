@@ -4,8 +4,10 @@
 
 ghost use Rattle.manifest_schema.specs.Kinds.{kept, tree_of};
 ghost use Rattle.manifest_schema.specs.Meaning.{MeansOne, WrittenIsRead, AcceptedIsWellFormed, RewrittenMeansTheSame, SameExactly, FaultyMeansNothing, AcceptedOrFaulty};
+ghost use Rattle.manifest_schema.specs.Former.{OldWrittenIsRead};
 ghost use Rattle.manifest_completion.specs.Laws.{AskedDiffer, AscendingDiffer, AskedDecides, CompletedIsFixed};
 ghost use Rattle.cargo_manifest.specs.Completes.{StoredDecides};
+ghost use Rattle.cargo_manifest.specs.WellFormed.{PackageByMetadata, WorkspaceByParts, ManifestByParts};
 
 use manifest_value::Metadata;
 
@@ -22,6 +24,14 @@ pub fn written_is_read<P: Metadata, W: Metadata>()
 /// What a table means is well-formed, and has a package or a workspace.
 pub fn accepted_is_well_formed<P: Metadata, W: Metadata>()
     ensures { AcceptedIsWellFormed (tree_of P.kind) (tree_of W.kind) }
+{}
+
+/// A package is well-formed exactly where its metadata is; a workspace, where its metadata and its lints are; a manifest,
+/// where its package, its workspace, its profiles and its lints are.
+pub fn well_formed_by_parts<P: Metadata, W: Metadata>()
+    ensures package { PackageByMetadata (tree_of P.kind) }
+    ensures workspace { WorkspaceByParts (tree_of W.kind) }
+    ensures manifest { ManifestByParts (tree_of P.kind) (tree_of W.kind) }
 {}
 
 /// The rewritten table of an accepted table means the same manifest.
@@ -42,6 +52,12 @@ pub fn faulty_means_nothing<P: Metadata, W: Metadata>()
 /// A table means a manifest or has a fault, with metadata kept as it is: that of the type `Value`.
 pub fn accepted_or_faulty()
     ensures { AcceptedOrFaulty (tree_of kept) (tree_of kept) }
+{}
+
+/// Where no inherited dependency of a manifest chooses its default features, what is written of the manifest is what was
+/// written before they could; where it is well-formed besides, what was written then is read as it.
+pub fn old_written_is_read<P: Metadata, W: Metadata>()
+    ensures { OldWrittenIsRead (tree_of P.kind) (tree_of W.kind) }
 {}
 
 /// All path texts that are asked in one completion differ, whatever names, slashes and empty names are listed.

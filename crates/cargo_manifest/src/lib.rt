@@ -14,13 +14,14 @@
 #![tactic(auto)]
 
 mod completion;
+mod files;
 pub mod laws;
 pub mod manifest;
 mod reading;
 mod writing;
 
 pub use manifest::Manifest;
-pub use manifest_completion::{AbstractFilesystem, Listing, Listings};
+pub use manifest_completion::{AbstractFilesystem, Filesystem, Listing, Listings};
 pub use manifest_parts::{
     Badge, Badges, Dependency, DependencyDetail, DepsSet, Edition, Error, FeatureSet,
     InheritedDependencyDetail, Lint, LintConfig, LintLevel, LintsSet, Maintenance,
