@@ -1,0 +1,33 @@
+use Rattle.std.proofs.Common.{◌≡◌, [], ◌∷◌, ◌++◌, String, Global, string_bytes, sym, ap, ◌∙◌, subst, append_assoc}
+use Rattle.manifest_value.specs.Entries.{entries_content}
+use Rattle.manifest_inherit.specs.Refused.{refuses_entries}
+use Rattle.manifest_inherit.specs.Answers.{RefusedIn}
+use Rattle.manifest_inherit.specs.ForProofs.{lent_by_map}
+use Rattle.manifest_inherit.proofs.EntryLemmas.{refused_weaker, refuses_within, accepted_last}
+use Rattle.manifest_inherit.proofs.maps.resolved_list.Goals as goal
+
+pub returns-in-Err-clause-refused : goal.returns-in-Err-clause-refused
+returns-in-Err-clause-refused g c =
+    let l = c.loop-key in
+    let f = g.T.Heir.content in
+    let R = g.T.Heir.refuses (lent_by_map c.args.lent.now) in
+    let e : String Global × g.row.T.Denot = (c.in-Some.key.now, c.in-Some.x.now) in
+    let all = l.invariant.1 ∙ ap (λ es. l.invariant.0 ++ es) c.in-Some.ensures.steps in
+    let named = subst (λ n. RefusedIn (R n (f e.1)) c.in-Err.refusal) c.as_str.ensures.value c.in-Err.ensures.refused in
+    refused_weaker _ (refuses_entries R (entries_content f c.args.own.now.entries)) c.in-Err.refusal (λ r h. rw all (refuses_within R f l.invariant.0 e c.next.new.self r h)) named
+
+pub loop-key-preserved : goal.loop-key-preserved
+loop-key-preserved g c =
+    let l = c.loop-key in
+    let f = g.T.Heir.content in
+    let lent = lent_by_map c.args.lent.now in
+    let done = l.invariant.0 in
+    let e : String Global × g.row.T.Denot = (c.in-Some.key.now, c.in-Some.x.now) in
+    let left = c.next.new.self in
+    let all : c.args.own.now.entries ≡ done ++ e ∷ left = l.invariant.1 ∙ ap (λ es. done ++ es) c.in-Some.ensures.steps in
+    let x : String Global × g.row.T.Denot = (c.in_ok-from_str.field-0, c.in-Ok.made) in
+    let named : string_bytes x.0 ≡ string_bytes e.0 = c.in_ok-from_str.ensures.ok ∙ c.as_str-in-loop-key.ensures.value in (
+      done ++ e ∷ [],
+      all ∙ sym (append_assoc done (e ∷ []) left),
+      rw c.in_ok-push.ensures.items (accepted_last (g.T.Heir.refuses lent) (g.T.Heir.resolved lent) f l.list.items done x e l.invariant.2 named (rw c.as_str.ensures.value at c.in-Ok.ensures.ok)),
+    )

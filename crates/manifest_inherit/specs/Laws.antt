@@ -1,0 +1,38 @@
+-- What is promised of resolving.
+use Rattle.std.specs.Prelude.{◌≡◌}
+use Rattle.toml.specs.Data.{Data}
+use Rattle.manifest_schema.specs.Kinds.{Kind}
+use Rattle.manifest_schema.specs.Forms.{form}
+use Rattle.manifest_schema.specs.Contents.{Workspace, Manifest}
+use Rattle.manifest_schema.specs.ManifestForms.{workspace_rows}
+use Rattle.manifest_schema.specs.Meaning.{well_formed}
+use Rattle.manifest_completion.specs.Listings.{ListingMap}
+use Rattle.manifest_completion.specs.Completed.{completed_to, completed}
+use Rattle.manifest_inherit.specs.Own.{InheritsNothing}
+use Rattle.manifest_inherit.specs.Answers.{ResolvesTo}
+
+-- a resolved manifest inherits nothing, and is resolved to itself
+pub record IsSettled (m : Manifest) (w : Workspace) : Type 0 where
+  pub own : InheritsNothing m
+  pub again : ResolvesTo m w m
+
+abbrev pub ResolvedIsSettled : Type 0
+ResolvedIsSettled = (m n : Manifest) (w : Workspace) → ResolvesTo m w n → IsSettled n w
+
+-- so is every manifest that inherits nothing, over any workspace
+abbrev pub OwnIsSettled : Type 0
+OwnIsSettled = (m : Manifest) (w : Workspace) → InheritsNothing m → IsSettled m w
+
+-- a well-formed manifest is resolved over a well-formed workspace to a well-formed one; the kinds K and W are those of the metadata of the manifest, V is that of the workspace
+abbrev pub ResolvedIsWellFormed : Kind Data → Kind Data → Kind Data → Type 0
+ResolvedIsWellFormed K W V =
+    (m n : Manifest) (w : Workspace) → well_formed K W m → (form (workspace_rows V)).good w →
+    ResolvesTo m w n → well_formed K W n
+
+-- and where that is then completed, what it comes to is settled, and is completed to itself over the same listings
+abbrev pub CompletedStaysResolved : Kind Data → Kind Data → Kind Data → Type 0
+CompletedStaysResolved K W V =
+    (m n o : Manifest) (w : Workspace) (l : ListingMap) →
+    well_formed K W m → (form (workspace_rows V)).good w →
+    ResolvesTo m w n → completed n l ≡ completed_to o →
+    IsSettled o w × (completed o l ≡ completed_to o)

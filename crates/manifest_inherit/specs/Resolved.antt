@@ -1,0 +1,114 @@
+-- What a manifest becomes where a workspace lends it what it inherits. What cannot be lent stays as it is here; that it is refused is said in `Refused`.
+use Rattle.std.specs.Prelude.{List, [], ◌∷◌, ◌++◌, map, if◌then◌else◌, Option, Some, None, option_map, unwrap_or}
+use Rattle.std.specs.Option.{option_or}
+use Rattle.std.specs.List.{list_any}
+use Rattle.std.specs.Map.{lookup}
+use Rattle.std.specs.Str.{bytes_eq}
+use Rattle.manifest_schema.specs.Paths.{Text}
+use Rattle.manifest_schema.specs.Kinds.{Inheritable, inherited, local, Entries}
+use Rattle.manifest_schema.specs.Contents.{InheritedDependency, DependencyDetail, Dependency, simple, by_workspace, detailed, Lint, Lints, Platform, Package, WorkspacePackage, Workspace, Manifest}
+use Rattle.manifest_schema.specs.Defaults.{no_detail, no_workspace_package}
+use Rattle.manifest_parts.specs.Queries.{simplify}
+use Rattle.manifest_inherit.specs.Fields.{Fields, no_more, ◌⨾◌, lendable}
+
+-- A FIELD of a package: where it is inherited, it becomes the package's own, with the content that is lent
+abbrev pub resolved_field : {A : Type 0} → Option (Inheritable A) → Option A → Option (Inheritable A)
+resolved_field (Some inherited) (Some x) = Some (local x)
+resolved_field own lent = own
+
+abbrev pub resolved_fields : Fields → WorkspacePackage → Package → Package
+resolved_fields no_more w p = p
+resolved_fields (f ⨾ fs) w p = f.with_content (resolved_fields fs w p) (resolved_field (f.own p) (f.lent w))
+
+-- A PACKAGE: its sixteen fields, and nothing else
+unfoldable pub resolved_package : WorkspacePackage → Package → Package
+resolved_package w p = resolved_fields lendable w p
+
+-- A DEPENDENCY
+-- the workspace's dependency of this name
+abbrev pub lender : Entries Dependency → Text → Option Dependency
+lender lent name = lookup (bytes_eq name) lent
+
+-- a version alone is a detail that says no more
+abbrev pub version_alone : Text → DependencyDetail
+version_alone v = record no_detail { version = Some v }
+
+-- the detail that it lends; what the workspace itself inherits it cannot lend
+abbrev pub lent_by : Option Dependency → Option DependencyDetail
+lent_by None = None
+lent_by (Some (simple v)) = Some (version_alone v)
+lent_by (Some (by_workspace d)) = None
+lent_by (Some (detailed d)) = Some d
+
+-- the features that are not among those that are there, each where it comes first
+abbrev pub new_features : List Text → List Text → List Text
+new_features had [] = []
+new_features had (f ∷ fs) =
+    if list_any (λ h. bytes_eq h f) had then new_features had fs
+    else f ∷ new_features (had ++ f ∷ []) fs
+
+-- the workspace's features, then those that the member adds; none are said where neither says any
+abbrev pub joined_features : Option (List Text) → Option (List Text) → Option (List Text)
+joined_features None None = None
+joined_features lent own = Some (unwrap_or lent [] ++ new_features (unwrap_or lent []) (unwrap_or own []))
+
+-- the detail that is lent, with the features of both; `optional` is the member's, and the default features are where the member says so
+abbrev pub joined : InheritedDependency → DependencyDetail → DependencyDetail
+joined own lent = record lent {
+  features = joined_features lent.features own.features;
+  «optional» = own.«optional»;
+  default_features = option_or own.default_features lent.default_features;
+}
+
+abbrev pub with_lent : InheritedDependency → Option DependencyDetail → Dependency
+with_lent own None = by_workspace own
+with_lent own (Some d) = simplify (detailed (joined own d))
+
+-- the dependency of this name: where it is inherited, what the workspace's dependency of the name makes of it, simplified
+abbrev pub resolved_dependency : Entries Dependency → Text → Dependency → Dependency
+resolved_dependency lent name (by_workspace own) = with_lent own (lent_by (lender lent name))
+resolved_dependency lent name d = d
+
+-- A MAP: each entry by its name, in its place
+abbrev pub resolved_entries : {A : Type 0} → (Text → A → A) → Entries A → Entries A
+resolved_entries resolved es = map (λ e. (e.0, resolved e.0 e.1)) es
+
+abbrev pub resolved_dependencies : Entries Dependency → Entries Dependency → Entries Dependency
+resolved_dependencies lent = resolved_entries (resolved_dependency lent)
+
+-- A PLATFORM: its three maps of dependencies
+abbrev pub resolved_platform : Entries Dependency → Platform → Platform
+resolved_platform lent p = record {
+  dependencies = resolved_dependencies lent p.dependencies;
+  dev_dependencies = resolved_dependencies lent p.dev_dependencies;
+  build_dependencies = resolved_dependencies lent p.build_dependencies;
+}
+
+abbrev pub resolved_platforms : Entries Dependency → Entries Platform → Entries Platform
+resolved_platforms lent = resolved_entries (λ name. resolved_platform lent)
+
+-- LINTS: where they are inherited, they become the workspace's
+abbrev pub resolved_lints_by : Option (Unit {0}) → Option (Entries (Entries Lint)) → Lints → Lints
+resolved_lints_by (Some u) (Some tools) own = record { workspace = None; lints = tools }
+resolved_lints_by inherits lent own = own
+
+abbrev pub resolved_lints : Option (Entries (Entries Lint)) → Lints → Lints
+resolved_lints lent own = resolved_lints_by own.workspace lent own
+
+-- WHAT A WORKSPACE LENDS: the fields and the dependencies that it has
+abbrev pub lent_fields : Workspace → WorkspacePackage
+lent_fields w = unwrap_or w.«package» no_workspace_package
+
+abbrev pub lent_dependencies : Workspace → Entries Dependency
+lent_dependencies w = unwrap_or w.dependencies []
+
+-- THE RESOLVED MANIFEST; its `patch`, its own `workspace` and all else stay
+unfoldable pub resolved : Manifest → Workspace → Manifest
+resolved m w = record m {
+  «package» = option_map (resolved_package (lent_fields w)) m.«package»;
+  dependencies = option_map (resolved_dependencies (lent_dependencies w)) m.dependencies;
+  dev_dependencies = option_map (resolved_dependencies (lent_dependencies w)) m.dev_dependencies;
+  build_dependencies = option_map (resolved_dependencies (lent_dependencies w)) m.build_dependencies;
+  target = option_map (resolved_platforms (lent_dependencies w)) m.target;
+  lints = option_map (resolved_lints w.lints) m.lints;
+}

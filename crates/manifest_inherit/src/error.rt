@@ -1,0 +1,70 @@
+//! Why a manifest is not resolved.
+
+ghost use Rattle.std.specs.Prelude.{◌≡◌};
+ghost use Rattle.manifest_inherit.specs.Refused.{not_in_workspace, inherited_in_workspace};
+ghost use Rattle.manifest_inherit.specs.Answers.{RefusedIn};
+
+use std::alloc::{AllocError, AllocFailed, Global};
+use thiserror::Error;
+
+/// What [`resolve`](crate::resolve) refuses with.
+#[derive(Debug, Drop, Error)]
+pub enum ResolveError {
+    /// The manifest inherits a package field or a dependency of this name, as it stands in the file, or `lints`, and the
+    /// workspace has none.
+    #[error("not in workspace: {0}")]
+    NotInWorkspace(String),
+    /// The workspace's dependency of this name is itself inherited.
+    #[error("inherited in workspace: {0}")]
+    InheritedInWorkspace(String),
+    /// The lints are inherited, and a tool stands beside.
+    #[error("mixed lints")]
+    MixedLints,
+    /// The lints are inherited, and the workspace has lints of a tool named `workspace`.
+    #[error("tool named workspace")]
+    ToolNamedWorkspace,
+    /// No memory was left.
+    #[error("memory")]
+    Memory(AllocError),
+}
+
+impl From<AllocError> for ResolveError {
+    ghost use Rattle.std.specs.Prelude.{◌≡◌};
+    ghost use Rattle.manifest_inherit.specs.declared.error.ResolveError.TheVariants.{Memory};
+
+    ghost from_gives = { λ refused e. e ≡ Memory refused };
+
+    fn from(refused: AllocError) -> ResolveError {
+        ResolveError::Memory(refused)
+    }
+}
+
+impl<T: Drop> From<AllocFailed<T>> for ResolveError {
+    ghost use Rattle.manifest_inherit.specs.Answers.{IsWantOfMemory};
+
+    ghost from_gives = { λ _ e. IsWantOfMemory e };
+
+    fn from(refused: AllocFailed<T>) -> ResolveError {
+        ResolveError::Memory(AllocError::from(refused))
+    }
+}
+
+/// The refusal of a name that the workspace does not have.
+pub(crate) fn not_in_workspace(alloc: Global, name: &str) -> ResolveError
+    ensures { RefusedIn (λ r. r ≡ not_in_workspace name.now) result }
+{
+    match String::from_str(alloc, name) {
+        Ok(name) => ResolveError::NotInWorkspace(name),
+        Err(refused) => ResolveError::Memory(refused),
+    }
+}
+
+/// The refusal of a dependency that the workspace itself inherits.
+pub(crate) fn inherited_in_workspace(alloc: Global, name: &str) -> ResolveError
+    ensures { RefusedIn (λ r. r ≡ inherited_in_workspace name.now) result }
+{
+    match String::from_str(alloc, name) {
+        Ok(name) => ResolveError::InheritedInWorkspace(name),
+        Err(refused) => ResolveError::Memory(refused),
+    }
+}

@@ -1,0 +1,19 @@
+//! What is promised of resolving, for every type of metadata of a manifest's package (`P`), of its own workspace (`W`) and of
+//! the workspace that lends (`V`).
+//!
+//! Each function returns at once: it is there for its contract, a law of the definitions.
+
+ghost use Rattle.manifest_schema.specs.Kinds.{tree_of};
+ghost use Rattle.manifest_inherit.specs.Laws.{ResolvedIsSettled, OwnIsSettled, ResolvedIsWellFormed, CompletedStaysResolved};
+
+use cargo_manifest::Metadata;
+
+/// A resolved manifest inherits nothing that a workspace may lend, and is resolved to itself. Where it and the workspace
+/// were well-formed, it is well-formed too; and when it is then completed, resolving it and completing it again over the
+/// same workspace and listings changes nothing.
+pub fn resolved_is_fixed<P: Metadata, W: Metadata, V: Metadata>()
+    ensures settled { ResolvedIsSettled }
+    ensures own { OwnIsSettled }
+    ensures formed { ResolvedIsWellFormed (tree_of P.kind) (tree_of W.kind) (tree_of V.kind) }
+    ensures completed { CompletedStaysResolved (tree_of P.kind) (tree_of W.kind) (tree_of V.kind) }
+{}

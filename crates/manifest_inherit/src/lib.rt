@@ -1,0 +1,16 @@
+//! What a workspace lends its members: a manifest with the package fields, dependencies and lints that it inherits put in.
+//! `docs/INHERITING.md` says how to read the definitions.
+#![tactic(auto)]
+
+mod copies;
+mod dependency;
+mod error;
+mod features;
+mod fields;
+pub mod laws;
+mod lints;
+mod maps;
+mod resolution;
+
+pub use error::ResolveError;
+pub use resolution::resolve;

@@ -1,0 +1,191 @@
+//! Resolving a manifest over the workspace that it belongs to.
+
+ghost use Rattle.std.specs.Prelude.{◌≡◌, OnOk, OnErr, IfOk, IfErr, option_map};
+ghost use Rattle.manifest_tables.specs.Tables.{workspace_package_content};
+ghost use Rattle.manifest_inherit.specs.Fields.{lendable};
+ghost use Rattle.manifest_inherit.specs.Resolved.{resolved_package, resolved};
+ghost use Rattle.manifest_inherit.specs.Refused.{refuses_fields, refuses_some, refuses};
+ghost use Rattle.manifest_inherit.specs.Answers.{manifest_of, workspace_of, RefusedIn, Resolves};
+ghost use Rattle.manifest_inherit.specs.ForProofs.{Accepted, package_of, fields_of, with_made};
+
+use crate::error::ResolveError;
+use crate::fields::{make_fields, put_fields};
+use crate::lints::{make_lints, put_lints};
+use crate::maps::make_map;
+use cargo_manifest::{
+    DepsSet, LintsSet, Manifest, Metadata, Package, TargetDepsSet, Workspace, WorkspacePackage,
+};
+use std::alloc::Global;
+
+/// What is made beside a manifest, to be put into it when nothing can fail any more: the fields that are lent to it, its
+/// maps of dependencies as they become, and the lints that are lent to it.
+#[derive(Drop)]
+pub(crate) struct Made {
+    pub fields: WorkspacePackage,
+    pub dependencies: Option<DepsSet>,
+    pub dev_dependencies: Option<DepsSet>,
+    pub build_dependencies: Option<DepsSet>,
+    pub target: Option<TargetDepsSet>,
+    pub lints: Option<LintsSet>,
+}
+
+impl Made {
+    /// Nothing yet.
+    fn new() -> Made {
+        Made {
+            fields: WorkspacePackage::default(),
+            dependencies: None,
+            dev_dependencies: None,
+            build_dependencies: None,
+            target: None,
+            lints: None,
+        }
+    }
+}
+
+/// Makes what is lent to the package, where there is one.
+fn make_package<M: Metadata>(
+    alloc: Global,
+    own: &Option<Package<M>>,
+    lent: &Option<WorkspacePackage>,
+    made: &mut WorkspacePackage,
+) -> Result<(), ResolveError>
+    ensures ok { let w = fields_of lent.now in
+        let o = option_map (package_of M.kind M.content) own.now in
+        OnOk result (Accepted (refuses_some (refuses_fields lendable w) o)
+        (option_map (resolved_package w) o)
+        (option_map (resolved_package (workspace_package_content made.new)) o)) }
+    ensures refused { let w = fields_of lent.now in
+        let o = option_map (package_of M.kind M.content) own.now in
+        IfErr result (RefusedIn (refuses_some (refuses_fields lendable w) o)) }
+{
+    match own {
+        Some(own) => match lent {
+            Some(lent) => make_fields(alloc, own, lent, made),
+            None => {
+                let nothing = WorkspacePackage::default();
+                let answer = make_fields(alloc, own, &nothing, made);
+                drop(nothing);
+                answer
+            }
+        },
+        None => Ok(()),
+    }
+}
+
+/// Puts everything that the manifest inherits, as it becomes, into its place.
+#[tactic(auto, unfolding(crate::specs::Refused::refuses))]
+fn make_all<P: Metadata, W: Metadata, V: Metadata>(
+    alloc: Global,
+    manifest: &Manifest<P, W>,
+    workspace: &Workspace<V>,
+    made: &mut Made,
+) -> Result<(), ResolveError>
+    ensures ok { let m = manifest_of P.kind W.kind P.content W.content manifest.now in
+        let w = workspace_of V.kind V.content workspace.now in
+        OnOk result (Accepted (refuses m w) (resolved m w) (with_made made.new m)) }
+    ensures refused { let m = manifest_of P.kind W.kind P.content W.content manifest.now in
+        IfErr result (RefusedIn (refuses m (workspace_of V.kind V.content workspace.now))) }
+{
+    let lent = &workspace.dependencies;
+    make_package(
+        alloc,
+        &manifest.package,
+        &workspace.package,
+        &mut made.fields,
+    )?;
+    make_map(alloc, lent, &manifest.dependencies, &mut made.dependencies)?;
+    make_map(
+        alloc,
+        lent,
+        &manifest.dev_dependencies,
+        &mut made.dev_dependencies,
+    )?;
+    make_map(
+        alloc,
+        lent,
+        &manifest.build_dependencies,
+        &mut made.build_dependencies,
+    )?;
+    make_map(alloc, lent, &manifest.target, &mut made.target)?;
+    make_lints(alloc, &manifest.lints, &workspace.lints, &mut made.lints)?;
+    Ok(())
+}
+
+/// Makes everything that the manifest inherits.
+fn make<P: Metadata, W: Metadata, V: Metadata>(
+    alloc: Global,
+    manifest: &Manifest<P, W>,
+    workspace: &Workspace<V>,
+) -> Result<Made, ResolveError>
+    ensures ok { let m = manifest_of P.kind W.kind P.content W.content manifest.now in
+        let w = workspace_of V.kind V.content workspace.now in
+        IfOk result (λ made. Accepted (refuses m w) (resolved m w) (with_made made m)) }
+    ensures refused { let m = manifest_of P.kind W.kind P.content W.content manifest.now in
+        IfErr result (RefusedIn (refuses m (workspace_of V.kind V.content workspace.now))) }
+{
+    let mut made = Made::new();
+    match make_all(alloc, manifest, workspace, &mut made) {
+        Ok(()) => Ok(made),
+        Err(refusal) => {
+            drop(made);
+            Err(refusal)
+        }
+    }
+}
+
+/// Puts what is made into the manifest. Nothing is grown.
+fn put_made<P: Metadata, W: Metadata>(manifest: &mut Manifest<P, W>, made: Made)
+    ensures { manifest_of P.kind W.kind P.content W.content manifest.new
+        ≡ with_made made (manifest_of P.kind W.kind P.content W.content manifest.old) }
+{
+    let Made {
+        fields,
+        dependencies,
+        dev_dependencies,
+        build_dependencies,
+        target,
+        lints,
+    } = made;
+    match &mut manifest.package {
+        Some(package) => put_fields(package, fields),
+        None => drop(fields),
+    }
+    manifest.dependencies = dependencies;
+    manifest.dev_dependencies = dev_dependencies;
+    manifest.build_dependencies = build_dependencies;
+    manifest.target = target;
+    put_lints(&mut manifest.lints, lints);
+}
+
+/// Puts into a manifest what it inherits from a workspace: package fields, dependencies and lints. `docs/INHERITING.md`
+/// says how. Its `patch` and its own `workspace` stay as they are, and so does everything that is not inherited. See the
+/// [Cargo reference](https://doc.rust-lang.org/cargo/reference/workspaces.html#the-package-table).
+///
+/// An inherited field becomes the one of the workspace's `package`. An inherited dependency becomes the workspace's
+/// dependency of its name, with the features of both; whether it is optional the member alone says, and whether it has its
+/// default features the member, or else the workspace. Inherited lints become the workspace's.
+///
+/// Refuses with [`ResolveError::NotInWorkspace`] of a field's key, of a dependency's name, or of `lints`, where the
+/// workspace has none; with [`ResolveError::InheritedInWorkspace`] of the name of a dependency that the workspace itself
+/// inherits; with [`ResolveError::MixedLints`] where lints are inherited and have a tool beside; with
+/// [`ResolveError::ToolNamedWorkspace`] where the lints of the workspace that are inherited have a tool of that name; and
+/// with [`ResolveError::Memory`] where memory is wanting. After a refusal the manifest is what it was.
+///
+/// ```ignore
+/// resolve(alloc, manifest, workspace)?; // `version.workspace = true` becomes the workspace's `version = '2.0.0'`
+/// ```
+pub fn resolve<P: Metadata, W: Metadata, V: Metadata>(
+    alloc: Global,
+    manifest: &mut Manifest<P, W>,
+    workspace: &Workspace<V>,
+) -> Result<(), ResolveError>
+    ensures answers { Resolves (manifest_of P.kind W.kind P.content W.content manifest.old)
+        (workspace_of V.kind V.content workspace.now)
+        (manifest_of P.kind W.kind P.content W.content manifest.new) result }
+    ensures refused { OnErr result (manifest.new ≡ manifest.old) }
+{
+    let made = make(alloc, manifest, workspace)?;
+    put_made(manifest, made);
+    Ok(())
+}
