@@ -1,67 +1,111 @@
 -- What a run of the program leaves.
-use Rattle.std.specs.Prelude.{◌≡◌, ℕ, ◌≤◌, ◌⊎◌, List, [], ◌∷◌, ◌++◌, false, Option, Some, String, string_bytes, codes, IsUtf8}
+use Rattle.std.specs.Prelude.{◌≡◌, ◌≢◌, ℕ, ◌⊎◌, List, [], ◌∷◌, ◌++◌, map, Option, Some, String, string_bytes, codes}
 use Rattle.std.specs.declared.alloc.Global.{Global}
 use Rattle.std.specs.Io.KnownBytes.{Appends, Keeps}
-use Rattle.toml.specs.Data.{Data, Members, members_depth}
-use Rattle.toml.specs.Parse.{parse_document}
-use Rattle.toml.specs.Text.{IsDocumentText}
-use Rattle.manifest_schema.specs.Kinds.{Kind, kept, tree_of}
-use Rattle.manifest_schema.specs.Contents.{Manifest}
-use Rattle.manifest_schema.specs.Meaning.{rewritten as rewritten_by}
+use Rattle.manifest_schema.specs.Paths.{Text}
+use Rattle.manifest_schema.specs.Contents.{Workspace, Manifest}
 use Rattle.manifest_parts.specs.declared.error.Error.{Error}
 use Rattle.manifest_parts.specs.declared.error.Error.TheVariants.{Io}
-use Rattle.cargo_manifest.specs.Answers.{IsDocumentOf, Refuses, RefusesToPrint}
+use Rattle.cargo_manifest.specs.Answers.{Refuses, RefusesToPrint}
+use Rattle.cargo_manifest.specs.Canonical.{metadata, rewritten, Means, IsTextOf}
+use Rattle.cargo_manifest.specs.Folders.{CompletedIn, IsOfPath}
+use Rattle.manifest_inherit.specs.Answers.{ResolvesTo}
 
--- the words ask to print the manifest of standard input: `canon -`, or none
+-- WORDS that ask to print the manifest of standard input: `canon -`, or none
 abbrev pub IsCanonInput : List (String Global) → Type 0
 IsCanonInput [] = Unit {0}
 IsCanonInput (v ∷ w ∷ []) = (string_bytes v ≡ codes "canon") × (string_bytes w ≡ codes "-")
 IsCanonInput _ = ⊥
 
--- metadata is kept as it is
-abbrev pub metadata : Kind Data
-metadata = tree_of kept
+-- what else words may ask for: to print the manifest of a file; that manifest completed over its folder; or, before it is completed, with what the workspace of another file lends it
+pub data Asked : Type 0 where
+  canon_file complete_file complete_member : Asked
 
--- the rewritten table of what means the manifest
-abbrev pub rewritten : Manifest → Members
-rewritten = rewritten_by metadata metadata
+-- a word for a file is any but `-`
+abbrev pub IsFile : Text → Type 0
+IsFile w = w ≢ codes "-"
 
--- the bytes are a document of an accepted table
-pub record IsAccepted (bytes : List ℕ) : Type 0 where
-  pub manifest : Manifest
-  pub utf8 : IsUtf8 bytes
-  pub read : IsDocumentOf metadata metadata bytes manifest
+-- the words ask for it: `canon FILE`, `complete FILE`, `complete FILE --workspace ROOT`
+abbrev pub Asks : Asked → List (String Global) → Type 0
+Asks canon_file words =
+    (file : Text) × (map string_bytes words ≡ codes "canon" ∷ file ∷ []) × IsFile file
+Asks complete_file words =
+    (file : Text) × (map string_bytes words ≡ codes "complete" ∷ file ∷ []) × IsFile file
+Asks complete_member words =
+    (file : Text) × (root : Text)
+    × (map string_bytes words ≡ codes "complete" ∷ file ∷ codes "--workspace" ∷ root ∷ [])
+    × IsFile file × IsFile root
 
--- the text is the document that `toml` writes of the rewritten table of what the bytes mean, and reads as that table
-pub record IsCanonicalOf (bytes text : List ℕ) : Type 0 where
-  pub accepted : IsAccepted bytes
-  pub document : IsDocumentText false (rewritten accepted.manifest) text
-  pub reads_back : members_depth (rewritten accepted.manifest) ≤ 80
-      → parse_document text ≡ Some (rewritten accepted.manifest)
+-- the words ask for nothing that there is
+abbrev pub AreWrong : List (String Global) → Type 0
+AreWrong words = ¬ IsCanonInput words × ((a : Asked) → ¬ Asks a words)
 
--- why bytes get no canonical text: they are refused as they are read, or the rewritten table of what they mean as it is printed
-abbrev pub RefusesCanonical : List ℕ → Error → Type 0
-RefusesCanonical bytes e =
-    Refuses metadata metadata bytes e
-    ⊎ ((a : IsAccepted bytes) × RefusesToPrint (rewritten a.manifest) e)
+-- some file's bytes mean the manifest
+abbrev pub IsFileOf : Manifest → Type 0
+IsFileOf m = (bytes : List ℕ) × Means bytes m
 
--- known bytes grow by a beginning of the text
+-- a member and what it is resolved to, over the workspace of some file's manifest
+pub record IsLent (member resolved : Manifest) : Type 0 where
+  pub root : Manifest
+  pub lends : Workspace
+  pub is_read : IsFileOf root
+  pub has : root.workspace ≡ Some lends
+  pub resolves : ResolvesTo member lends resolved
+
+-- a member and what it is resolved and then completed to
+abbrev pub IsFinished : Manifest → Manifest → Type 0
+IsFinished member m =
+    (resolved : Manifest) × IsLent member resolved
+    × (folder : Option Text) × CompletedIn folder resolved m
+
+-- the manifests that may be printed where it is asked for
+abbrev pub Gives : Asked → Manifest → Type 0
+Gives canon_file m = IsFileOf m
+Gives complete_file m = (folder : Option Text) × IsOfPath metadata metadata folder m
+Gives complete_member m = (member : Manifest) × IsFileOf member × IsFinished member m
+
+-- OUTPUT: known bytes grow by a beginning of the text
 pub record Begins (old new : Option (List ℕ)) (text : List ℕ) : Type 0 where
   pub written : List ℕ
   pub rest : List ℕ
   pub whole : text ≡ written ++ rest
   pub out : Appends old new written
 
--- one text was written, which is the canonical one of the bytes
-pub record IsPrinted (bytes : List ℕ) (old new : Option (List ℕ)) : Type 0 where
-  pub text : List ℕ
-  pub canonical : IsCanonicalOf bytes text
-  pub out : Appends old new text
+-- one text was written, which is the manifest's
+abbrev pub Prints : Manifest → Option (List ℕ) → Option (List ℕ) → Type 0
+Prints m old new = (text : List ℕ) × IsTextOf m text × Appends old new text
+
+-- nothing was written, or a beginning of the manifest's text
+abbrev pub BeginsToPrint : Manifest → Option (List ℕ) → Option (List ℕ) → Type 0
+BeginsToPrint m old new =
+    Keeps old new ⊎ ((text : List ℕ) × IsTextOf m text × Begins old new text)
+
+-- why a manifest was not printed, and what was written: at a fault of the output at most a beginning, and else nothing
+abbrev pub FailsToPrint : Manifest → Option (List ℕ) → Option (List ℕ) → Error → Type 0
+FailsToPrint m old new (Io e) = BeginsToPrint m old new
+FailsToPrint m old new e = RefusesToPrint (rewritten m) e × Keeps old new
+
+-- one manifest of these was printed
+abbrev pub PrintsOne : (Manifest → Type 0) → Option (List ℕ) → Option (List ℕ) → Type 0
+PrintsOne P old new = (m : Manifest) × P m × Prints m old new
+
+-- nothing was written, or a beginning of the text of one manifest of these
+abbrev pub BeginsOne : (Manifest → Type 0) → Option (List ℕ) → Option (List ℕ) → Type 0
+BeginsOne P old new = Keeps old new ⊎ ((m : Manifest) × P m × BeginsToPrint m old new)
+
+-- STANDARD INPUT: one text was written, which is the canonical one of the bytes
+abbrev pub IsPrinted : List ℕ → Option (List ℕ) → Option (List ℕ) → Type 0
+IsPrinted bytes old new = PrintsOne (Means bytes) old new
 
 -- nothing was written, or a beginning of the canonical text of the bytes
 abbrev pub IsBegun : List ℕ → Option (List ℕ) → Option (List ℕ) → Type 0
-IsBegun bytes old new =
-    Keeps old new ⊎ ((text : List ℕ) × IsCanonicalOf bytes text × Begins old new text)
+IsBegun bytes old new = BeginsOne (Means bytes) old new
+
+-- why bytes get no canonical text: they are refused as they are read, or the rewritten table of what they mean as it is printed
+abbrev pub RefusesCanonical : List ℕ → Error → Type 0
+RefusesCanonical bytes e =
+    Refuses metadata metadata bytes e
+    ⊎ ((m : Manifest) × Means bytes m × RefusesToPrint (rewritten m) e)
 
 -- why the bytes were not printed, and what was written: at a fault of the input or of the output at most a beginning, and else nothing
 abbrev pub IsRefused : List ℕ → Option (List ℕ) → Option (List ℕ) → Error → Type 0

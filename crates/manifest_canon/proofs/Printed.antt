@@ -1,23 +1,13 @@
--- What was printed, or begun, was accepted.
-use Rattle.std.proofs.Common.{◌≡◌, ℕ, ◌≤◌, inl, inr, false, List, [], Option, Some, None, IfSome, Result, Ok, Err, IfOk, string_bytes, ◌∙◌, sym, subst, append-nil}
-use Rattle.std.specs.Prelude.{String}
-use Rattle.std.specs.declared.alloc.Global.{Global}
-use Rattle.toml.specs.Data.{members_depth}
-use Rattle.toml.specs.Parse.{parse_document}
-use Rattle.toml.specs.Text.{IsDocumentText}
+-- What was printed, or begun.
+use Rattle.std.proofs.Common.{◌≡◌, ℕ, inl, inr, List, [], Option, Some, None, IfSome, ◌∙◌, sym, subst, append-nil}
 use Rattle.std.specs.Io.KnownBytes.{Appends, Keeps}
 use Rattle.std.proofs.KnownBytes.{Keeps-refl}
+use Rattle.manifest_schema.specs.Contents.{Manifest}
 use Rattle.manifest_parts.specs.declared.error.Error.{Error}
 use Rattle.manifest_parts.specs.declared.error.Error.TheVariants.{Parse, Io, Utf8, Other, Memory}
-use Rattle.manifest_canon.specs.Run.{rewritten, IsAccepted, IsCanonicalOf, RefusesCanonical, Begins, IsPrinted, IsBegun, IsRefused}
-
--- what was read and printed is canonical
-pub canonical_from : {E : Type 0} (bytes : List ℕ) (a : IsAccepted bytes) (r : Result (String Global) E)
-    → IfOk r (λ s. IsDocumentText false (rewritten a.manifest) (string_bytes s))
-    → IfOk r (λ s. members_depth (rewritten a.manifest) ≤ 80 → parse_document (string_bytes s) ≡ Some (rewritten a.manifest))
-    → IfOk r (λ s. IsCanonicalOf bytes (string_bytes s))
-canonical_from bytes a (Ok s) document reads_back = record { accepted = a; document = document; reads_back = reads_back }
-canonical_from bytes a (Err e) document reads_back = tt
+use Rattle.cargo_manifest.specs.Answers.{Refuses, RefusesToPrint}
+use Rattle.cargo_manifest.specs.Canonical.{metadata, rewritten, Means, IsAccepted}
+use Rattle.manifest_canon.specs.Run.{Begins, FailsToPrint, BeginsToPrint, IsPrinted, IsBegun, IsRefused}
 
 -- a flush keeps what was written
 pub appends_kept : (old mid new : Option (List ℕ)) (text : List ℕ) → Appends old mid text → Keeps mid new → Appends old new text
@@ -30,13 +20,29 @@ appends_kept (Some xs) (Some ys) (Some zs) text a k = k ∙ a
 pub begins_whole : (old new : Option (List ℕ)) (text : List ℕ) → Appends old new text → Begins old new text
 begins_whole old new text a = record { written = text; rest = []; whole = sym (append-nil text); out = a }
 
+-- where the text is refused nothing is written
+pub fails_unwritten : (m : Manifest) (old : Option (List ℕ)) (e : Error) → RefusesToPrint (rewritten m) e → FailsToPrint m old old e
+fails_unwritten m old (Io e) r = inl (Keeps-refl old)
+fails_unwritten m old (Parse e) r = (r, Keeps-refl old)
+fails_unwritten m old (Utf8 e) r = (r, Keeps-refl old)
+fails_unwritten m old (Other e) r = (r, Keeps-refl old)
+fails_unwritten m old (Memory e) r = (r, Keeps-refl old)
+
 -- where the bytes are refused nothing is written
-pub refused_by_bytes : (bytes : List ℕ) (old : Option (List ℕ)) (e : Error) → RefusesCanonical bytes e → IsRefused bytes old old e
+pub refused_by_bytes : (bytes : List ℕ) (old : Option (List ℕ)) (e : Error) → Refuses metadata metadata bytes e → IsRefused bytes old old e
 refused_by_bytes bytes old (Io e) r = inl (Keeps-refl old)
-refused_by_bytes bytes old (Parse e) r = (r, Keeps-refl old)
-refused_by_bytes bytes old (Utf8 e) r = (r, Keeps-refl old)
-refused_by_bytes bytes old (Other e) r = (r, Keeps-refl old)
-refused_by_bytes bytes old (Memory e) r = (r, Keeps-refl old)
+refused_by_bytes bytes old (Parse e) r = (inl r, Keeps-refl old)
+refused_by_bytes bytes old (Utf8 e) r = (inl r, Keeps-refl old)
+refused_by_bytes bytes old (Other e) r = (inl r, Keeps-refl old)
+refused_by_bytes bytes old (Memory e) r = (inl r, Keeps-refl old)
+
+-- what the bytes mean is not printed
+pub refused_as_printed : (bytes : List ℕ) (m : Manifest) (old new : Option (List ℕ)) (e : Error) → Means bytes m → FailsToPrint m old new e → IsRefused bytes old new e
+refused_as_printed bytes m old new (Io e) r f = inr (m, r, f)
+refused_as_printed bytes m old new (Parse e) r f = (inr (m, r, f.0), f.1)
+refused_as_printed bytes m old new (Utf8 e) r f = (inr (m, r, f.0), f.1)
+refused_as_printed bytes m old new (Other e) r f = (inr (m, r, f.0), f.1)
+refused_as_printed bytes m old new (Memory e) r f = (inr (m, r, f.0), f.1)
 
 -- where the input is not read nothing is written
 pub refused_unread : (known old : Option (List ℕ)) → IfSome known (λ bytes. IsBegun bytes old old)
@@ -44,7 +50,7 @@ refused_unread None old = tt
 refused_unread (Some bytes) old = inl (Keeps-refl old)
 
 -- a refusal leaves nothing or a beginning
-begun : (bytes : List ℕ) (old new : Option (List ℕ)) (e : Error) → IsRefused bytes old new e → IsBegun bytes old new
+pub begun : (bytes : List ℕ) (old new : Option (List ℕ)) (e : Error) → IsRefused bytes old new e → IsBegun bytes old new
 begun bytes old new (Io e) r = r
 begun bytes old new (Parse e) r = inl r.1
 begun bytes old new (Utf8 e) r = inl r.1
@@ -55,6 +61,13 @@ pub begun_known : (known old new : Option (List ℕ)) (e : Error) → IfSome kno
 begun_known None old new e r = tt
 begun_known (Some bytes) old new e r = begun bytes old new e r
 
+pub failed : (m : Manifest) (old new : Option (List ℕ)) (e : Error) → FailsToPrint m old new e → BeginsToPrint m old new
+failed m old new (Io e) f = f
+failed m old new (Parse e) f = inl f.1
+failed m old new (Utf8 e) f = inl f.1
+failed m old new (Other e) f = inl f.1
+failed m old new (Memory e) f = inl f.1
+
 -- what holds of the bytes that were read holds of the known input
 pub at_known : (P : List ℕ → Type 0) (known : Option (List ℕ)) (bytes lent : List ℕ) → IfSome known (λ xs. bytes ≡ xs) → lent ≡ bytes → P lent → IfSome known P
 at_known P None bytes lent same l p = tt
@@ -63,11 +76,11 @@ at_known P (Some xs) bytes lent same l p = subst P (l ∙ same) p
 -- what is no document of an accepted table is not printed, and nothing of it is begun
 pub printed_accepted : (known old new : Option (List ℕ)) (status : ℕ) → IfSome known (λ bytes. IsPrinted bytes old new) → IfSome known (λ bytes. ¬ IsAccepted bytes → (status ≡ 1) × Keeps old new)
 printed_accepted None old new status p = tt
-printed_accepted (Some bytes) old new status p = λ not. absurd (not p.canonical.accepted)
+printed_accepted (Some bytes) old new status (m, means, printed) = λ not. absurd (not (m, means))
 
 kept_unless : (bytes : List ℕ) (old new : Option (List ℕ)) → IsBegun bytes old new → ¬ IsAccepted bytes → Keeps old new
 kept_unless bytes old new (inl k) not = k
-kept_unless bytes old new (inr (text, canonical, begins)) not = absurd (not canonical.accepted)
+kept_unless bytes old new (inr (m, means, begins)) not = absurd (not (m, means))
 
 pub begun_accepted : (known old new : Option (List ℕ)) (status : ℕ) → status ≡ 1 → IfSome known (λ bytes. IsBegun bytes old new) → IfSome known (λ bytes. ¬ IsAccepted bytes → (status ≡ 1) × Keeps old new)
 begun_accepted None old new status one b = tt

@@ -1,0 +1,88 @@
+//! Why nothing is printed, and the line that tells it.
+
+ghost use Rattle.std.specs.Prelude.{◌≡◌, IfOk, string_bytes};
+ghost use Rattle.manifest_schema.specs.PathTexts.{key_text};
+
+use cargo_manifest::{Error, KeyPath, ParseFault, Step};
+use manifest_inherit::ResolveError;
+use std::alloc::{AllocError, Global};
+use std::io::Write;
+
+/// Why nothing is printed.
+#[derive(Debug, Drop)]
+pub enum Refusal {
+    /// A manifest cannot be read, completed or printed.
+    Manifest(Error),
+    /// ROOT has no workspace.
+    NoWorkspace,
+    /// The workspace does not lend what the member inherits.
+    Resolve(ResolveError),
+}
+
+impl From<Error> for Refusal {
+    ghost use Rattle.std.specs.Prelude.{◌≡◌};
+    ghost use Rattle.manifest_canon.specs.declared.refusal.Refusal.TheVariants.{Manifest};
+
+    ghost from_gives = { λ e r. r ≡ Manifest e };
+
+    fn from(error: Error) -> Refusal {
+        Refusal::Manifest(error)
+    }
+}
+
+/// The line that tells an error of a manifest.
+fn error_line(alloc: Global, error: &Error) -> Result<String, AllocError> {
+    match error {
+        Error::Parse(ParseFault::Toml(_)) => String::from_str(alloc, "error: toml\n"),
+        Error::Parse(ParseFault::Schema(fault)) => format!(in alloc; "error: schema: {fault}\n"),
+        Error::Io(_) => String::from_str(alloc, "error: io\n"),
+        Error::Utf8(_) => String::from_str(alloc, "error: utf8\n"),
+        Error::Other(text) => format!(in alloc; "error: other: {text}\n"),
+        Error::Memory(_) => String::from_str(alloc, "error: memory\n"),
+    }
+}
+
+/// A name as it is written in a key path.
+fn key_text(alloc: Global, name: &str) -> Result<String, AllocError>
+    ensures { IfOk result (λ text. string_bytes text ≡ key_text name.now) }
+{
+    let mut steps = Vec::new(alloc);
+    steps.push(Step::Key(String::from_str(alloc, name)?))?;
+    KeyPath { steps }.to_text(alloc)
+}
+
+/// The line that tells why a member is not resolved.
+fn resolve_line(alloc: Global, refused: &ResolveError) -> Result<String, AllocError> {
+    match refused {
+        ResolveError::NotInWorkspace(name) => {
+            let key = key_text(alloc, name.as_str())?;
+            format!(in alloc; "error: not in workspace: {key}\n")
+        }
+        ResolveError::InheritedInWorkspace(name) => {
+            let key = key_text(alloc, name.as_str())?;
+            format!(in alloc; "error: inherited in workspace: {key}\n")
+        }
+        ResolveError::MixedLints => String::from_str(alloc, "error: mixed lints\n"),
+        ResolveError::ToolNamedWorkspace => {
+            String::from_str(alloc, "error: tool named workspace\n")
+        }
+        ResolveError::Memory(_) => String::from_str(alloc, "error: memory\n"),
+    }
+}
+
+/// The line that tells a refusal.
+fn line_of(alloc: Global, refusal: &Refusal) -> Result<String, AllocError> {
+    match refusal {
+        Refusal::Manifest(error) => error_line(alloc, error),
+        Refusal::NoWorkspace => String::from_str(alloc, "error: no workspace\n"),
+        Refusal::Resolve(refused) => resolve_line(alloc, refused),
+    }
+}
+
+/// Tells a refusal by one line, or want of memory where the line finds none. A fault of `errors` is let go.
+pub fn tell<E: Write>(alloc: Global, errors: &mut E, refusal: &Refusal) {
+    let _ = match line_of(alloc, refusal) {
+        Ok(line) => errors.write_all(line.as_bytes()),
+        Err(_) => errors.write_all(b"error: memory\n"),
+    };
+}
