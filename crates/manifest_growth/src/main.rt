@@ -1,28 +1,32 @@
-//! Completes a small manifest from listings in memory, or copies an error, and prints what came of it. It is run with each
-//! request for memory refused in turn, and tells whether a completion that was refused kept the manifest, or a copy the
-//! error, and can be tried again.
+//! Completes a small manifest from listings in memory, resolves one over its workspace, or copies an error, and prints what
+//! came of it. It is run with each request for memory refused in turn, and tells whether a completion or a resolving that
+//! was refused kept the manifest, or a copy the error, and can be tried again.
 #![tactic(auto)]
 
 mod copying;
 mod kept;
+mod resolving;
 mod scenario;
 
 use cargo_manifest::{Error, Listings, Manifest, Value};
 use copying::Original;
 use kept::print_kept;
+use resolving::resolve_small;
 use scenario::Scenario;
 use std::alloc::Global;
 use std::io::{ErrorKind, Write};
 use std::process::ExitCode;
 use std::{env, io};
 
-const USAGE: &str = "usage: manifest_growth library | binaries | example | fault | text\n";
+const USAGE: &str = "usage: manifest_growth library | binaries | example | member | fault | text\n";
 
 /// What is tried.
 #[derive(Clone, Copy)]
 enum Trial {
     /// The completion of a manifest.
     Completion(Scenario),
+    /// The resolving of a member over its workspace.
+    Resolving,
     /// The copy of an error.
     Copy(Original),
 }
@@ -33,6 +37,7 @@ fn named(name: &str) -> Option<Trial> {
         "library" => Some(Trial::Completion(Scenario::Library)),
         "binaries" => Some(Trial::Completion(Scenario::Binaries)),
         "example" => Some(Trial::Completion(Scenario::Example)),
+        "member" => Some(Trial::Resolving),
         "fault" => Some(Trial::Copy(Original::Fault)),
         "text" => Some(Trial::Copy(Original::Text)),
         _ => None,
@@ -119,6 +124,7 @@ fn complete_scenario<W: Write>(
 fn run<W: Write>(alloc: Global, trial: Trial, output: &mut W) -> Result<(), Error> {
     match trial {
         Trial::Completion(scenario) => complete_scenario(alloc, scenario, output),
+        Trial::Resolving => resolve_small(alloc, output),
         Trial::Copy(original) => original.copy(alloc, output),
     }
 }
@@ -133,7 +139,7 @@ fn main(rt: HostRuntime) -> ExitCode {
         }
         Err(fault) => Err(Error::Io(fault)),
     };
-    // a completion or a copy that is refused is printed by the run, so what is refused here stands before it or after it
+    // a completion, a resolving or a copy that is refused is printed by the run, so what is refused here stands before it or after it
     match ran.or_else(|_| output.write_all(b"elsewhere\n")) {
         Ok(()) => ExitCode::SUCCESS,
         Err(_) => ExitCode::FAILURE,

@@ -7,6 +7,7 @@ use cargo_manifest::{
 };
 use manifest_completion::is_legacy;
 use std::alloc::Global;
+use std::fmt::Write;
 use std::io::ErrorKind;
 use std::process::Abort;
 use std::test::Fail;
@@ -296,6 +297,39 @@ fn listed_targets(rt: HostRuntime) -> Result<(), Fail> {
     assert_completed(&rt, rt.alloc(), BINARIES)?;
     assert_completed(&rt, rt.alloc(), OTHER_TARGETS)?;
     assert_completed(&rt, rt.alloc(), REFUSED)
+}
+
+/// The folders of a package whose `src/bin` lists the files `f000.rs` to `f199.rs`.
+fn two_hundred_files(alloc: Global) -> Result<String, Fail> {
+    let mut folders = String::from_str(alloc, ".;src/bin")?;
+    for number in 0..200 {
+        write!(folders, "|f{number:03}.rs")?;
+    }
+    Ok(folders)
+}
+
+/// The package with the binaries `f000` to `f199`.
+fn two_hundred_binaries(alloc: Global) -> Result<String, Fail> {
+    let mut document = String::from_str(alloc, "[package]\nname = 'p'\nedition = '2021'\n")?;
+    for number in 0..200 {
+        let name = format!(in alloc; "f{number:03}")?;
+        write!(
+            document,
+            "[[bin]]\nname = '{name}'\npath = 'src/bin/{name}.rs'\n"
+        )?;
+        write!(document, "edition = '2021'\nrequired-features = []\n")?;
+    }
+    Ok(document)
+}
+
+#[test]
+fn many_binaries(rt: HostRuntime) -> Result<(), Fail> {
+    let folders = two_hundred_files(rt.alloc())?;
+    let document = two_hundred_binaries(rt.alloc())?;
+    let expected = expected_behind(rt.alloc(), "", Ok(document.as_str()))?;
+    let package = "[package]\nname = 'p'\nedition = '2021'";
+    let got = completed(rt.alloc(), package, folders.as_str());
+    assert_is(&rt, got, expected.as_str(), "two hundred binaries")
 }
 
 /// Whether completing a package over listings is refused for a folder that is not there.

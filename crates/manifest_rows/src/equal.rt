@@ -119,6 +119,8 @@ const INHERITED: &[&str] = &[
     "{ workspace = true, features = ['a'] }",
     "{ workspace = true, optional = true }",
     "{ workspace = true, optional = false }",
+    "{ workspace = true, default-features = true }",
+    "{ workspace = true, default-features = false }",
 ];
 
 const DEPENDENCIES: &[&str] = &[
@@ -127,6 +129,7 @@ const DEPENDENCIES: &[&str] = &[
     "{ version = 'a' }",
     "{ workspace = true }",
     "{ workspace = true, optional = true }",
+    "{ workspace = true, default-features = true }",
 ];
 
 const PRODUCTS: &[&str] = &[

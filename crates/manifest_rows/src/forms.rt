@@ -268,7 +268,8 @@ fn what_may_be_inherited(rt: HostRuntime) -> Result<(), Fail> {
     assert_values::<MaybeInherited<Publish>>(&rt, rt.alloc(), LENT_LISTS)
 }
 
-const BY_WORKSPACE: &str = "{ workspace = true, features = ['f'], optional = false }";
+const BY_WORKSPACE: &str =
+    "{ workspace = true, features = ['f'], optional = false, default-features = true }";
 
 const DETAIL: &str =
     "{ version = '1', registry = 'r', registry-index = 'i', path = 'p', git = 'g', branch = 'b', tag = 't', rev = 'v', features = [], optional = true, default-features = false, package = 'k' }";

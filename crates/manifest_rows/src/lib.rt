@@ -1,4 +1,4 @@
-//! Tests of the public calls that read, complete and write manifests, and the metadata type of these tests.
+//! Tests of the public calls that read, resolve, complete and write manifests, and the metadata type of these tests.
 #![tactic(auto)]
 
 #[cfg(test)]
@@ -22,6 +22,8 @@ mod examples_of_parts;
 #[cfg(test)]
 mod examples_of_tables;
 #[cfg(test)]
+mod files;
+#[cfg(test)]
 mod folders;
 #[cfg(test)]
 mod forms;
@@ -35,6 +37,8 @@ mod printed;
 mod queries;
 #[cfg(test)]
 mod refused;
+#[cfg(test)]
+mod resolved;
 #[cfg(test)]
 mod rewritten;
 pub mod score;

@@ -1,4 +1,5 @@
 //! Manifests that are built, and printed or not.
+use crate::answers::{assert_is, laid_out, written};
 use cargo_manifest::{Error, Manifest};
 use std::alloc::Global;
 use std::test::Fail;
@@ -37,4 +38,36 @@ fn a_date_that_toml_cannot_write(rt: HostRuntime) -> Result<(), Fail> {
         assert_eq!(rt; printed(rt.alloc(), date)?.as_str(), expected);
     }
     Ok(())
+}
+
+/// A list in lists, so deep, in the metadata of a package.
+fn nested(alloc: Global, depth: usize) -> Result<String, Fail> {
+    let mut document = String::from_str(alloc, "[package]\nname = 'p'\nmetadata.x = ")?;
+    for _ in 0..depth {
+        document.push('[')?;
+    }
+    document.push('1')?;
+    for _ in 0..depth {
+        document.push(']')?;
+    }
+    Ok(document)
+}
+
+/// What is printed of the manifest of a document: twice the same, where the text is read again.
+fn printed_twice(alloc: Global, document: &str) -> Result<String, Fail> {
+    let text = written(alloc, Manifest::from_str(alloc, document))?;
+    let again = written(alloc, Manifest::from_str(alloc, text.as_str()))?;
+    if text == again {
+        Ok(text)
+    } else {
+        Err(Fail::from("the text is read as another manifest"))
+    }
+}
+
+#[test]
+fn a_deep_list(rt: HostRuntime) -> Result<(), Fail> {
+    let document = nested(rt.alloc(), 20)?;
+    let expected = laid_out(rt.alloc(), document.as_str())?;
+    let got = printed_twice(rt.alloc(), document.as_str());
+    assert_is(&rt, got, expected.as_str(), "20 lists")
 }

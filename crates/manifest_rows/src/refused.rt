@@ -81,6 +81,18 @@ const BEHIND_A_PACKAGE: &[Row] = &[
         Err("wrong kind at dependencies.a.features"),
     ),
     (
+        "[dependencies]\na = { workspace = true, default-features = true, default_features = true }",
+        Err("two spellings at dependencies.a.default-features"),
+    ),
+    (
+        "[dependencies]\na = { workspace = true, default-features = 1 }",
+        Err("wrong kind at dependencies.a.default-features"),
+    ),
+    (
+        "[dependencies]\na = { workspace = true, default_features = 'no' }",
+        Err("wrong kind at dependencies.a.default_features"),
+    ),
+    (
         "[dependencies]\na = 1979-05-27",
         Err("wrong kind at dependencies.a"),
     ),
@@ -212,6 +224,10 @@ const SEVERAL_FAULTS: &[Row] = &[
     (
         "[dependencies]\na = { workspace = true, optional = 1, features = 1 }",
         Err("wrong kind at dependencies.a.features"),
+    ),
+    (
+        "[dependencies]\na = { workspace = true, default-features = 1, optional = 1 }",
+        Err("wrong kind at dependencies.a.optional"),
     ),
     (
         "[profile]\naa = 1\ndoc = 1\nrelease = 1",

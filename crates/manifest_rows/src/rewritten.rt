@@ -74,6 +74,14 @@ const BEHIND_A_PACKAGE: &[Row] = &[
         Ok("[dependencies]\na = { optional = true, workspace = true, features = [] }"),
     ),
     (
+        "[dependencies]\na = { workspace = true, default-features = false }",
+        Ok("[dependencies]\na = { workspace = true, default-features = false }"),
+    ),
+    (
+        "[dependencies]\na = { workspace = true, default_features = true }",
+        Ok("[dependencies]\na = { workspace = true, default-features = true }"),
+    ),
+    (
         "[dependencies]\nb = { workspace = false, version = '1' }",
         Ok("[dependencies]\nb = { version = '1' }"),
     ),
