@@ -53,7 +53,7 @@ pub fn value(alloc: Global, text: &str) -> Result<Value, Fail> {
 }
 
 /// The text of a table of one value.
-fn shown(alloc: Global, value: Value) -> Result<String, Fail> {
+pub fn shown(alloc: Global, value: Value) -> Result<String, Fail> {
     let mut table = Table::new(alloc);
     drop(table.insert(String::from_str(alloc, "value")?, value)?);
     Ok(toml::table_to_string(alloc, &table)?)
@@ -100,7 +100,7 @@ pub fn assert_written<T: Schema>(
 }
 
 /// What is written of the manifest of a document, or how it is told to be refused: one answer for its bytes and its text.
-fn document_answer(alloc: Global, document: &str) -> Result<String, Fail> {
+pub fn document_answer(alloc: Global, document: &str) -> Result<String, Fail> {
     let by_bytes = written(alloc, Manifest::from_slice(alloc, document.as_bytes()))?;
     let by_text = written(alloc, Manifest::from_str(alloc, document))?;
     if by_bytes == by_text {

@@ -4,6 +4,12 @@
 #[cfg(test)]
 mod answers;
 #[cfg(test)]
+mod bench;
+#[cfg(test)]
+mod bench_keys;
+#[cfg(test)]
+mod bench_kinds;
+#[cfg(test)]
 mod calls;
 #[cfg(test)]
 mod completed;
@@ -27,6 +33,8 @@ mod files;
 mod folders;
 #[cfg(test)]
 mod forms;
+#[cfg(test)]
+mod hostile;
 #[cfg(test)]
 mod metadata;
 #[cfg(test)]

@@ -40,9 +40,9 @@ fn a_date_that_toml_cannot_write(rt: HostRuntime) -> Result<(), Fail> {
     Ok(())
 }
 
-/// A list in lists, so deep, in the metadata of a package.
-fn nested(alloc: Global, depth: usize) -> Result<String, Fail> {
-    let mut document = String::from_str(alloc, "[package]\nname = 'p'\nmetadata.x = ")?;
+/// A list in lists, so deep, behind the beginning of a document.
+pub fn nested(alloc: Global, head: &str, depth: usize) -> Result<String, Fail> {
+    let mut document = String::from_str(alloc, head)?;
     for _ in 0..depth {
         document.push('[')?;
     }
@@ -66,7 +66,7 @@ fn printed_twice(alloc: Global, document: &str) -> Result<String, Fail> {
 
 #[test]
 fn a_deep_list(rt: HostRuntime) -> Result<(), Fail> {
-    let document = nested(rt.alloc(), 20)?;
+    let document = nested(rt.alloc(), "[package]\nname = 'p'\nmetadata.x = ", 20)?;
     let expected = laid_out(rt.alloc(), document.as_str())?;
     let got = printed_twice(rt.alloc(), document.as_str());
     assert_is(&rt, got, expected.as_str(), "20 lists")

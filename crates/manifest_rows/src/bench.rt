@@ -1,0 +1,539 @@
+//! Every row of every form, at each place of the form: each kind of value under each of its spellings, both spellings
+//! together, the row without its key where it is needed, and all rows filled. The answers come from the tables of
+//! docs/KEYS.md.
+
+use crate::answers::{FromValue, answer_of, assert_is, document_answer, laid_out, shown};
+use crate::bench_keys;
+use crate::bench_kinds::{Answer, cases_of, fitting};
+use cargo_manifest::{
+    Badge, Badges, DependencyDetail, InheritedDependencyDetail, LintConfig, Maintenance, Manifest,
+    MaybeInheritedLintsSet, Package, Product, Profile, Profiles, Target, Workspace,
+    WorkspacePackage,
+};
+use std::alloc::{AllocError, Global};
+use std::process::Abort;
+use std::test::Fail;
+use toml::Value;
+
+/// A row of a form.
+#[derive(Clone, Copy, Debug)]
+struct Row {
+    key: &'static str,
+    /// The second spelling, or nothing.
+    second: &'static str,
+    holds: &'static str,
+    is_needed: bool,
+    /// Whether a value that does not fit counts as absent.
+    is_lenient: bool,
+    /// What is written where the key is absent, or nothing.
+    absent: &'static str,
+    /// The one value that is not written, or nothing.
+    skipped: &'static str,
+}
+
+/// What stands between backticks, or nothing.
+fn quoted(cell: &'static str) -> &'static str {
+    cell.split('`').nth(1).unwrap_or("")
+}
+
+/// A cell of a line of a table.
+fn cell(line: &'static str, at: usize) -> &'static str {
+    line.split('|').nth(at).unwrap_or("").trim()
+}
+
+/// What is never written of a row that is written like this.
+fn left_out(written: &str) -> &'static str {
+    match written {
+        "unless true" => "true",
+        "unless false" => "false",
+        "unless empty" => "[]",
+        _ => "",
+    }
+}
+
+/// The row of a line of docs/KEYS.md. Any other key is tried as `own`.
+fn row_of(line: &'static str) -> Row {
+    let key = quoted(cell(line, 1));
+    let need = cell(line, 4);
+    let written = cell(line, 5);
+    Row {
+        key: if key.is_empty() { "own" } else { key },
+        second: quoted(cell(line, 2)),
+        holds: cell(line, 3),
+        is_needed: need.contains("needed"),
+        is_lenient: need.contains("does not fit"),
+        absent: if written == "always" {
+            quoted(need)
+        } else {
+            ""
+        },
+        skipped: left_out(written),
+    }
+}
+
+/// A place of a form in a document.
+#[derive(Clone, Copy)]
+struct Place {
+    /// What stands before the entries of the form, in the document and in the one that is written.
+    head: &'static str,
+    written_head: &'static str,
+    /// What stands before a key in a path.
+    path: &'static str,
+    /// What is written where the form does not fit, if that refuses nothing.
+    unfit: &'static str,
+    /// The row that is not tried there.
+    besides: &'static str,
+}
+
+/// A place that is written as it is read.
+fn at(head: &'static str, path: &'static str) -> Place {
+    Place {
+        head,
+        written_head: head,
+        path,
+        unfit: "",
+        besides: "",
+    }
+}
+
+/// The entries of a form that are read and that are written.
+#[derive(Drop)]
+struct Entries {
+    read: String,
+    written: String,
+}
+
+impl Entries {
+    fn new(alloc: Global) -> Entries {
+        Entries {
+            read: String::new(alloc),
+            written: String::new(alloc),
+        }
+    }
+
+    /// Adds an entry that is read.
+    fn read(&mut self, key: &str, value: &str) -> Result<(), AllocError> {
+        write_entry(&mut self.read, key, value)
+    }
+
+    /// Adds an entry that is written.
+    fn written(&mut self, key: &str, value: &str) -> Result<(), AllocError> {
+        write_entry(&mut self.written, key, value)
+    }
+}
+
+/// Adds an entry to a text, if it has a value.
+fn write_entry(text: &mut String, key: &str, value: &str) -> Result<(), AllocError> {
+    if value.is_empty() {
+        return Ok(());
+    }
+    text.push_str(key)?;
+    text.push_str(" = ")?;
+    text.push_str(value)?;
+    text.push('\n')
+}
+
+/// What a row has to have and has written, without a key.
+fn add_needed(entries: &mut Entries, row: &Row) -> Result<(), AllocError> {
+    if row.is_needed {
+        let (value, written) = fitting(row.holds, "").unwrap_or(("", ""));
+        entries.read(row.key, value)?;
+        entries.written(row.key, written)
+    } else {
+        entries.written(row.key, row.absent)
+    }
+}
+
+/// What the other rows have to have and have written.
+fn others(
+    alloc: Global,
+    rows: &[&'static str],
+    key: &str,
+    besides: &str,
+) -> Result<Entries, AllocError> {
+    let mut entries = Entries::new(alloc);
+    for line in rows {
+        let row = row_of(line);
+        if row.key != key && row.key != besides {
+            add_needed(&mut entries, &row)?;
+        }
+    }
+    Ok(entries)
+}
+
+/// A cause, a key and the rest of the path behind it.
+type Refusal<'a> = (&'a str, &'a str, &'a str);
+
+/// What a form's entries are answered with: by the call of the type, or at a place of a document.
+fn answer<T: FromValue>(
+    alloc: Global,
+    place: Option<&Place>,
+    entries: &str,
+) -> Result<String, Fail> {
+    match place {
+        Some(place) => {
+            let head = place.head;
+            document_answer(alloc, format!(in alloc; "{head}{entries}")?.as_str())
+        }
+        None => {
+            let table = Value::Table(toml::table_from_str(alloc, entries)?);
+            answer_of(alloc, T::read(alloc, &table))
+        }
+    }
+}
+
+/// The answer that is due at a place, where these entries are written or this is refused.
+fn due(
+    alloc: Global,
+    place: &Place,
+    written: &str,
+    refusal: Option<Refusal<'_>>,
+) -> Result<String, Fail> {
+    match refusal {
+        None => {
+            let head = place.written_head;
+            laid_out(alloc, format!(in alloc; "{head}{written}")?.as_str())
+        }
+        Some((cause, key, rest)) => {
+            if place.unfit.is_empty() {
+                let path = place.path;
+                Ok(format!(in alloc; "{cause} at {path}{key}{rest}")?)
+            } else {
+                laid_out(alloc, place.unfit)
+            }
+        }
+    }
+}
+
+/// The same by the call of the type.
+fn due_by_call(alloc: Global, written: &str, refusal: Option<Refusal<'_>>) -> Result<String, Fail> {
+    match refusal {
+        None => shown(alloc, Value::Table(toml::table_from_str(alloc, written)?)),
+        Some((cause, key, rest)) => Ok(format!(in alloc; "{cause} at {key}{rest}")?),
+    }
+}
+
+/// A form: its rows, and one of its places, or none for the call of its type.
+#[derive(Clone, Copy)]
+struct Form<'a> {
+    rows: &'a [&'static str],
+    place: Option<&'a Place>,
+}
+
+impl Form<'_> {
+    fn besides(&self) -> &'static str {
+        match self.place {
+            Some(place) => place.besides,
+            None => "",
+        }
+    }
+
+    /// Asserts what entries are answered with: what is due where these are written, or this is refused.
+    fn assert_answer<T: FromValue>(
+        &self,
+        rt: &impl Abort,
+        alloc: Global,
+        entries: &Entries,
+        refusal: Option<Refusal<'_>>,
+    ) -> Result<(), Fail> {
+        let read = entries.read.as_str();
+        let written = entries.written.as_str();
+        let expected = match self.place {
+            Some(place) => due(alloc, place, written, refusal)?,
+            None => due_by_call(alloc, written, refusal)?,
+        };
+        let got = answer::<T>(alloc, self.place, read);
+        assert_is(rt, got, expected.as_str(), read)
+    }
+
+    /// A value under one spelling of a row.
+    fn assert_value<T: FromValue>(
+        &self,
+        rt: &impl Abort,
+        alloc: Global,
+        row: &Row,
+        spelling: &str,
+        value: &str,
+        answer: Answer,
+    ) -> Result<(), Fail> {
+        let mut entries = others(alloc, self.rows, row.key, self.besides())?;
+        entries.read(spelling, value)?;
+        let refusal = match answer {
+            Ok(written) => {
+                if written != row.skipped {
+                    entries.written(row.key, written)?;
+                }
+                None
+            }
+            Err((cause, rest)) => {
+                entries.written(row.key, row.absent)?;
+                if row.is_lenient {
+                    None
+                } else {
+                    Some((cause, spelling, rest))
+                }
+            }
+        };
+        self.assert_answer::<T>(rt, alloc, &entries, refusal)
+    }
+
+    /// The row with both spellings, or without its key where it is needed.
+    fn assert_faults<T: FromValue>(
+        &self,
+        rt: &impl Abort,
+        alloc: Global,
+        row: &Row,
+    ) -> Result<(), Fail> {
+        let mut entries = others(alloc, self.rows, row.key, self.besides())?;
+        if row.is_needed {
+            self.assert_answer::<T>(rt, alloc, &entries, Some(("missing", row.key, "")))?;
+        }
+        if !row.second.is_empty() {
+            entries.read(row.key, "1")?;
+            entries.read(row.second, "1")?;
+            let refusal = Some(("two spellings", row.key, ""));
+            self.assert_answer::<T>(rt, alloc, &entries, refusal)?;
+        }
+        Ok(())
+    }
+
+    /// Every trial of a row.
+    fn assert_row<T: FromValue>(
+        &self,
+        rt: &impl Abort,
+        alloc: Global,
+        row: &Row,
+    ) -> Result<(), Fail> {
+        for (value, answer) in &cases_of(alloc, row.holds)? {
+            self.assert_value::<T>(rt, alloc, row, row.key, value, *answer)?;
+            if !row.second.is_empty() {
+                self.assert_value::<T>(rt, alloc, row, row.second, value, *answer)?;
+            }
+        }
+        self.assert_faults::<T>(rt, alloc, row)
+    }
+
+    /// All rows, each with a value that is written.
+    fn assert_filled<T: FromValue>(&self, rt: &impl Abort, alloc: Global) -> Result<(), Fail> {
+        let mut entries = Entries::new(alloc);
+        for line in self.rows {
+            let row = row_of(line);
+            if row.key != self.besides() {
+                match fitting(row.holds, row.skipped) {
+                    Some((value, written)) => {
+                        entries.read(row.key, value)?;
+                        entries.written(row.key, written)?;
+                    }
+                    None => return Err(Fail::from("no value fits a row")),
+                }
+            }
+        }
+        self.assert_answer::<T>(rt, alloc, &entries, None)
+    }
+
+    fn assert_all<T: FromValue>(&self, rt: &impl Abort, alloc: Global) -> Result<(), Fail> {
+        for line in self.rows {
+            let row = row_of(line);
+            if row.key != self.besides() {
+                self.assert_row::<T>(rt, alloc, &row)?;
+            }
+        }
+        self.assert_filled::<T>(rt, alloc)
+    }
+}
+
+/// Every trial of a form by the call of its type, and at each of these places.
+fn assert_form<T: FromValue>(
+    rt: &impl Abort,
+    alloc: Global,
+    rows: &[&'static str],
+    places: &[Place],
+) -> Result<(), Fail> {
+    Form { rows, place: None }.assert_all::<T>(rt, alloc)?;
+    for place in places {
+        let place = Some(place);
+        Form { rows, place }.assert_all::<T>(rt, alloc)?;
+    }
+    Ok(())
+}
+
+#[test]
+fn dependencies_in_detail(rt: HostRuntime) -> Result<(), Fail> {
+    let places = [
+        at("package.name = 'p'\n[dependencies.a]\n", "dependencies.a."),
+        at(
+            "package.name = 'p'\n[dev-dependencies.a]\n",
+            "dev-dependencies.a.",
+        ),
+        at(
+            "package.name = 'p'\n[build-dependencies.a]\n",
+            "build-dependencies.a.",
+        ),
+        at(
+            "package.name = 'p'\n[target.x]\ndev-dependencies = {}\nbuild-dependencies = {}\n[target.x.dependencies.a]\n",
+            "target.x.dependencies.a.",
+        ),
+        at(
+            "package.name = 'p'\n[target.x]\ndependencies = {}\nbuild-dependencies = {}\n[target.x.dev-dependencies.a]\n",
+            "target.x.dev-dependencies.a.",
+        ),
+        at(
+            "package.name = 'p'\n[target.x]\ndependencies = {}\ndev-dependencies = {}\n[target.x.build-dependencies.a]\n",
+            "target.x.build-dependencies.a.",
+        ),
+        at(
+            "package.name = 'p'\n[patch.'https://x'.a]\n",
+            "patch.\"https://x\".a.",
+        ),
+        at(
+            "workspace.members = []\n[workspace.dependencies.a]\n",
+            "workspace.dependencies.a.",
+        ),
+    ];
+    assert_form::<DependencyDetail>(&rt, rt.alloc(), bench_keys::DETAILED, &places)
+}
+
+/// A place of an inherited dependency, whose row `workspace` decides that it is one.
+fn lent(head: &'static str, path: &'static str) -> Place {
+    Place {
+        besides: "workspace",
+        ..at(head, path)
+    }
+}
+
+#[test]
+fn inherited_dependencies(rt: HostRuntime) -> Result<(), Fail> {
+    let places = [
+        lent(
+            "package.name = 'p'\n[dependencies.a]\nworkspace = true\n",
+            "dependencies.a.",
+        ),
+        lent(
+            "package.name = 'p'\n[patch.x.a]\nworkspace = true\n",
+            "patch.x.a.",
+        ),
+        lent(
+            "workspace.members = []\n[workspace.dependencies.a]\nworkspace = true\n",
+            "workspace.dependencies.a.",
+        ),
+    ];
+    assert_form::<InheritedDependencyDetail>(&rt, rt.alloc(), bench_keys::INHERITED, &places)
+}
+
+#[test]
+fn platforms_and_lints(rt: HostRuntime) -> Result<(), Fail> {
+    let platforms = [at(
+        "package.name = 'p'\n[target.'cfg(unix)']\n",
+        "target.\"cfg(unix)\".",
+    )];
+    assert_form::<Target>(&rt, rt.alloc(), bench_keys::PLATFORM, &platforms)?;
+    let lints = [
+        at("package.name = 'p'\n[lints.rust.x]\n", "lints.rust.x."),
+        at(
+            "workspace.members = []\n[workspace.lints.workspace.x]\n",
+            "workspace.lints.workspace.x.",
+        ),
+    ];
+    assert_form::<LintConfig>(&rt, rt.alloc(), bench_keys::LINT, &lints)?;
+    let sets = [at("package.name = 'p'\n[lints]\n", "lints.")];
+    assert_form::<MaybeInheritedLintsSet>(&rt, rt.alloc(), bench_keys::LINTS, &sets)
+}
+
+#[test]
+fn products(rt: HostRuntime) -> Result<(), Fail> {
+    let places = [
+        at("package.name = 'p'\n[lib]\n", "lib."),
+        at("package.name = 'p'\n[[bin]]\n", "bin[0]."),
+        at(
+            "package.name = 'p'\n[[bin]]\nrequired-features = []\n[[bin]]\n",
+            "bin[1].",
+        ),
+        at("package.name = 'p'\n[[bench]]\n", "bench[0]."),
+        at("package.name = 'p'\n[[test]]\n", "test[0]."),
+        at("package.name = 'p'\n[[example]]\n", "example[0]."),
+    ];
+    assert_form::<Product>(&rt, rt.alloc(), bench_keys::PRODUCT, &places)
+}
+
+#[test]
+fn profiles(rt: HostRuntime) -> Result<(), Fail> {
+    let places = [
+        at(
+            "package.name = 'p'\n[profile.release]\n",
+            "profile.release.",
+        ),
+        at("package.name = 'p'\n[profile.dev]\n", "profile.dev."),
+        at("package.name = 'p'\n[profile.test]\n", "profile.test."),
+        at("package.name = 'p'\n[profile.bench]\n", "profile.bench."),
+        at("package.name = 'p'\n[profile.doc]\n", "profile.doc."),
+        at("package.name = 'p'\n[profile.'a b']\n", "profile.\"a b\"."),
+    ];
+    assert_form::<Profile>(&rt, rt.alloc(), bench_keys::PROFILE, &places)?;
+    let sets = [at("package.name = 'p'\n[profile]\n", "profile.")];
+    assert_form::<Profiles>(&rt, rt.alloc(), bench_keys::PROFILES, &sets)
+}
+
+/// A place where a form that does not fit refuses nothing.
+fn lenient(head: &'static str) -> Place {
+    Place {
+        unfit: "package.name = 'p'\n[badges]\nmaintenance = { status = 'none' }\n",
+        ..at(head, "")
+    }
+}
+
+#[test]
+fn badges(rt: HostRuntime) -> Result<(), Fail> {
+    let badges = [
+        lenient(
+            "package.name = 'p'\n[badges]\nmaintenance = { status = 'none' }\n[badges.appveyor]\n",
+        ),
+        lenient(
+            "package.name = 'p'\n[badges]\nmaintenance = { status = 'none' }\n[badges.is-it-maintained-open-issues]\n",
+        ),
+    ];
+    assert_form::<Badge>(&rt, rt.alloc(), bench_keys::BADGE, &badges)?;
+    let maintenances = [lenient("package.name = 'p'\n[badges.maintenance]\n")];
+    assert_form::<Maintenance>(&rt, rt.alloc(), bench_keys::MAINTENANCE, &maintenances)?;
+    let sets = [at("package.name = 'p'\n[badges]\n", "badges.")];
+    assert_form::<Badges>(&rt, rt.alloc(), bench_keys::BADGES, &sets)
+}
+
+#[test]
+fn packages(rt: HostRuntime) -> Result<(), Fail> {
+    let places = [
+        at("[package]\n", "package."),
+        Place {
+            head: "[project]\n",
+            ..at("[package]\n", "project.")
+        },
+        // a whole file with a key `workspace` is no package
+        Place {
+            head: "",
+            ..lent("[package]\n", "")
+        },
+    ];
+    assert_form::<Package<Value>>(&rt, rt.alloc(), bench_keys::PACKAGE, &places)
+}
+
+#[test]
+fn workspaces(rt: HostRuntime) -> Result<(), Fail> {
+    let packages = [at(
+        "workspace.members = []\n[workspace.package]\n",
+        "workspace.package.",
+    )];
+    assert_form::<WorkspacePackage>(&rt, rt.alloc(), bench_keys::WORKSPACE_PACKAGE, &packages)?;
+    let workspaces = [at("[workspace]\n", "workspace.")];
+    assert_form::<Workspace<Value>>(&rt, rt.alloc(), bench_keys::WORKSPACE, &workspaces)
+}
+
+#[test]
+fn manifests(rt: HostRuntime) -> Result<(), Fail> {
+    let places = [
+        Place {
+            besides: "package",
+            ..at("package = { name = 'p' }\n", "")
+        },
+        lent("workspace = { members = [] }\n", ""),
+    ];
+    assert_form::<Manifest<Value, Value>>(&rt, rt.alloc(), bench_keys::MANIFEST, &places)
+}
