@@ -1,16 +1,18 @@
-//! Completes a small manifest from listings in memory, resolves one over its workspace, or copies an error, and prints what
-//! came of it. It is run with each request for memory refused in turn, and tells whether a completion or a resolving that
-//! was refused kept the manifest, or a copy the error, and can be tried again.
+//! Reads a small manifest, completes one from listings in memory, resolves one over its workspace, or copies an error, and
+//! prints what came of it. It is run with each request for memory refused in turn, and tells whether a completion or a
+//! resolving that was refused kept the manifest, or a copy the error, and can be tried again.
 #![tactic(auto)]
 
 mod copying;
 mod kept;
+mod reading;
 mod resolving;
 mod scenario;
 
 use cargo_manifest::{Error, Listings, Manifest, Value};
 use copying::Original;
 use kept::print_kept;
+use reading::Document;
 use resolving::resolve_small;
 use scenario::Scenario;
 use std::alloc::Global;
@@ -18,11 +20,14 @@ use std::io::{ErrorKind, Write};
 use std::process::ExitCode;
 use std::{env, io};
 
-const USAGE: &str = "usage: manifest_growth library | binaries | example | member | fault | text\n";
+const USAGE: &str =
+    "usage: manifest_growth badges | lints | metadata | priority | float | library | binaries | example | member | fault | text\n";
 
 /// What is tried.
 #[derive(Clone, Copy)]
 enum Trial {
+    /// The reading of a manifest.
+    Reading(Document),
     /// The completion of a manifest.
     Completion(Scenario),
     /// The resolving of a member over its workspace.
@@ -34,6 +39,11 @@ enum Trial {
 /// The trial of a name.
 fn named(name: &str) -> Option<Trial> {
     match name {
+        "badges" => Some(Trial::Reading(Document::Badges)),
+        "lints" => Some(Trial::Reading(Document::Lints)),
+        "metadata" => Some(Trial::Reading(Document::Metadata)),
+        "priority" => Some(Trial::Reading(Document::Priority)),
+        "float" => Some(Trial::Reading(Document::Float)),
         "library" => Some(Trial::Completion(Scenario::Library)),
         "binaries" => Some(Trial::Completion(Scenario::Binaries)),
         "example" => Some(Trial::Completion(Scenario::Example)),
@@ -123,6 +133,7 @@ fn complete_scenario<W: Write>(
 /// Tries what is asked for and prints what came of it.
 fn run<W: Write>(alloc: Global, trial: Trial, output: &mut W) -> Result<(), Error> {
     match trial {
+        Trial::Reading(document) => document.read(alloc, output),
         Trial::Completion(scenario) => complete_scenario(alloc, scenario, output),
         Trial::Resolving => resolve_small(alloc, output),
         Trial::Copy(original) => original.copy(alloc, output),
@@ -139,7 +150,7 @@ fn main(rt: HostRuntime) -> ExitCode {
         }
         Err(fault) => Err(Error::Io(fault)),
     };
-    // a completion, a resolving or a copy that is refused is printed by the run, so what is refused here stands before it or after it
+    // a call that is tried and refused is printed by the run, so what is refused here stands before it or after it
     match ran.or_else(|_| output.write_all(b"elsewhere\n")) {
         Ok(()) => ExitCode::SUCCESS,
         Err(_) => ExitCode::FAILURE,

@@ -1,0 +1,79 @@
+//! The manifests that are read, and what is printed of one.
+
+use cargo_manifest::{Error, Manifest, ParseFault, Value};
+use std::alloc::Global;
+use std::io::Write;
+
+/// A manifest that is read.
+#[derive(Clone, Copy)]
+pub enum Document {
+    /// A badge that fits, one that does not, and a status.
+    Badges,
+    /// A lint with a priority and one without.
+    Lints,
+    /// Lists and a table in metadata.
+    Metadata,
+    /// A priority that is out of range.
+    Priority,
+    /// A float deep in metadata.
+    Float,
+}
+
+/// What reading a manifest gives.
+type Answer = Result<Manifest<Value, Value>, Error>;
+
+impl Document {
+    /// The manifest.
+    fn bytes(self) -> &'static [u8] {
+        match self {
+            Document::Badges => {
+                b"[package]\nname = 'p'\n[badges]\ngitlab = { repository = 'r', project_name = 'a' }\ntravis-ci = { branch = 'x' }\nmaintenance = { status = 'as-is' }\n"
+            }
+            Document::Lints => {
+                b"[package]\nname = 'p'\n[lints.rust]\nx = { level = 'warn', priority = -128 }\ny = 'deny'\n"
+            }
+            Document::Metadata => {
+                b"[package]\nname = 'p'\nmetadata = { a = [[1], []], b = { c = 'd' } }\n"
+            }
+            Document::Priority => {
+                b"[package]\nname = 'p'\n[lints.rust]\nx = { level = 'warn', priority = 128 }\n"
+            }
+            Document::Float => b"[package]\nname = 'p'\n[package.metadata]\na = [[[0.5]]]\n",
+        }
+    }
+
+    /// Reads the manifest and prints what came of it. Where memory was wanting, it is read again.
+    pub fn read<W: Write>(self, alloc: Global, output: &mut W) -> Result<(), Error> {
+        let bytes = self.bytes();
+        let first = Manifest::from_slice(alloc, bytes);
+        let wanting = cause(&first);
+        if wanting.is_empty() {
+            return print_read(alloc, first, output);
+        }
+        drop(first);
+        output.write_all(wanting.as_bytes())?;
+        print_read(alloc, Manifest::from_slice(alloc, bytes), output)
+    }
+}
+
+/// The line that tells where memory was wanting, or nothing.
+fn cause(read: &Answer) -> &'static str {
+    match read {
+        Err(Error::Memory(_)) => "memory\n",
+        Err(Error::Parse(ParseFault::Toml(fault))) => {
+            if fault.is_memory() { "toml\n" } else { "" }
+        }
+        _ => "",
+    }
+}
+
+/// Prints the text of a manifest that was read, or why it was refused.
+fn print_read<W: Write>(alloc: Global, read: Answer, output: &mut W) -> Result<(), Error> {
+    let text = match &read {
+        Ok(manifest) => format!(in alloc; "read\n{}", manifest.to_toml_string(alloc)?)?,
+        Err(error) => format!(in alloc; "refused\n{error}\n")?,
+    };
+    drop(read);
+    output.write_all(text.as_bytes())?;
+    Ok(())
+}
