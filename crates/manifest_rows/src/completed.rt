@@ -1,6 +1,6 @@
 //! Manifests completed from listings, and the tables that are written of them.
 use crate::answers::{PACKAGE, assert_is, expected_behind, told};
-use crate::folders::{Recorder, listings};
+use crate::folders::listings;
 use cargo_manifest::{
     AbstractFilesystem, Edition, Error, Listings, Manifest, MaybeInherited, Package, Product, True,
     Value,
@@ -21,7 +21,7 @@ type Row = (
 );
 
 /// What completing a manifest leaves: how it is told to be refused, or nothing; and the text that is written of it.
-fn completion<FS: AbstractFilesystem>(
+pub fn completion<FS: AbstractFilesystem>(
     alloc: Global,
     manifest: &mut Manifest<Value, Value>,
     fs: &FS,
@@ -165,6 +165,12 @@ const LIBRARY_AND_MAIN: &[Row] = &[
     ),
 ];
 
+/// Folders that list an empty name, and names with slashes.
+pub const ODD_NAMES: &str = "src/bin||/|a//b.rs;src/bin/|main.rs;src/bin//|main.rs;.";
+
+pub const WITH_ODD_NAMES: &str =
+    "[package]\nname = 'p'\nedition = '2021'\n[[bin]]\nname = ''\npath = 'src/bin//main.rs'\nedition = '2021'\nrequired-features = []\n[[bin]]\nname = '/'\npath = 'src/bin///main.rs'\nedition = '2021'\nrequired-features = []\n[[bin]]\nname = 'a//b'\npath = 'src/bin/a//b.rs'\nedition = '2021'\nrequired-features = []";
+
 const BINARIES: &[Row] = &[
     (
         "[package]\nname = 'p'\nedition = '2021'\n[[bin]]\nname = 'foo'",
@@ -225,10 +231,8 @@ const BINARIES: &[Row] = &[
     // an empty name, and names with slashes
     (
         "[package]\nname = 'p'\nedition = '2021'",
-        "src/bin||/|a//b.rs;src/bin/|main.rs;src/bin//|main.rs;.",
-        Ok(
-            "[package]\nname = 'p'\nedition = '2021'\n[[bin]]\nname = ''\npath = 'src/bin//main.rs'\nedition = '2021'\nrequired-features = []\n[[bin]]\nname = '/'\npath = 'src/bin///main.rs'\nedition = '2021'\nrequired-features = []\n[[bin]]\nname = 'a//b'\npath = 'src/bin/a//b.rs'\nedition = '2021'\nrequired-features = []",
-        ),
+        ODD_NAMES,
+        Ok(WITH_ODD_NAMES),
     ),
 ];
 
@@ -265,7 +269,7 @@ const OTHER_TARGETS: &[Row] = &[
     ),
 ];
 
-const NO_LIBRARY: &str =
+pub const NO_LIBRARY: &str =
     "other: can't find library, rename file to `src/lib.rs` or specify lib.path";
 
 const REFUSED: &[Row] = &[
@@ -344,137 +348,6 @@ fn is_not_found(alloc: Global, folders: &str) -> Result<bool, Fail> {
 #[test]
 fn a_folder_of_the_manifest_that_is_not_there(rt: HostRuntime) -> Result<(), Fail> {
     assert!(rt; is_not_found(rt.alloc(), "elsewhere")?);
-    Ok(())
-}
-
-/// What is listed for the questions below.
-const ASKED: &str = "src|lib.rs;examples|ex.rs;.|build.rs";
-
-/// A document, the folders that are listed, the path at which no memory is found, the paths that are asked, and how the
-/// completion is told to be refused, or nothing.
-type Questions = (
-    &'static str,
-    &'static str,
-    &'static str,
-    &'static str,
-    &'static str,
-);
-
-const QUESTIONS: &[Questions] = &[
-    (
-        "[package]\nname = 'p'",
-        ASKED,
-        "none",
-        "src;src/bin;examples;examples/ex.rs;tests;benches;.;",
-        "",
-    ),
-    (
-        "[package]\nname = 'p'\nbuild = true",
-        ASKED,
-        "none",
-        "src;src/bin;examples;examples/ex.rs;tests;benches;.;",
-        "",
-    ),
-    (
-        "[package]\nname = 'p'\nbuild = false",
-        ASKED,
-        "none",
-        "src;src/bin;examples;examples/ex.rs;tests;benches;",
-        "",
-    ),
-    (
-        "[package]\nname = 'p'\nbuild = 'b.rs'",
-        ASKED,
-        "none",
-        "src;src/bin;examples;examples/ex.rs;tests;benches;",
-        "",
-    ),
-    // nothing without a package
-    ("[workspace]", ASKED, "src", "", ""),
-    // nothing after a refusal
-    ("[package]\nname = 'p'", "src!;.", "none", "src;", "io"),
-    (
-        "[package]\nname = 'p'\n[lib]",
-        "examples|ex.rs;.",
-        "none",
-        "src;",
-        NO_LIBRARY,
-    ),
-    ("[package]\nname = 'p'", ASKED, "src", "src;", "io"),
-    (
-        "[package]\nname = 'p'",
-        ASKED,
-        "src/bin",
-        "src;src/bin;",
-        "io",
-    ),
-    (
-        "[package]\nname = 'p'",
-        ASKED,
-        "examples",
-        "src;src/bin;examples;",
-        "io",
-    ),
-    (
-        "[package]\nname = 'p'",
-        ASKED,
-        "examples/ex.rs",
-        "src;src/bin;examples;examples/ex.rs;",
-        "io",
-    ),
-    (
-        "[package]\nname = 'p'",
-        ASKED,
-        "tests",
-        "src;src/bin;examples;examples/ex.rs;tests;",
-        "io",
-    ),
-    (
-        "[package]\nname = 'p'",
-        ASKED,
-        "benches",
-        "src;src/bin;examples;examples/ex.rs;tests;benches;",
-        "io",
-    ),
-    (
-        "[package]\nname = 'p'",
-        ASKED,
-        ".",
-        "src;src/bin;examples;examples/ex.rs;tests;benches;.;",
-        "io",
-    ),
-];
-
-/// Whether completing the manifest asks the paths that the recorder expects, in their order, is answered so, and leaves it as
-/// it was where that is a refusal.
-fn is_asked(
-    alloc: Global,
-    manifest: &mut Manifest<Value, Value>,
-    recorder: &Recorder<'_>,
-    refusal: &str,
-) -> Result<bool, Fail> {
-    let before = manifest.to_toml_string(alloc)?;
-    let (answer, after) = completion(alloc, manifest, recorder)?;
-    let is_kept = refusal.is_empty() | (before == after);
-    Ok(recorder.asked_all() & is_kept & (answer.as_str() == refusal))
-}
-
-/// The same of a row.
-fn asks(alloc: Global, row: &Questions) -> Result<bool, Fail> {
-    let (document, folders, without_memory, expected, refusal) = row;
-    let listings = listings(alloc, folders)?;
-    let mut manifest = Manifest::from_str(alloc, document)?;
-    let recorder = Recorder::new(&listings, expected, without_memory);
-    let asked = is_asked(alloc, &mut manifest, &recorder, refusal);
-    drop(manifest);
-    asked
-}
-
-#[test]
-fn the_order_of_questions(rt: HostRuntime) -> Result<(), Fail> {
-    for row in QUESTIONS {
-        assert!(rt; asks(rt.alloc(), row)?, "at {row:?}");
-    }
     Ok(())
 }
 

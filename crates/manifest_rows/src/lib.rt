@@ -44,6 +44,8 @@ mod printed;
 #[cfg(test)]
 mod queries;
 #[cfg(test)]
+mod questions;
+#[cfg(test)]
 mod refused;
 #[cfg(test)]
 mod resolved;
