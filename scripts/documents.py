@@ -44,6 +44,10 @@ class Literal(str):
     """What stands in the text as it is."""
 
 
+# so many parts a key may have, and so many arrays and inline tables may stand in one another: toml reads no more
+LIMIT = 80
+DEPTHS = [1, 3, 40, 77, 78, 79, 80, 81, 82, 200, 1000, 20000]
+SHAPES = ["arrays", "inline tables", "both", "dotted keys in both", "a dotted key", "a header", "a header of a list", "all"]
 # what no number of 64 bits is, so that a reader of TOML may refuse it
 HUGE = [2**63, -(2**63) - 1, 10**400, Literal("1e999")]
 
@@ -353,6 +357,72 @@ class Layout:
             lines.append(self.space() + line + self.comment())
         mark = "\ufeff" if self.is_so(self.noise / 10) else ""
         return (mark + self.end.join(lines) + self.end * (not self.is_so(self.noise))).encode("utf-8")
+
+
+def under(keys, value):
+    """A value below tables of one key each."""
+    for key in reversed(keys):
+        value = {key: value}
+    return value
+
+
+class Nested:
+    """A document of a package with one value that is nested deep, in one shape or in all, kept or under a free key."""
+
+    def __init__(self, random):
+        self.random = random
+        self.named, self.key = random.choice([("a", "a"), ("a b", '"a b"'), ("é", "'é'")])
+        shape, depth = random.choice(SHAPES), random.choice(DEPTHS)
+        is_all = shape == "all"
+        levels = self.levels("dotted keys in both" if is_all else shape, random.choice([3, LIMIT]) if is_all else depth)
+        parts, header = {"a dotted key": (depth, 0), "all": (random.choice([2, 70]), 70)}.get(shape, (1, 0))
+        header = depth if shape.startswith("a header") else header
+        is_list = shape == "a header of a list" or is_all and random.random() < 0.5
+        self.is_kept = random.random() < 0.5
+        self.above = ["package", "metadata"] if self.is_kept else random.choice([["x"], ["package", "x"]])
+        value, text = self.value(levels)
+        self.table = {"package": {"name": "p"}}
+        self.data = self.document(header, is_list, parts, text).encode("utf-8")
+        if self.is_kept:
+            inner = under([self.named] * parts, value)
+            self.table["package"]["metadata"] = under([self.named] * header, [inner] if header and is_list else inner)
+        # (a key begins with those above it that no header has)
+        longest = max([len(self.above) + header if header else 0, parts + (not header), *levels])
+        self.is_read = longest <= LIMIT and len(levels) <= LIMIT
+        self.depth = 3 + header + (is_list and header > 0) + parts + sum(max(1, level) for level in levels)
+
+    def levels(self, shape, depth):
+        """Of each level how many parts the key of an inline table has, or 0 for an array."""
+        if shape == "dotted keys in both":
+            parts = self.random.choice([2, LIMIT - 1, LIMIT, LIMIT + 1])
+            ways = self.random.choice([[parts], [0, 1, parts]])
+            return self.random.choices(ways, k=min(depth, LIMIT + 1))
+        ways = {"arrays": [0], "inline tables": [1], "both": [0, 1]}.get(shape)
+        return self.random.choices(ways, k=depth) if ways else []
+
+    def value(self, levels):
+        """A value that is nested so, and its text."""
+        opened, closed, value = [], [], 1
+        for parts in levels:
+            beside = self.random.random() < 0.1
+            opened.append("{" + ".".join([self.key] * parts) + " = " if parts else "[1, " if beside else "[")
+            closed.append(", b = 2}" if parts and beside else "}" if parts else "]")
+        for parts, before, behind in zip(reversed(levels), reversed(opened), reversed(closed)):
+            if parts:
+                value = under([self.named] * parts, value) | ({"b": 2} if len(behind) > 1 else {})
+            else:
+                value = [1, value] if len(before) > 1 else [value]
+        return value, "".join(opened) + "1" + "".join(reversed(closed))
+
+    def document(self, header, is_list, parts, text):
+        """The text of the document: under a header with so many parts below the place of the value, or at its place."""
+        package = '[package]\nname = "p"\n'
+        if header:
+            path = ".".join(self.above + [self.key] * header)
+            pair = ".".join([self.key] * parts) + " = " + text
+            return package + (f"[[{path}]]\n{pair}\n" if is_list else f"[{path}]\n{pair}\n")
+        pair = ".".join(self.above[-1:] + [self.key] * parts) + " = " + text + "\n"
+        return package + pair if self.above[0] == "package" else pair + package
 
 
 def damage(random, data):

@@ -1,4 +1,3 @@
 pub mod FaultLemmas
-pub mod TakenLemmas
 pub mod StoredLaws
 pub mod WellFormedLaws

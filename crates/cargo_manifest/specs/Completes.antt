@@ -5,25 +5,25 @@ use Rattle.manifest_schema.specs.Paths.{Text}
 use Rattle.manifest_schema.specs.Contents.{Manifest}
 use Rattle.manifest_parts.specs.declared.error.Error.{Error}
 use Rattle.manifest_parts.specs.declared.error.Error.TheVariants.{Io, Other, Memory}
-use Rattle.manifest_completion.specs.Listings.{Answer, ListingMap}
-use Rattle.manifest_completion.specs.Completed.{Completion, completed_to, refused, no_library, completed, asked, Explains}
+use Rattle.manifest_completion.specs.Listings.{Answer}
+use Rattle.manifest_completion.specs.Completed.{Completion, completed_to, refused, no_library, completed, asked, ByOneMap}
 use Rattle.manifest_completion.specs.Stored.{AnswersAsStored, stored_map}
 use Rattle.manifest_completion.specs.Outcome.{library_text, IsRefusalOf}
 
--- there is one map of listings, with an answer that the filesystem allows at each place that is asked for it, and what the manifest comes to by that map is this
-abbrev pub ByOneMap : (Text → Answer → Type 0) → Manifest → Completion Manifest → Type 0
-ByOneMap allows m c = (l : ListingMap) × Explains allows l (asked m l) × (completed m l ≡ c)
+-- completion brings the manifest to this by one map of listings, with an answer that the filesystem allows at each place that is asked for it
+abbrev pub ComesTo : (Text → Answer → Type 0) → Manifest → Completion Manifest → Type 0
+ComesTo allows m c = ByOneMap allows (asked m) (completed m) c
 
 -- the refusal to complete: for a fault that the map has, for want of a library's file, or for want of memory
 abbrev pub RefusesToComplete : (Text → Answer → Type 0) → Manifest → Error → Type 0
-RefusesToComplete allows m (Io e) = ByOneMap allows m (refused (error_kind e))
-RefusesToComplete allows m (Other s) = ByOneMap allows m no_library × (string_bytes s ≡ library_text)
+RefusesToComplete allows m (Io e) = ComesTo allows m (refused (error_kind e))
+RefusesToComplete allows m (Other s) = ComesTo allows m no_library × (string_bytes s ≡ library_text)
 RefusesToComplete allows m (Memory e) = Unit {0}
 RefusesToComplete allows m _ = ⊥
 
 -- what completing a manifest answers, which it leaves as the second one
 abbrev pub Completes : (Text → Answer → Type 0) → Manifest → Manifest → Result (Unit {0}) Error → Type 0
-Completes allows old new (Ok u) = ByOneMap allows old (completed_to new)
+Completes allows old new (Ok u) = ComesTo allows old (completed_to new)
 Completes allows old new (Err e) = RefusesToComplete allows old e
 
 -- what completing answers where one answer is stored for each path text: the manifest is left as what the map of what is stored completes it to, or the refusal is that map's

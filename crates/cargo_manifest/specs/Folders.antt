@@ -13,7 +13,7 @@ use Rattle.manifest_parts.specs.declared.error.Error.TheVariants.{Io}
 use Rattle.manifest_completion.specs.Listings.{AnyAscending}
 use Rattle.manifest_completion.specs.Completed.{completed_to}
 use Rattle.cargo_manifest.specs.Answers.{IsDocumentOf, Refuses}
-use Rattle.cargo_manifest.specs.Completes.{ByOneMap, RefusesToComplete}
+use Rattle.cargo_manifest.specs.Completes.{ComesTo, RefusesToComplete}
 
 -- the error is Io
 abbrev pub IsIo : Error → Type 0
@@ -31,7 +31,7 @@ folder_of p = path_parent (path_bytes p)
 
 -- the first manifest comes to the second by some map of listings whose names ascend
 abbrev pub CompletedIn : Option Text → Manifest → Manifest → Type 0
-CompletedIn (Some folder) old new = ByOneMap AnyAscending old (completed_to new)
+CompletedIn (Some folder) old new = ComesTo AnyAscending old (completed_to new)
 CompletedIn None old new = ⊥
 
 -- the refusal to complete the manifest: that of such a map, or want of memory; without a folder it is Io of the kind Other

@@ -6,5 +6,4 @@ pub mod Whole
 pub mod Answers
 pub mod Completes
 pub mod Folders
-pub mod Taken
 pub mod Canonical

@@ -1,8 +1,14 @@
 -- What a manifest of the code holds; metadata is seen by a function to its tree.
 use Rattle.std.specs.Prelude.{map, option_map, string_bytes}
 use Rattle.toml.specs.Data.{Data}
+use Rattle.toml.specs.View.{view}
+use Rattle.toml.specs.declared.value.Value.{Value}
+use Rattle.manifest_schema.specs.Kinds.{Kind, tree_of}
+use Rattle.manifest_schema.specs.Forms.{form}
+use Rattle.manifest_schema.specs.ManifestForms.{manifest_rows}
 use Rattle.manifest_schema.specs.Contents
 use Rattle.manifest_value.specs.Entries.{entries_content}
+use Rattle.manifest_value.specs.Reading.{written_as}
 use Rattle.manifest_parts.specs.Records.{product_content, badges_content, lints_content, platform_content}
 use Rattle.manifest_tables.specs.Tables.{dependencies_content, package_content, workspace_content, profiles_content}
 use Rattle.cargo_manifest.specs.declared.manifest.Manifest.{Manifest}
@@ -27,3 +33,15 @@ manifest_content package_tree workspace_tree m = record {
   badges = option_map badges_content m.badges;
   lints = option_map lints_content m.lints;
 }
+
+-- the same, whose metadata has the contents p and w of these kinds
+abbrev pub manifest_of : {P W A B : Type 0} → Kind A → Kind B → (P → A) → (W → B) → Manifest P W → Contents.Manifest
+manifest_of K L p w m = manifest_content (written_as K p) (written_as L w) m
+
+-- the same, where the workspace's metadata is kept as it stands
+abbrev pub manifest_kept : {P A : Type 0} → Kind A → (P → A) → Manifest P Value → Contents.Manifest
+manifest_kept K p m = manifest_content (written_as K p) view m
+
+-- the form of a manifest whose metadata has these kinds
+abbrev pub manifest_form : {A B : Type 0} → Kind A → Kind B → Kind Contents.Manifest
+manifest_form K L = form (manifest_rows (tree_of K) (tree_of L))

@@ -1,13 +1,12 @@
 //! Completion of a manifest from the listings of a filesystem, and the flags that it goes by.
 
 ghost use Rattle.std.specs.Prelude.{◌≡◌, OnErr, Ok, Some, None};
-ghost use Rattle.toml.specs.View.{view};
 ghost use Rattle.manifest_schema.specs.Contents;
+ghost use Rattle.manifest_tables.specs.Tables.{package_of};
 ghost use Rattle.manifest_completion.specs.Completed.{targets_of, with_targets, autobins, autoexamples, autotests, autobenches};
 ghost use Rattle.manifest_completion.specs.Outcome.{declared_content, completed_content};
-ghost use Rattle.manifest_tables.specs.Tables.{package_content};
-ghost use Rattle.cargo_manifest.specs.Whole.{manifest_content};
 ghost use Rattle.cargo_manifest.specs.Completes.{Completes};
+ghost use Rattle.cargo_manifest.specs.Whole.{manifest_kept};
 
 use crate::manifest::Manifest;
 use manifest_completion::{
@@ -24,7 +23,9 @@ fn declared_targets<'a, P: Metadata>(
     manifest: &'a Manifest<P, Value>,
     package: &'a Package<P>,
 ) -> DeclaredTargets<'a>
-    ensures { declared_content result ≡ targets_of (package_content (λ m. P.kind.written (P.content m)) «package».now) (manifest_content (λ m. P.kind.written (P.content m)) view manifest.now) }
+    ensures { declared_content result
+        ≡ targets_of (package_of P.kind P.content «package».now)
+        (manifest_kept P.kind P.content manifest.now) }
 {
     DeclaredTargets {
         name: package.name.as_str(),
@@ -45,8 +46,10 @@ fn declared_targets<'a, P: Metadata>(
 
 /// Puts the completed targets in the place of the declared ones. Nothing is grown.
 fn put_targets<P: Metadata>(manifest: &mut Manifest<P, Value>, completed: CompletedTargets)
-    ensures { let old = manifest_content (λ m. P.kind.written (P.content m)) view manifest.old in
-        (p : Contents.Package) → old.«package» ≡ Some p → manifest_content (λ m. P.kind.written (P.content m)) view manifest.new ≡ with_targets p old (completed_content (targets_of p old) completed) }
+    ensures { let old = manifest_kept P.kind P.content manifest.old in
+        (p : Contents.Package) → old.«package» ≡ Some p
+        → manifest_kept P.kind P.content manifest.new
+        ≡ with_targets p old (completed_content (targets_of p old) completed) }
 {
     let CompletedTargets {
         build,
@@ -76,7 +79,7 @@ impl<P: Metadata> Manifest<P, Value> {
     /// let adds = manifest.autobins(); // false
     /// ```
     pub fn autobins(&self) -> bool
-        ensures { result ≡ autobins (manifest_content (λ m. P.kind.written (P.content m)) view self.now) }
+        ensures { result ≡ autobins (manifest_kept P.kind P.content self.now) }
     {
         match &self.package {
             Some(package) => discovers(package.autobins, is_legacy(&package.edition), &self.bin),
@@ -90,7 +93,7 @@ impl<P: Metadata> Manifest<P, Value> {
     /// let adds = manifest.autoexamples();
     /// ```
     pub fn autoexamples(&self) -> bool
-        ensures { result ≡ autoexamples (manifest_content (λ m. P.kind.written (P.content m)) view self.now) }
+        ensures { result ≡ autoexamples (manifest_kept P.kind P.content self.now) }
     {
         match &self.package {
             Some(package) => discovers(
@@ -108,7 +111,7 @@ impl<P: Metadata> Manifest<P, Value> {
     /// let adds = manifest.autotests();
     /// ```
     pub fn autotests(&self) -> bool
-        ensures { result ≡ autotests (manifest_content (λ m. P.kind.written (P.content m)) view self.now) }
+        ensures { result ≡ autotests (manifest_kept P.kind P.content self.now) }
     {
         match &self.package {
             Some(package) => discovers(package.autotests, is_legacy(&package.edition), &self.test),
@@ -122,7 +125,7 @@ impl<P: Metadata> Manifest<P, Value> {
     /// let adds = manifest.autobenches();
     /// ```
     pub fn autobenches(&self) -> bool
-        ensures { result ≡ autobenches (manifest_content (λ m. P.kind.written (P.content m)) view self.now) }
+        ensures { result ≡ autobenches (manifest_kept P.kind P.content self.now) }
     {
         match &self.package {
             Some(package) => {
@@ -158,7 +161,8 @@ impl<P: Metadata> Manifest<P, Value> {
         alloc: Global,
         fs: &FS,
     ) -> Result<(), Error>
-        ensures answers { Completes (FS.allows fs.now) (manifest_content (λ m. P.kind.written (P.content m)) view self.old) (manifest_content (λ m. P.kind.written (P.content m)) view self.new) result }
+        ensures answers { Completes (FS.allows fs.now) (manifest_kept P.kind P.content self.old)
+            (manifest_kept P.kind P.content self.new) result }
         ensures refused { OnErr result (self.new ≡ self.old) }
         ensures without { self.old.«package» ≡ None → (result ≡ Ok tt) × (self.new ≡ self.old) }
     {

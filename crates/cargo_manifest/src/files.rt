@@ -3,7 +3,7 @@
 ghost use Rattle.std.specs.Prelude.{◌≡◌, ◌⊎◌, Ok, None, IfOk, IfErr, OnErr, IsSome};
 ghost use Rattle.toml.specs.View.{view};
 ghost use Rattle.manifest_schema.specs.Kinds.{kept, tree_of};
-ghost use Rattle.cargo_manifest.specs.Whole.{manifest_content};
+ghost use Rattle.cargo_manifest.specs.Whole.{manifest_content, manifest_kept};
 ghost use Rattle.cargo_manifest.specs.Answers.{Refuses};
 ghost use Rattle.cargo_manifest.specs.Folders.{folder_of, CompletesIn, IsCompletedOf, RefusesCompleted, IsOfPath, RefusesPath};
 
@@ -24,7 +24,7 @@ fn from_bytes<P: Metadata, R: Files + AllocGlobal + Clone + Drop>(
 ) -> Result<Manifest<P, Value>, Error>
     ensures ok { IfOk result (λ m.
         IsCompletedOf (tree_of P.kind) (tree_of kept) (folder_of path.entry) bytes.now
-        (manifest_content (λ m. P.kind.written (P.content m)) view m)) }
+        (manifest_kept P.kind P.content m)) }
     ensures refused { IfErr result (λ e. Refuses (tree_of P.kind) (tree_of kept) bytes.now e
         ⊎ RefusesCompleted (tree_of P.kind) (tree_of kept) (folder_of path.entry) bytes.now e) }
 {
@@ -59,8 +59,8 @@ impl<P: Metadata> Manifest<P, Value> {
         path: Path<'_>,
     ) -> Result<(), Error>
         ensures answers { CompletesIn (folder_of path.entry)
-            (manifest_content (λ m. P.kind.written (P.content m)) view self.old)
-            (manifest_content (λ m. P.kind.written (P.content m)) view self.new) result }
+            (manifest_kept P.kind P.content self.old)
+            (manifest_kept P.kind P.content self.new) result }
         ensures refused { OnErr result (self.new ≡ self.old) }
         ensures without { self.old.«package» ≡ None → IsSome (folder_of path.entry)
             → (result ≡ Ok tt) × (self.new ≡ self.old) }
@@ -89,7 +89,7 @@ impl<P: Metadata> Manifest<P, Value> {
     ) -> Result<Manifest<P, Value>, Error>
         ensures ok { IfOk result (λ m.
             IsOfPath (tree_of P.kind) (tree_of kept) (folder_of path.entry)
-            (manifest_content (λ m. P.kind.written (P.content m)) view m)) }
+            (manifest_kept P.kind P.content m)) }
         ensures refused { IfErr result
             (RefusesPath (tree_of P.kind) (tree_of kept) (folder_of path.entry)) }
     {

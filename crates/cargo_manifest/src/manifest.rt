@@ -1,7 +1,7 @@
 //! A manifest.
 
-ghost use Rattle.std.specs.Prelude.{◌≡◌, ◌↔◌, IsTrue, option_map, IfOk, IfErr, OnOk};
-ghost use Rattle.toml.specs.Data.{Data, table as data_table};
+ghost use Rattle.std.specs.Prelude.{◌≡◌, ◌↔◌, IsTrue, map, option_map, IfOk, IfErr, OnOk};
+ghost use Rattle.toml.specs.Data.{Data};
 ghost use Rattle.manifest_schema.specs.Defaults.{empty_manifest};
 ghost use Rattle.toml.specs.View.{view, table_view};
 ghost use Rattle.manifest_schema.specs.Forms.{form};
@@ -9,27 +9,28 @@ ghost use Rattle.manifest_schema.specs.Kinds.{tree_of};
 ghost use Rattle.manifest_schema.specs.Needs.{good_some};
 ghost use Rattle.manifest_schema.specs.Contents;
 ghost use Rattle.manifest_schema.specs.PartForms.{profiles_rows, lints_rows};
-ghost use Rattle.manifest_schema.specs.ManifestForms.{package_rows, workspace_rows, manifest_rows};
+ghost use Rattle.manifest_schema.specs.ManifestForms.{manifest_rows};
 ghost use Rattle.manifest_schema.specs.Meaning.{rewritten};
-ghost use Rattle.manifest_schema.specs.ForProofs.{first_fit, written_part};
 ghost use Rattle.manifest_schema.proofs.KindLaws.{tree_lawful};
 ghost use Rattle.manifest_schema.proofs.ManifestLaws.{manifest_lawful};
 ghost use Rattle.manifest_value.specs.Faults.{FaultIn};
+ghost use Rattle.manifest_value.specs.Reading.{data_of, Reads, WritesRows};
+ghost use Rattle.manifest_value.specs.Walks.{spellings_view, names_of};
+ghost use Rattle.manifest_value.specs.Cursors.{Filled, Passed, UnfitFrom};
 ghost use Rattle.manifest_parts.specs.Records.{lints_content};
 ghost use Rattle.manifest_parts.specs.Refusals.{RefusedIn};
-ghost use Rattle.manifest_tables.specs.Tables.{package_content, workspace_content, profiles_content};
-ghost use Rattle.cargo_manifest.specs.Whole.{manifest_content};
-ghost use Rattle.cargo_manifest.specs.Taken.{TakesDependencies, faulty_dependencies, rest};
+ghost use Rattle.manifest_tables.specs.Tables.{profiles_content, package_of, package_form, workspace_of, workspace_form};
+ghost use Rattle.cargo_manifest.specs.Whole.{manifest_content, manifest_of, manifest_form};
 
 use manifest_parts::error::{Error, read};
 use manifest_parts::{
     Badges, DepsSet, FeatureSet, MaybeInheritedLintsSet, PatchSet, Product, TargetDepsSet,
 };
 use manifest_tables::{Package, Profiles, Workspace};
+use manifest_value::cursor::{RowCursor, fill, fill_default, rows_of};
 use manifest_value::fault::here;
-use manifest_value::rows::{fill, fill_default, put_nonempty, put_optional};
-use manifest_value::taken::take_map;
-use manifest_value::{Cause, Metadata, ReadFault, Schema};
+use manifest_value::rows::{put_nonempty, put_optional};
+use manifest_value::{Cause, Metadata, ReadFault, Schema, Spellings, spelled, walk};
 use std::alloc::{AllocError, Global};
 use toml::{Table, Value};
 
@@ -84,8 +85,11 @@ impl<P: Metadata, W: Metadata> Manifest<P, W> {
     /// let manifest = Manifest::<Value, Value>::from_value(alloc, &value)?;
     /// ```
     pub fn from_value(alloc: Global, value: &Value) -> Result<Manifest<P, W>, Error>
-        ensures ok { IfOk result (λ x. (form (manifest_rows (tree_of P.kind) (tree_of W.kind))).reads (view value.now) (manifest_content (λ m. P.kind.written (P.content m)) (λ m. W.kind.written (W.content m)) x)) }
-        ensures refused { IfErr result (RefusedIn ((form (manifest_rows (tree_of P.kind) (tree_of W.kind))).faulty (view value.now))) }
+        ensures ok { IfOk result
+            (Reads (manifest_form P.kind W.kind) (manifest_of P.kind W.kind P.content W.content)
+            (view value.now)) }
+        ensures refused { IfErr result
+            (RefusedIn ((manifest_form P.kind W.kind).faulty (view value.now))) }
     {
         read(alloc, value)
     }
@@ -100,18 +104,44 @@ impl<P: Metadata, W: Metadata> Manifest<P, W> {
     /// }
     /// ```
     pub fn is_well_formed(&self) -> bool
-        ensures { IsTrue result ↔ (form (manifest_rows (tree_of P.kind) (tree_of W.kind))).good (manifest_content (λ m. P.kind.written (P.content m)) (λ m. W.kind.written (W.content m)) self.now) }
+        ensures { IsTrue result
+            ↔ (manifest_form P.kind W.kind).good
+            (manifest_of P.kind W.kind P.content W.content self.now) }
     {
-        package_is_well_formed(&self.package)
-            && workspace_is_well_formed(&self.workspace)
-            && profiles_are_well_formed(&self.profile)
-            && lints_are_well_formed(&self.lints)
+        tables_are_well_formed(&self.package, &self.workspace)
+            & settings_are_well_formed(&self.profile, &self.lints)
     }
+}
+
+/// Whether the package and the workspace are well-formed, where they are there.
+fn tables_are_well_formed<P: Metadata, W: Metadata>(
+    package: &Option<Package<P>>,
+    workspace: &Option<Workspace<W>>,
+) -> bool
+    ensures { IsTrue result
+        ↔ (good_some (package_form P.kind) (option_map (package_of P.kind P.content) «package».now)
+        × good_some (workspace_form W.kind)
+        (option_map (workspace_of W.kind W.content) workspace.now)) }
+{
+    package_is_well_formed(package) && workspace_is_well_formed(workspace)
+}
+
+/// Whether the profiles and the lints are well-formed, where they are there.
+fn settings_are_well_formed(
+    profiles: &Option<Profiles>,
+    lints: &Option<MaybeInheritedLintsSet>,
+) -> bool
+    ensures { IsTrue result
+        ↔ (good_some (form profiles_rows) (option_map profiles_content profiles.now)
+        × good_some (form lints_rows) (option_map lints_content lints.now)) }
+{
+    profiles_are_well_formed(profiles) && lints_are_well_formed(lints)
 }
 
 /// Whether the package is absent or well-formed.
 fn package_is_well_formed<P: Metadata>(package: &Option<Package<P>>) -> bool
-    ensures { IsTrue result ↔ good_some (form (package_rows (tree_of P.kind))) (option_map (package_content (λ m. P.kind.written (P.content m))) «package».now) }
+    ensures { IsTrue result
+        ↔ good_some (package_form P.kind) (option_map (package_of P.kind P.content) «package».now) }
 {
     match package {
         Some(package) => package.is_well_formed(),
@@ -121,7 +151,9 @@ fn package_is_well_formed<P: Metadata>(package: &Option<Package<P>>) -> bool
 
 /// Whether the workspace is absent or well-formed.
 fn workspace_is_well_formed<W: Metadata>(workspace: &Option<Workspace<W>>) -> bool
-    ensures { IsTrue result ↔ good_some (form (workspace_rows (tree_of W.kind))) (option_map (workspace_content (λ m. W.kind.written (W.content m))) workspace.now) }
+    ensures { IsTrue result
+        ↔ good_some (workspace_form W.kind)
+        (option_map (workspace_of W.kind W.content) workspace.now) }
 {
     match workspace {
         Some(workspace) => workspace.is_well_formed(),
@@ -131,7 +163,8 @@ fn workspace_is_well_formed<W: Metadata>(workspace: &Option<Workspace<W>>) -> bo
 
 /// Whether the profiles are absent or well-formed.
 fn profiles_are_well_formed(profiles: &Option<Profiles>) -> bool
-    ensures { IsTrue result ↔ good_some (form profiles_rows) (option_map profiles_content profiles.now) }
+    ensures { IsTrue result
+        ↔ good_some (form profiles_rows) (option_map profiles_content profiles.now) }
 {
     match profiles {
         Some(profiles) => profiles.is_well_formed(),
@@ -181,92 +214,71 @@ impl<P, W> Manifest<P, W> {
     }
 }
 
+static MANIFEST: [Spellings; 17] = spelled![
+    "package",
+    "cargo-features",
+    "workspace",
+    "dependencies",
+    "dev-dependencies" | "dev_dependencies",
+    "build-dependencies" | "build_dependencies",
+    "target",
+    "features",
+    "bin",
+    "bench",
+    "test",
+    "example",
+    "patch",
+    "lib",
+    "profile",
+    "badges",
+    "lints",
+];
+
+/// The spellings of the rows.
+#[tactic(auto, unfolding(manifest_schema::specs::ManifestForms::manifest_rows))]
+fn manifest_names<P: Metadata, W: Metadata>() -> &'static [Spellings; 17]
+    ensures { map spellings_view result.now
+        ≡ names_of (manifest_rows (tree_of P.kind) (tree_of W.kind)) }
+{
+    &MANIFEST
+}
+
 /// Reads the rows of a table.
+#[tactic(auto, unfolding(manifest_schema::specs::ManifestForms::manifest_rows))]
 pub(crate) fn manifest_from<P: Metadata, W: Metadata>(
     alloc: Global,
     table: &Table,
 ) -> Result<Manifest<P, W>, ReadFault>
-    ensures ok { IfOk result (λ x. (form (manifest_rows (tree_of P.kind) (tree_of W.kind))).reads (data_table (table_view table.now)) (manifest_content (λ m. P.kind.written (P.content m)) (λ m. W.kind.written (W.content m)) x)) }
-    ensures fault { IfErr result (FaultIn ((form (manifest_rows (tree_of P.kind) (tree_of W.kind))).faulty (data_table (table_view table.now)))) }
+    ensures ok { IfOk result
+        (Reads (manifest_form P.kind W.kind) (manifest_of P.kind W.kind P.content W.content)
+        (data_of table.now)) }
+    ensures fault { IfErr result
+        (FaultIn ((manifest_form P.kind W.kind).faulty (data_of table.now))) }
 {
+    let names = manifest_names::<P, W>();
+    let walk = walk(alloc, table, names)?;
+    let mut rows = rows_of(names, walk.slots.as_slice());
     let mut x = Manifest::default(alloc);
-    fill_manifest(alloc, table, &mut x).and(Ok(x))
-}
-
-/// Reads the rows of a table by value: the tables of dependencies, which are what is long in a manifest, are taken out of
-/// it when their rows come, and the rows after them are read of what is left.
-pub(crate) fn manifest_of<P: Metadata, W: Metadata>(
-    alloc: Global,
-    mut table: Table,
-) -> Result<Manifest<P, W>, ReadFault>
-    ensures ok { IfOk result (λ x. (form (manifest_rows (tree_of P.kind) (tree_of W.kind))).reads (data_table (table_view table)) (manifest_content (λ m. P.kind.written (P.content m)) (λ m. W.kind.written (W.content m)) x)) }
-    ensures fault { IfErr result (FaultIn ((form (manifest_rows (tree_of P.kind) (tree_of W.kind))).faulty (data_table (table_view table)))) }
-{
-    let mut x = Manifest::default(alloc);
-    fill_taken(alloc, &mut table, &mut x).and(Ok(x))
-}
-
-/// Reads all rows, and takes the tables of dependencies.
-fn fill_taken<P: Metadata, W: Metadata>(
-    alloc: Global,
-    table: &mut Table,
-    x: &mut Manifest<P, W>,
-) -> Result<(), ReadFault>
-    ensures ok { OnOk result ((form (manifest_rows (tree_of P.kind) (tree_of W.kind))).reads (data_table (table_view table.old)) (manifest_content (λ m. P.kind.written (P.content m)) (λ m. W.kind.written (W.content m)) x.new)) }
-    ensures fault { IfErr result (FaultIn ((form (manifest_rows (tree_of P.kind) (tree_of W.kind))).faulty (data_table (table_view table.old)))) }
-{
-    fill_header(alloc, table, x)?;
-    let taken = take_dependencies(alloc, table)?;
-    // (the rows of dependencies find nothing any more)
-    match fill_rest(alloc, table, x) {
-        Ok(()) => {
-            x.dependencies = taken.normal;
-            x.dev_dependencies = taken.development;
-            x.build_dependencies = taken.build;
-            Ok(())
-        }
-        Err(fault) => Err(fault),
-    }
-}
-
-/// The dependencies of a manifest by their kinds.
-#[derive(Drop)]
-struct Dependencies {
-    normal: Option<DepsSet>,
-    development: Option<DepsSet>,
-    build: Option<DepsSet>,
-}
-
-/// Takes rows 4 to 6 out of the table.
-fn take_dependencies(alloc: Global, table: &mut Table) -> Result<Dependencies, ReadFault>
-    ensures ok { IfOk result (TakesDependencies (table_view table.old)) }
-    ensures rest { OnOk result (table_view table.new ≡ rest (table_view table.old)) }
-    ensures fault { IfErr result (FaultIn (faulty_dependencies (table_view table.old))) }
-{
-    Ok(Dependencies {
-        normal: take_map(alloc, table, "dependencies", None)?,
-        development: take_map(alloc, table, "dev-dependencies", Some("dev_dependencies"))?,
-        build: take_map(
-            alloc,
-            table,
-            "build-dependencies",
-            Some("build_dependencies"),
-        )?,
-    })
+    fill_manifest(alloc, &mut rows, &mut x).and(Ok(x))
 }
 
 /// Reads all rows.
-#[tactic(auto, unfolding(manifest_schema::specs::ManifestForms::manifest_rows))]
 fn fill_manifest<P: Metadata, W: Metadata>(
     alloc: Global,
-    table: &Table,
+    rows: &mut RowCursor<'_, '_>,
     x: &mut Manifest<P, W>,
 ) -> Result<(), ReadFault>
-    ensures ok { OnOk result ((form (manifest_rows (tree_of P.kind) (tree_of W.kind))).reads (data_table (table_view table.now)) (manifest_content (λ m. P.kind.written (P.content m)) (λ m. W.kind.written (W.content m)) x.new)) }
-    ensures fault { IfErr result (FaultIn ((form (manifest_rows (tree_of P.kind) (tree_of W.kind))).faulty (data_table (table_view table.now)))) }
+    ensures ok { Filled 0 17 (manifest_rows (tree_of P.kind) (tree_of W.kind)) rows.old
+        (manifest_of P.kind W.kind P.content W.content x.old)
+        (manifest_of P.kind W.kind P.content W.content x.new) result }
+    ensures next { Passed 0 17 (manifest_rows (tree_of P.kind) (tree_of W.kind)) rows.old rows.new
+        result }
+    ensures fault { UnfitFrom 0 (manifest_rows (tree_of P.kind) (tree_of W.kind)) rows.old result }
 {
-    fill_header(alloc, table, x)?;
-    fill_rest(alloc, table, x)?;
+    fill_header(alloc, rows, x)?;
+    fill_dependencies(alloc, rows, x)?;
+    fill_features(alloc, rows, x)?;
+    fill_settings(alloc, rows, x)?;
     Ok(())
 }
 
@@ -274,30 +286,19 @@ fn fill_manifest<P: Metadata, W: Metadata>(
 #[tactic(auto, unfolding(manifest_schema::specs::ManifestForms::manifest_rows))]
 fn fill_header<P: Metadata, W: Metadata>(
     alloc: Global,
-    table: &Table,
+    rows: &mut RowCursor<'_, '_>,
     x: &mut Manifest<P, W>,
 ) -> Result<(), ReadFault>
-    ensures ok { OnOk result (first_fit 3 (manifest_rows (tree_of P.kind) (tree_of W.kind)) (table_view table.now) (manifest_content (λ m. P.kind.written (P.content m)) (λ m. W.kind.written (W.content m)) x.new)) }
-    ensures fault { IfErr result (FaultIn ((form (manifest_rows (tree_of P.kind) (tree_of W.kind))).faulty (data_table (table_view table.now)))) }
+    ensures ok { Filled 0 3 (manifest_rows (tree_of P.kind) (tree_of W.kind)) rows.old
+        (manifest_of P.kind W.kind P.content W.content x.old)
+        (manifest_of P.kind W.kind P.content W.content x.new) result }
+    ensures next { Passed 0 3 (manifest_rows (tree_of P.kind) (tree_of W.kind)) rows.old rows.new
+        result }
+    ensures fault { UnfitFrom 0 (manifest_rows (tree_of P.kind) (tree_of W.kind)) rows.old result }
 {
-    fill(alloc, table, "package", None, &mut x.package)?;
-    fill(alloc, table, "cargo-features", None, &mut x.cargo_features)?;
-    fill(alloc, table, "workspace", None, &mut x.workspace)?;
-    Ok(())
-}
-
-/// Reads the rows after the third.
-fn fill_rest<P: Metadata, W: Metadata>(
-    alloc: Global,
-    table: &Table,
-    x: &mut Manifest<P, W>,
-) -> Result<(), ReadFault>
-    ensures ok { OnOk result (first_fit 3 (manifest_rows (tree_of P.kind) (tree_of W.kind)) (table_view table.now) (manifest_content (λ m. P.kind.written (P.content m)) (λ m. W.kind.written (W.content m)) x.old) → first_fit 17 (manifest_rows (tree_of P.kind) (tree_of W.kind)) (table_view table.now) (manifest_content (λ m. P.kind.written (P.content m)) (λ m. W.kind.written (W.content m)) x.new)) }
-    ensures fault { IfErr result (FaultIn ((form (manifest_rows (tree_of P.kind) (tree_of W.kind))).faulty (data_table (table_view table.now)))) }
-{
-    fill_dependencies(alloc, table, x)?;
-    fill_features(alloc, table, x)?;
-    fill_settings(alloc, table, x)?;
+    fill(alloc, rows, &mut x.package)?;
+    fill(alloc, rows, &mut x.cargo_features)?;
+    fill(alloc, rows, &mut x.workspace)?;
     Ok(())
 }
 
@@ -305,27 +306,19 @@ fn fill_rest<P: Metadata, W: Metadata>(
 #[tactic(auto, unfolding(manifest_schema::specs::ManifestForms::manifest_rows))]
 fn fill_dependencies<P: Metadata, W: Metadata>(
     alloc: Global,
-    table: &Table,
+    rows: &mut RowCursor<'_, '_>,
     x: &mut Manifest<P, W>,
 ) -> Result<(), ReadFault>
-    ensures ok { OnOk result (first_fit 3 (manifest_rows (tree_of P.kind) (tree_of W.kind)) (table_view table.now) (manifest_content (λ m. P.kind.written (P.content m)) (λ m. W.kind.written (W.content m)) x.old) → first_fit 6 (manifest_rows (tree_of P.kind) (tree_of W.kind)) (table_view table.now) (manifest_content (λ m. P.kind.written (P.content m)) (λ m. W.kind.written (W.content m)) x.new)) }
-    ensures fault { IfErr result (FaultIn ((form (manifest_rows (tree_of P.kind) (tree_of W.kind))).faulty (data_table (table_view table.now)))) }
+    ensures ok { Filled 3 6 (manifest_rows (tree_of P.kind) (tree_of W.kind)) rows.old
+        (manifest_of P.kind W.kind P.content W.content x.old)
+        (manifest_of P.kind W.kind P.content W.content x.new) result }
+    ensures next { Passed 3 6 (manifest_rows (tree_of P.kind) (tree_of W.kind)) rows.old rows.new
+        result }
+    ensures fault { UnfitFrom 3 (manifest_rows (tree_of P.kind) (tree_of W.kind)) rows.old result }
 {
-    fill(alloc, table, "dependencies", None, &mut x.dependencies)?;
-    fill(
-        alloc,
-        table,
-        "dev-dependencies",
-        Some("dev_dependencies"),
-        &mut x.dev_dependencies,
-    )?;
-    fill(
-        alloc,
-        table,
-        "build-dependencies",
-        Some("build_dependencies"),
-        &mut x.build_dependencies,
-    )?;
+    fill(alloc, rows, &mut x.dependencies)?;
+    fill(alloc, rows, &mut x.dev_dependencies)?;
+    fill(alloc, rows, &mut x.build_dependencies)?;
     Ok(())
 }
 
@@ -333,25 +326,22 @@ fn fill_dependencies<P: Metadata, W: Metadata>(
 #[tactic(auto, unfolding(manifest_schema::specs::ManifestForms::manifest_rows))]
 fn fill_features<P: Metadata, W: Metadata>(
     alloc: Global,
-    table: &Table,
+    rows: &mut RowCursor<'_, '_>,
     x: &mut Manifest<P, W>,
 ) -> Result<(), ReadFault>
-    ensures ok { OnOk result (first_fit 6 (manifest_rows (tree_of P.kind) (tree_of W.kind)) (table_view table.now) (manifest_content (λ m. P.kind.written (P.content m)) (λ m. W.kind.written (W.content m)) x.old) → first_fit 12 (manifest_rows (tree_of P.kind) (tree_of W.kind)) (table_view table.now) (manifest_content (λ m. P.kind.written (P.content m)) (λ m. W.kind.written (W.content m)) x.new)) }
-    ensures fault { IfErr result (FaultIn ((form (manifest_rows (tree_of P.kind) (tree_of W.kind))).faulty (data_table (table_view table.now)))) }
+    ensures ok { Filled 6 12 (manifest_rows (tree_of P.kind) (tree_of W.kind)) rows.old
+        (manifest_of P.kind W.kind P.content W.content x.old)
+        (manifest_of P.kind W.kind P.content W.content x.new) result }
+    ensures next { Passed 6 12 (manifest_rows (tree_of P.kind) (tree_of W.kind)) rows.old rows.new
+        result }
+    ensures fault { UnfitFrom 6 (manifest_rows (tree_of P.kind) (tree_of W.kind)) rows.old result }
 {
-    fill(alloc, table, "target", None, &mut x.target)?;
-    fill(alloc, table, "features", None, &mut x.features)?;
-    fill_default(alloc, table, "bin", None, Vec::new(alloc), &mut x.bin)?;
-    fill_default(alloc, table, "bench", None, Vec::new(alloc), &mut x.bench)?;
-    fill_default(alloc, table, "test", None, Vec::new(alloc), &mut x.test)?;
-    fill_default(
-        alloc,
-        table,
-        "example",
-        None,
-        Vec::new(alloc),
-        &mut x.example,
-    )?;
+    fill(alloc, rows, &mut x.target)?;
+    fill(alloc, rows, &mut x.features)?;
+    fill_default(alloc, rows, Vec::new(alloc), &mut x.bin)?;
+    fill_default(alloc, rows, Vec::new(alloc), &mut x.bench)?;
+    fill_default(alloc, rows, Vec::new(alloc), &mut x.test)?;
+    fill_default(alloc, rows, Vec::new(alloc), &mut x.example)?;
     Ok(())
 }
 
@@ -359,17 +349,21 @@ fn fill_features<P: Metadata, W: Metadata>(
 #[tactic(auto, unfolding(manifest_schema::specs::ManifestForms::manifest_rows))]
 fn fill_settings<P: Metadata, W: Metadata>(
     alloc: Global,
-    table: &Table,
+    rows: &mut RowCursor<'_, '_>,
     x: &mut Manifest<P, W>,
 ) -> Result<(), ReadFault>
-    ensures ok { OnOk result (first_fit 12 (manifest_rows (tree_of P.kind) (tree_of W.kind)) (table_view table.now) (manifest_content (λ m. P.kind.written (P.content m)) (λ m. W.kind.written (W.content m)) x.old) → first_fit 17 (manifest_rows (tree_of P.kind) (tree_of W.kind)) (table_view table.now) (manifest_content (λ m. P.kind.written (P.content m)) (λ m. W.kind.written (W.content m)) x.new)) }
-    ensures fault { IfErr result (FaultIn ((form (manifest_rows (tree_of P.kind) (tree_of W.kind))).faulty (data_table (table_view table.now)))) }
+    ensures ok { Filled 12 17 (manifest_rows (tree_of P.kind) (tree_of W.kind)) rows.old
+        (manifest_of P.kind W.kind P.content W.content x.old)
+        (manifest_of P.kind W.kind P.content W.content x.new) result }
+    ensures next { Passed 12 17 (manifest_rows (tree_of P.kind) (tree_of W.kind)) rows.old rows.new
+        result }
+    ensures fault { UnfitFrom 12 (manifest_rows (tree_of P.kind) (tree_of W.kind)) rows.old result }
 {
-    fill(alloc, table, "patch", None, &mut x.patch)?;
-    fill(alloc, table, "lib", None, &mut x.lib)?;
-    fill(alloc, table, "profile", None, &mut x.profile)?;
-    fill(alloc, table, "badges", None, &mut x.badges)?;
-    fill(alloc, table, "lints", None, &mut x.lints)?;
+    fill(alloc, rows, &mut x.patch)?;
+    fill(alloc, rows, &mut x.lib)?;
+    fill(alloc, rows, &mut x.profile)?;
+    fill(alloc, rows, &mut x.badges)?;
+    fill(alloc, rows, &mut x.lints)?;
     Ok(())
 }
 
@@ -380,7 +374,9 @@ fn put_header<P: Metadata, W: Metadata>(
     out: &mut Table,
     x: &Manifest<P, W>,
 ) -> Result<(), AllocError>
-    ensures { OnOk result (table_view out.new ≡ written_part 0 6 (manifest_rows (tree_of P.kind) (tree_of W.kind)) (manifest_content (λ m. P.kind.written (P.content m)) (λ m. W.kind.written (W.content m)) x.now) (table_view out.old)) }
+    ensures { OnOk result
+        (WritesRows 0 6 (manifest_rows (tree_of P.kind) (tree_of W.kind))
+        (manifest_of P.kind W.kind P.content W.content x.now) out.old out.new) }
 {
     put_optional(alloc, out, "build-dependencies", &x.build_dependencies)?;
     put_optional(alloc, out, "dev-dependencies", &x.dev_dependencies)?;
@@ -398,7 +394,9 @@ fn put_features<P: Metadata, W: Metadata>(
     out: &mut Table,
     x: &Manifest<P, W>,
 ) -> Result<(), AllocError>
-    ensures { OnOk result (table_view out.new ≡ written_part 6 6 (manifest_rows (tree_of P.kind) (tree_of W.kind)) (manifest_content (λ m. P.kind.written (P.content m)) (λ m. W.kind.written (W.content m)) x.now) (table_view out.old)) }
+    ensures { OnOk result
+        (WritesRows 6 6 (manifest_rows (tree_of P.kind) (tree_of W.kind))
+        (manifest_of P.kind W.kind P.content W.content x.now) out.old out.new) }
 {
     put_nonempty(alloc, out, "example", &x.example)?;
     put_nonempty(alloc, out, "test", &x.test)?;
@@ -416,7 +414,9 @@ fn put_settings<P: Metadata, W: Metadata>(
     out: &mut Table,
     x: &Manifest<P, W>,
 ) -> Result<(), AllocError>
-    ensures { OnOk result (table_view out.new ≡ written_part 12 5 (manifest_rows (tree_of P.kind) (tree_of W.kind)) (manifest_content (λ m. P.kind.written (P.content m)) (λ m. W.kind.written (W.content m)) x.now) (table_view out.old)) }
+    ensures { OnOk result
+        (WritesRows 12 5 (manifest_rows (tree_of P.kind) (tree_of W.kind))
+        (manifest_of P.kind W.kind P.content W.content x.now) out.old out.new) }
 {
     put_optional(alloc, out, "lints", &x.lints)?;
     put_optional(alloc, out, "badges", &x.badges)?;
@@ -433,7 +433,7 @@ pub(crate) fn manifest_table<P: Metadata, W: Metadata>(
     x: &Manifest<P, W>,
 ) -> Result<Table, AllocError>
     ensures { IfOk result (λ t. table_view t ≡ rewritten (tree_of P.kind) (tree_of W.kind)
-        (manifest_content (λ m. P.kind.written (P.content m)) (λ m. W.kind.written (W.content m)) x.now)) }
+        (manifest_of P.kind W.kind P.content W.content x.now)) }
 {
     let mut out = Table::new(alloc);
     put_settings(alloc, &mut out, x)?;
@@ -445,9 +445,9 @@ pub(crate) fn manifest_table<P: Metadata, W: Metadata>(
 impl<P: Metadata, W: Metadata> Schema for Manifest<P, W> {
     ghost Content = { Contents.Manifest };
 
-    ghost content = { manifest_content (λ m. P.kind.written (P.content m)) (λ m. W.kind.written (W.content m)) };
+    ghost content = { manifest_of P.kind W.kind P.content W.content };
 
-    ghost kind = { form (manifest_rows (tree_of P.kind) (tree_of W.kind)) };
+    ghost kind = { manifest_form P.kind W.kind };
 
     fn from_value(alloc: Global, value: &Value) -> Result<Manifest<P, W>, ReadFault> {
         match value {
@@ -460,5 +460,6 @@ impl<P: Metadata, W: Metadata> Schema for Manifest<P, W> {
         Ok(Value::Table(manifest_table(alloc, self)?))
     }
 
-    ghost lawful = { manifest_lawful (tree_of P.kind) (tree_of W.kind) (tree_lawful P.lawful) (tree_lawful W.lawful) };
+    ghost lawful = { manifest_lawful (tree_of P.kind) (tree_of W.kind) (tree_lawful P.lawful)
+        (tree_lawful W.lawful) };
 }

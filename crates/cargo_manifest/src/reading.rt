@@ -3,22 +3,20 @@
 ghost use Rattle.std.specs.Prelude.{◌≡◌, false, codes, IfOk, IfErr, IsUtf8};
 ghost use Rattle.toml.specs.Data.{get_member};
 ghost use Rattle.toml.specs.View.{view, table_view};
-ghost use Rattle.manifest_schema.specs.Forms.{form};
 ghost use Rattle.manifest_schema.specs.Kinds.{kept, tree_of};
-ghost use Rattle.manifest_schema.specs.ManifestForms.{package_rows};
 ghost use Rattle.manifest_schema.specs.Meaning.{has, has_header, old_package, faulty_old, means, means_by, unmeant, unmeant_by};
 ghost use Rattle.manifest_value.specs.Faults.{FaultIn};
-ghost use Rattle.manifest_tables.specs.Tables.{package_content};
-ghost use Rattle.cargo_manifest.specs.Whole.{manifest_content};
+ghost use Rattle.manifest_tables.specs.Tables.{package_of, package_form};
+ghost use Rattle.cargo_manifest.specs.Whole.{manifest_content, manifest_of, manifest_kept};
 ghost use Rattle.cargo_manifest.specs.Answers.{IsDocumentOf, Refuses, RefusesText};
 
-use crate::manifest::{Manifest, manifest_from, manifest_of};
+use crate::manifest::{Manifest, manifest_from};
 use manifest_parts::error::refusal;
 use manifest_parts::{Error, ParseFault};
 use manifest_tables::Package;
 use manifest_tables::package::package_from;
+use manifest_value::readers::find;
 use manifest_value::rows::read_under;
-use manifest_value::slots::find;
 use manifest_value::{Metadata, ReadFault};
 use std::alloc::Global;
 use std::rc::Rc;
@@ -41,7 +39,8 @@ fn has_package_or_workspace(table: &Table) -> bool
 /// The package under an old header: that of `project`, or else of the whole table.
 fn read_old_package<P: Metadata>(alloc: Global, table: &Table) -> Result<Package<P>, ReadFault>
     ensures ok { let ms = table_view table.now in
-        IfOk result (λ p. (form (package_rows (tree_of P.kind))).reads (old_package ms (get_member (codes "project") ms)) (package_content (λ m. P.kind.written (P.content m)) p)) }
+        IfOk result (λ p. (package_form P.kind).reads
+        (old_package ms (get_member (codes "project") ms)) (package_of P.kind P.content p)) }
     ensures fault { let ms = table_view table.now in
         IfErr result (FaultIn (faulty_old (tree_of P.kind) ms (get_member (codes "project") ms))) }
 {
@@ -56,9 +55,11 @@ fn read_headless<P: Metadata, W: Metadata>(
     alloc: Global,
     table: &Table,
 ) -> Result<Manifest<P, W>, ReadFault>
-    ensures ok { IfOk result (λ m. means_by (tree_of P.kind) (tree_of W.kind) false (table_view table.now)
-        (manifest_content (λ m. P.kind.written (P.content m)) (λ m. W.kind.written (W.content m)) m)) }
-    ensures fault { IfErr result (FaultIn (unmeant_by (tree_of P.kind) (tree_of W.kind) false (table_view table.now))) }
+    ensures ok { IfOk result
+        (λ m. means_by (tree_of P.kind) (tree_of W.kind) false (table_view table.now)
+        (manifest_of P.kind W.kind P.content W.content m)) }
+    ensures fault { IfErr result
+        (FaultIn (unmeant_by (tree_of P.kind) (tree_of W.kind) false (table_view table.now))) }
 {
     let mut manifest = match manifest_from(alloc, table) {
         Ok(manifest) => manifest,
@@ -82,11 +83,12 @@ fn read_table<P: Metadata, W: Metadata>(
     table: Table,
 ) -> Result<Manifest<P, W>, ReadFault>
     ensures ok { IfOk result (λ m. means (tree_of P.kind) (tree_of W.kind) (table_view table)
-        (manifest_content (λ m. P.kind.written (P.content m)) (λ m. W.kind.written (W.content m)) m)) }
-    ensures fault { IfErr result (FaultIn (unmeant (tree_of P.kind) (tree_of W.kind) (table_view table))) }
+        (manifest_of P.kind W.kind P.content W.content m)) }
+    ensures fault { IfErr result
+        (FaultIn (unmeant (tree_of P.kind) (tree_of W.kind) (table_view table))) }
 {
     if has_package_or_workspace(&table) {
-        manifest_of(alloc, table)
+        manifest_from(alloc, &table)
     } else {
         read_headless(alloc, &table)
     }
@@ -95,7 +97,7 @@ fn read_table<P: Metadata, W: Metadata>(
 /// The manifest that a text means.
 fn read_text<P: Metadata, W: Metadata>(alloc: Global, text: &str) -> Result<Manifest<P, W>, Error>
     ensures ok { IfOk result (λ m. IsDocumentOf (tree_of P.kind) (tree_of W.kind) text.now
-        (manifest_content (λ m. P.kind.written (P.content m)) (λ m. W.kind.written (W.content m)) m)) }
+        (manifest_of P.kind W.kind P.content W.content m)) }
     ensures refused { IfErr result (RefusesText (tree_of P.kind) (tree_of W.kind) text.now) }
 {
     let table = match toml::table_from_str(alloc, text) {
@@ -128,8 +130,9 @@ impl<P: Metadata> Manifest<P, Value> {
         alloc: Global,
         bytes: &[u8],
     ) -> Result<Manifest<P, Value>, Error>
-        ensures ok { IfOk result (λ m. IsUtf8 bytes.now × IsDocumentOf (tree_of P.kind) (tree_of kept) bytes.now
-            (manifest_content (λ m. P.kind.written (P.content m)) view m)) }
+        ensures ok { IfOk result
+            (λ m. IsUtf8 bytes.now × IsDocumentOf (tree_of P.kind) (tree_of kept) bytes.now
+            (manifest_kept P.kind P.content m)) }
         ensures refused { IfErr result (Refuses (tree_of P.kind) (tree_of kept) bytes.now) }
     {
         match std::str::from_utf8(bytes) {
@@ -147,7 +150,9 @@ impl Manifest<Value, Value> {
     /// let refused = Manifest::from_slice(alloc, b"[package]\nname = 1"); // `wrong kind at package.name`
     /// ```
     pub fn from_slice(alloc: Global, bytes: &[u8]) -> Result<Manifest<Value, Value>, Error>
-        ensures ok { IfOk result (λ m. IsUtf8 bytes.now × IsDocumentOf (tree_of kept) (tree_of kept) bytes.now (manifest_content view view m)) }
+        ensures ok { IfOk result
+            (λ m. IsUtf8 bytes.now
+            × IsDocumentOf (tree_of kept) (tree_of kept) bytes.now (manifest_content view view m)) }
         ensures refused { IfErr result (Refuses (tree_of kept) (tree_of kept) bytes.now) }
     {
         Manifest::from_slice_with_metadata(alloc, bytes)
@@ -159,7 +164,9 @@ impl Manifest<Value, Value> {
     /// let manifest = Manifest::from_str(alloc, "[workspace]\nmembers = ['a']")?;
     /// ```
     pub fn from_str(alloc: Global, text: &str) -> Result<Manifest<Value, Value>, Error>
-        ensures ok { IfOk result (λ m. IsDocumentOf (tree_of kept) (tree_of kept) text.now (manifest_content view view m)) }
+        ensures ok { IfOk result
+            (λ m. IsDocumentOf (tree_of kept) (tree_of kept) text.now
+            (manifest_content view view m)) }
         ensures refused { IfErr result (RefusesText (tree_of kept) (tree_of kept) text.now) }
     {
         read_text(alloc, text)

@@ -55,7 +55,8 @@ pub fn print_manifest<W: Write>(
     output: &mut W,
 ) -> Result<(), Error>
     ensures ok { OnOk result
-        (Prints (manifest_content view view manifest) (W.contents output.old) (W.contents output.new)) }
+        (Prints (manifest_content view view manifest) (W.contents output.old)
+        (W.contents output.new)) }
     ensures refused { IfErr result
         (FailsToPrint (manifest_content view view manifest)
         (W.contents output.old) (W.contents output.new)) }

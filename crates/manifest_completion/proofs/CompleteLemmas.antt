@@ -18,7 +18,7 @@ use Rattle.manifest_completion.specs.Finds.{Find, finds, entry_finds}
 use Rattle.manifest_completion.specs.Completed.{PackageTargets, Explains, folder_places, target_places, has_memory_fault, completed_to, refused, no_library, filled, library, no_file, known, source_fault, root_fault, after_root, completed_targets, asked_targets, asks_root, stops_at_source, completed, asked}
 use Rattle.manifest_completion.specs.Answered.{answer_of, answers_of}
 use Rattle.manifest_completion.specs.Asking.{Heard, EntriesHeard, HeardInTurn, folder_listing, listing_map, AllHeard, found_no_memory, some_found_no_memory}
-use Rattle.manifest_completion.specs.Outcome.{completed_content, IsFault, RefusesLibrary, ByOneMap, TargetsRefused, TargetsCompleted, paired_finds, folder_paired, TargetsMade, heard_fault, CompletesHeard}
+use Rattle.manifest_completion.specs.Outcome.{completed_content, IsFault, RefusesLibrary, TargetsComeTo, TargetsRefused, TargetsCompleted, paired_finds, folder_paired, TargetsMade, heard_fault, CompletesHeard}
 use Rattle.manifest_completion.proofs.DecidesLaws.{with_library}
 use Rattle.manifest_completion.proofs.AskLemmas.{none_ascend, ascending_differ}
 use Rattle.manifest_completion.proofs.HeardLemmas.{folder_fault, entry_answers, padded, match_false, any_map}
@@ -72,7 +72,7 @@ module _ (allows : Text → Answer → Type 0) (t : PackageTargets) (src : Answe
   explains_stop e = record { ascending = only_ascends src ok.0; allowed = rw e (ok.1, tt) }
 
   -- `src` is a fault
-  source_refused : (k : ErrorKind) → source_fault src ≡ Some k → ByOneMap allows t (λ c. c ≡ refused k)
+  source_refused : (k : ErrorKind) → source_fault src ≡ Some k → TargetsComeTo allows t (refused k)
   source_refused k e = (only_source src, explains_stop (rw e refl), rw e refl)
 
   pub source_error : (e : Error) → IsFault (source_fault src) e → TargetsRefused allows t e
@@ -83,7 +83,7 @@ module _ (allows : Text → Answer → Type 0) (t : PackageTargets) (src : Answe
   source_error (Memory f) h = absurd h
 
   -- there is no library
-  library_refused : source_fault src ≡ None → library t src ≡ no_file → ByOneMap allows t (λ c. c ≡ no_library)
+  library_refused : source_fault src ≡ None → library t src ≡ no_file → TargetsComeTo allows t no_library
   library_refused e f = (only_source src, explains_stop (rw (e, f) refl), rw (e, f) refl)
 
   pub library_error : source_fault src ≡ None → (e : Error) → RefusesLibrary (library t src) e → TargetsRefused allows t e

@@ -1,5 +1,5 @@
 -- What completion makes of a manifest, as a function of the listings; and which places are asked for it.
-use Rattle.std.specs.Prelude.{List, [], ◌∷◌, ◌++◌, map, codes, if◌then◌else◌, Option, Some, None, Bool, true, false, is_some, unwrap_or, ◌&&◌, ◌||◌, not, nat_eq}
+use Rattle.std.specs.Prelude.{◌≡◌, List, [], ◌∷◌, ◌++◌, map, codes, if◌then◌else◌, Option, Some, None, Bool, true, false, is_some, unwrap_or, ◌&&◌, ◌||◌, not, nat_eq}
 use Rattle.std.specs.Option.{option_or}
 use Rattle.std.specs.List.{list_any, AllByRecursion}
 use Rattle.std.specs.declared.io.ErrorKind.{ErrorKind}
@@ -277,3 +277,8 @@ AllAllowed allows l ps = AllByRecursion (λ p. allows (path_text p) (at l p)) ps
 pub record Explains (allows : Text → Answer → Type 0) (l : ListingMap) (places : List Place) : Type 0 where
   pub ascending : NamesAscend l
   pub allowed : AllAllowed allows l places
+
+-- BY ONE MAP of listings, which explains what the filesystem answered at the places that are asked for it, the outcome is this
+abbrev pub ByOneMap :
+    {C : Type 0} → (Text → Answer → Type 0) → (ListingMap → List Place) → (ListingMap → C) → C → Type 0
+ByOneMap allows asked outcome c = (l : ListingMap) × Explains allows l (asked l) × (outcome l ≡ c)

@@ -17,10 +17,10 @@ use Rattle.manifest_completion.specs.declared.ask.Answers.{Answers}
 use Rattle.manifest_completion.specs.declared.finds.FoundTarget.{FoundTarget}
 use Rattle.manifest_completion.specs.declared.targets.TargetDefaults.{TargetDefaults}
 use Rattle.manifest_completion.specs.declared.ask.FolderAnswers.{FolderAnswers}
-use Rattle.manifest_completion.specs.Listings.{Answer, ListingMap, folder_text, bins, examples, tests, benches, names_of}
+use Rattle.manifest_completion.specs.Listings.{Answer, folder_text, bins, examples, tests, benches, names_of}
 use Rattle.manifest_completion.specs.Finds.{Find, entry_finds, main_find}
 use Rattle.manifest_completion.specs.Targets.{Defaults, targets}
-use Rattle.manifest_completion.specs.Completed.{PackageTargets, is_legacy, discovers, bin_defaults, example_defaults, test_defaults, Library, no_file, Completion, completed_to, refused, no_library, completed_targets, asked_targets, root_fault, build_of, Explains}
+use Rattle.manifest_completion.specs.Completed.{PackageTargets, is_legacy, discovers, bin_defaults, example_defaults, test_defaults, Library, no_file, Completion, completed_to, refused, no_library, completed_targets, asked_targets, root_fault, build_of, ByOneMap}
 use Rattle.manifest_completion.specs.Answered.{answer_of, answers_of}
 use Rattle.manifest_completion.specs.Asking.{some_found_no_memory}
 use Rattle.manifest_completion.specs.Stored.{stored_map}
@@ -83,17 +83,17 @@ RefusesLibrary lib (Memory e) = Unit {0}
 RefusesLibrary lib _ = ⊥
 
 -- WHAT COMPLETING ANSWERS: there is one map of listings, by answers that the filesystem allows, of which it is the completion; or memory was wanting
-abbrev pub ByOneMap : (Text → Answer → Type 0) → PackageTargets → (Completion PackageTargets → Type 0) → Type 0
-ByOneMap allows t P = (l : ListingMap) × Explains allows l (asked_targets t l) × P (completed_targets t l)
+abbrev pub TargetsComeTo : (Text → Answer → Type 0) → PackageTargets → Completion PackageTargets → Type 0
+TargetsComeTo allows t c = ByOneMap allows (asked_targets t) (completed_targets t) c
 
 abbrev pub TargetsRefused : (Text → Answer → Type 0) → PackageTargets → Error → Type 0
-TargetsRefused allows t (Io e) = ByOneMap allows t (λ c. c ≡ refused (error_kind e))
-TargetsRefused allows t (Other s) = ByOneMap allows t (λ c. c ≡ no_library) × (string_bytes s ≡ library_text)
+TargetsRefused allows t (Io e) = TargetsComeTo allows t (refused (error_kind e))
+TargetsRefused allows t (Other s) = TargetsComeTo allows t no_library × (string_bytes s ≡ library_text)
 TargetsRefused allows t (Memory e) = Unit {0}
 TargetsRefused allows t _ = ⊥
 
 abbrev pub TargetsCompleted : (Text → Answer → Type 0) → PackageTargets → Result CompletedTargets Error → Type 0
-TargetsCompleted allows t (Ok c) = ByOneMap allows t (λ r. r ≡ completed_to (completed_content t c))
+TargetsCompleted allows t (Ok c) = TargetsComeTo allows t (completed_to (completed_content t c))
 TargetsCompleted allows t (Err e) = TargetsRefused allows t e
 
 -- WHAT IT ANSWERS where one answer is stored for each path text

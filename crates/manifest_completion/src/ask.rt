@@ -83,7 +83,8 @@ fn ask_entries<FS: AbstractFilesystem>(
     folder: &str,
     names: &BTreeSet<String>,
 ) -> Result<Vec<io::Result<BTreeSet<String>>>, AllocError>
-    ensures { IfOk result (λ v. EntriesHeard (FS.allows fs.now) folder.now (set_names names.now) (answers_of v)) }
+    ensures { IfOk result
+        (λ v. EntriesHeard (FS.allows fs.now) folder.now (set_names names.now) (answers_of v)) }
 {
     let mut entries = Vec::new(alloc);
     for name in names.iter() {
@@ -152,7 +153,9 @@ fn ask_folder_unless<FS: AbstractFilesystem>(
     fs: &FS,
     folder: &str,
 ) -> Result<FolderAnswers, AllocError>
-    ensures { IfOk result (λ a. FolderHeard (λ path answer. stopped ≡ false → FS.allows fs.now path answer) folder.now a) }
+    ensures { IfOk result
+        (λ a. FolderHeard (λ path answer. stopped ≡ false → FS.allows fs.now path answer) folder.now
+        a) }
 {
     if stopped {
         return Ok(FolderAnswers::none(alloc));
@@ -166,7 +169,8 @@ fn ask_root_if<FS: AbstractFilesystem>(
     alloc: Global,
     fs: &FS,
 ) -> io::Result<BTreeSet<String>>
-    ensures { Heard (λ path answer. asks ≡ true → FS.allows fs.now path answer) (codes ".") (answer_of result) }
+    ensures { Heard (λ path answer. asks ≡ true → FS.allows fs.now path answer) (codes ".")
+        (answer_of result) }
 {
     if asks {
         ask(alloc, fs, ".")

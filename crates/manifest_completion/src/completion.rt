@@ -105,7 +105,8 @@ pub fn is_legacy(edition: &Option<MaybeInherited<Edition>>) -> bool
 /// let edition = own_edition(&Some(MaybeInherited::Local(Edition::E2021))); // `Some(E2021)`
 /// ```
 pub fn own_edition(edition: &Option<MaybeInherited<Edition>>) -> Option<Edition>
-    ensures { option_map edition_content result ≡ own_edition (option_map (inh_content edition_content) edition.now) }
+    ensures { option_map edition_content result
+        ≡ own_edition (option_map (inh_content edition_content) edition.now) }
 {
     match edition {
         Some(MaybeInherited::Local(edition)) => Some(*edition),
@@ -143,7 +144,8 @@ fn asks_root(build: &Option<StringOrBool>) -> bool
 fn settled_source(
     source: io::Result<BTreeSet<String>>,
 ) -> Result<io::Result<BTreeSet<String>>, Error>
-    ensures { MatchResult result (λ s. (s ≡ source) × (source_fault (answer_of source) ≡ None)) (IsFault (source_fault (answer_of source))) }
+    ensures { MatchResult result (λ s. (s ≡ source) × (source_fault (answer_of source) ≡ None))
+        (IsFault (source_fault (answer_of source))) }
 {
     match source {
         Ok(names) => Ok(Ok(names)),
@@ -174,7 +176,9 @@ fn completed_build(
     build: &Option<StringOrBool>,
     root: &io::Result<BTreeSet<String>>,
 ) -> Result<Option<StringOrBool>, AllocError>
-    ensures { IfOk result (λ o. option_map text_or_flag_content o ≡ build_of (option_map text_or_flag_content build.now) (answer_of root.now)) }
+    ensures { IfOk result
+        (λ o. option_map text_or_flag_content o
+        ≡ build_of (option_map text_or_flag_content build.now) (answer_of root.now)) }
 {
     if asks_root(build) & lists(root, "build.rs") {
         let text = String::from_str(alloc, "build.rs")?;
@@ -217,7 +221,8 @@ fn bin_defaults(
     declared: &DeclaredTargets<'_>,
     source: &io::Result<BTreeSet<String>>,
 ) -> TargetDefaults
-    ensures { defaults_content result ≡ bin_defaults (declared_content declared.now) (answer_of source.now) }
+    ensures { defaults_content result
+        ≡ bin_defaults (declared_content declared.now) (answer_of source.now) }
 {
     let path = if is_legacy(declared.edition) & lists(source, "main.rs") {
         Some("src/main.rs")
@@ -240,7 +245,10 @@ fn completed_folder(
     discovers: bool,
     defaults: TargetDefaults,
 ) -> Result<Vec<Product>, AllocError>
-    ensures { IfOk result (λ v. map product_content v.items ≡ targets (defaults_content defaults) discovers (folder_paired folder.now answers.now) (map product_content list.now)) }
+    ensures { IfOk result
+        (λ v. map product_content v.items
+        ≡ targets (defaults_content defaults) discovers (folder_paired folder.now answers.now)
+        (map product_content list.now)) }
 {
     let finds = folder_finds(alloc, folder, answers)?;
     completed_list(alloc, list, finds.as_slice(), discovers, defaults)
@@ -253,7 +261,14 @@ fn completed_bins(
     source: &io::Result<BTreeSet<String>>,
     answers: &FolderAnswers,
 ) -> Result<Vec<Product>, AllocError>
-    ensures { IfOk result (λ v. map product_content v.items ≡ targets (bin_defaults (declared_content declared.now) (answer_of source.now)) (discovers (declared_content declared.now).autobins (is_legacy (declared_content declared.now).edition) (declared_content declared.now).bin) (folder_paired (codes "src/bin") answers.now ++ main_find declared.now.name.now (answer_of source.now)) (declared_content declared.now).bin) }
+    ensures { IfOk result
+        (λ v. map product_content v.items
+        ≡ targets (bin_defaults (declared_content declared.now) (answer_of source.now))
+        (discovers (declared_content declared.now).autobins
+        (is_legacy (declared_content declared.now).edition) (declared_content declared.now).bin)
+        (folder_paired (codes "src/bin") answers.now
+        ++ main_find declared.now.name.now (answer_of source.now))
+        (declared_content declared.now).bin) }
 {
     let mut finds = folder_finds(alloc, "src/bin", answers)?;
     push_main_find(&mut finds, alloc, declared.name, source)?;

@@ -44,7 +44,9 @@ fn push_entry_finds(
     name: &str,
     answer: &io::Result<BTreeSet<String>>,
 ) -> Result<(), AllocError>
-    ensures { OnOk result (finds_content finds.new.items ≡ finds_content finds.old.items ++ entry_finds folder.now name.now (answer_of answer.now)) }
+    ensures { OnOk result
+        (finds_content finds.new.items
+        ≡ finds_content finds.old.items ++ entry_finds folder.now name.now (answer_of answer.now)) }
 {
     if let Some(stem) = stem(name) {
         finds.push(FoundTarget {
@@ -94,7 +96,9 @@ pub fn push_main_find(
     name: &str,
     source: &io::Result<BTreeSet<String>>,
 ) -> Result<(), AllocError>
-    ensures { OnOk result (finds_content finds.new.items ≡ finds_content finds.old.items ++ main_find name.now (answer_of source.now)) }
+    ensures { OnOk result
+        (finds_content finds.new.items
+        ≡ finds_content finds.old.items ++ main_find name.now (answer_of source.now)) }
 {
     if lists(source, "main.rs") {
         finds.push(FoundTarget {

@@ -33,7 +33,9 @@ fn library_file(
     source: &io::Result<BTreeSet<String>>,
     name: &str,
 ) -> Result<Option<String>, AllocError>
-    ensures { IfOk result (λ o. option_map string_bytes o ≡ library_file legacy (answer_of source.now) (name.now ++ codes ".rs")) }
+    ensures { IfOk result
+        (λ o. option_map string_bytes o
+        ≡ library_file legacy (answer_of source.now) (name.now ++ codes ".rs")) }
 {
     if lists(source, "lib.rs") {
         return Ok(Some(String::from_str(alloc, "src/lib.rs")?));
@@ -53,7 +55,10 @@ fn library_path(
     source: &io::Result<BTreeSet<String>>,
     lib: &Product,
 ) -> Result<Option<String>, AllocError>
-    ensures { IfOk result (λ o. option_map string_bytes o ≡ library_path (declared_content declared.now) (answer_of source.now) (product_content lib.now)) }
+    ensures { IfOk result
+        (λ o. option_map string_bytes o
+        ≡ library_path (declared_content declared.now) (answer_of source.now)
+        (product_content lib.now)) }
 {
     if let Some(path) = &lib.path {
         return Ok(Some(String::from_str(alloc, path.as_str())?));
@@ -72,7 +77,10 @@ fn declared_library(
     lib: &Product,
     path: String,
 ) -> Result<Product, AllocError>
-    ensures { IfOk result (λ p. known (Some (product_content p)) ≡ declared_library (declared_content declared.now) (product_content lib.now) (Some (string_bytes path))) }
+    ensures { IfOk result
+        (λ p. known (Some (product_content p))
+        ≡ declared_library (declared_content declared.now) (product_content lib.now)
+        (Some (string_bytes path))) }
 {
     let name = match &lib.name {
         Some(name) => String::from_str(alloc, name.as_str())?,
@@ -101,7 +109,9 @@ fn inferred_library(
     declared: &DeclaredTargets<'_>,
     source: &io::Result<BTreeSet<String>>,
 ) -> Result<Option<Product>, AllocError>
-    ensures { IfOk result (λ o. option_map product_content o ≡ inferred_library (declared_content declared.now) (answer_of source.now)) }
+    ensures { IfOk result
+        (λ o. option_map product_content o
+        ≡ inferred_library (declared_content declared.now) (answer_of source.now)) }
 {
     if !(declared.autolib.unwrap_or(true) & lists(source, "lib.rs")) {
         return Ok(None);
@@ -124,7 +134,10 @@ pub fn completed_library(
     declared: &DeclaredTargets<'_>,
     source: &io::Result<BTreeSet<String>>,
 ) -> Result<Option<Product>, Error>
-    ensures { MatchResult result (λ o. library (declared_content declared.now) (answer_of source.now) ≡ known (option_map product_content o)) (RefusesLibrary (library (declared_content declared.now) (answer_of source.now))) }
+    ensures { MatchResult result
+        (λ o. library (declared_content declared.now) (answer_of source.now)
+        ≡ known (option_map product_content o))
+        (RefusesLibrary (library (declared_content declared.now) (answer_of source.now))) }
 {
     let Some(lib) = declared.lib else {
         return Ok(inferred_library(alloc, declared, source)?);

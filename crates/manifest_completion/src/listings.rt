@@ -51,7 +51,10 @@ impl Listings {
     /// listings.put(alloc, "src", Listing::Names(names))?;
     /// ```
     pub fn put(&mut self, alloc: Global, path: &str, listing: Listing) -> Result<(), AllocError>
-        ensures put { OnOk result ((at : List ℕ) → stored_at self.new.listed at ≡ (if bytes_eq path.now at then stored_answer (Some listing) else stored_at self.old.listed at)) }
+        ensures put { OnOk result
+            ((at : List ℕ) → stored_at self.new.listed at
+            ≡ (if bytes_eq path.now at then stored_answer (Some listing)
+            else stored_at self.old.listed at)) }
         ensures refused { OnErr result (self.new.listed.entries ≡ self.old.listed.entries) }
     {
         let key = String::from_str(alloc, path)?;

@@ -59,7 +59,10 @@ pub fn crate_type_of(
     own: &Option<Vec<String>>,
     default: Option<&'static str>,
 ) -> Result<Option<Vec<String>>, AllocError>
-    ensures { IfOk result (λ o. option_map (λ v. map string_bytes v.items) o ≡ option_or (option_map (λ v. map string_bytes v.items) own.now) (option_map (λ t. t.now ∷ []) default.entry)) }
+    ensures { IfOk result
+        (λ o. option_map (λ v. map string_bytes v.items) o
+        ≡ option_or (option_map (λ v. map string_bytes v.items) own.now)
+        (option_map (λ t. t.now ∷ []) default.entry)) }
 {
     match own {
         Some(types) => Ok(Some(copied_texts(types)?)),
@@ -106,7 +109,9 @@ fn found_target(
     find: &FoundTarget,
     defaults: TargetDefaults,
 ) -> Result<Product, AllocError>
-    ensures { IfOk result (λ p. product_content p ≡ with_defaults (defaults_content defaults) (found (find_content find.now))) }
+    ensures { IfOk result
+        (λ p. product_content p
+        ≡ with_defaults (defaults_content defaults) (found (find_content find.now))) }
 {
     let path = String::from_str(alloc, find.path.as_str())?;
     let name = String::from_str(alloc, find.name.as_str())?;
@@ -168,7 +173,10 @@ pub fn completed_list(
     discovers: bool,
     defaults: TargetDefaults,
 ) -> Result<Vec<Product>, AllocError>
-    ensures { IfOk result (λ v. map product_content v.items ≡ targets (defaults_content defaults) discovers (finds_content finds.now) (map product_content declared.now)) }
+    ensures { IfOk result
+        (λ v. map product_content v.items
+        ≡ targets (defaults_content defaults) discovers (finds_content finds.now)
+        (map product_content declared.now)) }
 {
     let indexed = IndexedFinds::new(alloc, finds)?;
     let mut list = filled_targets(alloc, declared, &indexed, defaults)?;

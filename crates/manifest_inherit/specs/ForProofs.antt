@@ -2,15 +2,14 @@
 use Rattle.std.specs.Prelude.{◌≡◌, ℕ, suc, [], Option, option_map, unwrap_or, String}
 use Rattle.std.specs.declared.alloc.Global.{Global}
 use Rattle.std.specs.BTreeMap.{BTreeMap}
-use Rattle.manifest_schema.specs.Kinds.{Kind, Entries}
+use Rattle.manifest_schema.specs.Kinds.{Entries}
 use Rattle.manifest_schema.specs.Contents.{Dependency, Lint, Package, WorkspacePackage, Manifest}
 use Rattle.manifest_schema.specs.Defaults.{no_workspace_package}
 use Rattle.manifest_value.specs.Entries.{entries_content}
 use Rattle.manifest_parts.specs.Records.{platform_content, lint_content}
 use Rattle.manifest_parts.specs.declared.dependency.Dependency.{Dependency as DependencyOfCode}
 use Rattle.manifest_parts.specs.declared.lints.Lint.{Lint as LintOfCode}
-use Rattle.manifest_tables.specs.Tables.{dependencies_content, package_content, workspace_package_content}
-use Rattle.manifest_tables.specs.declared.package.Package.{Package as PackageOfCode}
+use Rattle.manifest_tables.specs.Tables.{dependencies_content, workspace_package_content}
 use Rattle.manifest_tables.specs.declared.workspace.WorkspacePackage.{WorkspacePackage as WorkspacePackageOfCode}
 use Rattle.manifest_inherit.specs.Fields.{Fields, ◌⨾◌}
 use Rattle.manifest_inherit.specs.Resolved.{resolved_field, resolved_package, resolved_lints}
@@ -28,10 +27,6 @@ fields_of lent = unwrap_or (option_map workspace_package_content lent) no_worksp
 -- what a map of dependencies lends, where there is one
 abbrev pub lent_by_map : Option (BTreeMap (String Global) DependencyOfCode) → Entries Dependency
 lent_by_map lent = unwrap_or (option_map dependencies_content lent) []
-
--- what a package of the code holds, whose metadata has the contents m of this kind
-abbrev pub package_of : {M A : Type 0} → Kind A → (M → A) → PackageOfCode M → Package
-package_of K m p = package_content (λ x. K.written (m x)) p
 
 -- the lints of all tools
 abbrev pub tools_content : BTreeMap (String Global) (BTreeMap (String Global) LintOfCode) → Entries (Entries Lint)

@@ -2,12 +2,12 @@
 
 ghost use Rattle.std.specs.Prelude.{◌≡◌, OnOk, IfErr, option_map};
 ghost use Rattle.manifest_parts.specs.Parts.{inh_content};
-ghost use Rattle.manifest_tables.specs.Tables.{workspace_package_content};
+ghost use Rattle.manifest_tables.specs.Tables.{workspace_package_content, package_of};
 ghost use Rattle.manifest_inherit.specs.Fields.{lendable};
 ghost use Rattle.manifest_inherit.specs.Resolved.{resolved_field, resolved_package};
 ghost use Rattle.manifest_inherit.specs.Refused.{refuses_field, refuses_fields};
 ghost use Rattle.manifest_inherit.specs.Answers.{RefusedIn};
-ghost use Rattle.manifest_inherit.specs.ForProofs.{Accepted, first_made, package_of};
+ghost use Rattle.manifest_inherit.specs.ForProofs.{Accepted, first_made};
 
 use crate::copies::Lent;
 use crate::error::{ResolveError, not_in_workspace};

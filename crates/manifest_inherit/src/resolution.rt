@@ -1,12 +1,13 @@
 //! Resolving a manifest over the workspace that it belongs to.
 
 ghost use Rattle.std.specs.Prelude.{◌≡◌, OnOk, OnErr, IfOk, IfErr, option_map};
-ghost use Rattle.manifest_tables.specs.Tables.{workspace_package_content};
+ghost use Rattle.manifest_tables.specs.Tables.{workspace_package_content, package_of, workspace_of};
+ghost use Rattle.cargo_manifest.specs.Whole.{manifest_of};
 ghost use Rattle.manifest_inherit.specs.Fields.{lendable};
 ghost use Rattle.manifest_inherit.specs.Resolved.{resolved_package, resolved};
 ghost use Rattle.manifest_inherit.specs.Refused.{refuses_fields, refuses_some, refuses};
-ghost use Rattle.manifest_inherit.specs.Answers.{manifest_of, workspace_of, RefusedIn, Resolves};
-ghost use Rattle.manifest_inherit.specs.ForProofs.{Accepted, package_of, fields_of, with_made};
+ghost use Rattle.manifest_inherit.specs.Answers.{RefusedIn, Resolves};
+ghost use Rattle.manifest_inherit.specs.ForProofs.{Accepted, fields_of, with_made};
 
 use crate::error::ResolveError;
 use crate::fields::{make_fields, put_fields};

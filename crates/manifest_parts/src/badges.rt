@@ -1,24 +1,27 @@
 //! Badges of a package.
 
-ghost use Rattle.std.specs.Prelude.{◌≡◌, None, IfOk, IfErr, OnOk};
-ghost use Rattle.toml.specs.Data.{table as data_table};
-ghost use Rattle.toml.specs.View.{view, table_view};
+ghost use Rattle.std.specs.Prelude.{◌≡◌, None, map, IfOk, IfErr, OnOk};
+ghost use Rattle.toml.specs.View.{view};
 ghost use Rattle.manifest_schema.specs.Forms.{form};
 ghost use Rattle.manifest_schema.specs.Contents;
 ghost use Rattle.manifest_schema.specs.Defaults.{no_badges};
 ghost use Rattle.manifest_schema.specs.PartForms.{badge_rows, maintenance_rows, badges_rows};
-ghost use Rattle.manifest_schema.specs.ForProofs.{first_fit, written_part};
 ghost use Rattle.manifest_schema.proofs.PartLaws.{badge_lawful, maintenance_lawful, badges_lawful};
 ghost use Rattle.manifest_value.specs.Faults.{FaultIn};
+ghost use Rattle.manifest_value.specs.Reading.{data_of, Reads, WritesRows};
+ghost use Rattle.manifest_value.specs.Walks.{spellings_view, names_of};
+ghost use Rattle.manifest_value.specs.Cursors.{Filled, Passed};
 ghost use Rattle.manifest_parts.specs.Records.{badge_content, maintenance_content, badges_content};
 ghost use Rattle.manifest_parts.specs.Refusals.{RefusedIn};
 
 use crate::choices::MaintenanceStatus;
 use crate::error::{Error, read};
+use manifest_value::cursor::{
+    RowCursor, lenient_default, lenient_optional, optional, or_default, required, rows_of,
+};
 use manifest_value::fault::here;
-use manifest_value::lenient::{lenient_default, lenient_optional};
-use manifest_value::rows::{optional, or_default, put_optional, put_row, required};
-use manifest_value::{Cause, ReadFault, Schema};
+use manifest_value::rows::{put_optional, put_row};
+use manifest_value::{Cause, ReadFault, Schema, Spellings, spelled, walk};
 use std::alloc::{AllocError, Global};
 use toml::{Table, Value};
 
@@ -80,7 +83,7 @@ impl Badge {
     /// let badge = Badge::from_value(alloc, &value)?; // its branch is `master`
     /// ```
     pub fn from_value(alloc: Global, value: &Value) -> Result<Badge, Error>
-        ensures ok { IfOk result (λ x. (form badge_rows).reads (view value.now) (badge_content x)) }
+        ensures ok { IfOk result (Reads (form badge_rows) badge_content (view value.now)) }
         ensures refused { IfErr result (RefusedIn ((form badge_rows).faulty (view value.now))) }
     {
         read(alloc, value)
@@ -98,8 +101,10 @@ impl Maintenance {
     /// let maintenance = Maintenance::from_value(alloc, &value)?; // its status is `AsIs`
     /// ```
     pub fn from_value(alloc: Global, value: &Value) -> Result<Maintenance, Error>
-        ensures ok { IfOk result (λ x. (form maintenance_rows).reads (view value.now) (maintenance_content x)) }
-        ensures refused { IfErr result (RefusedIn ((form maintenance_rows).faulty (view value.now))) }
+        ensures ok { IfOk result
+            (Reads (form maintenance_rows) maintenance_content (view value.now)) }
+        ensures refused { IfErr result
+            (RefusedIn ((form maintenance_rows).faulty (view value.now))) }
     {
         read(alloc, value)
     }
@@ -116,102 +121,161 @@ impl Badges {
     /// let badges = Badges::from_value(alloc, &value)?; // `gitlab` is `None`, `codecov` is there
     /// ```
     pub fn from_value(alloc: Global, value: &Value) -> Result<Badges, Error>
-        ensures ok { IfOk result (λ x. (form badges_rows).reads (view value.now) (badges_content x)) }
+        ensures ok { IfOk result (Reads (form badges_rows) badges_content (view value.now)) }
         ensures refused { IfErr result (RefusedIn ((form badges_rows).faulty (view value.now))) }
     {
         read(alloc, value)
     }
 }
 
+static BADGE: [Spellings; 5] = spelled![
+    "repository",
+    "branch",
+    "service",
+    "id",
+    "project-name" | "project_name",
+];
+
+/// The spellings of the rows.
+#[tactic(auto, unfolding(manifest_schema::specs::PartForms::badge_rows))]
+fn badge_names() -> &'static [Spellings; 5]
+    ensures { map spellings_view result.now ≡ names_of badge_rows }
+{
+    &BADGE
+}
+
 /// Reads the rows of a table.
 #[tactic(auto, unfolding(manifest_schema::specs::PartForms::badge_rows))]
 fn badge_from(alloc: Global, table: &Table) -> Result<Badge, ReadFault>
-    ensures ok { IfOk result (λ x. (form badge_rows).reads (data_table (table_view table.now)) (badge_content x)) }
-    ensures fault { IfErr result (FaultIn ((form badge_rows).faulty (data_table (table_view table.now)))) }
+    ensures ok { IfOk result (Reads (form badge_rows) badge_content (data_of table.now)) }
+    ensures fault { IfErr result (FaultIn ((form badge_rows).faulty (data_of table.now))) }
 {
+    let names = badge_names();
+    let walk = walk(alloc, table, names)?;
+    let mut rows = rows_of(names, walk.slots.as_slice());
     Ok(Badge {
-        repository: required(alloc, table, "repository", None)?,
-        branch: or_default(
-            alloc,
-            table,
-            "branch",
-            None,
-            String::from_str(alloc, "master")?,
-        )?,
-        service: optional(alloc, table, "service", None)?,
-        id: optional(alloc, table, "id", None)?,
-        project_name: optional(alloc, table, "project-name", Some("project_name"))?,
+        repository: required(alloc, &mut rows)?,
+        branch: or_default(alloc, &mut rows, String::from_str(alloc, "master")?)?,
+        service: optional(alloc, &mut rows)?,
+        id: optional(alloc, &mut rows)?,
+        project_name: optional(alloc, &mut rows)?,
     })
+}
+
+static MAINTENANCE: [Spellings; 1] = spelled!["status",];
+
+/// The spellings of the rows.
+#[tactic(auto, unfolding(manifest_schema::specs::PartForms::maintenance_rows))]
+fn maintenance_names() -> &'static [Spellings; 1]
+    ensures { map spellings_view result.now ≡ names_of maintenance_rows }
+{
+    &MAINTENANCE
 }
 
 /// Reads the rows of a table.
 #[tactic(auto, unfolding(manifest_schema::specs::PartForms::maintenance_rows))]
 fn maintenance_from(alloc: Global, table: &Table) -> Result<Maintenance, ReadFault>
-    ensures ok { IfOk result (λ x. (form maintenance_rows).reads (data_table (table_view table.now)) (maintenance_content x)) }
-    ensures fault { IfErr result (FaultIn ((form maintenance_rows).faulty (data_table (table_view table.now)))) }
+    ensures ok { IfOk result
+        (Reads (form maintenance_rows) maintenance_content (data_of table.now)) }
+    ensures fault { IfErr result (FaultIn ((form maintenance_rows).faulty (data_of table.now))) }
 {
+    let names = maintenance_names();
+    let walk = walk(alloc, table, names)?;
+    let mut rows = rows_of(names, walk.slots.as_slice());
     Ok(Maintenance {
-        status: required(alloc, table, "status", None)?,
+        status: required(alloc, &mut rows)?,
     })
+}
+
+static BADGES: [Spellings; 9] = spelled![
+    "appveyor",
+    "circle-ci",
+    "gitlab",
+    "travis-ci",
+    "codecov",
+    "coveralls",
+    "is-it-maintained-issue-resolution",
+    "is-it-maintained-open-issues",
+    "maintenance",
+];
+
+/// The spellings of the rows.
+#[tactic(auto, unfolding(manifest_schema::specs::PartForms::badges_rows))]
+fn badges_names() -> &'static [Spellings; 9]
+    ensures { map spellings_view result.now ≡ names_of badges_rows }
+{
+    &BADGES
 }
 
 /// Reads the rows of a table. A badge that does not fit is `None`, so that only want of memory refuses.
 #[tactic(auto, unfolding(manifest_schema::specs::PartForms::badges_rows))]
 fn badges_from(alloc: Global, table: &Table) -> Result<Badges, AllocError>
-    ensures { IfOk result (λ x. (form badges_rows).reads (data_table (table_view table.now)) (badges_content x)) }
+    ensures { IfOk result (Reads (form badges_rows) badges_content (data_of table.now)) }
 {
+    let names = badges_names();
+    let walk = walk(alloc, table, names)?;
+    let mut rows = rows_of(names, walk.slots.as_slice());
     let mut x = Badges::default();
-    fill_badges(alloc, table, &mut x).and(Ok(x))
+    fill_badges(alloc, &mut rows, &mut x).and(Ok(x))
 }
 
 /// Reads all rows.
-fn fill_badges(alloc: Global, table: &Table, x: &mut Badges) -> Result<(), AllocError>
-    ensures { OnOk result (first_fit 9 badges_rows (table_view table.now) (badges_content x.new)) }
+#[tactic(auto, unfolding(manifest_schema::specs::PartForms::badges_rows))]
+fn fill_badges(
+    alloc: Global,
+    rows: &mut RowCursor<'_, '_>,
+    x: &mut Badges,
+) -> Result<(), AllocError>
+    ensures ok { Filled 0 9 badges_rows rows.old (badges_content x.old)
+        (badges_content x.new) result }
+    ensures next { Passed 0 9 badges_rows rows.old rows.new result }
 {
-    fill_services(alloc, table, x)?;
-    fill_reports(alloc, table, x)?;
+    fill_services(alloc, rows, x)?;
+    fill_reports(alloc, rows, x)?;
     Ok(())
 }
 
 /// Reads rows 1 to 4.
 #[tactic(auto, unfolding(manifest_schema::specs::PartForms::badges_rows))]
-fn fill_services(alloc: Global, table: &Table, x: &mut Badges) -> Result<(), AllocError>
-    ensures { OnOk result (first_fit 4 badges_rows (table_view table.now) (badges_content x.new)) }
+fn fill_services(
+    alloc: Global,
+    rows: &mut RowCursor<'_, '_>,
+    x: &mut Badges,
+) -> Result<(), AllocError>
+    ensures ok { Filled 0 4 badges_rows rows.old (badges_content x.old)
+        (badges_content x.new) result }
+    ensures next { Passed 0 4 badges_rows rows.old rows.new result }
 {
-    x.appveyor = lenient_optional(alloc, table, "appveyor", None)?;
-    x.circle_ci = lenient_optional(alloc, table, "circle-ci", None)?;
-    x.gitlab = lenient_optional(alloc, table, "gitlab", None)?;
-    x.travis_ci = lenient_optional(alloc, table, "travis-ci", None)?;
+    x.appveyor = lenient_optional(alloc, rows)?;
+    x.circle_ci = lenient_optional(alloc, rows)?;
+    x.gitlab = lenient_optional(alloc, rows)?;
+    x.travis_ci = lenient_optional(alloc, rows)?;
     Ok(())
 }
 
 /// Reads rows 5 to 9.
 #[tactic(auto, unfolding(manifest_schema::specs::PartForms::badges_rows))]
-fn fill_reports(alloc: Global, table: &Table, x: &mut Badges) -> Result<(), AllocError>
-    ensures { OnOk result (first_fit 4 badges_rows (table_view table.now) (badges_content x.old) → first_fit 9 badges_rows (table_view table.now) (badges_content x.new)) }
+fn fill_reports(
+    alloc: Global,
+    rows: &mut RowCursor<'_, '_>,
+    x: &mut Badges,
+) -> Result<(), AllocError>
+    ensures ok { Filled 4 9 badges_rows rows.old (badges_content x.old)
+        (badges_content x.new) result }
+    ensures next { Passed 4 9 badges_rows rows.old rows.new result }
 {
-    x.codecov = lenient_optional(alloc, table, "codecov", None)?;
-    x.coveralls = lenient_optional(alloc, table, "coveralls", None)?;
-    x.is_it_maintained_issue_resolution = lenient_optional(
-        alloc,
-        table,
-        "is-it-maintained-issue-resolution",
-        None,
-    )?;
-    x.is_it_maintained_open_issues = lenient_optional(
-        alloc,
-        table,
-        "is-it-maintained-open-issues",
-        None,
-    )?;
-    x.maintenance = lenient_default(alloc, table, "maintenance", None, Maintenance::default())?;
+    x.codecov = lenient_optional(alloc, rows)?;
+    x.coveralls = lenient_optional(alloc, rows)?;
+    x.is_it_maintained_issue_resolution = lenient_optional(alloc, rows)?;
+    x.is_it_maintained_open_issues = lenient_optional(alloc, rows)?;
+    x.maintenance = lenient_default(alloc, rows, Maintenance::default())?;
     Ok(())
 }
 
 /// Writes rows 1 to 4, from the last to the first.
 #[tactic(auto, unfolding(manifest_schema::specs::PartForms::badges_rows))]
 fn put_services(alloc: Global, out: &mut Table, x: &Badges) -> Result<(), AllocError>
-    ensures { OnOk result (table_view out.new ≡ written_part 0 4 badges_rows (badges_content x.now) (table_view out.old)) }
+    ensures { OnOk result (WritesRows 0 4 badges_rows (badges_content x.now) out.old out.new) }
 {
     put_optional(alloc, out, "travis-ci", &x.travis_ci)?;
     put_optional(alloc, out, "gitlab", &x.gitlab)?;
@@ -223,7 +287,7 @@ fn put_services(alloc: Global, out: &mut Table, x: &Badges) -> Result<(), AllocE
 /// Writes rows 5 to 9, from the last to the first.
 #[tactic(auto, unfolding(manifest_schema::specs::PartForms::badges_rows))]
 fn put_reports(alloc: Global, out: &mut Table, x: &Badges) -> Result<(), AllocError>
-    ensures { OnOk result (table_view out.new ≡ written_part 4 5 badges_rows (badges_content x.now) (table_view out.old)) }
+    ensures { OnOk result (WritesRows 4 5 badges_rows (badges_content x.now) out.old out.new) }
 {
     put_row(alloc, out, "maintenance", &x.maintenance)?;
     put_optional(

@@ -7,6 +7,7 @@ ghost use Rattle.manifest_schema.specs.Choices.{edition, edition_text, resolver,
 ghost use Rattle.manifest_schema.proofs.ChoiceLaws.{edition_lawful, edition_plain, resolver_lawful, level_lawful, status_lawful};
 ghost use Rattle.manifest_parts.specs.Parts.{edition_content, resolver_content, level_content, status_content};
 ghost use Rattle.manifest_value.specs.Faults.{FaultIn, IsSchema};
+ghost use Rattle.manifest_value.specs.Reading.{Reads};
 ghost use Rattle.manifest_parts.specs.Refusals.{RefusedIn, TellsSchema};
 
 use crate::error::{Error, refusal};
@@ -56,7 +57,7 @@ impl Edition {
     /// let edition = Edition::from_value(alloc, &value)?; // `E2021`
     /// ```
     pub fn from_value(alloc: Global, value: &Value) -> Result<Edition, Error>
-        ensures ok { IfOk result (λ x. edition.reads (view value.now) (edition_content x)) }
+        ensures ok { IfOk result (Reads edition edition_content (view value.now)) }
         ensures refused { IfErr result (RefusedIn (edition.faulty (view value.now))) }
         ensures schema { IfErr result TellsSchema }
     {
@@ -73,7 +74,7 @@ impl Schema for Edition {
 
     /// The one reading of the value, or a fault that it has. It never wants memory.
     fn from_value(alloc: Global, value: &Value) -> Result<Edition, ReadFault>
-        ensures ok { IfOk result (λ x. edition.reads (view value.now) (edition_content x)) }
+        ensures ok { IfOk result (Reads edition edition_content (view value.now)) }
         ensures fault { IfErr result (FaultIn (edition.faulty (view value.now))) }
         ensures schema { IfErr result IsSchema }
     {
@@ -144,7 +145,7 @@ impl Resolver {
     /// let resolver = Resolver::from_value(alloc, &value)?; // `V2`
     /// ```
     pub fn from_value(alloc: Global, value: &Value) -> Result<Resolver, Error>
-        ensures ok { IfOk result (λ x. resolver.reads (view value.now) (resolver_content x)) }
+        ensures ok { IfOk result (Reads resolver resolver_content (view value.now)) }
         ensures refused { IfErr result (RefusedIn (resolver.faulty (view value.now))) }
         ensures schema { IfErr result TellsSchema }
     {
@@ -161,7 +162,7 @@ impl Schema for Resolver {
 
     /// The one reading of the value, or a fault that it has. It never wants memory.
     fn from_value(alloc: Global, value: &Value) -> Result<Resolver, ReadFault>
-        ensures ok { IfOk result (λ x. resolver.reads (view value.now) (resolver_content x)) }
+        ensures ok { IfOk result (Reads resolver resolver_content (view value.now)) }
         ensures fault { IfErr result (FaultIn (resolver.faulty (view value.now))) }
         ensures schema { IfErr result IsSchema }
     {
@@ -233,7 +234,7 @@ impl LintLevel {
     /// let level = LintLevel::from_value(alloc, &value)?; // `Deny`
     /// ```
     pub fn from_value(alloc: Global, value: &Value) -> Result<LintLevel, Error>
-        ensures ok { IfOk result (λ x. level.reads (view value.now) (level_content x)) }
+        ensures ok { IfOk result (Reads level level_content (view value.now)) }
         ensures refused { IfErr result (RefusedIn (level.faulty (view value.now))) }
         ensures schema { IfErr result TellsSchema }
     {
@@ -250,7 +251,7 @@ impl Schema for LintLevel {
 
     /// The one reading of the value, or a fault that it has. It never wants memory.
     fn from_value(alloc: Global, value: &Value) -> Result<LintLevel, ReadFault>
-        ensures ok { IfOk result (λ x. level.reads (view value.now) (level_content x)) }
+        ensures ok { IfOk result (Reads level level_content (view value.now)) }
         ensures fault { IfErr result (FaultIn (level.faulty (view value.now))) }
         ensures schema { IfErr result IsSchema }
     {
@@ -319,7 +320,7 @@ impl MaintenanceStatus {
     /// let status = MaintenanceStatus::from_value(alloc, &value)?; // `AsIs`
     /// ```
     pub fn from_value(alloc: Global, value: &Value) -> Result<MaintenanceStatus, Error>
-        ensures ok { IfOk result (λ x. status.reads (view value.now) (status_content x)) }
+        ensures ok { IfOk result (Reads status status_content (view value.now)) }
         ensures refused { IfErr result (RefusedIn (status.faulty (view value.now))) }
         ensures schema { IfErr result TellsSchema }
     {
@@ -352,7 +353,7 @@ impl Schema for MaintenanceStatus {
 
     /// The one reading of the value, or a fault that it has. It never wants memory.
     fn from_value(alloc: Global, value: &Value) -> Result<MaintenanceStatus, ReadFault>
-        ensures ok { IfOk result (λ x. status.reads (view value.now) (status_content x)) }
+        ensures ok { IfOk result (Reads status status_content (view value.now)) }
         ensures fault { IfErr result (FaultIn (status.faulty (view value.now))) }
         ensures schema { IfErr result IsSchema }
     {

@@ -1,24 +1,25 @@
 //! Dependencies.
 
-ghost use Rattle.std.specs.Prelude.{◌≡◌, IfOk, IfErr, OnOk};
-ghost use Rattle.toml.specs.Data.{table as data_table};
-ghost use Rattle.toml.specs.View.{view, table_view};
+ghost use Rattle.std.specs.Prelude.{◌≡◌, map, IfOk, IfErr, OnOk};
+ghost use Rattle.toml.specs.View.{view};
 ghost use Rattle.manifest_schema.specs.Forms.{form};
 ghost use Rattle.manifest_schema.specs.Contents;
 ghost use Rattle.manifest_schema.specs.Defaults.{lent, no_detail};
 ghost use Rattle.manifest_schema.specs.PartForms.{inherited_rows, detailed_rows, dependency};
-ghost use Rattle.manifest_schema.specs.ForProofs.{written_part};
 ghost use Rattle.manifest_schema.proofs.PartLaws.{inherited_lawful, detailed_lawful, dependency_lawful};
 ghost use Rattle.manifest_value.specs.Faults.{FaultIn};
+ghost use Rattle.manifest_value.specs.Reading.{data_of, Reads, WritesRows};
+ghost use Rattle.manifest_value.specs.Walks.{spellings_view, names_of};
+ghost use Rattle.manifest_value.specs.Cursors.{Filled, Passed, UnfitFrom};
 ghost use Rattle.manifest_parts.specs.Records.{inherited_content, detail_content, dependency_content};
 ghost use Rattle.manifest_parts.specs.Refusals.{RefusedIn};
 
 use crate::error::{Error, read};
 use crate::inherited::{True, has_workspace};
+use manifest_value::cursor::{RowCursor, fill, optional, required, rows_of};
 use manifest_value::fault::here;
-use manifest_value::keys::Keys;
-use manifest_value::rows::{optional, put_optional, put_row, required};
-use manifest_value::{Cause, ReadFault, Schema};
+use manifest_value::rows::{put_optional, put_row};
+use manifest_value::{Cause, ReadFault, Schema, Slot, Spellings, find_slots, spelled};
 use std::alloc::{AllocError, Global};
 use toml::{Table, Value};
 
@@ -88,7 +89,7 @@ impl InheritedDependencyDetail {
     /// let inherited = InheritedDependencyDetail::from_value(alloc, &value)?; // `optional` is `Some(true)`
     /// ```
     pub fn from_value(alloc: Global, value: &Value) -> Result<InheritedDependencyDetail, Error>
-        ensures ok { IfOk result (λ x. (form inherited_rows).reads (view value.now) (inherited_content x)) }
+        ensures ok { IfOk result (Reads (form inherited_rows) inherited_content (view value.now)) }
         ensures refused { IfErr result (RefusedIn ((form inherited_rows).faulty (view value.now))) }
     {
         read(alloc, value)
@@ -106,7 +107,7 @@ impl DependencyDetail {
     /// let detail = DependencyDetail::from_value(alloc, &value)?; // `default_features` is `Some(false)`
     /// ```
     pub fn from_value(alloc: Global, value: &Value) -> Result<DependencyDetail, Error>
-        ensures ok { IfOk result (λ x. (form detailed_rows).reads (view value.now) (detail_content x)) }
+        ensures ok { IfOk result (Reads (form detailed_rows) detail_content (view value.now)) }
         ensures refused { IfErr result (RefusedIn ((form detailed_rows).faulty (view value.now))) }
     {
         read(alloc, value)
@@ -125,58 +126,145 @@ impl Dependency {
     /// let dependency = Dependency::from_value(alloc, &value)?; // `Detailed`, with this version
     /// ```
     pub fn from_value(alloc: Global, value: &Value) -> Result<Dependency, Error>
-        ensures ok { IfOk result (λ x. dependency.reads (view value.now) (dependency_content x)) }
+        ensures ok { IfOk result (Reads dependency dependency_content (view value.now)) }
         ensures refused { IfErr result (RefusedIn (dependency.faulty (view value.now))) }
     {
         read(alloc, value)
     }
 }
 
-/// Reads the rows of a table.
+static INHERITED: [Spellings; 4] = spelled![
+    "workspace",
+    "features",
+    "optional",
+    "default-features" | "default_features",
+];
+
+/// The spellings of the rows.
+#[tactic(auto, unfolding(manifest_schema::specs::PartForms::inherited_rows))]
+fn inherited_names() -> &'static [Spellings; 4]
+    ensures { map spellings_view result.now ≡ names_of inherited_rows }
+{
+    &INHERITED
+}
+
+/// Reads the rows of a table, over slots on the stack.
 #[inline(always)]
 #[tactic(auto, unfolding(manifest_schema::specs::PartForms::inherited_rows))]
 fn inherited_from(alloc: Global, table: &Table) -> Result<InheritedDependencyDetail, ReadFault>
-    ensures ok { IfOk result (λ x. (form inherited_rows).reads (data_table (table_view table.now)) (inherited_content x)) }
-    ensures fault { IfErr result (FaultIn ((form inherited_rows).faulty (data_table (table_view table.now)))) }
+    ensures ok { IfOk result (Reads (form inherited_rows) inherited_content (data_of table.now)) }
+    ensures fault { IfErr result (FaultIn ((form inherited_rows).faulty (data_of table.now))) }
 {
+    let names = inherited_names();
+    let mut slots = [Slot::Absent; 4];
+    find_slots(table, names, &mut slots);
+    let mut rows = rows_of(names, &slots);
     Ok(InheritedDependencyDetail {
-        workspace: required(alloc, table, "workspace", None)?,
-        features: optional(alloc, table, "features", None)?,
-        optional: optional(alloc, table, "optional", None)?,
-        default_features: optional(alloc, table, "default-features", Some("default_features"))?,
+        workspace: required(alloc, &mut rows)?,
+        features: optional(alloc, &mut rows)?,
+        optional: optional(alloc, &mut rows)?,
+        default_features: optional(alloc, &mut rows)?,
     })
 }
 
-/// Reads the rows of a table that has marks of its keys.
+static DETAILED: [Spellings; 12] = spelled![
+    "version",
+    "registry",
+    "registry-index" | "registry_index",
+    "path",
+    "git",
+    "branch",
+    "tag",
+    "rev",
+    "features",
+    "optional",
+    "default-features" | "default_features",
+    "package",
+];
+
+/// The spellings of the rows.
+#[tactic(auto, unfolding(manifest_schema::specs::PartForms::detailed_rows))]
+fn detailed_names() -> &'static [Spellings; 12]
+    ensures { map spellings_view result.now ≡ names_of detailed_rows }
+{
+    &DETAILED
+}
+
+/// Reads rows 1 to 6.
 #[inline(always)]
 #[tactic(auto, unfolding(manifest_schema::specs::PartForms::detailed_rows))]
-fn detail_of(alloc: Global, keys: &Keys<'_>) -> Result<DependencyDetail, ReadFault>
-    ensures ok { IfOk result (λ x. (form detailed_rows).reads (data_table (table_view keys.now.table.now)) (detail_content x)) }
-    ensures fault { IfErr result (FaultIn ((form detailed_rows).faulty (data_table (table_view keys.now.table.now)))) }
+fn fill_place(
+    alloc: Global,
+    rows: &mut RowCursor<'_, '_>,
+    x: &mut DependencyDetail,
+) -> Result<(), ReadFault>
+    ensures ok { Filled 0 6 detailed_rows rows.old (detail_content x.old)
+        (detail_content x.new) result }
+    ensures next { Passed 0 6 detailed_rows rows.old rows.new result }
+    ensures fault { UnfitFrom 0 detailed_rows rows.old result }
 {
-    Ok(DependencyDetail {
-        version: optional(alloc, keys, "version", None)?,
-        registry: optional(alloc, keys, "registry", None)?,
-        registry_index: optional(alloc, keys, "registry-index", Some("registry_index"))?,
-        path: optional(alloc, keys, "path", None)?,
-        git: optional(alloc, keys, "git", None)?,
-        branch: optional(alloc, keys, "branch", None)?,
-        tag: optional(alloc, keys, "tag", None)?,
-        rev: optional(alloc, keys, "rev", None)?,
-        features: optional(alloc, keys, "features", None)?,
-        optional: optional(alloc, keys, "optional", None)?,
-        default_features: optional(alloc, keys, "default-features", Some("default_features"))?,
-        package: optional(alloc, keys, "package", None)?,
-    })
+    fill(alloc, rows, &mut x.version)?;
+    fill(alloc, rows, &mut x.registry)?;
+    fill(alloc, rows, &mut x.registry_index)?;
+    fill(alloc, rows, &mut x.path)?;
+    fill(alloc, rows, &mut x.git)?;
+    fill(alloc, rows, &mut x.branch)?;
+    Ok(())
 }
 
-/// Reads the rows of a table.
+/// Reads rows 7 to 12.
 #[inline(always)]
-fn detail_from(alloc: Global, table: &Table) -> Result<DependencyDetail, ReadFault>
-    ensures ok { IfOk result (λ x. (form detailed_rows).reads (data_table (table_view table.now)) (detail_content x)) }
-    ensures fault { IfErr result (FaultIn ((form detailed_rows).faulty (data_table (table_view table.now)))) }
+#[tactic(auto, unfolding(manifest_schema::specs::PartForms::detailed_rows))]
+fn fill_choice(
+    alloc: Global,
+    rows: &mut RowCursor<'_, '_>,
+    x: &mut DependencyDetail,
+) -> Result<(), ReadFault>
+    ensures ok { Filled 6 12 detailed_rows rows.old (detail_content x.old)
+        (detail_content x.new) result }
+    ensures next { Passed 6 12 detailed_rows rows.old rows.new result }
+    ensures fault { UnfitFrom 6 detailed_rows rows.old result }
 {
-    detail_of(alloc, &Keys::of(table))
+    fill(alloc, rows, &mut x.tag)?;
+    fill(alloc, rows, &mut x.rev)?;
+    fill(alloc, rows, &mut x.features)?;
+    fill(alloc, rows, &mut x.optional)?;
+    fill(alloc, rows, &mut x.default_features)?;
+    fill(alloc, rows, &mut x.package)?;
+    Ok(())
+}
+
+/// Reads all rows.
+#[inline(always)]
+#[tactic(auto, unfolding(manifest_schema::specs::PartForms::detailed_rows))]
+fn fill_detail(
+    alloc: Global,
+    rows: &mut RowCursor<'_, '_>,
+    x: &mut DependencyDetail,
+) -> Result<(), ReadFault>
+    ensures ok { Filled 0 12 detailed_rows rows.old (detail_content x.old)
+        (detail_content x.new) result }
+    ensures next { Passed 0 12 detailed_rows rows.old rows.new result }
+    ensures fault { UnfitFrom 0 detailed_rows rows.old result }
+{
+    fill_place(alloc, rows, x)?;
+    fill_choice(alloc, rows, x)?;
+    Ok(())
+}
+
+/// Reads the rows of a table, over slots on the stack.
+#[inline(always)]
+#[tactic(auto, unfolding(manifest_schema::specs::PartForms::detailed_rows))]
+fn detail_from(alloc: Global, table: &Table) -> Result<DependencyDetail, ReadFault>
+    ensures ok { IfOk result (Reads (form detailed_rows) detail_content (data_of table.now)) }
+    ensures fault { IfErr result (FaultIn ((form detailed_rows).faulty (data_of table.now))) }
+{
+    let names = detailed_names();
+    let mut slots = [Slot::Absent; 12];
+    find_slots(table, names, &mut slots);
+    let mut rows = rows_of(names, &slots);
+    let mut x = DependencyDetail::default();
+    fill_detail(alloc, &mut rows, &mut x).and(Ok(x))
 }
 
 impl Schema for InheritedDependencyDetail {
@@ -209,7 +297,7 @@ impl Schema for InheritedDependencyDetail {
 /// Writes rows 1 to 6, from the last to the first.
 #[tactic(auto, unfolding(manifest_schema::specs::PartForms::detailed_rows))]
 fn put_place(alloc: Global, out: &mut Table, x: &DependencyDetail) -> Result<(), AllocError>
-    ensures { OnOk result (table_view out.new ≡ written_part 0 6 detailed_rows (detail_content x.now) (table_view out.old)) }
+    ensures { OnOk result (WritesRows 0 6 detailed_rows (detail_content x.now) out.old out.new) }
 {
     put_optional(alloc, out, "branch", &x.branch)?;
     put_optional(alloc, out, "git", &x.git)?;
@@ -223,7 +311,7 @@ fn put_place(alloc: Global, out: &mut Table, x: &DependencyDetail) -> Result<(),
 /// Writes rows 7 to 12, from the last to the first.
 #[tactic(auto, unfolding(manifest_schema::specs::PartForms::detailed_rows))]
 fn put_choice(alloc: Global, out: &mut Table, x: &DependencyDetail) -> Result<(), AllocError>
-    ensures { OnOk result (table_view out.new ≡ written_part 6 6 detailed_rows (detail_content x.now) (table_view out.old)) }
+    ensures { OnOk result (WritesRows 6 6 detailed_rows (detail_content x.now) out.old out.new) }
 {
     put_optional(alloc, out, "package", &x.package)?;
     put_optional(alloc, out, "default-features", &x.default_features)?;
@@ -262,8 +350,8 @@ impl Schema for DependencyDetail {
 /// Reads a table, by whether its `workspace` is the boolean true.
 #[inline(always)]
 fn table_dependency(alloc: Global, table: &Table) -> Result<Dependency, ReadFault>
-    ensures ok { IfOk result (λ x. dependency.reads (data_table (table_view table.now)) (dependency_content x)) }
-    ensures fault { IfErr result (FaultIn (dependency.faulty (data_table (table_view table.now)))) }
+    ensures ok { IfOk result (Reads dependency dependency_content (data_of table.now)) }
+    ensures fault { IfErr result (FaultIn (dependency.faulty (data_of table.now))) }
 {
     if has_workspace(table) {
         match inherited_from(alloc, table) {

@@ -2,6 +2,7 @@
 
 ghost use Rattle.std.specs.Prelude.{IfOk, IfErr};
 ghost use Rattle.toml.specs.View.{view};
+ghost use Rattle.manifest_value.specs.Reading.{Reads};
 ghost use Rattle.manifest_parts.specs.Refusals.{RefusedIn, IsRefusal};
 
 use manifest_value::{ReadFault, Schema, SchemaFault};
@@ -77,7 +78,7 @@ impl Error {
 /// let edition: Edition = read(alloc, &value)?;
 /// ```
 pub fn read<T: Schema>(alloc: Global, value: &Value) -> Result<T, Error>
-    ensures ok { IfOk result (λ x. T.kind.reads (view value.now) (T.content x)) }
+    ensures ok { IfOk result (Reads T.kind T.content (view value.now)) }
     ensures refused { IfErr result (RefusedIn (T.kind.faulty (view value.now))) }
 {
     Ok(T::from_value(alloc, value)?)

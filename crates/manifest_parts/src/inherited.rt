@@ -1,19 +1,20 @@
 //! What may be inherited from the workspace.
 
 ghost use Rattle.std.specs.Prelude.{◌≡◌, IfOk, IfErr, true};
-ghost use Rattle.toml.specs.View.{view, table_view};
-ghost use Rattle.toml.specs.Data.{Data, table as data_table};
+ghost use Rattle.toml.specs.View.{view};
+ghost use Rattle.toml.specs.Data.{Data};
 ghost use Rattle.manifest_schema.specs.Paths.{Path, Cause as FaultCause};
 ghost use Rattle.manifest_schema.specs.Kinds.{Inheritable, inh, inherits, truth};
 ghost use Rattle.manifest_schema.proofs.KindLaws.{inh_lawful, truth_lawful};
 ghost use Rattle.manifest_parts.specs.Parts.{inh_content};
 ghost use Rattle.manifest_value.specs.Faults.{FaultIn, IsSchema};
+ghost use Rattle.manifest_value.specs.Reading.{data_of, Reads};
 ghost use Rattle.manifest_parts.specs.Refusals.{RefusedIn, TellsSchema};
 
 use crate::error::{Error, read, refusal};
 use manifest_value::fault::here;
+use manifest_value::readers::find;
 use manifest_value::rows::put_row;
-use manifest_value::slots::find;
 use manifest_value::{Cause, Plain, ReadFault, Schema};
 use std::alloc::{AllocError, Global};
 use toml::{Table, Value};
@@ -101,7 +102,7 @@ impl<T: Plain> MaybeInherited<T> {
     /// let edition = MaybeInherited::<Edition>::from_value(alloc, &value)?; // `Inherited`
     /// ```
     pub fn from_value(alloc: Global, value: &Value) -> Result<MaybeInherited<T>, Error>
-        ensures ok { IfOk result (λ x. (inh T.kind).reads (view value.now) (inh_content T.content x)) }
+        ensures ok { IfOk result (Reads (inh T.kind) (inh_content T.content) (view value.now)) }
         ensures refused { IfErr result (RefusedIn ((inh T.kind).faulty (view value.now))) }
     {
         read(alloc, value)
@@ -129,7 +130,7 @@ pub fn says_workspace(value: &Value) -> bool
 /// let is_inherited = has_workspace(table); // of `workspace = false` false, as without the key
 /// ```
 pub fn has_workspace(table: &Table) -> bool
-    ensures { result ≡ inherits (data_table (table_view table.now)) }
+    ensures { result ≡ inherits (data_of table.now) }
 {
     match find(table, "workspace") {
         Some(Value::Boolean(b)) => *b,
@@ -172,8 +173,12 @@ impl<T: Plain> Schema for MaybeInherited<T> {
 /// The laws of what may be inherited, for every plain type: a value has at most one reading, and none where it has a fault;
 /// what is written is read back; and no value is both a table that inherits and a value of the type's own.
 pub fn inherited_is_lawful<T: Plain>()
-    ensures one_reading { (d : Data) (x y : Inheritable T.Content) → (inh T.kind).reads d x → (inh T.kind).reads d y → x ≡ y }
-    ensures no_reading_with_a_fault { (d : Data) (p : Path) (c : FaultCause) (x : Inheritable T.Content) → (inh T.kind).faulty d p c → (inh T.kind).reads d x → ⊥ }
-    ensures read_back { (x : Inheritable T.Content) → (inh T.kind).reads ((inh T.kind).written x) x }
-    ensures inherited_or_local { (d : Data) (x : T.Content) → inherits d ≡ true → T.kind.reads d x → ⊥ }
+    ensures one_reading { (d : Data) (x y : Inheritable T.Content) → (inh T.kind).reads d x
+        → (inh T.kind).reads d y → x ≡ y }
+    ensures no_reading_with_a_fault { (d : Data) (p : Path) (c : FaultCause)
+        (x : Inheritable T.Content) → (inh T.kind).faulty d p c → (inh T.kind).reads d x → ⊥ }
+    ensures read_back { (x : Inheritable T.Content)
+        → (inh T.kind).reads ((inh T.kind).written x) x }
+    ensures inherited_or_local { (d : Data) (x : T.Content) → inherits d ≡ true → T.kind.reads d x
+        → ⊥ }
 {}

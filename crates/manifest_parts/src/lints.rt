@@ -1,8 +1,7 @@
 //! Lints.
 
-ghost use Rattle.std.specs.Prelude.{◌≡◌, ◌↔◌, IsTrue, IfOk, IfErr};
-ghost use Rattle.toml.specs.Data.{table as data_table};
-ghost use Rattle.toml.specs.View.{view, table_view};
+ghost use Rattle.std.specs.Prelude.{◌≡◌, ◌↔◌, IsTrue, map, IfOk, IfErr};
+ghost use Rattle.toml.specs.View.{view};
 ghost use Rattle.manifest_schema.specs.Forms.{form};
 ghost use Rattle.manifest_schema.specs.Kinds.{map_of, good_entries};
 ghost use Rattle.manifest_schema.specs.Contents;
@@ -10,6 +9,8 @@ ghost use Rattle.manifest_schema.specs.PartForms.{lint_rows, lint, lints_rows};
 ghost use Rattle.manifest_schema.proofs.PartLaws.{lint_config_lawful, lint_lawful, lints_lawful};
 ghost use Rattle.manifest_value.specs.Faults.{FaultIn};
 ghost use Rattle.manifest_value.specs.Entries.{entries_content};
+ghost use Rattle.manifest_value.specs.Reading.{data_of, Reads};
+ghost use Rattle.manifest_value.specs.Walks.{spellings_view, names_of};
 ghost use Rattle.manifest_parts.specs.Records.{lint_config_content, lint_content, lints_content};
 ghost use Rattle.manifest_parts.specs.Refusals.{RefusedIn};
 
@@ -17,12 +18,13 @@ use crate::choices::LintLevel;
 use crate::error::{Error, read};
 use crate::inherited::True;
 use crate::{LintsSet, ToolLintsSet};
+use manifest_value::cursor::{optional, or_default, required, rows_of};
+use manifest_value::entries::map_of_entries;
 use manifest_value::fault::here;
 use manifest_value::maps::entries_table;
-use manifest_value::others::others_of;
-use manifest_value::rows::{optional, or_default, put_optional, put_row, required};
+use manifest_value::rows::{put_optional, put_row};
 use manifest_value::well_formed::none_is_named;
-use manifest_value::{Cause, ReadFault, Schema};
+use manifest_value::{Cause, ReadFault, Schema, Spellings, spelled, walk};
 use std::alloc::{AllocError, Global};
 use toml::{Table, Value};
 
@@ -66,7 +68,7 @@ impl LintConfig {
     /// let config = LintConfig::from_value(alloc, &value)?;
     /// ```
     pub fn from_value(alloc: Global, value: &Value) -> Result<LintConfig, Error>
-        ensures ok { IfOk result (λ x. (form lint_rows).reads (view value.now) (lint_config_content x)) }
+        ensures ok { IfOk result (Reads (form lint_rows) lint_config_content (view value.now)) }
         ensures refused { IfErr result (RefusedIn ((form lint_rows).faulty (view value.now))) }
     {
         read(alloc, value)
@@ -84,7 +86,7 @@ impl Lint {
     /// let lint = Lint::from_value(alloc, &value)?; // `Level(Deny)`
     /// ```
     pub fn from_value(alloc: Global, value: &Value) -> Result<Lint, Error>
-        ensures ok { IfOk result (λ x. lint.reads (view value.now) (lint_content x)) }
+        ensures ok { IfOk result (Reads lint lint_content (view value.now)) }
         ensures refused { IfErr result (RefusedIn (lint.faulty (view value.now))) }
     {
         read(alloc, value)
@@ -103,7 +105,7 @@ impl MaybeInheritedLintsSet {
     /// let lints = MaybeInheritedLintsSet::from_value(alloc, &value)?; // one tool, `rust`, with one lint
     /// ```
     pub fn from_value(alloc: Global, value: &Value) -> Result<MaybeInheritedLintsSet, Error>
-        ensures ok { IfOk result (λ x. (form lints_rows).reads (view value.now) (lints_content x)) }
+        ensures ok { IfOk result (Reads (form lints_rows) lints_content (view value.now)) }
         ensures refused { IfErr result (RefusedIn ((form lints_rows).faulty (view value.now))) }
     {
         read(alloc, value)
@@ -144,22 +146,36 @@ fn tool_lints_fit(lints: &ToolLintsSet)
 
 /// Reads the priorities of all lints, and so finds the lints of each tool well-formed.
 pub fn lints_fit(lints: &LintsSet)
-    ensures { good_entries (map_of lint) (entries_content (λ m. entries_content lint_content m.entries) lints.now.entries) }
+    ensures { good_entries (map_of lint)
+        (entries_content (λ m. entries_content lint_content m.entries) lints.now.entries) }
 {
     for (_tool, lints) in lints.iter() {
         tool_lints_fit(lints);
     }
 }
 
+static LINT: [Spellings; 2] = spelled!["level", "priority",];
+
+/// The spellings of the rows.
+#[tactic(auto, unfolding(manifest_schema::specs::PartForms::lint_rows))]
+fn lint_names() -> &'static [Spellings; 2]
+    ensures { map spellings_view result.now ≡ names_of lint_rows }
+{
+    &LINT
+}
+
 /// Reads the rows of a table.
 #[tactic(auto, unfolding(manifest_schema::specs::PartForms::lint_rows))]
 fn lint_config_from(alloc: Global, table: &Table) -> Result<LintConfig, ReadFault>
-    ensures ok { IfOk result (λ x. (form lint_rows).reads (data_table (table_view table.now)) (lint_config_content x)) }
-    ensures fault { IfErr result (FaultIn ((form lint_rows).faulty (data_table (table_view table.now)))) }
+    ensures ok { IfOk result (Reads (form lint_rows) lint_config_content (data_of table.now)) }
+    ensures fault { IfErr result (FaultIn ((form lint_rows).faulty (data_of table.now))) }
 {
+    let names = lint_names();
+    let walk = walk(alloc, table, names)?;
+    let mut rows = rows_of(names, walk.slots.as_slice());
     Ok(LintConfig {
-        level: required(alloc, table, "level", None)?,
-        priority: or_default(alloc, table, "priority", None, 0)?,
+        level: required(alloc, &mut rows)?,
+        priority: or_default(alloc, &mut rows, 0)?,
     })
 }
 
@@ -217,15 +233,28 @@ impl Schema for Lint {
     ghost lawful = { lint_lawful };
 }
 
-/// Reads the rows of a table.
+static LINTS: [Spellings; 1] = spelled!["workspace",];
+
+/// The spellings of the rows.
+#[tactic(auto, unfolding(manifest_schema::specs::PartForms::lints_rows))]
+fn lints_names() -> &'static [Spellings; 1]
+    ensures { map spellings_view result.now ≡ names_of lints_rows }
+{
+    &LINTS
+}
+
+/// Reads the rows of a table: every key but `workspace` is a tool.
 #[tactic(auto, unfolding(manifest_schema::specs::PartForms::lints_rows))]
 fn lints_from(alloc: Global, table: &Table) -> Result<MaybeInheritedLintsSet, ReadFault>
-    ensures ok { IfOk result (λ x. (form lints_rows).reads (data_table (table_view table.now)) (lints_content x)) }
-    ensures fault { IfErr result (FaultIn ((form lints_rows).faulty (data_table (table_view table.now)))) }
+    ensures ok { IfOk result (Reads (form lints_rows) lints_content (data_of table.now)) }
+    ensures fault { IfErr result (FaultIn ((form lints_rows).faulty (data_of table.now))) }
 {
+    let names = lints_names();
+    let walk = walk(alloc, table, names)?;
+    let mut rows = rows_of(names, walk.slots.as_slice());
     Ok(MaybeInheritedLintsSet {
-        workspace: optional(alloc, table, "workspace", None)?,
-        lints: others_of(alloc, table, &["workspace"])?,
+        workspace: optional(alloc, &mut rows)?,
+        lints: map_of_entries(alloc, walk.rest.as_slice())?,
     })
 }
 

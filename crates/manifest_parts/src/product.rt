@@ -1,23 +1,25 @@
 //! A target of a package.
 
-ghost use Rattle.std.specs.Prelude.{◌≡◌, IfOk, IfErr, OnOk};
-ghost use Rattle.toml.specs.Data.{table as data_table};
-ghost use Rattle.toml.specs.View.{view, table_view};
+ghost use Rattle.std.specs.Prelude.{◌≡◌, map, IfOk, IfErr, OnOk};
+ghost use Rattle.toml.specs.View.{view};
 ghost use Rattle.manifest_schema.specs.Forms.{form};
 ghost use Rattle.manifest_schema.specs.Contents;
 ghost use Rattle.manifest_schema.specs.Defaults.{default_product};
 ghost use Rattle.manifest_schema.specs.PartForms.{product_rows};
-ghost use Rattle.manifest_schema.specs.ForProofs.{first_fit, written_part};
 ghost use Rattle.manifest_schema.proofs.PartLaws.{product_lawful};
 ghost use Rattle.manifest_value.specs.Faults.{FaultIn};
+ghost use Rattle.manifest_value.specs.Reading.{data_of, Reads, WritesRows};
+ghost use Rattle.manifest_value.specs.Walks.{spellings_view, names_of};
+ghost use Rattle.manifest_value.specs.Cursors.{Filled, Passed, UnfitFrom};
 ghost use Rattle.manifest_parts.specs.Records.{product_content};
 ghost use Rattle.manifest_parts.specs.Refusals.{RefusedIn};
 
 use crate::choices::Edition;
 use crate::error::{Error, read};
+use manifest_value::cursor::{RowCursor, fill, fill_default, rows_of};
 use manifest_value::fault::here;
-use manifest_value::rows::{fill, fill_default, put_optional, put_row, put_unless};
-use manifest_value::{Cause, ReadFault, Schema};
+use manifest_value::rows::{put_optional, put_row, put_unless};
+use manifest_value::{Cause, ReadFault, Schema, Spellings, spelled, walk};
 use std::alloc::{AllocError, Global};
 use toml::{Table, Value};
 
@@ -63,7 +65,7 @@ impl Product {
     /// let product = Product::from_value(alloc, &value)?; // not tested, and all else by default
     /// ```
     pub fn from_value(alloc: Global, value: &Value) -> Result<Product, Error>
-        ensures ok { IfOk result (λ x. (form product_rows).reads (view value.now) (product_content x)) }
+        ensures ok { IfOk result (Reads (form product_rows) product_content (view value.now)) }
         ensures refused { IfErr result (RefusedIn ((form product_rows).faulty (view value.now))) }
     {
         read(alloc, value)
@@ -94,80 +96,97 @@ impl Product {
     }
 }
 
+static PRODUCT: [Spellings; 12] = spelled![
+    "path",
+    "name",
+    "test",
+    "doctest",
+    "bench",
+    "doc",
+    "plugin",
+    "proc-macro" | "proc_macro",
+    "harness",
+    "edition",
+    "required-features" | "required_features",
+    "crate-type" | "crate_type",
+];
+
+/// The spellings of the rows.
+#[tactic(auto, unfolding(manifest_schema::specs::PartForms::product_rows))]
+fn product_names() -> &'static [Spellings; 12]
+    ensures { map spellings_view result.now ≡ names_of product_rows }
+{
+    &PRODUCT
+}
+
 /// Reads the rows of a table.
 #[tactic(auto, unfolding(manifest_schema::specs::PartForms::product_rows))]
 fn product_from(alloc: Global, table: &Table) -> Result<Product, ReadFault>
-    ensures ok { IfOk result (λ x. (form product_rows).reads (data_table (table_view table.now)) (product_content x)) }
-    ensures fault { IfErr result (FaultIn ((form product_rows).faulty (data_table (table_view table.now)))) }
+    ensures ok { IfOk result (Reads (form product_rows) product_content (data_of table.now)) }
+    ensures fault { IfErr result (FaultIn ((form product_rows).faulty (data_of table.now))) }
 {
+    let names = product_names();
+    let walk = walk(alloc, table, names)?;
+    let mut rows = rows_of(names, walk.slots.as_slice());
     let mut x = Product::default(alloc);
-    fill_product(alloc, table, &mut x).and(Ok(x))
+    fill_product(alloc, &mut rows, &mut x).and(Ok(x))
 }
 
 /// Reads all rows.
-fn fill_product(alloc: Global, table: &Table, x: &mut Product) -> Result<(), ReadFault>
-    ensures ok { OnOk result (first_fit 12 product_rows (table_view table.now) (product_content x.new)) }
-    ensures fault { IfErr result (FaultIn ((form product_rows).faulty (data_table (table_view table.now)))) }
+#[tactic(auto, unfolding(manifest_schema::specs::PartForms::product_rows))]
+fn fill_product(
+    alloc: Global,
+    rows: &mut RowCursor<'_, '_>,
+    x: &mut Product,
+) -> Result<(), ReadFault>
+    ensures ok { Filled 0 12 product_rows rows.old (product_content x.old)
+        (product_content x.new) result }
+    ensures next { Passed 0 12 product_rows rows.old rows.new result }
+    ensures fault { UnfitFrom 0 product_rows rows.old result }
 {
-    fill_uses(alloc, table, x)?;
-    fill_build(alloc, table, x)?;
+    fill_uses(alloc, rows, x)?;
+    fill_build(alloc, rows, x)?;
     Ok(())
 }
 
 /// Reads rows 1 to 6.
 #[tactic(auto, unfolding(manifest_schema::specs::PartForms::product_rows))]
-fn fill_uses(alloc: Global, table: &Table, x: &mut Product) -> Result<(), ReadFault>
-    ensures ok { OnOk result (first_fit 6 product_rows (table_view table.now) (product_content x.new)) }
-    ensures fault { IfErr result (FaultIn ((form product_rows).faulty (data_table (table_view table.now)))) }
+fn fill_uses(alloc: Global, rows: &mut RowCursor<'_, '_>, x: &mut Product) -> Result<(), ReadFault>
+    ensures ok { Filled 0 6 product_rows rows.old (product_content x.old)
+        (product_content x.new) result }
+    ensures next { Passed 0 6 product_rows rows.old rows.new result }
+    ensures fault { UnfitFrom 0 product_rows rows.old result }
 {
-    fill(alloc, table, "path", None, &mut x.path)?;
-    fill(alloc, table, "name", None, &mut x.name)?;
-    fill_default(alloc, table, "test", None, true, &mut x.test)?;
-    fill_default(alloc, table, "doctest", None, true, &mut x.doctest)?;
-    fill_default(alloc, table, "bench", None, true, &mut x.bench)?;
-    fill_default(alloc, table, "doc", None, true, &mut x.doc)?;
+    fill(alloc, rows, &mut x.path)?;
+    fill(alloc, rows, &mut x.name)?;
+    fill_default(alloc, rows, true, &mut x.test)?;
+    fill_default(alloc, rows, true, &mut x.doctest)?;
+    fill_default(alloc, rows, true, &mut x.bench)?;
+    fill_default(alloc, rows, true, &mut x.doc)?;
     Ok(())
 }
 
 /// Reads rows 7 to 12.
 #[tactic(auto, unfolding(manifest_schema::specs::PartForms::product_rows))]
-fn fill_build(alloc: Global, table: &Table, x: &mut Product) -> Result<(), ReadFault>
-    ensures ok { OnOk result (first_fit 6 product_rows (table_view table.now) (product_content x.old) → first_fit 12 product_rows (table_view table.now) (product_content x.new)) }
-    ensures fault { IfErr result (FaultIn ((form product_rows).faulty (data_table (table_view table.now)))) }
+fn fill_build(alloc: Global, rows: &mut RowCursor<'_, '_>, x: &mut Product) -> Result<(), ReadFault>
+    ensures ok { Filled 6 12 product_rows rows.old (product_content x.old)
+        (product_content x.new) result }
+    ensures next { Passed 6 12 product_rows rows.old rows.new result }
+    ensures fault { UnfitFrom 6 product_rows rows.old result }
 {
-    fill_default(alloc, table, "plugin", None, false, &mut x.plugin)?;
-    fill_default(
-        alloc,
-        table,
-        "proc-macro",
-        Some("proc_macro"),
-        false,
-        &mut x.proc_macro,
-    )?;
-    fill_default(alloc, table, "harness", None, true, &mut x.harness)?;
-    fill(alloc, table, "edition", None, &mut x.edition)?;
-    fill_default(
-        alloc,
-        table,
-        "required-features",
-        Some("required_features"),
-        Vec::new(alloc),
-        &mut x.required_features,
-    )?;
-    fill(
-        alloc,
-        table,
-        "crate-type",
-        Some("crate_type"),
-        &mut x.crate_type,
-    )?;
+    fill_default(alloc, rows, false, &mut x.plugin)?;
+    fill_default(alloc, rows, false, &mut x.proc_macro)?;
+    fill_default(alloc, rows, true, &mut x.harness)?;
+    fill(alloc, rows, &mut x.edition)?;
+    fill_default(alloc, rows, Vec::new(alloc), &mut x.required_features)?;
+    fill(alloc, rows, &mut x.crate_type)?;
     Ok(())
 }
 
 /// Writes rows 1 to 6, from the last to the first.
 #[tactic(auto, unfolding(manifest_schema::specs::PartForms::product_rows))]
 fn put_uses(alloc: Global, out: &mut Table, x: &Product) -> Result<(), AllocError>
-    ensures { OnOk result (table_view out.new ≡ written_part 0 6 product_rows (product_content x.now) (table_view out.old)) }
+    ensures { OnOk result (WritesRows 0 6 product_rows (product_content x.now) out.old out.new) }
 {
     put_unless(alloc, out, "doc", x.doc, &x.doc)?;
     put_unless(alloc, out, "bench", x.bench, &x.bench)?;
@@ -181,7 +200,7 @@ fn put_uses(alloc: Global, out: &mut Table, x: &Product) -> Result<(), AllocErro
 /// Writes rows 7 to 12, from the last to the first.
 #[tactic(auto, unfolding(manifest_schema::specs::PartForms::product_rows))]
 fn put_build(alloc: Global, out: &mut Table, x: &Product) -> Result<(), AllocError>
-    ensures { OnOk result (table_view out.new ≡ written_part 6 6 product_rows (product_content x.now) (table_view out.old)) }
+    ensures { OnOk result (WritesRows 6 6 product_rows (product_content x.now) out.old out.new) }
 {
     put_optional(alloc, out, "crate-type", &x.crate_type)?;
     put_row(alloc, out, "required-features", &x.required_features)?;

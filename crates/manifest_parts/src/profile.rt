@@ -1,24 +1,28 @@
 //! A profile.
 
-ghost use Rattle.std.specs.Prelude.{◌≡◌, ◌↔◌, IsTrue, pos, option_map, IfOk, IfErr, OnOk};
-ghost use Rattle.toml.specs.Data.{table as data_table};
-ghost use Rattle.toml.specs.View.{view, table_view};
+ghost use Rattle.std.specs.Prelude.{◌≡◌, ◌↔◌, IsTrue, pos, map, option_map, IfOk, IfErr, OnOk};
+ghost use Rattle.toml.specs.View.{view};
+ghost use Rattle.manifest_schema.specs.Kinds.{kept, good_entries};
 ghost use Rattle.manifest_schema.specs.Forms.{form};
 ghost use Rattle.manifest_schema.specs.Needs.{good_some};
 ghost use Rattle.manifest_schema.specs.Contents;
 ghost use Rattle.manifest_schema.specs.PartForms.{profile_rows, codegen};
-ghost use Rattle.manifest_schema.specs.ForProofs.{first_fit, written_part};
 ghost use Rattle.manifest_schema.proofs.PartLaws.{profile_lawful};
+ghost use Rattle.manifest_value.specs.Entries.{entries_content};
 ghost use Rattle.manifest_value.specs.Faults.{FaultIn};
+ghost use Rattle.manifest_value.specs.Reading.{data_of, Reads, WritesRows};
+ghost use Rattle.manifest_value.specs.Walks.{spellings_view, names_of};
+ghost use Rattle.manifest_value.specs.Cursors.{Filled, Passed, UnfitFrom};
 ghost use Rattle.manifest_parts.specs.Records.{profile_content};
 ghost use Rattle.manifest_parts.specs.Refusals.{RefusedIn};
 
 use crate::error::{Error, read};
 use crate::strip::StripSetting;
+use manifest_value::cursor::{RowCursor, fill, fill_default, rows_of};
 use manifest_value::fault::here;
-use manifest_value::rows::{fill, fill_default, put_optional, put_row};
+use manifest_value::rows::{put_optional, put_row};
 use manifest_value::well_formed::{optional_is_well_formed, values_are_well_formed};
-use manifest_value::{Cause, ReadFault, Schema};
+use manifest_value::{Cause, ReadFault, Schema, Spellings, spelled, walk};
 use std::alloc::{AllocError, Global};
 use std::collections::BTreeMap;
 use toml::{Table, Value};
@@ -68,7 +72,7 @@ impl Profile {
     /// let profile = Profile::from_value(alloc, &value)?; // `opt_level` is kept as it is
     /// ```
     pub fn from_value(alloc: Global, value: &Value) -> Result<Profile, Error>
-        ensures ok { IfOk result (λ x. (form profile_rows).reads (view value.now) (profile_content x)) }
+        ensures ok { IfOk result (Reads (form profile_rows) profile_content (view value.now)) }
         ensures refused { IfErr result (RefusedIn ((form profile_rows).faulty (view value.now))) }
     {
         read(alloc, value)
@@ -85,12 +89,42 @@ impl Profile {
         ensures { IsTrue result ↔ (form profile_rows).good (profile_content self.now) }
     {
         units_fit(&self.codegen_units);
-        optional_is_well_formed(&self.opt_level)
-            && optional_is_well_formed(&self.debug)
-            && optional_is_well_formed(&self.lto)
-            && optional_is_well_formed(&self.build_override)
-            && values_are_well_formed(&self.package)
+        settings_are_well_formed(&self.opt_level, &self.debug, &self.lto)
+            & overrides_are_well_formed(&self.package, &self.build_override)
     }
+}
+
+/// Whether both are well-formed, where they are there.
+fn both_are_well_formed(first: &Option<Value>, second: &Option<Value>) -> bool
+    ensures { IsTrue result ↔ (good_some kept (option_map view first.now)
+        × good_some kept (option_map view second.now)) }
+{
+    optional_is_well_formed(first) && optional_is_well_formed(second)
+}
+
+/// Whether the settings that are kept as they are, are well-formed.
+fn settings_are_well_formed(
+    opt_level: &Option<Value>,
+    debug: &Option<Value>,
+    lto: &Option<Value>,
+) -> bool
+    ensures { IsTrue result
+        ↔ ((good_some kept (option_map view opt_level.now)
+        × good_some kept (option_map view debug.now))
+        × good_some kept (option_map view lto.now)) }
+{
+    both_are_well_formed(opt_level, debug) && optional_is_well_formed(lto)
+}
+
+/// Whether the overrides are well-formed.
+fn overrides_are_well_formed(
+    package: &BTreeMap<String, Value>,
+    build_override: &Option<Value>,
+) -> bool
+    ensures { IsTrue result ↔ (good_entries kept (entries_content view «package».now.entries)
+        × good_some kept (option_map view build_override.now)) }
+{
+    values_are_well_formed(package) && optional_is_well_formed(build_override)
 }
 
 /// Reads the units of code generation: each `u16` is in the range of the row.
@@ -102,12 +136,40 @@ fn units_fit(units: &Option<u16>)
     }
 }
 
+static PROFILE: [Spellings; 14] = spelled![
+    "opt-level" | "opt_level",
+    "debug",
+    "rpath",
+    "inherits",
+    "lto",
+    "debug-assertions" | "debug_assertions",
+    "codegen-units" | "codegen_units",
+    "panic",
+    "incremental",
+    "overflow-checks" | "overflow_checks",
+    "strip",
+    "package",
+    "split-debuginfo",
+    "build-override",
+];
+
+/// The spellings of the rows.
+#[tactic(auto, unfolding(manifest_schema::specs::PartForms::profile_rows))]
+fn profile_names() -> &'static [Spellings; 14]
+    ensures { map spellings_view result.now ≡ names_of profile_rows }
+{
+    &PROFILE
+}
+
 /// Reads the rows of a table.
 #[tactic(auto, unfolding(manifest_schema::specs::PartForms::profile_rows))]
 fn profile_from(alloc: Global, table: &Table) -> Result<Profile, ReadFault>
-    ensures ok { IfOk result (λ x. (form profile_rows).reads (data_table (table_view table.now)) (profile_content x)) }
-    ensures fault { IfErr result (FaultIn ((form profile_rows).faulty (data_table (table_view table.now)))) }
+    ensures ok { IfOk result (Reads (form profile_rows) profile_content (data_of table.now)) }
+    ensures fault { IfErr result (FaultIn ((form profile_rows).faulty (data_of table.now))) }
 {
+    let names = profile_names();
+    let walk = walk(alloc, table, names)?;
+    let mut rows = rows_of(names, walk.slots.as_slice());
     let mut x = Profile {
         opt_level: None,
         debug: None,
@@ -124,92 +186,74 @@ fn profile_from(alloc: Global, table: &Table) -> Result<Profile, ReadFault>
         split_debuginfo: None,
         build_override: None,
     };
-    fill_profile(alloc, table, &mut x).and(Ok(x))
+    fill_profile(alloc, &mut rows, &mut x).and(Ok(x))
 }
 
 /// Reads all rows.
-fn fill_profile(alloc: Global, table: &Table, x: &mut Profile) -> Result<(), ReadFault>
-    ensures ok { OnOk result (first_fit 14 profile_rows (table_view table.now) (profile_content x.new)) }
-    ensures fault { IfErr result (FaultIn ((form profile_rows).faulty (data_table (table_view table.now)))) }
+#[tactic(auto, unfolding(manifest_schema::specs::PartForms::profile_rows))]
+fn fill_profile(
+    alloc: Global,
+    rows: &mut RowCursor<'_, '_>,
+    x: &mut Profile,
+) -> Result<(), ReadFault>
+    ensures ok { Filled 0 14 profile_rows rows.old (profile_content x.old)
+        (profile_content x.new) result }
+    ensures next { Passed 0 14 profile_rows rows.old rows.new result }
+    ensures fault { UnfitFrom 0 profile_rows rows.old result }
 {
-    fill_building(alloc, table, x)?;
-    fill_output(alloc, table, x)?;
+    fill_building(alloc, rows, x)?;
+    fill_output(alloc, rows, x)?;
     Ok(())
 }
 
 /// Reads rows 1 to 7.
 #[tactic(auto, unfolding(manifest_schema::specs::PartForms::profile_rows))]
-fn fill_building(alloc: Global, table: &Table, x: &mut Profile) -> Result<(), ReadFault>
-    ensures ok { OnOk result (first_fit 7 profile_rows (table_view table.now) (profile_content x.new)) }
-    ensures fault { IfErr result (FaultIn ((form profile_rows).faulty (data_table (table_view table.now)))) }
+fn fill_building(
+    alloc: Global,
+    rows: &mut RowCursor<'_, '_>,
+    x: &mut Profile,
+) -> Result<(), ReadFault>
+    ensures ok { Filled 0 7 profile_rows rows.old (profile_content x.old)
+        (profile_content x.new) result }
+    ensures next { Passed 0 7 profile_rows rows.old rows.new result }
+    ensures fault { UnfitFrom 0 profile_rows rows.old result }
 {
-    fill(
-        alloc,
-        table,
-        "opt-level",
-        Some("opt_level"),
-        &mut x.opt_level,
-    )?;
-    fill(alloc, table, "debug", None, &mut x.debug)?;
-    fill(alloc, table, "rpath", None, &mut x.rpath)?;
-    fill(alloc, table, "inherits", None, &mut x.inherits)?;
-    fill(alloc, table, "lto", None, &mut x.lto)?;
-    fill(
-        alloc,
-        table,
-        "debug-assertions",
-        Some("debug_assertions"),
-        &mut x.debug_assertions,
-    )?;
-    fill(
-        alloc,
-        table,
-        "codegen-units",
-        Some("codegen_units"),
-        &mut x.codegen_units,
-    )?;
+    fill(alloc, rows, &mut x.opt_level)?;
+    fill(alloc, rows, &mut x.debug)?;
+    fill(alloc, rows, &mut x.rpath)?;
+    fill(alloc, rows, &mut x.inherits)?;
+    fill(alloc, rows, &mut x.lto)?;
+    fill(alloc, rows, &mut x.debug_assertions)?;
+    fill(alloc, rows, &mut x.codegen_units)?;
     Ok(())
 }
 
 /// Reads rows 8 to 14.
 #[tactic(auto, unfolding(manifest_schema::specs::PartForms::profile_rows))]
-fn fill_output(alloc: Global, table: &Table, x: &mut Profile) -> Result<(), ReadFault>
-    ensures ok { OnOk result (first_fit 7 profile_rows (table_view table.now) (profile_content x.old) → first_fit 14 profile_rows (table_view table.now) (profile_content x.new)) }
-    ensures fault { IfErr result (FaultIn ((form profile_rows).faulty (data_table (table_view table.now)))) }
+fn fill_output(
+    alloc: Global,
+    rows: &mut RowCursor<'_, '_>,
+    x: &mut Profile,
+) -> Result<(), ReadFault>
+    ensures ok { Filled 7 14 profile_rows rows.old (profile_content x.old)
+        (profile_content x.new) result }
+    ensures next { Passed 7 14 profile_rows rows.old rows.new result }
+    ensures fault { UnfitFrom 7 profile_rows rows.old result }
 {
-    fill(alloc, table, "panic", None, &mut x.panic)?;
-    fill(alloc, table, "incremental", None, &mut x.incremental)?;
-    fill(
-        alloc,
-        table,
-        "overflow-checks",
-        Some("overflow_checks"),
-        &mut x.overflow_checks,
-    )?;
-    fill(alloc, table, "strip", None, &mut x.strip)?;
-    fill_default(
-        alloc,
-        table,
-        "package",
-        None,
-        BTreeMap::new(alloc),
-        &mut x.package,
-    )?;
-    fill(
-        alloc,
-        table,
-        "split-debuginfo",
-        None,
-        &mut x.split_debuginfo,
-    )?;
-    fill(alloc, table, "build-override", None, &mut x.build_override)?;
+    fill(alloc, rows, &mut x.panic)?;
+    fill(alloc, rows, &mut x.incremental)?;
+    fill(alloc, rows, &mut x.overflow_checks)?;
+    fill(alloc, rows, &mut x.strip)?;
+    fill_default(alloc, rows, BTreeMap::new(alloc), &mut x.package)?;
+    fill(alloc, rows, &mut x.split_debuginfo)?;
+    fill(alloc, rows, &mut x.build_override)?;
     Ok(())
 }
 
 /// Writes rows 1 to 7, from the last to the first.
 #[tactic(auto, unfolding(manifest_schema::specs::PartForms::profile_rows))]
 fn put_building(alloc: Global, out: &mut Table, x: &Profile) -> Result<(), AllocError>
-    ensures { OnOk result (table_view out.new ≡ written_part 0 7 profile_rows (profile_content x.now) (table_view out.old)) }
+    ensures { OnOk result (WritesRows 0 7 profile_rows (profile_content x.now) out.old out.new) }
 {
     put_optional(alloc, out, "codegen-units", &x.codegen_units)?;
     put_optional(alloc, out, "debug-assertions", &x.debug_assertions)?;
@@ -224,7 +268,7 @@ fn put_building(alloc: Global, out: &mut Table, x: &Profile) -> Result<(), Alloc
 /// Writes rows 8 to 14, from the last to the first.
 #[tactic(auto, unfolding(manifest_schema::specs::PartForms::profile_rows))]
 fn put_output(alloc: Global, out: &mut Table, x: &Profile) -> Result<(), AllocError>
-    ensures { OnOk result (table_view out.new ≡ written_part 7 7 profile_rows (profile_content x.now) (table_view out.old)) }
+    ensures { OnOk result (WritesRows 7 7 profile_rows (profile_content x.now) out.old out.new) }
 {
     put_optional(alloc, out, "build-override", &x.build_override)?;
     put_optional(alloc, out, "split-debuginfo", &x.split_debuginfo)?;

@@ -5,6 +5,7 @@ ghost use Rattle.toml.specs.View.{view};
 ghost use Rattle.manifest_schema.specs.Contents;
 ghost use Rattle.manifest_schema.specs.PartForms.{text_or_flag, publish};
 ghost use Rattle.manifest_schema.proofs.RowLaws.{text_or_flag_lawful, text_or_flag_plain, publish_lawful, publish_plain};
+ghost use Rattle.manifest_value.specs.Reading.{Reads};
 ghost use Rattle.manifest_parts.specs.Parts.{text_or_flag_content, publish_content};
 ghost use Rattle.manifest_parts.specs.Refusals.{RefusedIn};
 
@@ -34,7 +35,7 @@ impl StringOrBool {
     /// let build = StringOrBool::from_value(alloc, &value)?; // `String` of this text
     /// ```
     pub fn from_value(alloc: Global, value: &Value) -> Result<StringOrBool, Error>
-        ensures ok { IfOk result (λ x. text_or_flag.reads (view value.now) (text_or_flag_content x)) }
+        ensures ok { IfOk result (Reads text_or_flag text_or_flag_content (view value.now)) }
         ensures refused { IfErr result (RefusedIn (text_or_flag.faulty (view value.now))) }
     {
         read(alloc, value)
@@ -91,7 +92,7 @@ impl Publish {
     /// let publish = Publish::from_value(alloc, &value)?; // `Registry` of one name
     /// ```
     pub fn from_value(alloc: Global, value: &Value) -> Result<Publish, Error>
-        ensures ok { IfOk result (λ x. publish.reads (view value.now) (publish_content x)) }
+        ensures ok { IfOk result (Reads publish publish_content (view value.now)) }
         ensures refused { IfErr result (RefusedIn (publish.faulty (view value.now))) }
     {
         read(alloc, value)

@@ -8,6 +8,7 @@ ghost use Rattle.manifest_schema.specs.Choices.{strip, strip_meaning};
 ghost use Rattle.manifest_schema.proofs.ChoiceLaws.{strip_lawful};
 ghost use Rattle.manifest_parts.specs.Parts.{strip_content};
 ghost use Rattle.manifest_value.specs.Faults.{FaultIn, IsSchema};
+ghost use Rattle.manifest_value.specs.Reading.{Reads};
 ghost use Rattle.manifest_parts.specs.Refusals.{RefusedIn, TellsSchema, RefusesStrip};
 
 use crate::error::{Error, refusal};
@@ -39,7 +40,7 @@ impl StripSetting {
     /// let strip = StripSetting::from_value(alloc, &value)?; // `Debuginfo`
     /// ```
     pub fn from_value(alloc: Global, value: &Value) -> Result<StripSetting, Error>
-        ensures ok { IfOk result (λ x. strip.reads (view value.now) (strip_content x)) }
+        ensures ok { IfOk result (Reads strip strip_content (view value.now)) }
         ensures refused { IfErr result (RefusedIn (strip.faulty (view value.now))) }
         ensures schema { IfErr result TellsSchema }
     {
@@ -53,7 +54,7 @@ impl StripSetting {
     /// let strip = StripSetting::try_from(alloc, Value::Boolean(true))?; // `Symbols`
     /// ```
     pub fn try_from(alloc: Global, value: Value) -> Result<StripSetting, Error>
-        ensures ok { IfOk result (λ x. strip.reads (view value) (strip_content x)) }
+        ensures ok { IfOk result (Reads strip strip_content (view value)) }
         ensures refused { IfErr result (RefusesStrip (view value)) }
     {
         match &value {
@@ -93,7 +94,7 @@ impl Schema for StripSetting {
 
     /// The one reading of the value, or a fault that it has. It never wants memory.
     fn from_value(alloc: Global, value: &Value) -> Result<StripSetting, ReadFault>
-        ensures ok { IfOk result (λ x. strip.reads (view value.now) (strip_content x)) }
+        ensures ok { IfOk result (Reads strip strip_content (view value.now)) }
         ensures fault { IfErr result (FaultIn (strip.faulty (view value.now))) }
         ensures schema { IfErr result IsSchema }
     {

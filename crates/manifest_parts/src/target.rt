@@ -1,21 +1,23 @@
 //! What a manifest adds for one platform.
 
-ghost use Rattle.std.specs.Prelude.{◌≡◌, IfOk, IfErr};
-ghost use Rattle.toml.specs.Data.{table as data_table};
-ghost use Rattle.toml.specs.View.{view, table_view};
+ghost use Rattle.std.specs.Prelude.{◌≡◌, map, IfOk, IfErr};
+ghost use Rattle.toml.specs.View.{view};
 ghost use Rattle.manifest_schema.specs.Forms.{form};
 ghost use Rattle.manifest_schema.specs.Contents;
 ghost use Rattle.manifest_schema.specs.PartForms.{platform_rows};
 ghost use Rattle.manifest_schema.proofs.PartLaws.{platform_lawful};
 ghost use Rattle.manifest_value.specs.Faults.{FaultIn};
+ghost use Rattle.manifest_value.specs.Reading.{data_of, Reads};
+ghost use Rattle.manifest_value.specs.Walks.{spellings_view, names_of};
 ghost use Rattle.manifest_parts.specs.Records.{platform_content};
 ghost use Rattle.manifest_parts.specs.Refusals.{RefusedIn};
 
 use crate::DepsSet;
 use crate::error::{Error, read};
+use manifest_value::cursor::{or_default, rows_of};
 use manifest_value::fault::here;
-use manifest_value::rows::{or_default, put_row};
-use manifest_value::{Cause, ReadFault, Schema};
+use manifest_value::rows::put_row;
+use manifest_value::{Cause, ReadFault, Schema, Spellings, spelled, walk};
 use std::alloc::{AllocError, Global};
 use std::collections::BTreeMap;
 use toml::{Table, Value};
@@ -43,35 +45,40 @@ impl Target {
     /// let target = Target::from_value(alloc, &value)?; // one dependency
     /// ```
     pub fn from_value(alloc: Global, value: &Value) -> Result<Target, Error>
-        ensures ok { IfOk result (λ x. (form platform_rows).reads (view value.now) (platform_content x)) }
+        ensures ok { IfOk result (Reads (form platform_rows) platform_content (view value.now)) }
         ensures refused { IfErr result (RefusedIn ((form platform_rows).faulty (view value.now))) }
     {
         read(alloc, value)
     }
 }
 
+static PLATFORM: [Spellings; 3] = spelled![
+    "dependencies",
+    "dev-dependencies" | "dev_dependencies",
+    "build-dependencies" | "build_dependencies",
+];
+
+/// The spellings of the rows.
+#[tactic(auto, unfolding(manifest_schema::specs::PartForms::platform_rows))]
+fn platform_names() -> &'static [Spellings; 3]
+    ensures { map spellings_view result.now ≡ names_of platform_rows }
+{
+    &PLATFORM
+}
+
 /// Reads the rows of a table.
 #[tactic(auto, unfolding(manifest_schema::specs::PartForms::platform_rows))]
 fn platform_from(alloc: Global, table: &Table) -> Result<Target, ReadFault>
-    ensures ok { IfOk result (λ x. (form platform_rows).reads (data_table (table_view table.now)) (platform_content x)) }
-    ensures fault { IfErr result (FaultIn ((form platform_rows).faulty (data_table (table_view table.now)))) }
+    ensures ok { IfOk result (Reads (form platform_rows) platform_content (data_of table.now)) }
+    ensures fault { IfErr result (FaultIn ((form platform_rows).faulty (data_of table.now))) }
 {
+    let names = platform_names();
+    let walk = walk(alloc, table, names)?;
+    let mut rows = rows_of(names, walk.slots.as_slice());
     Ok(Target {
-        dependencies: or_default(alloc, table, "dependencies", None, BTreeMap::new(alloc))?,
-        dev_dependencies: or_default(
-            alloc,
-            table,
-            "dev-dependencies",
-            Some("dev_dependencies"),
-            BTreeMap::new(alloc),
-        )?,
-        build_dependencies: or_default(
-            alloc,
-            table,
-            "build-dependencies",
-            Some("build_dependencies"),
-            BTreeMap::new(alloc),
-        )?,
+        dependencies: or_default(alloc, &mut rows, BTreeMap::new(alloc))?,
+        dev_dependencies: or_default(alloc, &mut rows, BTreeMap::new(alloc))?,
+        build_dependencies: or_default(alloc, &mut rows, BTreeMap::new(alloc))?,
     })
 }
 

@@ -1,10 +1,10 @@
 //! Every row of every form, at each place of the form: each kind of value under each of its spellings, both spellings
-//! together, the row without its key where it is needed, and all rows filled. The answers come from the tables of
-//! docs/KEYS.md.
+//! together, the row without its key where it is needed, all rows filled, and keys that no row has. The answers come
+//! from the tables of docs/KEYS.md.
 
 use crate::answers::{FromValue, answer_of, assert_is, document_answer, laid_out, shown};
 use crate::bench_keys;
-use crate::bench_kinds::{Answer, cases_of, fitting};
+use crate::bench_kinds::{Answer, VALUES, cases_of, fitting};
 use cargo_manifest::{
     Badge, Badges, DependencyDetail, InheritedDependencyDetail, LintConfig, Maintenance, Manifest,
     MaybeInheritedLintsSet, Package, Product, Profile, Profiles, Target, Workspace,
@@ -51,13 +51,16 @@ fn left_out(written: &str) -> &'static str {
     }
 }
 
-/// The row of a line of docs/KEYS.md. Any other key is tried as `own`.
+/// The key by which the row of any other key is tried.
+const OWN: &str = "own";
+
+/// The row of a line of docs/KEYS.md.
 fn row_of(line: &'static str) -> Row {
     let key = quoted(cell(line, 1));
     let need = cell(line, 4);
     let written = cell(line, 5);
     Row {
-        key: if key.is_empty() { "own" } else { key },
+        key: if key.is_empty() { OWN } else { key },
         second: quoted(cell(line, 2)),
         holds: cell(line, 3),
         is_needed: need.contains("needed"),
@@ -142,6 +145,22 @@ fn add_needed(entries: &mut Entries, row: &Row) -> Result<(), AllocError> {
     } else {
         entries.written(row.key, row.absent)
     }
+}
+
+/// Adds entries of a value under keys that are near those of a row, and that no row has.
+fn add_unlisted(
+    alloc: Global,
+    entries: &mut Entries,
+    row: &Row,
+    value: &str,
+) -> Result<(), AllocError> {
+    let key = row.key;
+    entries.read(format!(in alloc; "{key}_")?.as_str(), value)?;
+    entries.read(format!(in alloc; "\" {key}\"")?.as_str(), value)?;
+    if key.contains("-") && row.second.is_empty() {
+        entries.read(key.replace(alloc, "-", "_")?.as_str(), value)?;
+    }
+    Ok(())
 }
 
 /// What the other rows have to have and have written.
@@ -331,12 +350,30 @@ impl Form<'_> {
         self.assert_answer::<T>(rt, alloc, &entries, None)
     }
 
+    /// Keys that no row has, with a value of each kind: they are ignored.
+    fn assert_ignored<T: FromValue>(&self, rt: &impl Abort, alloc: Global) -> Result<(), Fail> {
+        for value in VALUES {
+            let mut entries = others(alloc, self.rows, "", self.besides())?;
+            for line in self.rows {
+                add_unlisted(alloc, &mut entries, &row_of(line), value)?;
+            }
+            self.assert_answer::<T>(rt, alloc, &entries, None)?;
+        }
+        Ok(())
+    }
+
     fn assert_all<T: FromValue>(&self, rt: &impl Abort, alloc: Global) -> Result<(), Fail> {
+        let mut has_map = false;
         for line in self.rows {
             let row = row_of(line);
+            has_map = has_map | (row.key == OWN);
             if row.key != self.besides() {
                 self.assert_row::<T>(rt, alloc, &row)?;
             }
+        }
+        // (a map of all other keys has each key that no row names)
+        if !has_map {
+            self.assert_ignored::<T>(rt, alloc)?;
         }
         self.assert_filled::<T>(rt, alloc)
     }

@@ -16,7 +16,7 @@ const NOT_A_CHOICE: Answer = Err(("not a choice", ""));
 const OUT_OF_RANGE: Answer = Err(("out of range", ""));
 
 /// One value of each kind of TOML. A kind refuses those that it does not list as of the wrong kind.
-const VALUES: &[&str] = &[
+pub const VALUES: &[&str] = &[
     "'a'",
     "1",
     "true",

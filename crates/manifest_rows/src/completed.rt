@@ -288,6 +288,12 @@ const REFUSED: &[Row] = &[
         "src!;.",
         Err("io"),
     ),
+    // what is found before the fault does not stay in a declared binary
+    (
+        "[package]\nname = 'p'\nedition = '2021'\n[[bin]]\nname = 'a'",
+        "src/bin|a.rs;.!",
+        Err("io"),
+    ),
     (
         "[package]\nname = 'p'\nedition = '2021'",
         "elsewhere",
@@ -303,19 +309,19 @@ fn listed_targets(rt: HostRuntime) -> Result<(), Fail> {
     assert_completed(&rt, rt.alloc(), REFUSED)
 }
 
-/// The folders of a package whose `src/bin` lists the files `f000.rs` to `f199.rs`.
-fn two_hundred_files(alloc: Global) -> Result<String, Fail> {
+/// The folders of a package whose `src/bin` lists so many files, `f000.rs` and so on.
+fn folders_of_files(alloc: Global, count: u8) -> Result<String, Fail> {
     let mut folders = String::from_str(alloc, ".;src/bin")?;
-    for number in 0..200 {
+    for number in 0..count {
         write!(folders, "|f{number:03}.rs")?;
     }
     Ok(folders)
 }
 
-/// The package with the binaries `f000` to `f199`.
-fn two_hundred_binaries(alloc: Global) -> Result<String, Fail> {
+/// The package with so many binaries, `f000` and so on.
+fn package_of_binaries(alloc: Global, count: u8) -> Result<String, Fail> {
     let mut document = String::from_str(alloc, "[package]\nname = 'p'\nedition = '2021'\n")?;
-    for number in 0..200 {
+    for number in 0..count {
         let name = format!(in alloc; "f{number:03}")?;
         write!(
             document,
@@ -326,14 +332,18 @@ fn two_hundred_binaries(alloc: Global) -> Result<String, Fail> {
     Ok(document)
 }
 
+/// Folders of few names and of many.
 #[test]
-fn many_binaries(rt: HostRuntime) -> Result<(), Fail> {
-    let folders = two_hundred_files(rt.alloc())?;
-    let document = two_hundred_binaries(rt.alloc())?;
-    let expected = expected_behind(rt.alloc(), "", Ok(document.as_str()))?;
+fn binaries_of_each_number(rt: HostRuntime) -> Result<(), Fail> {
     let package = "[package]\nname = 'p'\nedition = '2021'";
-    let got = completed(rt.alloc(), package, folders.as_str());
-    assert_is(&rt, got, expected.as_str(), "two hundred binaries")
+    for count in [0, 1, 2, 3, 4, 5, 6, 7, 8, 9, 16, 17, 64, 200] {
+        let folders = folders_of_files(rt.alloc(), count)?;
+        let document = package_of_binaries(rt.alloc(), count)?;
+        let expected = expected_behind(rt.alloc(), "", Ok(document.as_str()))?;
+        let got = completed(rt.alloc(), package, folders.as_str());
+        assert_is(&rt, got, expected.as_str(), folders.as_str())?;
+    }
+    Ok(())
 }
 
 /// Whether completing a package over listings is refused for a folder that is not there.

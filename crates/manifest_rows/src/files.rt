@@ -1,7 +1,7 @@
 //! Manifests of files, completed by the folders that these stand in: real ones, which the tests make and remove.
 use crate::answers::{assert_is, laid_out, written};
 use crate::score::Score;
-use cargo_manifest::{Error, Manifest};
+use cargo_manifest::{AbstractFilesystem, Error, Filesystem, Manifest};
 use std::io::ErrorKind;
 use std::path::{Path, PathBuf};
 use std::process::Abort;
@@ -110,6 +110,48 @@ fn a_library_and_a_binary(rt: HostRuntime) -> Result<(), Fail> {
     let folder = test_folder(rt, "a_library_and_a_binary")?;
     let got = answer_in(rt, folder.as_path());
     assert_found(&rt, folder, got, "the three calls")
+}
+
+/// The names that stand at a path under a folder, each with `|` behind it, or that nothing does.
+fn names_at(rt: HostRuntime, folder: Path<'_>, path: &str) -> Result<String, Fail> {
+    match Filesystem::new(&rt, folder).file_names_in(rt.alloc(), path) {
+        Ok(names) => {
+            let mut text = String::new(rt.alloc());
+            for name in names.iter() {
+                text.push_str(name.as_str())?;
+                text.push('|')?;
+            }
+            Ok(text)
+        }
+        Err(fault) if fault.kind() == ErrorKind::NotFound => {
+            Ok(String::from_str(rt.alloc(), "not found")?)
+        }
+        Err(_) => Err(Fail::from("another fault")),
+    }
+}
+
+/// What stands at three paths under the folder of the package.
+fn names_in_package(rt: HostRuntime, folder: Path<'_>) -> Result<String, Fail> {
+    let package = make_package(rt, folder)?;
+    let own = names_at(rt, package.as_path(), ".")?;
+    let source = names_at(rt, package.as_path(), "src")?;
+    let tests = names_at(rt, package.as_path(), "tests")?;
+    Ok(format!(in rt.alloc(); "{own} {source} {tests}")?)
+}
+
+#[test]
+fn names_of_real_folders(rt: HostRuntime) -> Result<(), Fail> {
+    let folder = test_folder(rt, "names_of_real_folders")?;
+    let got = names_in_package(rt, folder.as_path());
+    let removed = fs::remove_dir_all(&rt, folder);
+    let got = got?;
+    removed?;
+    assert_is(
+        &rt,
+        Ok(got),
+        "Cargo.toml|src| lib.rs|main.rs| not found",
+        "a package",
+    )
 }
 
 /// What is written of the manifest of the package, by its whole path, where `examples` is a file.

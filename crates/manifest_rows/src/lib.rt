@@ -10,6 +10,8 @@ mod bench_keys;
 #[cfg(test)]
 mod bench_kinds;
 #[cfg(test)]
+mod by_name;
+#[cfg(test)]
 mod calls;
 #[cfg(test)]
 mod completed;
@@ -54,5 +56,7 @@ mod rewritten;
 pub mod score;
 #[cfg(test)]
 mod values;
+#[cfg(test)]
+mod walks;
 #[cfg(test)]
 mod well_formed;

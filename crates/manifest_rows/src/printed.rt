@@ -40,15 +40,22 @@ fn a_date_that_toml_cannot_write(rt: HostRuntime) -> Result<(), Fail> {
     Ok(())
 }
 
-/// A list in lists, so deep, behind the beginning of a document.
-pub fn nested(alloc: Global, head: &str, depth: usize) -> Result<String, Fail> {
+/// A document whose value is nested so deep behind this beginning: what opens a level, what stands in the last one, and
+/// what closes a level.
+pub fn nested(
+    alloc: Global,
+    head: &str,
+    shape: (&str, &str, &str),
+    depth: usize,
+) -> Result<String, Fail> {
+    let (opening, inner, closing) = shape;
     let mut document = String::from_str(alloc, head)?;
     for _ in 0..depth {
-        document.push('[')?;
+        document.push_str(opening)?;
     }
-    document.push('1')?;
+    document.push_str(inner)?;
     for _ in 0..depth {
-        document.push(']')?;
+        document.push_str(closing)?;
     }
     Ok(document)
 }
@@ -66,7 +73,8 @@ fn printed_twice(alloc: Global, document: &str) -> Result<String, Fail> {
 
 #[test]
 fn a_deep_list(rt: HostRuntime) -> Result<(), Fail> {
-    let document = nested(rt.alloc(), "[package]\nname = 'p'\nmetadata.x = ", 20)?;
+    let head = "[package]\nname = 'p'\nmetadata.x = ";
+    let document = nested(rt.alloc(), head, ("[", "1", "]"), 20)?;
     let expected = laid_out(rt.alloc(), document.as_str())?;
     let got = printed_twice(rt.alloc(), document.as_str());
     assert_is(&rt, got, expected.as_str(), "20 lists")

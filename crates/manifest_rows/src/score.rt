@@ -1,17 +1,18 @@
 //! A type of metadata: a score.
 
-ghost use Rattle.std.specs.Prelude.{◌≡◌, ℤ, pos, IfOk, IfErr, IsTrue, refl};
-ghost use Rattle.toml.specs.Data.{table as data_table};
-ghost use Rattle.toml.specs.View.{view, table_view};
+ghost use Rattle.std.specs.Prelude.{◌≡◌, ℤ, pos, map, IfOk, IfErr, IsTrue, refl};
 ghost use Rattle.manifest_schema.specs.Kinds.{whole};
 ghost use Rattle.manifest_schema.specs.Forms.{form};
 ghost use Rattle.manifest_schema.proofs.KindLaws.{whole_lawful};
 ghost use Rattle.manifest_value.specs.Faults.{FaultIn};
+ghost use Rattle.manifest_value.specs.Reading.{data_of};
+ghost use Rattle.manifest_value.specs.Walks.{spellings_view, names_of};
 ghost use Rattle.manifest_rows.specs.Scores.{score_rows, score_lawful, score_plain, score_by_tree};
 
+use manifest_value::cursor::{required, rows_of};
 use manifest_value::fault::here;
-use manifest_value::rows::{put_row, required};
-use manifest_value::{Cause, Metadata, ReadFault, Schema};
+use manifest_value::rows::put_row;
+use manifest_value::{Cause, Metadata, ReadFault, Schema, Slot, Spellings, find_slots, spelled};
 use std::alloc::{AllocError, Global};
 use toml::{Table, Value};
 
@@ -55,14 +56,29 @@ pub struct Score {
     pub level: Level,
 }
 
+static SCORE: [Spellings; 1] = spelled!["level"];
+
+/// The spellings of the rows.
+#[tactic(auto, unfolding(crate::specs::Scores::score_rows))]
+fn score_names() -> &'static [Spellings; 1]
+    ensures { map spellings_view result.now ≡ names_of score_rows }
+{
+    &SCORE
+}
+
 /// The score of a table.
 #[tactic(auto, unfolding(crate::specs::Scores::score_rows))]
 fn score_from(alloc: Global, table: &Table) -> Result<Score, ReadFault>
-    ensures ok { IfOk result (λ x. (form score_rows).reads (data_table (table_view table.now)) (pos x.level.number)) }
-    ensures fault { IfErr result (FaultIn ((form score_rows).faulty (data_table (table_view table.now)))) }
+    ensures ok { IfOk result
+        (λ x. (form score_rows).reads (data_of table.now) (pos x.level.number)) }
+    ensures fault { IfErr result (FaultIn ((form score_rows).faulty (data_of table.now))) }
 {
+    let names = score_names();
+    let mut slots = [Slot::Absent; 1];
+    find_slots(table, names, &mut slots);
+    let mut rows = rows_of(names, &slots);
     Ok(Score {
-        level: required(alloc, table, "level", None)?,
+        level: required(alloc, &mut rows)?,
     })
 }
 

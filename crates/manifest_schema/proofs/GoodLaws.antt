@@ -1,14 +1,15 @@
 -- Kinds of which everything is well-formed, and what it comes down to that a record is.
-use Rattle.std.proofs.Common.{Bool, ◌⊎◌, inl, inr, List, [], ◌∷◌, Option, Some, None}
+use Rattle.std.proofs.Common.{◌↔◌, ◌&&◌, IsTrue, codes, Bool, ◌⊎◌, inl, inr, List, [], ◌∷◌, Option, Some, None}
 use Rattle.toml.specs.Data.{Data}
 use Rattle.manifest_schema.specs.Paths.{Text}
 use Rattle.manifest_schema.specs.Kinds.{Kind, Entries, Inheritable, inherited, local, text, flag, truth, list_of, map_of, inh, split, kept, good_items, good_entries, good_inh, good_split}
 use Rattle.manifest_schema.specs.Needs.{Need, required, optional, default, lenient_optional, lenient_default, good_some}
-use Rattle.manifest_schema.specs.Forms.{Rows, no_more, others, ◌⨾◌, Fields, gets, form, good_beside, spelled}
+use Rattle.manifest_schema.specs.Forms.{Rows, no_more, others, ◌⨾◌, Fields, gets, form, good_beside, spelled, none_named}
 use Rattle.manifest_schema.specs.Choices.{edition, resolver, level, status, strip}
-use Rattle.manifest_schema.specs.Contents.{Package, Workspace, Manifest, Profile}
+use Rattle.manifest_schema.specs.Contents.{Package, Workspace, Manifest, Profile, Profiles}
 use Rattle.manifest_schema.specs.PartForms.{texts, text_or_flag, publish, codegen, lint, inherited_rows, detailed_rows, dependency_table, dependency, product_rows, badge_rows, maintenance_rows, badges_rows, profile_rows, profiles_rows, lints_rows, platform_rows}
 use Rattle.manifest_schema.specs.ManifestForms.{package_rows, workspace_package_rows, workspace_rows, manifest_rows}
+use Rattle.manifest_schema.proofs.Exactly.{exactly_both}
 
 -- EVERYTHING OF THE KIND is well-formed
 pub record IsGood {A : Type 0} (K : Kind A) : Type 0 where
@@ -218,6 +219,27 @@ pub profile_parts_good : (p : Profile) → (form profile_rows).good p
 unfolding profile_rows
 profile_parts_good p g = (g.0, g.1.0, g.1.1.1.1.0, g.1.1.1.1.1.1.1.1.1.1.1.0, g.1.1.1.1.1.1.1.1.1.1.1.1.1.0)
 
+-- the same by two tests
+pub profile_exactly : (p : Profile) (settings overrides : Bool) → good_some codegen p.codegen_units
+    → (IsTrue settings ↔ ((good_some kept p.opt_level × good_some kept p.debug) × good_some kept p.lto))
+    → (IsTrue overrides ↔ (good_entries kept p.«package» × good_some kept p.build_override))
+    → (IsTrue (settings && overrides) ↔ (form profile_rows).good p)
+profile_exactly p settings overrides u s o = (
+  λ h. let (((a, b), l), (v, d)) = (exactly_both settings overrides s o).0 h in profile_good p a b l u v d,
+  λ g. let (a, b, l, v, d) = profile_parts_good p g in (exactly_both settings overrides s o).1 (((a, b), l), (v, d)),
+)
+
+-- PROFILES are well-formed exactly if each that Cargo names is, and the others are, none of them named so
+pub profiles_exactly : (p : Profiles) (named customs : Bool)
+    → (IsTrue named ↔ (good_some (form profile_rows) p.release × good_some (form profile_rows) p.dev × good_some (form profile_rows) p.test × good_some (form profile_rows) p.bench × good_some (form profile_rows) p.doc))
+    → (IsTrue customs ↔ (IsTrue (none_named (codes "release" ∷ codes "dev" ∷ codes "test" ∷ codes "bench" ∷ codes "doc" ∷ []) p.custom) × good_entries (form profile_rows) p.custom))
+    → (IsTrue (named && customs) ↔ (form profiles_rows).good p)
+unfolding profiles_rows
+profiles_exactly p named customs n o = (
+  λ h. let ((a, b, d, e, f), (u, g)) = (exactly_both named customs n o).0 h in (a, (b, (d, (e, (f, (u, g)))))),
+  λ g. (exactly_both named customs n o).1 ((g.0, g.1.0, g.1.1.0, g.1.1.1.0, g.1.1.1.1.0), (g.1.1.1.1.1.0, g.1.1.1.1.1.1)),
+)
+
 -- A MANIFEST is well-formed exactly if its package, its workspace, its profiles and its lints are
 pub manifest_good : (K W : Kind Data) (m : Manifest) → good_some (form (package_rows K)) m.«package» → good_some (form (workspace_rows W)) m.workspace → good_some (form profiles_rows) m.profile → good_some (form lints_rows) m.lints → (form (manifest_rows K W)).good m
 unfolding manifest_rows
@@ -227,3 +249,13 @@ pub manifest_parts_good : (K W : Kind Data) (m : Manifest) → (form (manifest_r
     → good_some (form (package_rows K)) m.«package» × good_some (form (workspace_rows W)) m.workspace × good_some (form profiles_rows) m.profile × good_some (form lints_rows) m.lints
 unfolding manifest_rows
 manifest_parts_good K W m g = (g.0, g.1.1.0, g.1.1.1.1.1.1.1.1.1.1.1.1.1.1.0, g.1.1.1.1.1.1.1.1.1.1.1.1.1.1.1.1.0)
+
+-- the same by two tests
+pub manifest_exactly : (K W : Kind Data) (m : Manifest) (tables settings : Bool)
+    → (IsTrue tables ↔ (good_some (form (package_rows K)) m.«package» × good_some (form (workspace_rows W)) m.workspace))
+    → (IsTrue settings ↔ (good_some (form profiles_rows) m.profile × good_some (form lints_rows) m.lints))
+    → (IsTrue (tables && settings) ↔ (form (manifest_rows K W)).good m)
+manifest_exactly K W m tables settings t s = (
+  λ h. let ((a, b), (c, d)) = (exactly_both tables settings t s).0 h in manifest_good K W m a b c d,
+  λ g. let (a, b, c, d) = manifest_parts_good K W m g in (exactly_both tables settings t s).1 ((a, b), (c, d)),
+)

@@ -19,7 +19,8 @@ ghost use Rattle.manifest_schema.specs.Examples.{one_entry, two_entries, bare, b
 /// A key that no row has is ignored, and is not written.
 #[tactic(auto, unfolding(crate::specs::ManifestForms::package_rows, crate::specs::Slots::put_some))]
 pub fn unlisted_key()
-    ensures reads { (form (package_rows kept)).reads (table (two_entries (codes "name") (string (codes "p")) (codes "zzz") (integer (pos 1))))
+    ensures reads { (form (package_rows kept)).reads
+        (table (two_entries (codes "name") (string (codes "p")) (codes "zzz") (integer (pos 1))))
         (named (codes "p")) }
     ensures written { (form (package_rows kept)).written (named (codes "p"))
         ≡ table (one_entry (codes "name") (string (codes "p"))) }
@@ -28,7 +29,8 @@ pub fn unlisted_key()
 /// `workspace = true` beside `version`: the workspace lends the dependency, and `version` is ignored.
 #[tactic(auto, unfolding(crate::specs::PartForms::inherited_rows, crate::specs::Slots::put_some))]
 pub fn lent_dependency()
-    ensures reads { dependency.reads (table (two_entries (codes "version") (integer (pos 3)) (codes "workspace") (boolean true)))
+    ensures reads { dependency.reads
+        (table (two_entries (codes "version") (integer (pos 3)) (codes "workspace") (boolean true)))
         (by_workspace lent) }
     ensures written { dependency.written (by_workspace lent)
         ≡ table (one_entry (codes "workspace") (boolean true)) }
@@ -52,7 +54,9 @@ pub fn former_tables()
 /// `workspace = false` beside `version`: the dependency is the member's own, and `workspace` is ignored.
 #[tactic(auto, unfolding(crate::specs::PartForms::detailed_rows, crate::specs::Slots::put_some))]
 pub fn own_dependency()
-    ensures reads { dependency.reads (table (two_entries (codes "version") (string (codes "1")) (codes "workspace") (boolean false)))
+    ensures reads { dependency.reads
+        (table (two_entries (codes "version") (string (codes "1")) (codes "workspace")
+        (boolean false)))
         (detailed (of_version (codes "1"))) }
     ensures written { dependency.written (detailed (of_version (codes "1")))
         ≡ table (one_entry (codes "version") (string (codes "1"))) }
@@ -61,9 +65,12 @@ pub fn own_dependency()
 /// Either spelling is read, the first one is written, and both are a clash that is told under the first.
 #[tactic(auto, unfolding(crate::specs::Slots::put_some))]
 pub fn second_spelling()
-    ensures reads { (form spelled_rows).reads (table (one_entry (codes "a_b") (string (codes "x")))) (Some (codes "x")) }
-    ensures written { (form spelled_rows).written (Some (codes "x")) ≡ table (one_entry (codes "a-b") (string (codes "x"))) }
-    ensures faulty { (form spelled_rows).faulty (table (two_entries (codes "a-b") (string (codes "x")) (codes "a_b") (string (codes "x"))))
+    ensures reads { (form spelled_rows).reads (table (one_entry (codes "a_b") (string (codes "x"))))
+        (Some (codes "x")) }
+    ensures written { (form spelled_rows).written (Some (codes "x"))
+        ≡ table (one_entry (codes "a-b") (string (codes "x"))) }
+    ensures faulty { (form spelled_rows).faulty
+        (table (two_entries (codes "a-b") (string (codes "x")) (codes "a_b") (string (codes "x"))))
         (at_key (codes "a-b")) two_spellings }
 {}
 
@@ -77,22 +84,26 @@ pub fn lenient_row()
 pub fn default_row()
     ensures reads { (form default_rows).reads (table no_members) true }
     ensures written { (form default_rows).written true ≡ table no_members }
-    ensures other { (form default_rows).written false ≡ table (one_entry (codes "a") (boolean false)) }
+    ensures other { (form default_rows).written false
+        ≡ table (one_entry (codes "a") (boolean false)) }
 {}
 
 /// All keys that no row names are entries of the map, in the order of the keys.
 #[tactic(auto, unfolding(crate::specs::Slots::put_some))]
 pub fn other_keys()
-    ensures reads { (form rest_rows).reads (table (two_entries (codes "a") (boolean true) (codes "b") (string (codes "x"))))
+    ensures reads { (form rest_rows).reads
+        (table (two_entries (codes "a") (boolean true) (codes "b") (string (codes "x"))))
         (record { here = Some true; others = (codes "b", codes "x") ∷ [] }) }
-    ensures written { (form rest_rows).written (record { here = Some true; others = (codes "Z", codes "x") ∷ [] })
+    ensures written { (form rest_rows).written
+        (record { here = Some true; others = (codes "Z", codes "x") ∷ [] })
         ≡ table (two_entries (codes "Z") (string (codes "x")) (codes "a") (boolean true)) }
 {}
 
 /// Without `package` and `workspace` the package is `project`, or else the whole table.
 #[tactic(auto, unfolding(crate::specs::ManifestForms::package_rows, crate::specs::ManifestForms::manifest_rows))]
 pub fn old_headers()
-    ensures project { means kept kept (one_entry (codes "project") (table (one_entry (codes "name") (string (codes "p")))))
+    ensures project { means kept kept
+        (one_entry (codes "project") (table (one_entry (codes "name") (string (codes "p")))))
         (only_package (named (codes "p"))) }
     ensures top { means kept kept (one_entry (codes "name") (string (codes "p")))
         (only_package (named (codes "p"))) }
@@ -102,7 +113,8 @@ pub fn old_headers()
 /// With a `workspace` beside it, `project` is a key that no row has.
 #[tactic(auto, unfolding(crate::specs::ManifestForms::workspace_rows, crate::specs::ManifestForms::manifest_rows))]
 pub fn workspace_beside_project()
-    ensures { means kept kept (two_entries (codes "project") (table no_members) (codes "workspace") (table no_members))
+    ensures { means kept kept
+        (two_entries (codes "project") (table no_members) (codes "workspace") (table no_members))
         (record empty_manifest { workspace = Some empty_workspace }) }
 {}
 
@@ -110,12 +122,16 @@ pub fn workspace_beside_project()
 #[tactic(auto, unfolding(crate::specs::ManifestForms::package_rows, crate::specs::ManifestForms::manifest_rows, crate::specs::Slots::put_some))]
 pub fn written_in_order()
     ensures { rewritten kept kept (record empty_manifest {
-      «package» = Some (record (named (codes "p")) { edition = Some (local e2021); version = Some inherited });
+      «package» = Some (record (named (codes "p")) {
+        edition = Some (local e2021);
+        version = Some inherited;
+      });
       dependencies = Some ((codes "a", simple (codes "1")) ∷ []);
     })
         ≡ two_entries (codes "dependencies") (table (one_entry (codes "a") (string (codes "1"))))
         (codes "package") (table (member (codes "edition") (string (codes "2021"))
-        (two_entries (codes "name") (string (codes "p")) (codes "version") (table (one_entry (codes "workspace") (boolean true)))))) }
+        (two_entries (codes "name") (string (codes "p")) (codes "version")
+        (table (one_entry (codes "workspace") (boolean true)))))) }
 {}
 
 /// Where both spellings are there, that is the only fault, whatever their values are.
@@ -127,7 +143,8 @@ pub fn only_a_clash()
 
 /// A value that does not fit is told under the spelling that the table has, and nowhere else.
 pub fn only_the_second_spelling()
-    ensures { OnlyFault ((form spelled_rows).faulty (table (one_entry (codes "a_b") (integer (pos 1)))))
+    ensures { OnlyFault
+        ((form spelled_rows).faulty (table (one_entry (codes "a_b") (integer (pos 1)))))
         (at_key (codes "a_b")) wrong_kind }
 {}
 

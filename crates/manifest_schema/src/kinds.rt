@@ -101,16 +101,19 @@ pub fn made_kinds_are_total<K: TotalKind>()
 pub fn needs_are_lawful<K: LawfulKind>()
     ensures required_is { IsLawfulNeed (required K.kind) }
     ensures optional_is { IsLawfulNeed (optional K.kind) }
-    ensures default_is { (e : K.Content) (skipped : K.Content → Bool) → IsDefault K.kind e skipped → IsLawfulNeed (default K.kind e skipped) }
+    ensures default_is { (e : K.Content) (skipped : K.Content → Bool) → IsDefault K.kind e skipped
+        → IsLawfulNeed (default K.kind e skipped) }
     ensures lenient_optional_is { IsLawfulNeed (lenient_optional K.kind) }
-    ensures lenient_default_is { (e : K.Content) → K.kind.good e → IsLawfulNeed (lenient_default K.kind e) }
+    ensures lenient_default_is { (e : K.Content) → K.kind.good e
+        → IsLawfulNeed (lenient_default K.kind e) }
 {}
 
 /// Every slot meets the need of a field or has a fault, where every value of its kind has a reading or a fault.
 pub fn needs_are_total<K: TotalKind>()
     ensures required_is { IsTotalNeed (required K.kind) }
     ensures optional_is { IsTotalNeed (optional K.kind) }
-    ensures default_is { (e : K.Content) (skipped : K.Content → Bool) → IsTotalNeed (default K.kind e skipped) }
+    ensures default_is { (e : K.Content) (skipped : K.Content → Bool)
+        → IsTotalNeed (default K.kind e skipped) }
     ensures lenient_optional_is { IsTotalNeed (lenient_optional K.kind) }
     ensures lenient_default_is { (e : K.Content) → IsTotalNeed (lenient_default K.kind e) }
 {}

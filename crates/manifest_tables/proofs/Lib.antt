@@ -1,1 +1,2 @@
 pub mod ProfileLemmas
+pub mod FillLemmas

@@ -3,12 +3,14 @@ use Rattle.std.specs.Prelude.{map, option_map, String, string_bytes}
 use Rattle.std.specs.declared.alloc.Global.{Global}
 use Rattle.std.specs.BTreeMap.{BTreeMap}
 use Rattle.toml.specs.Data.{Data}
-use Rattle.manifest_schema.specs.Kinds.{Entries}
+use Rattle.manifest_schema.specs.Kinds.{Kind, Entries, tree_of}
 use Rattle.manifest_schema.specs.Needs.{good_some}
 use Rattle.manifest_schema.specs.Forms.{form}
 use Rattle.manifest_schema.specs.PartForms.{profile_rows}
+use Rattle.manifest_schema.specs.ManifestForms.{package_rows, workspace_rows}
 use Rattle.manifest_schema.specs.Contents
 use Rattle.manifest_value.specs.Entries.{entries_content}
+use Rattle.manifest_value.specs.Reading.{written_as}
 use Rattle.manifest_parts.specs.Parts.{edition_content, resolver_content, text_or_flag_content, publish_content, inh_content}
 use Rattle.manifest_parts.specs.Records.{dependency_content, lint_content, profile_content}
 use Rattle.manifest_parts.specs.declared.dependency.Dependency.{Dependency}
@@ -52,6 +54,14 @@ package_content tree p = record {
   resolver = option_map resolver_content p.resolver;
 }
 
+-- the same, whose metadata has the contents m of this kind
+abbrev pub package_of : {M A : Type 0} → Kind A → (M → A) → Package M → Contents.Package
+package_of K m p = package_content (written_as K m) p
+
+-- the form of a package whose metadata has this kind
+abbrev pub package_form : {A : Type 0} → Kind A → Kind Contents.Package
+package_form K = form (package_rows (tree_of K))
+
 abbrev pub workspace_package_content : WorkspacePackage → Contents.WorkspacePackage
 workspace_package_content p = record {
   edition = option_map edition_content p.edition;
@@ -83,6 +93,14 @@ workspace_content tree w = record {
   metadata = option_map tree w.metadata;
   lints = option_map (λ m. entries_content (λ l. entries_content lint_content l.entries) m.entries) w.lints;
 }
+
+-- the same, whose metadata has the contents m of this kind
+abbrev pub workspace_of : {M A : Type 0} → Kind A → (M → A) → Workspace M → Contents.Workspace
+workspace_of K m w = workspace_content (written_as K m) w
+
+-- the form of a workspace whose metadata has this kind
+abbrev pub workspace_form : {A : Type 0} → Kind A → Kind Contents.Workspace
+workspace_form K = form (workspace_rows (tree_of K))
 
 abbrev pub profiles_content : Profiles → Contents.Profiles
 profiles_content p = record {

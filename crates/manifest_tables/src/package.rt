@@ -1,29 +1,32 @@
 //! The package of a manifest.
 
-ghost use Rattle.std.specs.Prelude.{◌≡◌, ◌↔◌, IsTrue, IfOk, IfErr, OnOk, Some, string_bytes};
-ghost use Rattle.toml.specs.Data.{Data, table as data_table};
-ghost use Rattle.toml.specs.View.{view, table_view};
+ghost use Rattle.std.specs.Prelude.{◌≡◌, ◌↔◌, IsTrue, map, IfOk, IfErr, OnOk, Some, string_bytes};
+ghost use Rattle.toml.specs.Data.{Data};
+ghost use Rattle.toml.specs.View.{view};
 ghost use Rattle.manifest_schema.specs.Forms.{form};
 ghost use Rattle.manifest_schema.specs.Kinds.{tree_of, local};
 ghost use Rattle.manifest_schema.specs.Defaults.{named};
 ghost use Rattle.manifest_schema.specs.Contents;
 ghost use Rattle.manifest_schema.specs.ManifestForms.{package_rows};
-ghost use Rattle.manifest_schema.specs.ForProofs.{first_fit, written_part};
 ghost use Rattle.manifest_schema.proofs.KindLaws.{tree_lawful};
 ghost use Rattle.manifest_schema.proofs.ManifestLaws.{package_lawful};
 ghost use Rattle.manifest_value.specs.Faults.{FaultIn};
+ghost use Rattle.manifest_value.specs.Reading.{data_of, Reads, WritesRows};
+ghost use Rattle.manifest_value.specs.Walks.{spellings_view, names_of};
+ghost use Rattle.manifest_value.specs.Cursors.{Filled, Passed, UnfitFrom};
 ghost use Rattle.manifest_parts.specs.Parts.{inh_content};
 ghost use Rattle.manifest_parts.specs.Queries.{version_of};
 ghost use Rattle.manifest_parts.specs.Refusals.{RefusedIn};
-ghost use Rattle.manifest_tables.specs.Tables.{package_content};
+ghost use Rattle.manifest_tables.specs.Tables.{package_content, package_of, package_form};
 
 use manifest_parts::error::{Error, read};
 use manifest_parts::{Edition, MaybeInherited, Publish, Resolver, StringOrBool};
+use manifest_value::cursor::{RowCursor, fill, fill_tree, required, rows_of};
 use manifest_value::fault::here;
-use manifest_value::metadata::{fill_tree, put_tree};
-use manifest_value::rows::{fill, put_optional, put_row, required};
+use manifest_value::metadata::put_tree;
+use manifest_value::rows::{put_optional, put_row};
 use manifest_value::well_formed::tree_is_well_formed;
-use manifest_value::{Cause, Metadata, ReadFault, Schema};
+use manifest_value::{Cause, Metadata, ReadFault, Schema, Spellings, spelled, walk};
 use std::alloc::{AllocError, Global};
 use toml::{Table, Value};
 
@@ -101,8 +104,9 @@ impl<M: Metadata> Package<M> {
     /// let package = Package::<Value>::from_value(alloc, &value)?;
     /// ```
     pub fn from_value(alloc: Global, value: &Value) -> Result<Package<M>, Error>
-        ensures ok { IfOk result (λ x. (form (package_rows (tree_of M.kind))).reads (view value.now) (package_content (λ m. M.kind.written (M.content m)) x)) }
-        ensures refused { IfErr result (RefusedIn ((form (package_rows (tree_of M.kind))).faulty (view value.now))) }
+        ensures ok { IfOk result
+            (Reads (package_form M.kind) (package_of M.kind M.content) (view value.now)) }
+        ensures refused { IfErr result (RefusedIn ((package_form M.kind).faulty (view value.now))) }
     {
         read(alloc, value)
     }
@@ -114,7 +118,8 @@ impl<M: Metadata> Package<M> {
     /// let can_be_written = package.is_well_formed();
     /// ```
     pub fn is_well_formed(&self) -> bool
-        ensures { IsTrue result ↔ (form (package_rows (tree_of M.kind))).good (package_content (λ m. M.kind.written (M.content m)) self.now) }
+        ensures { IsTrue result
+            ↔ (package_form M.kind).good (package_of M.kind M.content self.now) }
     {
         tree_is_well_formed(&self.metadata)
     }
@@ -128,7 +133,9 @@ impl<M> Package<M> {
     /// let package = Package::<Value>::new(name, String::from_str(alloc, "1.0.0")?);
     /// ```
     pub fn new(name: String, version: String) -> Package<M>
-        ensures { (f : M → Data) → package_content f result ≡ record (named (string_bytes name)) { version = Some (local (string_bytes version)) } }
+        ensures { (f : M → Data)
+            → package_content f result
+            ≡ record (named (string_bytes name)) { version = Some (local (string_bytes version)) } }
     {
         Package {
             version: Some(MaybeInherited::Local(version)),
@@ -143,7 +150,8 @@ impl<M> Package<M> {
     /// let version = package.version(); // of `{ name = 'a' }`, `Local("0.0.0")`
     /// ```
     pub fn version(&self) -> MaybeInherited<&str>
-        ensures { (f : M → Data) → inh_content (λ s. s.now) result ≡ version_of (package_content f self.now) }
+        ensures { (f : M → Data)
+            → inh_content (λ s. s.now) result ≡ version_of (package_content f self.now) }
     {
         match &self.version {
             None => MaybeInherited::Local("0.0.0"),
@@ -190,6 +198,45 @@ fn named<M>(name: String) -> Package<M>
     }
 }
 
+static PACKAGE: [Spellings; 28] = spelled![
+    "name",
+    "edition",
+    "version",
+    "build",
+    "workspace",
+    "authors",
+    "links",
+    "description",
+    "homepage",
+    "documentation",
+    "readme",
+    "keywords",
+    "categories",
+    "license",
+    "license-file",
+    "repository",
+    "metadata",
+    "rust-version",
+    "exclude",
+    "include",
+    "default-run",
+    "autolib",
+    "autobins",
+    "autoexamples",
+    "autotests",
+    "autobenches",
+    "publish",
+    "resolver",
+];
+
+/// The spellings of the rows.
+#[tactic(auto, unfolding(manifest_schema::specs::ManifestForms::package_rows))]
+fn package_names<M: Metadata>() -> &'static [Spellings; 28]
+    ensures { map spellings_view result.now ≡ names_of (package_rows (tree_of M.kind)) }
+{
+    &PACKAGE
+}
+
 /// Reads a package from a table: the one reading of the table by the form of a package, as of a value that is this table.
 ///
 /// Refuses with the fault of a row, its key path beginning at the table, or with want of memory. The package under an
@@ -201,25 +248,32 @@ fn named<M>(name: String) -> Package<M>
 /// ```
 #[tactic(auto, unfolding(manifest_schema::specs::ManifestForms::package_rows))]
 pub fn package_from<M: Metadata>(alloc: Global, table: &Table) -> Result<Package<M>, ReadFault>
-    ensures ok { IfOk result (λ x. (form (package_rows (tree_of M.kind))).reads (data_table (table_view table.now)) (package_content (λ m. M.kind.written (M.content m)) x)) }
-    ensures fault { IfErr result (FaultIn ((form (package_rows (tree_of M.kind))).faulty (data_table (table_view table.now)))) }
+    ensures ok { IfOk result
+        (Reads (package_form M.kind) (package_of M.kind M.content) (data_of table.now)) }
+    ensures fault { IfErr result (FaultIn ((package_form M.kind).faulty (data_of table.now))) }
 {
-    let mut x = named(required(alloc, table, "name", None)?);
-    fill_package(alloc, table, &mut x).and(Ok(x))
+    let names = package_names::<M>();
+    let walk = walk(alloc, table, names)?;
+    let mut rows = rows_of(names, walk.slots.as_slice());
+    let mut x = named(required(alloc, &mut rows)?);
+    fill_package(alloc, &mut rows, &mut x).and(Ok(x))
 }
 
 /// Reads all rows but the first, which has been read.
+#[tactic(auto, unfolding(manifest_schema::specs::ManifestForms::package_rows))]
 fn fill_package<M: Metadata>(
     alloc: Global,
-    table: &Table,
+    rows: &mut RowCursor<'_, '_>,
     x: &mut Package<M>,
 ) -> Result<(), ReadFault>
-    ensures ok { OnOk result (first_fit 1 (package_rows (tree_of M.kind)) (table_view table.now) (package_content (λ m. M.kind.written (M.content m)) x.old) → first_fit 28 (package_rows (tree_of M.kind)) (table_view table.now) (package_content (λ m. M.kind.written (M.content m)) x.new)) }
-    ensures fault { IfErr result (FaultIn ((form (package_rows (tree_of M.kind))).faulty (data_table (table_view table.now)))) }
+    ensures ok { Filled 1 28 (package_rows (tree_of M.kind)) rows.old
+        (package_of M.kind M.content x.old) (package_of M.kind M.content x.new) result }
+    ensures next { Passed 1 28 (package_rows (tree_of M.kind)) rows.old rows.new result }
+    ensures fault { UnfitFrom 1 (package_rows (tree_of M.kind)) rows.old result }
 {
-    fill_identity(alloc, table, x)?;
-    fill_description(alloc, table, x)?;
-    fill_build(alloc, table, x)?;
+    fill_identity(alloc, rows, x)?;
+    fill_description(alloc, rows, x)?;
+    fill_build(alloc, rows, x)?;
     Ok(())
 }
 
@@ -227,21 +281,23 @@ fn fill_package<M: Metadata>(
 #[tactic(auto, unfolding(manifest_schema::specs::ManifestForms::package_rows))]
 fn fill_identity<M: Metadata>(
     alloc: Global,
-    table: &Table,
+    rows: &mut RowCursor<'_, '_>,
     x: &mut Package<M>,
 ) -> Result<(), ReadFault>
-    ensures ok { OnOk result (first_fit 1 (package_rows (tree_of M.kind)) (table_view table.now) (package_content (λ m. M.kind.written (M.content m)) x.old) → first_fit 10 (package_rows (tree_of M.kind)) (table_view table.now) (package_content (λ m. M.kind.written (M.content m)) x.new)) }
-    ensures fault { IfErr result (FaultIn ((form (package_rows (tree_of M.kind))).faulty (data_table (table_view table.now)))) }
+    ensures ok { Filled 1 10 (package_rows (tree_of M.kind)) rows.old
+        (package_of M.kind M.content x.old) (package_of M.kind M.content x.new) result }
+    ensures next { Passed 1 10 (package_rows (tree_of M.kind)) rows.old rows.new result }
+    ensures fault { UnfitFrom 1 (package_rows (tree_of M.kind)) rows.old result }
 {
-    fill(alloc, table, "edition", None, &mut x.edition)?;
-    fill(alloc, table, "version", None, &mut x.version)?;
-    fill(alloc, table, "build", None, &mut x.build)?;
-    fill(alloc, table, "workspace", None, &mut x.workspace)?;
-    fill(alloc, table, "authors", None, &mut x.authors)?;
-    fill(alloc, table, "links", None, &mut x.links)?;
-    fill(alloc, table, "description", None, &mut x.description)?;
-    fill(alloc, table, "homepage", None, &mut x.homepage)?;
-    fill(alloc, table, "documentation", None, &mut x.documentation)?;
+    fill(alloc, rows, &mut x.edition)?;
+    fill(alloc, rows, &mut x.version)?;
+    fill(alloc, rows, &mut x.build)?;
+    fill(alloc, rows, &mut x.workspace)?;
+    fill(alloc, rows, &mut x.authors)?;
+    fill(alloc, rows, &mut x.links)?;
+    fill(alloc, rows, &mut x.description)?;
+    fill(alloc, rows, &mut x.homepage)?;
+    fill(alloc, rows, &mut x.documentation)?;
     Ok(())
 }
 
@@ -249,21 +305,23 @@ fn fill_identity<M: Metadata>(
 #[tactic(auto, unfolding(manifest_schema::specs::ManifestForms::package_rows))]
 fn fill_description<M: Metadata>(
     alloc: Global,
-    table: &Table,
+    rows: &mut RowCursor<'_, '_>,
     x: &mut Package<M>,
 ) -> Result<(), ReadFault>
-    ensures ok { OnOk result (first_fit 10 (package_rows (tree_of M.kind)) (table_view table.now) (package_content (λ m. M.kind.written (M.content m)) x.old) → first_fit 19 (package_rows (tree_of M.kind)) (table_view table.now) (package_content (λ m. M.kind.written (M.content m)) x.new)) }
-    ensures fault { IfErr result (FaultIn ((form (package_rows (tree_of M.kind))).faulty (data_table (table_view table.now)))) }
+    ensures ok { Filled 10 19 (package_rows (tree_of M.kind)) rows.old
+        (package_of M.kind M.content x.old) (package_of M.kind M.content x.new) result }
+    ensures next { Passed 10 19 (package_rows (tree_of M.kind)) rows.old rows.new result }
+    ensures fault { UnfitFrom 10 (package_rows (tree_of M.kind)) rows.old result }
 {
-    fill(alloc, table, "readme", None, &mut x.readme)?;
-    fill(alloc, table, "keywords", None, &mut x.keywords)?;
-    fill(alloc, table, "categories", None, &mut x.categories)?;
-    fill(alloc, table, "license", None, &mut x.license)?;
-    fill(alloc, table, "license-file", None, &mut x.license_file)?;
-    fill(alloc, table, "repository", None, &mut x.repository)?;
-    fill_tree(alloc, table, "metadata", None, &mut x.metadata)?;
-    fill(alloc, table, "rust-version", None, &mut x.rust_version)?;
-    fill(alloc, table, "exclude", None, &mut x.exclude)?;
+    fill(alloc, rows, &mut x.readme)?;
+    fill(alloc, rows, &mut x.keywords)?;
+    fill(alloc, rows, &mut x.categories)?;
+    fill(alloc, rows, &mut x.license)?;
+    fill(alloc, rows, &mut x.license_file)?;
+    fill(alloc, rows, &mut x.repository)?;
+    fill_tree(alloc, rows, &mut x.metadata)?;
+    fill(alloc, rows, &mut x.rust_version)?;
+    fill(alloc, rows, &mut x.exclude)?;
     Ok(())
 }
 
@@ -271,21 +329,23 @@ fn fill_description<M: Metadata>(
 #[tactic(auto, unfolding(manifest_schema::specs::ManifestForms::package_rows))]
 fn fill_build<M: Metadata>(
     alloc: Global,
-    table: &Table,
+    rows: &mut RowCursor<'_, '_>,
     x: &mut Package<M>,
 ) -> Result<(), ReadFault>
-    ensures ok { OnOk result (first_fit 19 (package_rows (tree_of M.kind)) (table_view table.now) (package_content (λ m. M.kind.written (M.content m)) x.old) → first_fit 28 (package_rows (tree_of M.kind)) (table_view table.now) (package_content (λ m. M.kind.written (M.content m)) x.new)) }
-    ensures fault { IfErr result (FaultIn ((form (package_rows (tree_of M.kind))).faulty (data_table (table_view table.now)))) }
+    ensures ok { Filled 19 28 (package_rows (tree_of M.kind)) rows.old
+        (package_of M.kind M.content x.old) (package_of M.kind M.content x.new) result }
+    ensures next { Passed 19 28 (package_rows (tree_of M.kind)) rows.old rows.new result }
+    ensures fault { UnfitFrom 19 (package_rows (tree_of M.kind)) rows.old result }
 {
-    fill(alloc, table, "include", None, &mut x.include)?;
-    fill(alloc, table, "default-run", None, &mut x.default_run)?;
-    fill(alloc, table, "autolib", None, &mut x.autolib)?;
-    fill(alloc, table, "autobins", None, &mut x.autobins)?;
-    fill(alloc, table, "autoexamples", None, &mut x.autoexamples)?;
-    fill(alloc, table, "autotests", None, &mut x.autotests)?;
-    fill(alloc, table, "autobenches", None, &mut x.autobenches)?;
-    fill(alloc, table, "publish", None, &mut x.publish)?;
-    fill(alloc, table, "resolver", None, &mut x.resolver)?;
+    fill(alloc, rows, &mut x.include)?;
+    fill(alloc, rows, &mut x.default_run)?;
+    fill(alloc, rows, &mut x.autolib)?;
+    fill(alloc, rows, &mut x.autobins)?;
+    fill(alloc, rows, &mut x.autoexamples)?;
+    fill(alloc, rows, &mut x.autotests)?;
+    fill(alloc, rows, &mut x.autobenches)?;
+    fill(alloc, rows, &mut x.publish)?;
+    fill(alloc, rows, &mut x.resolver)?;
     Ok(())
 }
 
@@ -296,7 +356,9 @@ fn put_identity<M: Metadata>(
     out: &mut Table,
     x: &Package<M>,
 ) -> Result<(), AllocError>
-    ensures { OnOk result (table_view out.new ≡ written_part 0 10 (package_rows (tree_of M.kind)) (package_content (λ m. M.kind.written (M.content m)) x.now) (table_view out.old)) }
+    ensures { OnOk result
+        (WritesRows 0 10 (package_rows (tree_of M.kind)) (package_of M.kind M.content x.now) out.old
+        out.new) }
 {
     put_optional(alloc, out, "documentation", &x.documentation)?;
     put_optional(alloc, out, "homepage", &x.homepage)?;
@@ -318,7 +380,9 @@ fn put_description<M: Metadata>(
     out: &mut Table,
     x: &Package<M>,
 ) -> Result<(), AllocError>
-    ensures { OnOk result (table_view out.new ≡ written_part 10 9 (package_rows (tree_of M.kind)) (package_content (λ m. M.kind.written (M.content m)) x.now) (table_view out.old)) }
+    ensures { OnOk result
+        (WritesRows 10 9 (package_rows (tree_of M.kind)) (package_of M.kind M.content x.now) out.old
+        out.new) }
 {
     put_optional(alloc, out, "exclude", &x.exclude)?;
     put_optional(alloc, out, "rust-version", &x.rust_version)?;
@@ -335,7 +399,9 @@ fn put_description<M: Metadata>(
 /// Writes rows 20 to 28, from the last to the first.
 #[tactic(auto, unfolding(manifest_schema::specs::ManifestForms::package_rows))]
 fn put_build<M: Metadata>(alloc: Global, out: &mut Table, x: &Package<M>) -> Result<(), AllocError>
-    ensures { OnOk result (table_view out.new ≡ written_part 19 9 (package_rows (tree_of M.kind)) (package_content (λ m. M.kind.written (M.content m)) x.now) (table_view out.old)) }
+    ensures { OnOk result
+        (WritesRows 19 9 (package_rows (tree_of M.kind)) (package_of M.kind M.content x.now) out.old
+        out.new) }
 {
     put_optional(alloc, out, "resolver", &x.resolver)?;
     put_optional(alloc, out, "publish", &x.publish)?;
@@ -352,9 +418,9 @@ fn put_build<M: Metadata>(alloc: Global, out: &mut Table, x: &Package<M>) -> Res
 impl<M: Metadata> Schema for Package<M> {
     ghost Content = { Contents.Package };
 
-    ghost content = { package_content (λ m. M.kind.written (M.content m)) };
+    ghost content = { package_of M.kind M.content };
 
-    ghost kind = { form (package_rows (tree_of M.kind)) };
+    ghost kind = { package_form M.kind };
 
     fn from_value(alloc: Global, value: &Value) -> Result<Package<M>, ReadFault> {
         match value {

@@ -1,30 +1,34 @@
 //! The profiles of a manifest.
 
-ghost use Rattle.std.specs.Prelude.{◌≡◌, ◌↔◌, IsTrue, option_map, IfOk, IfErr, OnOk};
-ghost use Rattle.toml.specs.Data.{table as data_table};
-ghost use Rattle.toml.specs.View.{view, table_view};
-ghost use Rattle.manifest_schema.specs.Forms.{form};
+ghost use Rattle.std.specs.Prelude.{◌≡◌, ◌↔◌, ◌∷◌, [], codes, IsTrue, map, option_map, IfOk, IfErr, OnOk};
+ghost use Rattle.toml.specs.Data.{Members, table as table_data};
+ghost use Rattle.toml.specs.View.{view};
+ghost use Rattle.manifest_schema.specs.Slots.{without};
+ghost use Rattle.manifest_schema.specs.Forms.{form, none_named};
 ghost use Rattle.manifest_schema.specs.Kinds.{good_entries};
 ghost use Rattle.manifest_schema.specs.Needs.{good_some};
 ghost use Rattle.manifest_schema.specs.Contents;
 ghost use Rattle.manifest_schema.specs.Defaults.{no_profiles};
 ghost use Rattle.manifest_schema.specs.PartForms.{profile_rows, profiles_rows};
-ghost use Rattle.manifest_schema.specs.ForProofs.{first_fit};
 ghost use Rattle.manifest_schema.proofs.PartLaws.{profiles_lawful};
 ghost use Rattle.manifest_value.specs.Faults.{FaultIn};
 ghost use Rattle.manifest_value.specs.Entries.{entries_content};
+ghost use Rattle.manifest_value.specs.Reading.{data_of, Reads};
+ghost use Rattle.manifest_value.specs.Walks.{spellings_view, names_of, all_words, rest_view, Ascend};
+ghost use Rattle.manifest_value.specs.Cursors.{Stands, Filled, Passed, UnfitFrom};
 ghost use Rattle.manifest_parts.specs.Records.{profile_content};
 ghost use Rattle.manifest_parts.specs.Refusals.{RefusedIn};
 ghost use Rattle.manifest_tables.specs.Tables.{profiles_content, NamedAreGood};
 
 use manifest_parts::Profile;
 use manifest_parts::error::{Error, read};
+use manifest_value::cursor::{RowCursor, fill, rows_of};
+use manifest_value::entries::map_of_entries;
 use manifest_value::fault::here;
 use manifest_value::maps::entries_table;
-use manifest_value::others::others_of;
-use manifest_value::rows::{fill, put_optional};
+use manifest_value::rows::put_optional;
 use manifest_value::well_formed::none_is_named;
-use manifest_value::{Cause, ReadFault, Schema};
+use manifest_value::{Cause, ReadFault, Schema, Spellings, spelled, walk};
 use std::alloc::{AllocError, Global};
 use std::collections::BTreeMap;
 use toml::{Table, Value};
@@ -76,7 +80,7 @@ impl Profiles {
     /// let profiles = Profiles::from_value(alloc, &value)?; // `release`, and the custom profile `tiny`
     /// ```
     pub fn from_value(alloc: Global, value: &Value) -> Result<Profiles, Error>
-        ensures ok { IfOk result (λ x. (form profiles_rows).reads (view value.now) (profiles_content x)) }
+        ensures ok { IfOk result (Reads (form profiles_rows) profiles_content (view value.now)) }
         ensures refused { IfErr result (RefusedIn ((form profiles_rows).faulty (view value.now))) }
     {
         read(alloc, value)
@@ -91,15 +95,14 @@ impl Profiles {
     pub fn is_well_formed(&self) -> bool
         ensures { IsTrue result ↔ (form profiles_rows).good (profiles_content self.now) }
     {
-        named_are_well_formed(self)
-            && none_is_named(&self.custom, &["release", "dev", "test", "bench", "doc"])
-            && customs_are_well_formed(&self.custom)
+        named_are_well_formed(self) & customs_fit(&self.custom)
     }
 }
 
 /// Whether the profile is absent or well-formed.
 fn profile_is_well_formed(profile: &Option<Profile>) -> bool
-    ensures { IsTrue result ↔ good_some (form profile_rows) (option_map profile_content profile.now) }
+    ensures { IsTrue result
+        ↔ good_some (form profile_rows) (option_map profile_content profile.now) }
 {
     match profile {
         Some(profile) => profile.is_well_formed(),
@@ -118,9 +121,22 @@ fn named_are_well_formed(x: &Profiles) -> bool
         && profile_is_well_formed(&x.doc)
 }
 
+/// Whether each custom profile is well-formed, and none has the name of one that Cargo names.
+fn customs_fit(custom: &BTreeMap<String, Profile>) -> bool
+    ensures { let names = codes "release" ∷ codes "dev" ∷ codes "test" ∷ codes "bench"
+        ∷ codes "doc" ∷ [] in
+        let others = entries_content profile_content custom.now.entries in
+        IsTrue result
+        ↔ (IsTrue (none_named names others) × good_entries (form profile_rows) others) }
+{
+    none_is_named(custom, &["release", "dev", "test", "bench", "doc"])
+        && customs_are_well_formed(custom)
+}
+
 /// Whether each custom profile is well-formed.
 fn customs_are_well_formed(custom: &BTreeMap<String, Profile>) -> bool
-    ensures { IsTrue result ↔ good_entries (form profile_rows) (entries_content profile_content custom.now.entries) }
+    ensures { IsTrue result
+        ↔ good_entries (form profile_rows) (entries_content profile_content custom.now.entries) }
 {
     for (_name, profile) in custom.iter() {
         if !profile.is_well_formed() {
@@ -130,47 +146,67 @@ fn customs_are_well_formed(custom: &BTreeMap<String, Profile>) -> bool
     true
 }
 
+static PROFILES: [Spellings; 5] = spelled!["release", "dev", "test", "bench", "doc",];
+
+/// The spellings of the rows.
+#[tactic(auto, unfolding(manifest_schema::specs::PartForms::profiles_rows))]
+fn profiles_names() -> &'static [Spellings; 5]
+    ensures { map spellings_view result.now ≡ names_of profiles_rows }
+{
+    &PROFILES
+}
+
 /// Reads the rows of a table.
+#[tactic(auto, unfolding(manifest_schema::specs::PartForms::profiles_rows))]
 fn profiles_from(alloc: Global, table: &Table) -> Result<Profiles, ReadFault>
-    ensures ok { IfOk result (λ x. (form profiles_rows).reads (data_table (table_view table.now)) (profiles_content x)) }
-    ensures fault { IfErr result (FaultIn ((form profiles_rows).faulty (data_table (table_view table.now)))) }
+    ensures ok { IfOk result (Reads (form profiles_rows) profiles_content (data_of table.now)) }
+    ensures fault { IfErr result (FaultIn ((form profiles_rows).faulty (data_of table.now))) }
 {
+    let names = profiles_names();
+    let walk = walk(alloc, table, names)?;
+    let mut rows = rows_of(names, walk.slots.as_slice());
     let mut x = Profiles::default(alloc);
-    fill_profiles(alloc, table, &mut x).and(Ok(x))
+    fill_profiles(alloc, &mut rows, walk.rest.as_slice(), &mut x).and(Ok(x))
 }
 
-/// Reads the profiles that Cargo names, and those of all other names.
-#[tactic(auto, using(crate::proofs::ProfileLemmas::custom_fault), unfolding(manifest_schema::specs::PartForms::profiles_rows))]
-fn fill_profiles(alloc: Global, table: &Table, x: &mut Profiles) -> Result<(), ReadFault>
-    ensures ok { OnOk result ((form profiles_rows).reads (data_table (table_view table.now)) (profiles_content x.new)) }
-    ensures fault { IfErr result (FaultIn ((form profiles_rows).faulty (data_table (table_view table.now)))) }
+/// Reads the profiles that Cargo names, and of the rest those of all other names.
+#[tactic(auto, unfolding(manifest_schema::specs::PartForms::profiles_rows))]
+fn fill_profiles(
+    alloc: Global,
+    rows: &mut RowCursor<'_, '_>,
+    rest: &[(&str, &Value)],
+    x: &mut Profiles,
+) -> Result<(), ReadFault>
+    requires { Ascend (rest_view rest.now) }
+    ensures ok { (ms : Members) → Stands rows.old (names_of profiles_rows) ms
+        → rest_view rest.now ≡ without (all_words (names_of profiles_rows)) ms
+        → OnOk result (Reads (form profiles_rows) profiles_content (table_data ms) x.new) }
+    ensures fault { (ms : Members) → Stands rows.old (names_of profiles_rows) ms
+        → rest_view rest.now ≡ without (all_words (names_of profiles_rows)) ms
+        → IfErr result (FaultIn ((form profiles_rows).faulty (table_data ms))) }
 {
-    fill_building(alloc, table, x)?;
-    fill_testing(alloc, table, x)?;
-    x.custom = others_of(alloc, table, &["release", "dev", "test", "bench", "doc"])?;
+    fill_named(alloc, rows, x)?;
+    x.custom = map_of_entries(alloc, rest)?;
     Ok(())
 }
 
-/// Reads rows 1 to 3.
+/// Reads rows 1 to 5.
 #[tactic(auto, unfolding(manifest_schema::specs::PartForms::profiles_rows))]
-fn fill_building(alloc: Global, table: &Table, x: &mut Profiles) -> Result<(), ReadFault>
-    ensures ok { OnOk result (first_fit 3 profiles_rows (table_view table.now) (profiles_content x.new)) }
-    ensures fault { IfErr result (FaultIn ((form profiles_rows).faulty (data_table (table_view table.now)))) }
+fn fill_named(
+    alloc: Global,
+    rows: &mut RowCursor<'_, '_>,
+    x: &mut Profiles,
+) -> Result<(), ReadFault>
+    ensures ok { Filled 0 5 profiles_rows rows.old
+        (profiles_content x.old) (profiles_content x.new) result }
+    ensures next { Passed 0 5 profiles_rows rows.old rows.new result }
+    ensures fault { UnfitFrom 0 profiles_rows rows.old result }
 {
-    fill(alloc, table, "release", None, &mut x.release)?;
-    fill(alloc, table, "dev", None, &mut x.dev)?;
-    fill(alloc, table, "test", None, &mut x.test)?;
-    Ok(())
-}
-
-/// Reads rows 4 and 5.
-#[tactic(auto, unfolding(manifest_schema::specs::PartForms::profiles_rows))]
-fn fill_testing(alloc: Global, table: &Table, x: &mut Profiles) -> Result<(), ReadFault>
-    ensures ok { OnOk result (first_fit 3 profiles_rows (table_view table.now) (profiles_content x.old) → first_fit 5 profiles_rows (table_view table.now) (profiles_content x.new)) }
-    ensures fault { IfErr result (FaultIn ((form profiles_rows).faulty (data_table (table_view table.now)))) }
-{
-    fill(alloc, table, "bench", None, &mut x.bench)?;
-    fill(alloc, table, "doc", None, &mut x.doc)?;
+    fill(alloc, rows, &mut x.release)?;
+    fill(alloc, rows, &mut x.dev)?;
+    fill(alloc, rows, &mut x.test)?;
+    fill(alloc, rows, &mut x.bench)?;
+    fill(alloc, rows, &mut x.doc)?;
     Ok(())
 }
 

@@ -1,8 +1,8 @@
 //! The workspace of a manifest, and the package fields that members can inherit from it.
 
-ghost use Rattle.std.specs.Prelude.{◌≡◌, ◌↔◌, IsTrue, option_map, IfOk, IfErr, OnOk};
-ghost use Rattle.toml.specs.Data.{Data, table as data_table};
-ghost use Rattle.toml.specs.View.{view, table_view};
+ghost use Rattle.std.specs.Prelude.{◌≡◌, ◌↔◌, IsTrue, map, option_map, IfOk, IfErr, OnOk};
+ghost use Rattle.toml.specs.Data.{Data};
+ghost use Rattle.toml.specs.View.{view};
 ghost use Rattle.manifest_schema.specs.Forms.{form};
 ghost use Rattle.manifest_schema.specs.Kinds.{map_of, tree_of};
 ghost use Rattle.manifest_schema.specs.Needs.{good_some};
@@ -10,23 +10,26 @@ ghost use Rattle.manifest_schema.specs.Contents;
 ghost use Rattle.manifest_schema.specs.Defaults.{no_workspace_package, empty_workspace};
 ghost use Rattle.manifest_schema.specs.PartForms.{lint};
 ghost use Rattle.manifest_schema.specs.ManifestForms.{workspace_package_rows, workspace_rows};
-ghost use Rattle.manifest_schema.specs.ForProofs.{first_fit, written_part};
 ghost use Rattle.manifest_schema.proofs.KindLaws.{tree_lawful};
 ghost use Rattle.manifest_schema.proofs.ManifestLaws.{workspace_package_lawful, workspace_lawful};
 ghost use Rattle.manifest_value.specs.Faults.{FaultIn};
 ghost use Rattle.manifest_value.specs.Entries.{entries_content};
+ghost use Rattle.manifest_value.specs.Reading.{data_of, Reads, WritesRows};
+ghost use Rattle.manifest_value.specs.Walks.{spellings_view, names_of};
+ghost use Rattle.manifest_value.specs.Cursors.{Filled, Passed, UnfitFrom};
 ghost use Rattle.manifest_parts.specs.Records.{lint_content};
 ghost use Rattle.manifest_parts.specs.Refusals.{RefusedIn};
-ghost use Rattle.manifest_tables.specs.Tables.{workspace_package_content, workspace_content};
+ghost use Rattle.manifest_tables.specs.Tables.{workspace_package_content, workspace_content, workspace_of, workspace_form};
 
 use manifest_parts::error::{Error, read};
 use manifest_parts::lints::lints_fit;
 use manifest_parts::{DepsSet, Edition, LintsSet, Publish, Resolver, StringOrBool};
+use manifest_value::cursor::{RowCursor, fill, fill_default, fill_tree, rows_of};
 use manifest_value::fault::here;
-use manifest_value::metadata::{fill_tree, put_tree};
-use manifest_value::rows::{fill, fill_default, put_optional, put_row};
+use manifest_value::metadata::put_tree;
+use manifest_value::rows::{put_optional, put_row};
 use manifest_value::well_formed::tree_is_well_formed;
-use manifest_value::{Cause, Metadata, ReadFault, Schema};
+use manifest_value::{Cause, Metadata, ReadFault, Schema, Spellings, spelled, walk};
 use std::alloc::{AllocError, Global};
 use toml::{Table, Value};
 
@@ -79,95 +82,125 @@ impl WorkspacePackage {
     /// let lent = WorkspacePackage::from_value(alloc, &value)?; // what members may inherit
     /// ```
     pub fn from_value(alloc: Global, value: &Value) -> Result<WorkspacePackage, Error>
-        ensures ok { IfOk result (λ x. (form workspace_package_rows).reads (view value.now) (workspace_package_content x)) }
-        ensures refused { IfErr result (RefusedIn ((form workspace_package_rows).faulty (view value.now))) }
+        ensures ok { IfOk result
+            (Reads (form workspace_package_rows) workspace_package_content (view value.now)) }
+        ensures refused { IfErr result
+            (RefusedIn ((form workspace_package_rows).faulty (view value.now))) }
     {
         read(alloc, value)
     }
 }
 
+static LENT: [Spellings; 16] = spelled![
+    "edition",
+    "version",
+    "authors",
+    "description",
+    "homepage",
+    "documentation",
+    "readme",
+    "keywords",
+    "categories",
+    "license",
+    "license-file",
+    "repository",
+    "rust-version",
+    "exclude",
+    "include",
+    "publish",
+];
+
+/// The spellings of the rows.
+#[tactic(auto, unfolding(manifest_schema::specs::ManifestForms::workspace_package_rows))]
+fn workspace_package_names() -> &'static [Spellings; 16]
+    ensures { map spellings_view result.now ≡ names_of workspace_package_rows }
+{
+    &LENT
+}
+
 /// Reads the rows of a table.
 #[tactic(auto, unfolding(manifest_schema::specs::ManifestForms::workspace_package_rows))]
-pub(crate) fn workspace_package_from(
-    alloc: Global,
-    table: &Table,
-) -> Result<WorkspacePackage, ReadFault>
-    ensures ok { IfOk result (λ x. (form workspace_package_rows).reads (data_table (table_view table.now)) (workspace_package_content x)) }
-    ensures fault { IfErr result (FaultIn ((form workspace_package_rows).faulty (data_table (table_view table.now)))) }
+fn workspace_package_from(alloc: Global, table: &Table) -> Result<WorkspacePackage, ReadFault>
+    ensures ok { IfOk result
+        (Reads (form workspace_package_rows) workspace_package_content (data_of table.now)) }
+    ensures fault { IfErr result
+        (FaultIn ((form workspace_package_rows).faulty (data_of table.now))) }
 {
-    let mut x = WorkspacePackage {
-        edition: None,
-        version: None,
-        authors: None,
-        description: None,
-        homepage: None,
-        documentation: None,
-        readme: None,
-        keywords: None,
-        categories: None,
-        license: None,
-        license_file: None,
-        repository: None,
-        rust_version: None,
-        exclude: None,
-        include: None,
-        publish: None,
-    };
-    fill_workspace_package(alloc, table, &mut x).and(Ok(x))
+    let names = workspace_package_names();
+    let walk = walk(alloc, table, names)?;
+    let mut rows = rows_of(names, walk.slots.as_slice());
+    let mut x = WorkspacePackage::default();
+    fill_workspace_package(alloc, &mut rows, &mut x).and(Ok(x))
 }
 
 /// Reads all rows.
+#[tactic(auto, unfolding(manifest_schema::specs::ManifestForms::workspace_package_rows))]
 fn fill_workspace_package(
     alloc: Global,
-    table: &Table,
+    rows: &mut RowCursor<'_, '_>,
     x: &mut WorkspacePackage,
 ) -> Result<(), ReadFault>
-    ensures ok { OnOk result (first_fit 16 workspace_package_rows (table_view table.now) (workspace_package_content x.new)) }
-    ensures fault { IfErr result (FaultIn ((form workspace_package_rows).faulty (data_table (table_view table.now)))) }
+    ensures ok { Filled 0 16 workspace_package_rows rows.old
+        (workspace_package_content x.old) (workspace_package_content x.new) result }
+    ensures next { Passed 0 16 workspace_package_rows rows.old rows.new result }
+    ensures fault { UnfitFrom 0 workspace_package_rows rows.old result }
 {
-    fill_described(alloc, table, x)?;
-    fill_licensed(alloc, table, x)?;
+    fill_described(alloc, rows, x)?;
+    fill_licensed(alloc, rows, x)?;
     Ok(())
 }
 
 /// Reads rows 1 to 8.
 #[tactic(auto, unfolding(manifest_schema::specs::ManifestForms::workspace_package_rows))]
-fn fill_described(alloc: Global, table: &Table, x: &mut WorkspacePackage) -> Result<(), ReadFault>
-    ensures ok { OnOk result (first_fit 8 workspace_package_rows (table_view table.now) (workspace_package_content x.new)) }
-    ensures fault { IfErr result (FaultIn ((form workspace_package_rows).faulty (data_table (table_view table.now)))) }
+fn fill_described(
+    alloc: Global,
+    rows: &mut RowCursor<'_, '_>,
+    x: &mut WorkspacePackage,
+) -> Result<(), ReadFault>
+    ensures ok { Filled 0 8 workspace_package_rows rows.old
+        (workspace_package_content x.old) (workspace_package_content x.new) result }
+    ensures next { Passed 0 8 workspace_package_rows rows.old rows.new result }
+    ensures fault { UnfitFrom 0 workspace_package_rows rows.old result }
 {
-    fill(alloc, table, "edition", None, &mut x.edition)?;
-    fill(alloc, table, "version", None, &mut x.version)?;
-    fill(alloc, table, "authors", None, &mut x.authors)?;
-    fill(alloc, table, "description", None, &mut x.description)?;
-    fill(alloc, table, "homepage", None, &mut x.homepage)?;
-    fill(alloc, table, "documentation", None, &mut x.documentation)?;
-    fill(alloc, table, "readme", None, &mut x.readme)?;
-    fill(alloc, table, "keywords", None, &mut x.keywords)?;
+    fill(alloc, rows, &mut x.edition)?;
+    fill(alloc, rows, &mut x.version)?;
+    fill(alloc, rows, &mut x.authors)?;
+    fill(alloc, rows, &mut x.description)?;
+    fill(alloc, rows, &mut x.homepage)?;
+    fill(alloc, rows, &mut x.documentation)?;
+    fill(alloc, rows, &mut x.readme)?;
+    fill(alloc, rows, &mut x.keywords)?;
     Ok(())
 }
 
 /// Reads rows 9 to 16.
 #[tactic(auto, unfolding(manifest_schema::specs::ManifestForms::workspace_package_rows))]
-fn fill_licensed(alloc: Global, table: &Table, x: &mut WorkspacePackage) -> Result<(), ReadFault>
-    ensures ok { OnOk result (first_fit 8 workspace_package_rows (table_view table.now) (workspace_package_content x.old) → first_fit 16 workspace_package_rows (table_view table.now) (workspace_package_content x.new)) }
-    ensures fault { IfErr result (FaultIn ((form workspace_package_rows).faulty (data_table (table_view table.now)))) }
+fn fill_licensed(
+    alloc: Global,
+    rows: &mut RowCursor<'_, '_>,
+    x: &mut WorkspacePackage,
+) -> Result<(), ReadFault>
+    ensures ok { Filled 8 16 workspace_package_rows rows.old
+        (workspace_package_content x.old) (workspace_package_content x.new) result }
+    ensures next { Passed 8 16 workspace_package_rows rows.old rows.new result }
+    ensures fault { UnfitFrom 8 workspace_package_rows rows.old result }
 {
-    fill(alloc, table, "categories", None, &mut x.categories)?;
-    fill(alloc, table, "license", None, &mut x.license)?;
-    fill(alloc, table, "license-file", None, &mut x.license_file)?;
-    fill(alloc, table, "repository", None, &mut x.repository)?;
-    fill(alloc, table, "rust-version", None, &mut x.rust_version)?;
-    fill(alloc, table, "exclude", None, &mut x.exclude)?;
-    fill(alloc, table, "include", None, &mut x.include)?;
-    fill(alloc, table, "publish", None, &mut x.publish)?;
+    fill(alloc, rows, &mut x.categories)?;
+    fill(alloc, rows, &mut x.license)?;
+    fill(alloc, rows, &mut x.license_file)?;
+    fill(alloc, rows, &mut x.repository)?;
+    fill(alloc, rows, &mut x.rust_version)?;
+    fill(alloc, rows, &mut x.exclude)?;
+    fill(alloc, rows, &mut x.include)?;
+    fill(alloc, rows, &mut x.publish)?;
     Ok(())
 }
 
 /// Writes rows 1 to 8, from the last to the first.
 #[tactic(auto, unfolding(manifest_schema::specs::ManifestForms::workspace_package_rows))]
 fn put_described(alloc: Global, out: &mut Table, x: &WorkspacePackage) -> Result<(), AllocError>
-    ensures { OnOk result (table_view out.new ≡ written_part 0 8 workspace_package_rows (workspace_package_content x.now) (table_view out.old)) }
+    ensures { OnOk result
+        (WritesRows 0 8 workspace_package_rows (workspace_package_content x.now) out.old out.new) }
 {
     put_optional(alloc, out, "keywords", &x.keywords)?;
     put_optional(alloc, out, "readme", &x.readme)?;
@@ -183,7 +216,8 @@ fn put_described(alloc: Global, out: &mut Table, x: &WorkspacePackage) -> Result
 /// Writes rows 9 to 16, from the last to the first.
 #[tactic(auto, unfolding(manifest_schema::specs::ManifestForms::workspace_package_rows))]
 fn put_licensed(alloc: Global, out: &mut Table, x: &WorkspacePackage) -> Result<(), AllocError>
-    ensures { OnOk result (table_view out.new ≡ written_part 8 8 workspace_package_rows (workspace_package_content x.now) (table_view out.old)) }
+    ensures { OnOk result
+        (WritesRows 8 8 workspace_package_rows (workspace_package_content x.now) out.old out.new) }
 {
     put_optional(alloc, out, "publish", &x.publish)?;
     put_optional(alloc, out, "include", &x.include)?;
@@ -302,8 +336,10 @@ impl<M: Metadata> Workspace<M> {
     /// let workspace = Workspace::<Value>::from_value(alloc, &value)?;
     /// ```
     pub fn from_value(alloc: Global, value: &Value) -> Result<Workspace<M>, Error>
-        ensures ok { IfOk result (λ x. (form (workspace_rows (tree_of M.kind))).reads (view value.now) (workspace_content (λ m. M.kind.written (M.content m)) x)) }
-        ensures refused { IfErr result (RefusedIn ((form (workspace_rows (tree_of M.kind))).faulty (view value.now))) }
+        ensures ok { IfOk result
+            (Reads (workspace_form M.kind) (workspace_of M.kind M.content) (view value.now)) }
+        ensures refused { IfErr result
+            (RefusedIn ((workspace_form M.kind).faulty (view value.now))) }
     {
         read(alloc, value)
     }
@@ -315,7 +351,8 @@ impl<M: Metadata> Workspace<M> {
     /// let can_be_written = workspace.is_well_formed();
     /// ```
     pub fn is_well_formed(&self) -> bool
-        ensures { IsTrue result ↔ (form (workspace_rows (tree_of M.kind))).good (workspace_content (λ m. M.kind.written (M.content m)) self.now) }
+        ensures { IsTrue result
+            ↔ (workspace_form M.kind).good (workspace_of M.kind M.content self.now) }
     {
         lent_lints_fit(&self.lints);
         tree_is_well_formed(&self.metadata)
@@ -324,56 +361,71 @@ impl<M: Metadata> Workspace<M> {
 
 /// Reads the priorities of the lints that members can inherit: each `i8` is in the range of its row.
 fn lent_lints_fit(lints: &Option<LintsSet>)
-    ensures { good_some (map_of (map_of lint)) (option_map (λ m. entries_content (λ l. entries_content lint_content l.entries) m.entries) lints.now) }
+    ensures { good_some (map_of (map_of lint))
+        (option_map (λ m. entries_content (λ l. entries_content lint_content l.entries) m.entries)
+        lints.now) }
 {
     if let Some(lints) = lints {
         lints_fit(lints);
     }
 }
 
+static WORKSPACE: [Spellings; 8] = spelled![
+    "members",
+    "default-members" | "default_members",
+    "exclude",
+    "resolver",
+    "dependencies",
+    "package",
+    "metadata",
+    "lints",
+];
+
+/// The spellings of the rows.
+#[tactic(auto, unfolding(manifest_schema::specs::ManifestForms::workspace_rows))]
+fn workspace_names<M: Metadata>() -> &'static [Spellings; 8]
+    ensures { map spellings_view result.now ≡ names_of (workspace_rows (tree_of M.kind)) }
+{
+    &WORKSPACE
+}
+
 /// Reads the rows of a table.
+#[tactic(auto, unfolding(manifest_schema::specs::ManifestForms::workspace_rows))]
 pub(crate) fn workspace_from<M: Metadata>(
     alloc: Global,
     table: &Table,
 ) -> Result<Workspace<M>, ReadFault>
-    ensures ok { IfOk result (λ x. (form (workspace_rows (tree_of M.kind))).reads (data_table (table_view table.now)) (workspace_content (λ m. M.kind.written (M.content m)) x)) }
-    ensures fault { IfErr result (FaultIn ((form (workspace_rows (tree_of M.kind))).faulty (data_table (table_view table.now)))) }
+    ensures ok { IfOk result
+        (Reads (workspace_form M.kind) (workspace_of M.kind M.content) (data_of table.now)) }
+    ensures fault { IfErr result (FaultIn ((workspace_form M.kind).faulty (data_of table.now))) }
 {
+    let names = workspace_names::<M>();
+    let walk = walk(alloc, table, names)?;
+    let mut rows = rows_of(names, walk.slots.as_slice());
     let mut x = Workspace::default(alloc);
-    fill_workspace(alloc, table, &mut x).and(Ok(x))
+    fill_workspace(alloc, &mut rows, &mut x).and(Ok(x))
 }
 
 /// Reads all rows.
 #[tactic(auto, unfolding(manifest_schema::specs::ManifestForms::workspace_rows))]
 fn fill_workspace<M: Metadata>(
     alloc: Global,
-    table: &Table,
+    rows: &mut RowCursor<'_, '_>,
     x: &mut Workspace<M>,
 ) -> Result<(), ReadFault>
-    ensures ok { OnOk result ((form (workspace_rows (tree_of M.kind))).reads (data_table (table_view table.now)) (workspace_content (λ m. M.kind.written (M.content m)) x.new)) }
-    ensures fault { IfErr result (FaultIn ((form (workspace_rows (tree_of M.kind))).faulty (data_table (table_view table.now)))) }
+    ensures ok { Filled 0 8 (workspace_rows (tree_of M.kind)) rows.old
+        (workspace_of M.kind M.content x.old) (workspace_of M.kind M.content x.new) result }
+    ensures next { Passed 0 8 (workspace_rows (tree_of M.kind)) rows.old rows.new result }
+    ensures fault { UnfitFrom 0 (workspace_rows (tree_of M.kind)) rows.old result }
 {
-    fill_default(
-        alloc,
-        table,
-        "members",
-        None,
-        Vec::new(alloc),
-        &mut x.members,
-    )?;
-    fill(
-        alloc,
-        table,
-        "default-members",
-        Some("default_members"),
-        &mut x.default_members,
-    )?;
-    fill(alloc, table, "exclude", None, &mut x.exclude)?;
-    fill(alloc, table, "resolver", None, &mut x.resolver)?;
-    fill(alloc, table, "dependencies", None, &mut x.dependencies)?;
-    fill(alloc, table, "package", None, &mut x.package)?;
-    fill_tree(alloc, table, "metadata", None, &mut x.metadata)?;
-    fill(alloc, table, "lints", None, &mut x.lints)?;
+    fill_default(alloc, rows, Vec::new(alloc), &mut x.members)?;
+    fill(alloc, rows, &mut x.default_members)?;
+    fill(alloc, rows, &mut x.exclude)?;
+    fill(alloc, rows, &mut x.resolver)?;
+    fill(alloc, rows, &mut x.dependencies)?;
+    fill(alloc, rows, &mut x.package)?;
+    fill_tree(alloc, rows, &mut x.metadata)?;
+    fill(alloc, rows, &mut x.lints)?;
     Ok(())
 }
 
@@ -384,7 +436,9 @@ fn put_workspace_rows<M: Metadata>(
     out: &mut Table,
     x: &Workspace<M>,
 ) -> Result<(), AllocError>
-    ensures { OnOk result (table_view out.new ≡ written_part 0 8 (workspace_rows (tree_of M.kind)) (workspace_content (λ m. M.kind.written (M.content m)) x.now) (table_view out.old)) }
+    ensures { OnOk result
+        (WritesRows 0 8 (workspace_rows (tree_of M.kind)) (workspace_of M.kind M.content x.now)
+        out.old out.new) }
 {
     put_optional(alloc, out, "lints", &x.lints)?;
     put_tree(alloc, out, "metadata", &x.metadata)?;
@@ -400,9 +454,9 @@ fn put_workspace_rows<M: Metadata>(
 impl<M: Metadata> Schema for Workspace<M> {
     ghost Content = { Contents.Workspace };
 
-    ghost content = { workspace_content (λ m. M.kind.written (M.content m)) };
+    ghost content = { workspace_of M.kind M.content };
 
-    ghost kind = { form (workspace_rows (tree_of M.kind)) };
+    ghost kind = { workspace_form M.kind };
 
     fn from_value(alloc: Global, value: &Value) -> Result<Workspace<M>, ReadFault> {
         match value {

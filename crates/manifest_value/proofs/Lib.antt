@@ -1,12 +1,10 @@
 pub mod Behind
 pub mod InsertLemmas
 pub mod EntryLemmas
-pub mod OtherLemmas
+pub mod WalkLemmas
 pub mod ReadingLemmas
-pub mod MarkLemmas
 pub mod CollectLemmas
 pub mod FloatLemmas
 pub mod TextLemmas
 pub mod CallLemmas
 pub mod KindCalls
-pub mod TakenLemmas

@@ -1,5 +1,5 @@
 -- Entries that are read of the first members of a table: their keys ascend as the table's do.
-use Rattle.std.proofs.Common.{◌≡◌, Bool, true, false, List, [], ◌∷◌, String, Global, Less, nat_cmp, string_bytes, if◌then◌else◌, subst}
+use Rattle.std.proofs.Common.{◌≡◌, Bool, true, false, List, [], ◌∷◌, String, Global, Less, nat_cmp, string_bytes, if◌then◌else◌, subst, ◌++◌, refl, inl, inr}
 use Rattle.std.specs.Cmp.Lexicographic.{slice_cmp}
 use Rattle.std.specs.List.{AllByRecursion}
 use Rattle.std.specs.List.Sorted.{IsStrictlySortedBy}
@@ -10,19 +10,28 @@ use Rattle.toml.specs.declared.value.Value.{Value}
 use Rattle.toml.specs.View.{members_view}
 use Rattle.manifest_schema.specs.Paths.{Text}
 use Rattle.manifest_schema.specs.Slots.{is_among, without}
-use Rattle.manifest_schema.specs.Kinds.{Kind}
-use Rattle.manifest_value.specs.Entries.{entries_content}
-use Rattle.manifest_value.specs.Others.{reads_first}
+use Rattle.manifest_schema.specs.Kinds.{Kind, Entries, has_entry, reads_entries}
+use Rattle.manifest_value.specs.Entries.{entries_content, reads_first}
+use Rattle.manifest_value.specs.Walks.{IsBelow, Ascend}
 
--- the key is below each key of the members
-abbrev pub IsBelow : Text → Members → Type 0
-IsBelow k no_members = Unit {0}
-IsBelow k (member l d ms) = (slice_cmp nat_cmp k l ≡ Less) × IsBelow k ms
+-- one more entry is read
+pub reads_more : {A X : Type 0} (K : Kind A) (f : X → A) (ms : Members) (es : List (String Global × X)) (name : String Global) (x : X) (d : Data) (rest : Members)
+    → reads_first K ms (entries_content f es) (member (string_bytes name) d rest) → K.reads d (f x) → reads_first K ms (entries_content f (es ++ (name, x) ∷ [])) rest
+reads_more K f ms [] name x d rest h r = rw h (refl, r, refl)
+reads_more K f no_members (e ∷ es) name x d rest h r = absurd h
+reads_more K f (member k c ms) (e ∷ es) name x d rest h r = (h.0, h.1, reads_more K f ms es name x d rest h.2 r)
 
--- each key is below those after it
-abbrev pub Ascend : Members → Type 0
-Ascend no_members = Unit {0}
-Ascend (member k d ms) = IsBelow k ms × Ascend ms
+-- the next of those that are left stands in the table
+pub next_within : {A : Type 0} (K : Kind A) (ms : Members) (es : Entries A) (k : Text) (d : Data) (rest : Members) → reads_first K ms es (member k d rest) → has_entry k d ms
+next_within K ms [] k d rest h = rw h (inl (refl, refl))
+next_within K no_members (e ∷ es) k d rest h = absurd h
+next_within K (member l c ms) (e ∷ es) k d rest h = inr (next_within K ms es k d rest h.2)
+
+-- where nothing is left, all are read
+pub none_left : {A : Type 0} (K : Kind A) (ms : Members) (es : Entries A) → reads_first K ms es no_members → reads_entries K ms es
+none_left K ms [] h = rw h tt
+none_left K no_members (e ∷ es) h = absurd h
+none_left K (member k d ms) (e ∷ es) h = (h.0, h.1, none_left K ms es h.2)
 
 below_view : (k : String Global) (es : List (String Global × Value)) → AllByRecursion (λ y. string_cmp k y ≡ Less) (keys_of es) → IsBelow (string_bytes k) (members_view es)
 below_view k [] h = tt

@@ -7,8 +7,8 @@ pub use Rattle.manifest_schema.specs.Forms
 pub use Rattle.manifest_schema.specs.Lawful
 pub use Rattle.manifest_schema.specs.ForProofs
 pub mod Faults
-pub mod Found
 pub mod Entries
-pub mod Others
-pub mod Marks
+pub mod Walks
+pub mod Cursors
+pub mod Reading
 pub mod Calls

@@ -42,7 +42,8 @@ fn item_at<T: Drop, F: Fn(&Value) -> Result<T, ReadFault>>(
 ) -> Result<T, ReadFault>
     requires { (b : _) → b.now ≡ item.now → F.pre read.now b }
     ensures ok { IfOk result (λ x. FnReturnsAt F.Fn read.now item.now (Ok x)) }
-    ensures fault { IfErr result (FaultIn (behind (index i) (Refused (FnReturnsAt F.Fn read.now) item.now))) }
+    ensures fault { IfErr result
+        (FaultIn (behind (index i) (Refused (FnReturnsAt F.Fn read.now) item.now))) }
 {
     match read_at(read, item) {
         Ok(x) => Ok(x),
@@ -102,7 +103,8 @@ fn entry_at<T: Drop, F: Fn(&Value) -> Result<T, ReadFault>>(
 ) -> Result<T, ReadFault>
     requires { (b : _) → b.now ≡ value.now → F.pre read.now b }
     ensures ok { IfOk result (λ x. FnReturnsAt F.Fn read.now value.now (Ok x)) }
-    ensures fault { IfErr result (FaultIn (behind (key word.now) (Refused (FnReturnsAt F.Fn read.now) value.now))) }
+    ensures fault { IfErr result
+        (FaultIn (behind (key word.now) (Refused (FnReturnsAt F.Fn read.now) value.now))) }
 {
     match read_at(read, value) {
         Ok(x) => Ok(x),
@@ -117,8 +119,10 @@ fn entries_of<T: Drop, F: Fn(&Value) -> Result<T, ReadFault>>(
     read: &F,
 ) -> Result<BTreeMap<String, T>, ReadFault>
     requires { (b : _) → Contains (values table.now) b.now → F.pre read.now b }
-    ensures ok { IfOk result (λ m. EntriesGiven (FnReturnsAt F.Fn read.now) table.now.entries m.entries) }
-    ensures fault { IfErr result (FaultIn (EntryRefused (FnReturnsAt F.Fn read.now) table.now.entries)) }
+    ensures ok { IfOk result
+        (λ m. EntriesGiven (FnReturnsAt F.Fn read.now) table.now.entries m.entries) }
+    ensures fault { IfErr result
+        (FaultIn (EntryRefused (FnReturnsAt F.Fn read.now) table.now.entries)) }
 {
     let mut all = BTreeMap::new(alloc);
     for (key, value) in table.iter() {

@@ -1,23 +1,24 @@
 //! Reading `toml`'s values into types, and writing them: key paths and faults, the trait by which a type names what
-//! it holds and which values it reads, readers and writers of std's types and by closures, and the rows of a form.
+//! it holds and which values it reads, readers and writers of std's types and by closures, and the rows of a form, read
+//! from one walk over the table.
 #![tactic(auto)]
 
 pub mod closures;
+pub mod cursor;
+pub mod entries;
 pub mod fault;
 pub mod kept_values;
-pub mod keys;
-pub mod lenient;
 pub mod maps;
 pub mod metadata;
 pub mod numbers;
-pub mod others;
 pub mod path_text;
 pub mod plain;
 pub mod readers;
 pub mod rows;
 pub mod schema;
-pub mod slots;
-pub mod taken;
+pub mod spellings;
+pub mod walked;
+pub mod walking;
 pub mod well_formed;
 pub mod writers;
 
@@ -28,4 +29,7 @@ pub use metadata::Metadata;
 pub use plain::Plain;
 pub use readers::{boolean, field, table, text, texts, whole};
 pub use schema::Schema;
+pub use spellings::Spellings;
+pub use walked::{Slot, Walk};
+pub use walking::{find_slots, walk};
 pub use writers::{write_list, write_map, write_text, write_texts};

@@ -3,15 +3,16 @@ ghost use Rattle.std.specs.Prelude.{◌≡◌, IfOk, IfErr};
 ghost use Rattle.std.specs.List.Sorted.{IsStrictlySortedBy};
 ghost use Rattle.std.specs.Map.{keys_of};
 ghost use Rattle.std.specs.String.{string_cmp};
-ghost use Rattle.toml.specs.View.{view, table_view};
+ghost use Rattle.toml.specs.View.{table_view};
 ghost use Rattle.manifest_value.specs.Faults.{FaultIn};
 ghost use Rattle.manifest_value.specs.Entries.{entries_content};
 ghost use Rattle.manifest_schema.specs.Kinds.{Entries, map_of, reads_entries, written_entries, faulty_entry};
 ghost use Rattle.manifest_schema.proofs.KindLaws.{map_lawful};
 
+use crate::entries::map_of_entries;
 use crate::fault::{Cause, ReadFault, here};
-use crate::others::others_of;
 use crate::schema::Schema;
+use crate::walking::walk;
 use std::alloc::{AllocError, Global};
 use std::collections::BTreeMap;
 use toml::{Table, Value};
@@ -34,10 +35,11 @@ pub fn map_of_list<X: Drop>(
 
 /// The entries of a table, each of one kind.
 fn entries_of<T: Schema>(alloc: Global, table: &Table) -> Result<BTreeMap<String, T>, ReadFault>
-    ensures ok { IfOk result (λ m. reads_entries T.kind (table_view table.now) (entries_content T.content m.entries)) }
+    ensures ok { IfOk result
+        (λ m. reads_entries T.kind (table_view table.now) (entries_content T.content m.entries)) }
     ensures fault { IfErr result (FaultIn (faulty_entry T.kind (table_view table.now))) }
 {
-    others_of(alloc, table, &[])
+    map_of_entries(alloc, walk(alloc, table, &[])?.rest.as_slice())
 }
 
 /// The table of a map.
@@ -49,7 +51,8 @@ pub fn entries_table<T: Schema>(
     alloc: Global,
     map: &BTreeMap<String, T>,
 ) -> Result<Table, AllocError>
-    ensures { IfOk result (λ t. table_view t ≡ written_entries T.kind (entries_content T.content map.now.entries)) }
+    ensures { IfOk result
+        (λ t. table_view t ≡ written_entries T.kind (entries_content T.content map.now.entries)) }
 {
     let mut all = Table::new(alloc);
     for (key, x) in map.iter() {

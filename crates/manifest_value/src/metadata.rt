@@ -7,10 +7,11 @@ ghost use Rattle.manifest_schema.specs.Slots.{at, put_some};
 ghost use Rattle.manifest_schema.specs.Kinds.{plain, tree_of, nothing};
 ghost use Rattle.manifest_schema.specs.Needs.{meets_optional, faulty_free, written_some};
 ghost use Rattle.manifest_schema.specs.ForProofs.{spellings_of, nothing_laws};
+ghost use Rattle.manifest_value.specs.Reading.{written_as};
 
 use crate::fault::{Cause, ReadFault, here};
 use crate::kept_values::holds_float;
-use crate::rows::{optional, put_optional};
+use crate::rows::put_optional;
 use crate::schema::Schema;
 use std::alloc::{AllocError, Global};
 use toml::{Table, Value};
@@ -21,27 +22,11 @@ pub trait Metadata: Schema {
     fn is_well_formed(&self) -> bool
         ensures { IsTrue result ↔ Self.kind.good (Self.content self.now) };
 
-    ghost without_floats: { (x : Self.Content) → Self.kind.good x → IsTrue (plain (Self.kind.written x)) };
+    ghost without_floats: { (x : Self.Content) → Self.kind.good x
+        → IsTrue (plain (Self.kind.written x)) };
 
-    ghost good_by_tree: { (x y : Self.Content) → Self.kind.good x → Self.kind.written x ≡ Self.kind.written y → Self.kind.good y };
-}
-
-/// A row of metadata that may be absent.
-///
-/// ```ignore
-/// let metadata: Option<Value> = optional_tree(alloc, table, "metadata", None)?;
-/// ```
-pub fn optional_tree<M: Metadata>(
-    alloc: Global,
-    table: &Table,
-    first: &'static str,
-    second: Option<&'static str>,
-) -> Result<Option<M>, ReadFault>
-    ensures ok { IfOk result (λ o. meets_optional (tree_of M.kind) (at (spellings_of first.now (option_copied second.entry)) (table_view table.now)) (option_map (λ m. M.kind.written (M.content m)) o)) }
-    ensures fault { let spellings = spellings_of first.now (option_copied second.entry) in
-        IfErr result (FaultIn (faulty_free spellings (tree_of M.kind) (at spellings (table_view table.now)))) }
-{
-    optional(alloc, table, first, second)
+    ghost good_by_tree: { (x y : Self.Content) → Self.kind.good x
+        → Self.kind.written x ≡ Self.kind.written y → Self.kind.good y };
 }
 
 /// Puts a row of metadata into the table where it is there.
@@ -56,29 +41,13 @@ pub fn put_tree<M: Metadata>(
     first: &'static str,
     value: &Option<M>,
 ) -> Result<(), AllocError>
-    ensures { OnOk result (table_view table.new ≡ put_some first.now (written_some (tree_of M.kind) (option_map (λ m. M.kind.written (M.content m)) value.now)) (table_view table.old)) }
+    ensures { OnOk result
+        (table_view table.new
+        ≡ put_some first.now
+        (written_some (tree_of M.kind) (option_map (written_as M.kind M.content) value.now))
+        (table_view table.old)) }
 {
     put_optional(alloc, table, first, value)
-}
-
-/// Reads a row of metadata that may be absent into its place.
-///
-/// ```ignore
-/// fill_tree(alloc, table, "metadata", None, &mut package.metadata)?;
-/// ```
-pub fn fill_tree<M: Metadata>(
-    alloc: Global,
-    table: &Table,
-    first: &'static str,
-    second: Option<&'static str>,
-    place: &mut Option<M>,
-) -> Result<(), ReadFault>
-    ensures ok { OnOk result (meets_optional (tree_of M.kind) (at (spellings_of first.now (option_copied second.entry)) (table_view table.now)) (option_map (λ m. M.kind.written (M.content m)) place.new)) }
-    ensures fault { let spellings = spellings_of first.now (option_copied second.entry) in
-        IfErr result (FaultIn (faulty_free spellings (tree_of M.kind) (at spellings (table_view table.now)))) }
-{
-    *place = optional_tree(alloc, table, first, second)?;
-    Ok(())
 }
 
 impl Schema for () {

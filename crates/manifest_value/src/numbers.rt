@@ -5,6 +5,7 @@ ghost use Rattle.toml.specs.View.{view};
 ghost use Rattle.manifest_schema.specs.Kinds.{whole};
 ghost use Rattle.manifest_schema.proofs.KindLaws.{whole_lawful};
 ghost use Rattle.manifest_value.specs.Faults.{FaultIn, IsSchema};
+ghost use Rattle.manifest_value.specs.Reading.{Reads};
 
 use crate::fault::{Cause, ReadFault, here};
 use crate::schema::Schema;
@@ -21,8 +22,9 @@ impl Schema for u16 {
 
     /// The one reading of the value, or a fault that it has. It never wants memory.
     fn from_value(alloc: Global, value: &Value) -> Result<u16, ReadFault>
-        ensures ok { IfOk result (λ x. (whole (pos 0) (pos 65535)).reads (view value.now) (pos x)) }
-        ensures fault { IfErr result (FaultIn ((whole (pos 0) (pos 65535)).faulty (view value.now))) }
+        ensures ok { IfOk result (Reads (whole (pos 0) (pos 65535)) pos (view value.now)) }
+        ensures fault { IfErr result
+            (FaultIn ((whole (pos 0) (pos 65535)).faulty (view value.now))) }
         ensures schema { IfErr result IsSchema }
     {
         match value {
@@ -56,7 +58,8 @@ impl Schema for i8 {
     /// The one reading of the value, or a fault that it has. It never wants memory.
     fn from_value(alloc: Global, value: &Value) -> Result<i8, ReadFault>
         ensures ok { IfOk result (λ x. (whole (negsuc 127) (pos 127)).reads (view value.now) x) }
-        ensures fault { IfErr result (FaultIn ((whole (negsuc 127) (pos 127)).faulty (view value.now))) }
+        ensures fault { IfErr result
+            (FaultIn ((whole (negsuc 127) (pos 127)).faulty (view value.now))) }
         ensures schema { IfErr result IsSchema }
     {
         match value {

@@ -153,7 +153,8 @@ fn write_quoted<W: fmt::Write>(f: &mut fmt::Formatter<W>, key: &str) -> fmt::Res
 /// Writes a character that stands between quotes.
 #[tactic(auto, using(crate::proofs::TextLemmas::plain_char))]
 fn write_quoted_char<W: fmt::Write>(f: &mut fmt::Formatter<W>, c: char) -> fmt::Result
-    ensures { WritesOnOk W.write_str_gives f.old result (flat_map quoted_byte (encode_utf8 c)) f.new }
+    ensures { WritesOnOk W.write_str_gives f.old result (flat_map quoted_byte (encode_utf8 c))
+        f.new }
 {
     if c == '"' || c == '\\' {
         f.write_char('\\')?;

@@ -28,8 +28,10 @@ impl Plain for Vec<String> {
 /// The five laws of a plain type: a value has at most one reading, and none where it has a fault; what is written of a value
 /// of the type is read back as it; and a table is neither read nor written.
 pub fn plain_is_lawful<T: Plain>()
-    ensures one_reading { (d : Data) (x y : T.Content) → T.kind.reads d x → T.kind.reads d y → x ≡ y }
-    ensures no_reading_with_a_fault { (d : Data) (p : Path) (c : Cause) (x : T.Content) → T.kind.faulty d p c → T.kind.reads d x → ⊥ }
+    ensures one_reading { (d : Data) (x y : T.Content) → T.kind.reads d x → T.kind.reads d y
+        → x ≡ y }
+    ensures no_reading_with_a_fault { (d : Data) (p : Path) (c : Cause) (x : T.Content)
+        → T.kind.faulty d p c → T.kind.reads d x → ⊥ }
     ensures read_back { (x : T.Content) → T.kind.reads (T.kind.written x) x }
     ensures reads_no_table { (ms : Members) (x : T.Content) → T.kind.reads (table ms) x → ⊥ }
     ensures writes_no_table { (ms : Members) (x : T.Content) → T.kind.written x ≡ table ms → ⊥ }

@@ -4,16 +4,16 @@ ghost use Rattle.std.specs.Prelude.{◌≡◌, map, IfOk, IfErr, Some, string_by
 ghost use Rattle.toml.specs.Data.{table as table_data};
 ghost use Rattle.toml.specs.View.{view, table_view};
 ghost use Rattle.manifest_schema.specs.Slots.{at, clash};
+ghost use Rattle.toml.specs.Data.{get_member};
 ghost use Rattle.manifest_schema.specs.Kinds.{text, flag, whole, list_of};
 ghost use Rattle.manifest_schema.specs.Needs.{clash_at};
 ghost use Rattle.manifest_schema.specs.ForProofs.{spellings_of};
 ghost use Rattle.manifest_value.specs.Faults.{FaultIn, IsSchema, no_table};
-ghost use Rattle.manifest_value.specs.Found.{value_in};
+ghost use Rattle.manifest_value.specs.Walks.{value_in};
 
 use crate::fault::{Cause, ReadFault, here};
 use crate::rows::at_key;
 use crate::schema::Schema;
-use crate::slots::{Slot, slot_at};
 use std::alloc::Global;
 use toml::{Table, Value};
 
@@ -91,7 +91,8 @@ pub fn whole(alloc: Global, value: &Value, low: i64, high: i64) -> Result<i64, R
 /// let members = texts(alloc, &value)?; // of `["a", "b"]` the texts "a" and "b"
 /// ```
 pub fn texts(alloc: Global, value: &Value) -> Result<Vec<String>, ReadFault>
-    ensures ok { IfOk result (λ v. (list_of text).reads (view value.now) (map string_bytes v.items)) }
+    ensures ok { IfOk result
+        (λ v. (list_of text).reads (view value.now) (map string_bytes v.items)) }
     ensures fault { IfErr result (FaultIn ((list_of text).faulty (view value.now))) }
 {
     <Vec<String> as Schema>::from_value(alloc, value)
@@ -116,6 +117,18 @@ pub fn table(alloc: Global, value: &Value) -> Result<&Table, ReadFault>
     }
 }
 
+/// The value under a key.
+///
+/// ```ignore
+/// let name = find(table, "name");
+/// ```
+#[inline(always)]
+pub fn find<'a>(table: &'a Table, key: &str) -> Option<&'a Value>
+    ensures { option_map (λ v. view v.now) result ≡ get_member key.now (table_view table.now) }
+{
+    table.get(key)
+}
+
 /// Finds the value of a field that has one spelling or two: `None` where the table has neither, and else the value
 /// under the spelling that it has, not a copy.
 ///
@@ -131,16 +144,21 @@ pub fn field<'a>(
     first: &str,
     second: Option<&str>,
 ) -> Result<Option<&'a Value>, ReadFault>
-    ensures ok { let slot = at (spellings_of first.now (option_copied second.entry)) (table_view table.now) in
+    ensures ok { let slot = at (spellings_of first.now (option_copied second.entry))
+        (table_view table.now) in
         IfOk result (λ found. value_in slot ≡ Some (option_map (λ v. view v.now) found)) }
-    ensures err { let slot = at (spellings_of first.now (option_copied second.entry)) (table_view table.now) in
+    ensures err { let slot = at (spellings_of first.now (option_copied second.entry))
+        (table_view table.now) in
         IfErr result (λ f. slot ≡ clash) }
     ensures fault { let spellings = spellings_of first.now (option_copied second.entry) in
         IfErr result (FaultIn (clash_at spellings)) }
 {
-    match slot_at(table, first, second) {
-        Slot::Absent => Ok(None),
-        Slot::One { value, .. } => Ok(Some(value)),
-        Slot::Clash => Err(at_key(alloc, first, Cause::TwoSpellings)),
+    match second {
+        None => Ok(find(table, first)),
+        Some(word) => match (find(table, first), find(table, word)) {
+            (None, found) => Ok(found),
+            (found, None) => Ok(found),
+            (Some(_), Some(_)) => Err(at_key(alloc, first, Cause::TwoSpellings)),
+        },
     }
 }

@@ -6,6 +6,7 @@ ghost use Rattle.manifest_schema.specs.Kinds.{Kind, text, flag, list_of};
 ghost use Rattle.manifest_schema.specs.Lawful.{IsLawful};
 ghost use Rattle.manifest_schema.proofs.KindLaws.{text_lawful, flag_lawful, list_lawful};
 ghost use Rattle.manifest_value.specs.Faults.{FaultIn, IsSchema};
+ghost use Rattle.manifest_value.specs.Reading.{Reads};
 
 use crate::closures::list_of;
 use crate::fault::ReadFault;
@@ -27,7 +28,7 @@ pub trait Schema: Sized + Drop {
 
     /// The one reading of the value, or a fault that it has, or want of memory.
     fn from_value(alloc: Global, value: &Value) -> Result<Self, ReadFault>
-        ensures ok { IfOk result (λ x. kind.reads (view value.now) (content x)) }
+        ensures ok { IfOk result (Reads kind content (view value.now)) }
         ensures fault { IfErr result (FaultIn (kind.faulty (view value.now))) };
 
     /// The value that is written.

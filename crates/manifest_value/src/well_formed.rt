@@ -3,11 +3,12 @@
 ghost use Rattle.std.specs.Prelude.{◌≡◌, ◌↔◌, IsTrue, map, option_map};
 ghost use Rattle.manifest_schema.specs.Kinds.{tree_of, good_entries};
 ghost use Rattle.manifest_schema.specs.Needs.{good_some};
+ghost use Rattle.manifest_schema.specs.Slots.{is_among};
 ghost use Rattle.manifest_schema.specs.Forms.{none_named};
 ghost use Rattle.manifest_value.specs.Entries.{entries_content};
+ghost use Rattle.manifest_value.specs.Reading.{written_as};
 
 use crate::metadata::Metadata;
-use crate::others::is_named;
 use crate::schema::Schema;
 use std::collections::BTreeMap;
 
@@ -31,7 +32,8 @@ pub fn optional_is_well_formed<M: Metadata>(value: &Option<M>) -> bool
 /// let is_well = tree_is_well_formed(&package.metadata);
 /// ```
 pub fn tree_is_well_formed<M: Metadata>(value: &Option<M>) -> bool
-    ensures { IsTrue result ↔ good_some (tree_of M.kind) (option_map (λ m. M.kind.written (M.content m)) value.now) }
+    ensures { IsTrue result
+        ↔ good_some (tree_of M.kind) (option_map (written_as M.kind M.content) value.now) }
 {
     match value {
         Some(x) => x.is_well_formed(),
@@ -55,13 +57,31 @@ pub fn values_are_well_formed<M: Metadata>(all: &BTreeMap<String, M>) -> bool
     true
 }
 
+/// Whether the key is one of the names.
+///
+/// ```ignore
+/// let is_one = is_named(&["release", "dev"], "dev"); // true
+/// ```
+#[inline(always)]
+fn is_named(named: &[&'static str], key: &str) -> bool
+    ensures { result ≡ is_among (map (λ n. n.now) named.now) key.now }
+{
+    for name in named {
+        if *name == key {
+            return true;
+        }
+    }
+    false
+}
+
 /// Whether no key of the map is one of the names.
 ///
 /// ```ignore
 /// let is_well = none_is_named(&lints.lints, &["workspace"]); // no tool is named so
 /// ```
 pub fn none_is_named<T: Schema>(all: &BTreeMap<String, T>, named: &[&'static str]) -> bool
-    ensures { result ≡ none_named (map (λ n. n.now) named.now) (entries_content T.content all.now.entries) }
+    ensures { result
+        ≡ none_named (map (λ n. n.now) named.now) (entries_content T.content all.now.entries) }
 {
     for (key, _x) in all.iter() {
         if is_named(named, key.as_str()) {

@@ -71,7 +71,8 @@ fn entries_by<T, F: Fn(&T) -> Result<Value, AllocError>>(
     write: &F,
 ) -> Result<Table, AllocError>
     requires { (b : _) → Contains (values map.now) b.now → F.pre write.now b }
-    ensures { IfOk result (λ t. EntriesGiven (FnReturnsAt F.Fn write.now) map.now.entries t.entries) }
+    ensures { IfOk result
+        (λ t. EntriesGiven (FnReturnsAt F.Fn write.now) map.now.entries t.entries) }
 {
     let mut all = Table::new(alloc);
     for (key, x) in map.iter() {

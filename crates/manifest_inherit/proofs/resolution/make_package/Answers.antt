@@ -4,7 +4,8 @@ use Rattle.manifest_tables.specs.Tables.{workspace_package_content}
 use Rattle.manifest_inherit.specs.Fields.{lendable}
 use Rattle.manifest_inherit.specs.Resolved.{resolved_package}
 use Rattle.manifest_inherit.specs.Refused.{Refusals, refuses_fields}
-use Rattle.manifest_inherit.specs.ForProofs.{Accepted, package_of}
+use Rattle.manifest_tables.specs.Tables.{package_of}
+use Rattle.manifest_inherit.specs.ForProofs.{Accepted}
 use Rattle.manifest_inherit.proofs.resolution.make_package.Goals as goal
 
 accepted_some : {E A : Type 0} (refuses : Refusals) (becomes made : A) (r : Result (Unit {0}) E) → OnOk r (Accepted refuses becomes made) → OnOk r (Accepted refuses (Some becomes) (Some made))

@@ -1,0 +1,34 @@
+/* Prints the canonical text of the manifest on standard input, or why it has none. */
+#include "cargo_manifest.h"
+
+#include <stdio.h>
+#include <stdlib.h>
+
+int main(void)
+{
+    static uint8_t bytes[1 << 20];
+    size_t length = fread(bytes, 1, sizeof bytes, stdin);
+
+    /* room for most texts; a second call where it is not enough */
+    size_t room = 2 * length + 256;
+    uint8_t *out = malloc(room);
+    if (!out)
+        return 2;
+    struct manifest_answer answer = manifest_canonical(bytes, length, out, room);
+    if (answer.length > room) {
+        free(out);
+        room = answer.length;
+        out = malloc(room);
+        if (!out)
+            return 2;
+        answer = manifest_canonical(bytes, length, out, room);
+    }
+
+    if (answer.status == MANIFEST_ACCEPTED)
+        fwrite(out, 1, answer.length, stdout);
+    else
+        fprintf(stderr, "status %d, cause %d, bytes %zu to %zu: %.*s\n", answer.status, answer.cause, answer.start,
+                answer.end, (int)answer.length, (const char *)out);
+    free(out);
+    return answer.status != MANIFEST_ACCEPTED;
+}

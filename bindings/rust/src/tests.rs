@@ -1,0 +1,107 @@
+//! What only this crate sees: memory that is lent, memory that is refused, and how the declarations lie in memory.
+
+use crate::calls::{manifest_canonical, Answer};
+use crate::folders::{Folder, Slice};
+use crate::heap::refusals::{blocks, with_refused};
+use crate::{canonical, resolved_completed, Error, Fault, Listings};
+use std::mem::{offset_of, size_of};
+
+const FIVE: [&[u8]; 5] = [
+    b"[package]\nname = 'foo'\nversion = '1.0.0'\n",
+    b"",
+    b"\xff",
+    b"[package]\nname = 'p'\nauthors = [true]\n",
+    b"[package\nname = 'p'",
+];
+
+/// The answer of a call with so many bytes of `out`, all of which are set to 0xAA before.
+fn call(bytes: &[u8], room: usize) -> (Answer, Vec<u8>) {
+    let mut out = vec![0xAA; room + 8];
+    // SAFETY: both pointers are of slices that live through the call and do not overlap; `room` is at most the length.
+    let answer = unsafe { manifest_canonical(bytes.as_ptr(), bytes.len(), out.as_mut_ptr(), room) };
+    (answer, out)
+}
+
+#[test]
+fn the_text_is_put_whole_or_not_at_all() {
+    for bytes in FIVE {
+        let (wanted, text) = call(bytes, 256);
+        let text = &text[..wanted.length];
+        for room in 0..=wanted.length + 1 {
+            let (answer, out) = call(bytes, room);
+            assert_eq!(answer, wanted);
+            let put = if room < wanted.length { 0 } else { wanted.length };
+            assert_eq!(out[..put], text[..put]);
+            assert!(out[put..].iter().all(|byte| *byte == 0xAA), "{room} bytes for {}", wanted.length);
+        }
+    }
+}
+
+/// Refuses each request for memory of a call in turn: it answers want of memory, or the answer that is wanted, and gives all
+/// blocks back.
+fn are_refused(run: impl Fn() -> Result<String, Error>, wanted: &Result<String, Error>) {
+    let held = blocks();
+    let mut granted = 0;
+    loop {
+        let (answer, was_refused) = with_refused(granted, &run);
+        assert_eq!(blocks(), held, "a block is not given back where request {granted} is refused");
+        if !was_refused {
+            assert_eq!(answer, *wanted);
+            break;
+        }
+        let is_memory = matches!(answer, Err(Error::Memory | Error::Io(Fault::OutOfMemory)));
+        assert!(answer == *wanted || is_memory, "{granted}: {answer:?}");
+        granted += 1;
+    }
+    assert!(granted > 0);
+}
+
+#[test]
+fn each_growth_is_refused() {
+    let manifests: [&[u8]; 3] = [
+        b"[package]\nname = 'p'\n[dependencies]\na = '1'\nb = { path = 'b', features = ['c', 'd'] }\n",
+        b"[package]\nname = 'p'\n[target.'cfg(unix)'.dependencies]\na = 1\n",
+        b"[package\n",
+    ];
+    for bytes in manifests {
+        are_refused(|| canonical(bytes), &canonical(bytes));
+    }
+}
+
+#[test]
+fn each_growth_of_a_completion_is_refused() {
+    let mut listings = Listings::new();
+    listings.put("src", ["lib.rs", "main.rs"]);
+    listings.put("tests", ["a.rs", "b.rs"]);
+    listings.put(".", ["build.rs"]);
+    let member = b"[package]\nname = 'p'\nversion.workspace = true\n[dependencies]\na.workspace = true\n";
+    let root = b"[workspace.package]\nversion = '1.0.0'\n[workspace.dependencies]\na = '1'\n";
+    let run = || resolved_completed(member, root, &listings);
+    let wanted = run();
+    assert!(wanted.is_ok(), "{wanted:?}");
+    are_refused(run, &wanted);
+}
+
+/// `scripts/library` compares the line with that of C's side.
+#[test]
+fn layout() {
+    println!(
+        "answer: {}, status {}, cause {}, length {}, start {}, end {}",
+        size_of::<Answer>(),
+        offset_of!(Answer, status),
+        offset_of!(Answer, cause),
+        offset_of!(Answer, length),
+        offset_of!(Answer, start),
+        offset_of!(Answer, end),
+    );
+    println!(
+        "folder: {}, path {}, names {}, fault {}",
+        size_of::<Folder>(),
+        offset_of!(Folder, path),
+        offset_of!(Folder, names),
+        offset_of!(Folder, fault),
+    );
+    for (name, size) in [("bytes", size_of::<Slice<u8>>()), ("names", size_of::<Slice<Slice<u8>>>())] {
+        println!("{name}: {size}, at {}, length {}", offset_of!(Slice<u8>, at), offset_of!(Slice<u8>, length));
+    }
+}

@@ -1,0 +1,185 @@
+//! The crate as its users call it.
+
+use cargo_manifest_proved::{canonical, completed, resolved, resolved_completed, table};
+use cargo_manifest_proved::{Cause, Date, Datetime, Error, Fault, Listings, Offset, Part, Time, Value};
+use std::fs;
+use std::io::{Error as IoError, ErrorKind};
+use std::path::PathBuf;
+use std::thread;
+
+const MEMBER: &[u8] = b"[package]\nname = 'p-q'\nversion.workspace = true\nedition = '2021'\n";
+const ROOT: &[u8] = b"[workspace.package]\nversion = '2.0.0'\n";
+const RESOLVED: &str = "[package]\nedition = \"2021\"\nname = \"p-q\"\nversion = \"2.0.0\"\n";
+const LIBRARY: &str = "[lib]\ncrate-type = [\"lib\"]\nedition = \"2021\"\nname = \"p_q\"\npath = \"src/lib.rs\"\n\
+                       required-features = []\n\n";
+
+fn schema(cause: Cause, path: &str) -> Error {
+    Error::Schema { part: Part::Manifest, cause, path: path.into() }
+}
+
+fn five_answers() {
+    let text = "[package]\nname = \"foo\"\nversion = \"1.0.0\"\n";
+    assert_eq!(canonical(text.as_bytes()).as_deref(), Ok(text));
+    assert_eq!(canonical(b""), Err(schema(Cause::Missing, "name")));
+    assert_eq!(canonical(b"\xff"), Err(Error::Utf8(Part::Manifest)));
+    let wrong = canonical(b"[package]\nname = 'p'\nauthors = [true]\n");
+    assert_eq!(wrong, Err(schema(Cause::WrongKind, "package.authors[0]")));
+    match canonical(b"[package\nname = 'p'") {
+        Err(Error::Toml { part: Part::Manifest, range, .. }) => assert_eq!(range.start, 8),
+        other => panic!("{other:?}"),
+    }
+}
+
+#[test]
+fn each_kind_of_answer() {
+    five_answers();
+}
+
+#[test]
+fn from_four_threads() {
+    thread::scope(|scope| {
+        for _ in 0..4 {
+            scope.spawn(|| (0..500).for_each(|_| five_answers()));
+        }
+    });
+}
+
+#[test]
+fn an_error_prints_its_cause_and_key_path() {
+    let error = canonical(b"[package]\nname = 'p'\nauthors = [true]\n").unwrap_err();
+    assert_eq!(error.to_string(), "schema: wrong kind at package.authors[0]");
+}
+
+#[test]
+fn a_key_path_of_100_kilobytes() {
+    let key = "x".repeat(100_000);
+    let text = format!("[package]\nname = 'p'\n[target.{key}.dependencies]\na = 1\n");
+    let wanted = schema(Cause::WrongKind, &format!("target.{key}.dependencies.a"));
+    assert_eq!(canonical(text.as_bytes()), Err(wanted));
+}
+
+/// The answer of a small stack to metadata that nests so deep.
+fn nested(depth: usize) -> Result<String, Error> {
+    let (open, close) = ("[".repeat(depth), "]".repeat(depth));
+    let text = format!("[package]\nname = 'p'\n[package.metadata]\na = {open}{close}\n");
+    let run = move || canonical(text.as_bytes());
+    thread::Builder::new().stack_size(256 << 10).spawn(run).unwrap().join().unwrap()
+}
+
+#[test]
+fn nesting_on_a_small_stack() {
+    assert!(nested(20).unwrap().contains(&format!("a = {}{}", "[".repeat(20), "]".repeat(20))));
+    for depth in [1_000, 1_000_000] {
+        assert!(matches!(nested(depth), Err(Error::Toml { .. })), "{depth}");
+    }
+}
+
+fn with_library() -> Listings {
+    let mut listings = Listings::new();
+    listings.put("src", ["other.rs", "lib.rs"]);
+    listings.put(".", ["Cargo.toml"]);
+    listings
+}
+
+#[test]
+fn resolved_and_completed() {
+    assert_eq!(resolved(MEMBER, ROOT).as_deref(), Ok(RESOLVED));
+    let both = resolved_completed(MEMBER, ROOT, &with_library());
+    assert_eq!(both, Ok(format!("{LIBRARY}{RESOLVED}")));
+    let alone = completed(b"[package]\nname = 'p-q'\nedition = '2021'\n", &with_library()).unwrap();
+    assert_eq!(alone, format!("{LIBRARY}[package]\nedition = \"2021\"\nname = \"p-q\"\n"));
+}
+
+#[test]
+fn what_the_root_refuses() {
+    assert_eq!(resolved(MEMBER, MEMBER), Err(Error::NoWorkspace));
+    let missing = Error::Schema { part: Part::Root, cause: Cause::Missing, path: "name".into() };
+    assert_eq!(resolved(MEMBER, b""), Err(missing));
+    assert_eq!(resolved(MEMBER, b"\xff"), Err(Error::Utf8(Part::Root)));
+    let empty = resolved(MEMBER, b"[workspace]\n");
+    assert!(matches!(empty, Err(Error::NotInWorkspace(_))), "{empty:?}");
+    match resolved(MEMBER, b"[workspace") {
+        Err(Error::Toml { part: Part::Root, range, .. }) => assert_eq!(range.start, 10),
+        other => panic!("{other:?}"),
+    }
+}
+
+#[test]
+fn what_listings_refuse() {
+    for fault in [Fault::OutOfMemory, Fault::Other] {
+        let mut listings = with_library();
+        listings.put_fault("src", fault);
+        assert_eq!(completed(b"[package]\nname = 'p'\n", &listings), Err(Error::Io(fault)));
+    }
+    // `.` is asked, and is not there
+    assert_eq!(completed(b"[package]\nname = 'p'\n", &Listings::new()), Err(Error::Io(Fault::NotFound)));
+    let none = completed(b"[package]\nname = 'p'\nedition = '2021'\n[lib]\n", &Listings::new());
+    let text = "can't find library, rename file to `src/lib.rs` or specify lib.path";
+    assert_eq!(none, Err(Error::Other(text.into())));
+}
+
+#[test]
+fn listings_by_a_closure() {
+    let listings = Listings::gather(|path| match path {
+        "src/bin" => Ok(vec!["b.rs".into(), "a".into()]),
+        "src/bin/a" => Ok(vec!["main.rs".into()]),
+        "." => Ok(vec!["build.rs".into()]),
+        _ => Err(IoError::from(ErrorKind::NotFound)),
+    });
+    let text = completed(b"[package]\nname = 'p'\nedition = '2021'\n", &listings).unwrap();
+    for line in ["path = \"src/bin/a/main.rs\"", "path = \"src/bin/b.rs\"", "build = \"build.rs\""] {
+        assert!(text.lines().any(|is| is == line), "{line} in {text}");
+    }
+}
+
+#[test]
+fn listings_of_a_folder() {
+    let folder = PathBuf::from(env!("CARGO_TARGET_TMPDIR")).join("listings");
+    let _ = fs::remove_dir_all(&folder);
+    fs::create_dir_all(folder.join("src/bin/tool")).unwrap();
+    for path in ["src/lib.rs", "src/bin/tool/main.rs"] {
+        fs::write(folder.join(path), "").unwrap();
+    }
+    let text = completed(b"[package]\nname = 'p-q'\nedition = '2021'\n", &Listings::of_folder(&folder)).unwrap();
+    for line in ["path = \"src/bin/tool/main.rs\"", "path = \"src/lib.rs\""] {
+        assert!(text.lines().any(|is| is == line), "{line} in {text}");
+    }
+}
+
+/// A table of these members.
+fn table_of<const N: usize>(members: [(&str, Value); N]) -> Value {
+    Value::Table(members.into_iter().map(|(key, value)| (key.to_string(), value)).collect())
+}
+
+#[test]
+fn the_table_by_values() {
+    let text = "[package]\nname = 'p'\nautobins = false\nkeywords = ['a', 'b']\n[package.metadata]\n\
+                zero = 0\nlarge = 9223372036854775807\nsmall = -9223372036854775808\nless = -1\ngroups = 16384\n\
+                at = 1979-05-27T07:32:00.999999999-08:00\nutc = 1979-05-27T07:32:00Z\nday = 1979-05-27\nnoon = 12:00:00\n\
+                none = []\nempty = {}\n";
+    let date = Some(Date { year: 1979, month: 5, day: 27 });
+    let time = |hour, minute, nanosecond| Some(Time { hour, minute, second: Some(0), nanosecond });
+    let datetime = |date, time, offset| Value::Datetime(Datetime { date, time, offset });
+    let metadata = table_of([
+        ("zero", Value::Integer(0)),
+        ("large", Value::Integer(i64::MAX)),
+        ("small", Value::Integer(i64::MIN)),
+        ("less", Value::Integer(-1)),
+        ("groups", Value::Integer(16384)),
+        ("at", datetime(date, time(7, 32, Some(999_999_999)), Some(Offset::Minutes(-480)))),
+        ("utc", datetime(date, time(7, 32, None), Some(Offset::Z))),
+        ("day", datetime(date, None, None)),
+        ("noon", datetime(None, time(12, 0, None), None)),
+        ("none", Value::Array(Vec::new())),
+        ("empty", table_of([])),
+    ]);
+    let words = ["a", "b"].map(|word| Value::String(word.into()));
+    let package = table_of([
+        ("name", Value::String("p".into())),
+        ("autobins", Value::Boolean(false)),
+        ("keywords", Value::Array(words.into())),
+        ("metadata", metadata),
+    ]);
+    assert_eq!(table(text.as_bytes()), Ok(table_of([("package", package)])));
+    assert_eq!(table(b""), Err(schema(Cause::Missing, "name")));
+}

@@ -1,0 +1,17 @@
+-- Lemmas on the bytes of lists and of tables.
+use Rattle.std.proofs.Common.{◌≡◌, suc, List, [], ◌∷◌, ◌++◌, length, ℕ, String, Global, refl, ap, sym, ◌∙◌, append_assoc, append-nil}
+use Rattle.toml.specs.View.{items_view, members_view}
+use Rattle.toml.specs.declared.value.Value.{Value}
+use Rattle.manifest_bytes.specs.Encoded.{item_count, member_count}
+
+pub item_count-view : (vs : List Value) → item_count (items_view vs) ≡ length vs
+item_count-view [] = refl
+item_count-view (v ∷ vs) = ap suc (item_count-view vs)
+
+pub member_count-view : (ms : List (String Global × Value)) → member_count (members_view ms) ≡ length ms
+member_count-view [] = refl
+member_count-view (m ∷ ms) = ap suc (member_count-view ms)
+
+-- what was appended in two steps
+pub appended : (out numbered old count bytes : List ℕ) → out ++ [] ≡ numbered ++ bytes → numbered ≡ old ++ count → out ≡ old ++ (count ++ bytes)
+appended out numbered old count bytes h k = sym (append-nil out) ∙ h ∙ ap (λ bs. bs ++ bytes) k ∙ append_assoc old count bytes

@@ -1,0 +1,7 @@
+//! Values as tagged bytes, for readers that want values and no text. `docs/LIBRARY.md` has the layout.
+#![tactic(auto)]
+
+pub mod laws;
+mod values;
+
+pub use values::value_bytes;

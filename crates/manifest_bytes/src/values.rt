@@ -1,0 +1,222 @@
+//! The bytes of a value.
+
+ghost use Rattle.std.specs.Prelude.{◌≡◌, ◌++◌, ◌∷◌, [], OnOk, IfOk, option_map};
+ghost use Rattle.toml.specs.View.{view, array_view, table_view};
+ghost use Rattle.manifest_bytes.specs.Numbers.{number_bytes};
+ghost use Rattle.manifest_bytes.specs.Encoded.{text_bytes, integer_bytes, part_bytes, date_bytes, second_bytes, time_bytes, offset_bytes, datetime_bytes, item_count, member_count, encoded, items_bytes, members_bytes};
+
+use std::alloc::{AllocError, Global};
+use toml::{Table, Value};
+use toml_datetime::{Date, Datetime, Offset, Time};
+
+/// Appends a number.
+#[tactic(auto, using(crate::proofs::NumberLemmas::number_more, crate::proofs::NumberLemmas::number_last))]
+fn push_number(out: &mut Vec<u8>, number: u64) -> Result<(), AllocError>
+    ensures { OnOk result (out.new.items ≡ out.old.items ++ number_bytes number) }
+{
+    let mut rest = number;
+    while rest >= 128 {
+        out.push((rest % 128) as u8 + 128)?;
+        rest /= 128;
+    }
+    out.push(rest as u8)?;
+    Ok(())
+}
+
+/// Appends a text.
+fn push_text(out: &mut Vec<u8>, text: &str) -> Result<(), AllocError>
+    ensures { OnOk result (out.new.items ≡ out.old.items ++ text_bytes text.now) }
+{
+    push_number(out, text.len() as u64)?;
+    out.extend_from_slice(text.as_bytes())
+}
+
+/// Appends a whole number, with its tag.
+fn push_integer(out: &mut Vec<u8>, number: i64) -> Result<(), AllocError>
+    ensures { OnOk result (out.new.items ≡ out.old.items ++ integer_bytes number) }
+{
+    if number >= 0 {
+        out.push(2)?;
+        push_number(out, number.unsigned_abs())
+    } else {
+        out.push(3)?;
+        push_number(out, number.unsigned_abs() - 1)
+    }
+}
+
+/// Appends a date.
+fn push_date(out: &mut Vec<u8>, date: Date) -> Result<(), AllocError>
+    ensures { OnOk result (out.new.items ≡ out.old.items ++ date_bytes date) }
+{
+    out.push(date.month)?;
+    out.push(date.day)?;
+    push_number(out, u64::from(date.year))
+}
+
+/// Appends the seconds of a time.
+fn push_second(out: &mut Vec<u8>, second: Option<u8>) -> Result<(), AllocError>
+    ensures { OnOk result (out.new.items ≡ out.old.items ++ part_bytes second_bytes second) }
+{
+    match second {
+        None => out.push(0)?,
+        Some(second) => {
+            out.push(1)?;
+            out.push(second)?;
+        }
+    }
+    Ok(())
+}
+
+/// Appends the nanoseconds of a time.
+fn push_nanosecond(out: &mut Vec<u8>, nanosecond: Option<u32>) -> Result<(), AllocError>
+    ensures { OnOk result (out.new.items ≡ out.old.items ++ part_bytes number_bytes nanosecond) }
+{
+    match nanosecond {
+        None => {
+            out.push(0)?;
+            Ok(())
+        }
+        Some(nanosecond) => {
+            out.push(1)?;
+            push_number(out, u64::from(nanosecond))
+        }
+    }
+}
+
+/// Appends a time.
+fn push_time(out: &mut Vec<u8>, time: Time) -> Result<(), AllocError>
+    ensures { OnOk result (out.new.items ≡ out.old.items ++ time_bytes time) }
+{
+    out.push(time.hour)?;
+    out.push(time.minute)?;
+    push_second(out, time.second)?;
+    push_nanosecond(out, time.nanosecond)
+}
+
+/// Appends an offset.
+fn push_offset(out: &mut Vec<u8>, offset: Offset) -> Result<(), AllocError>
+    ensures { OnOk result (out.new.items ≡ out.old.items ++ offset_bytes offset) }
+{
+    match offset {
+        Offset::Z => {
+            out.push(0)?;
+            Ok(())
+        }
+        Offset::Custom { minutes } => {
+            if minutes >= 0 {
+                out.push(1)?;
+                push_number(out, u64::from(minutes.unsigned_abs()))
+            } else {
+                out.push(2)?;
+                push_number(out, u64::from(minutes.unsigned_abs() - 1))
+            }
+        }
+    }
+}
+
+/// Appends a date-time.
+fn push_datetime(out: &mut Vec<u8>, datetime: Datetime) -> Result<(), AllocError>
+    ensures { OnOk result (out.new.items ≡ out.old.items ++ datetime_bytes datetime) }
+{
+    match datetime.date {
+        None => out.push(0)?,
+        Some(date) => {
+            out.push(1)?;
+            push_date(out, date)?;
+        }
+    }
+    match datetime.time {
+        None => out.push(0)?,
+        Some(time) => {
+            out.push(1)?;
+            push_time(out, time)?;
+        }
+    }
+    match datetime.offset {
+        None => {
+            out.push(0)?;
+            Ok(())
+        }
+        Some(offset) => {
+            out.push(1)?;
+            push_offset(out, offset)
+        }
+    }
+}
+
+/// Appends a value.
+#[cycle(bytes)]
+fn push_value(out: &mut Vec<u8>, value: &Value) -> Result<(), AllocError>
+    ensures { OnOk result (out.new.items ≡ out.old.items ++ encoded (view value.now)) }
+{
+    match value {
+        Value::String(text) => {
+            out.push(1)?;
+            push_text(out, text.as_str())
+        }
+        Value::Integer(number) => push_integer(out, *number),
+        Value::Float(_) => {
+            out.push(9)?;
+            Ok(())
+        }
+        Value::Boolean(flag) => {
+            out.push(if *flag { 5 } else { 4 })?;
+            Ok(())
+        }
+        Value::Datetime(datetime) => {
+            out.push(6)?;
+            push_datetime(out, *datetime)
+        }
+        Value::Array(items) => {
+            out.push(7)?;
+            push_items(out, items)
+        }
+        Value::Table(members) => {
+            out.push(8)?;
+            push_members(out, members)
+        }
+    }
+}
+
+/// Appends how many items there are, and the items.
+#[cycle(bytes)]
+fn push_items(out: &mut Vec<u8>, items: &Vec<Value>) -> Result<(), AllocError>
+    ensures { let ds = array_view items.now in
+        OnOk result (out.new.items
+        ≡ out.old.items ++ (number_bytes (item_count ds) ++ items_bytes ds)) }
+{
+    push_number(out, items.len() as u64)?;
+    for item in items {
+        push_value(out, item)?;
+    }
+    Ok(())
+}
+
+/// Appends how many members there are, and the members.
+#[cycle(bytes)]
+fn push_members(out: &mut Vec<u8>, members: &Table) -> Result<(), AllocError>
+    ensures { let ms = table_view members.now in
+        OnOk result (out.new.items
+        ≡ out.old.items ++ (number_bytes (member_count ms) ++ members_bytes ms)) }
+{
+    push_number(out, members.len() as u64)?;
+    for (key, member) in members.iter() {
+        push_text(out, key.as_str())?;
+        push_value(out, member)?;
+    }
+    Ok(())
+}
+
+/// The bytes of a value.
+///
+/// ```ignore
+/// let value = Value::from_str(alloc, "[true, 300]")?;
+/// let bytes = value_bytes(alloc, &value)?; // 7 2 5 2 172 2
+/// ```
+pub fn value_bytes(alloc: Global, value: &Value) -> Result<Vec<u8>, AllocError>
+    ensures { IfOk result (λ bytes. bytes.items ≡ encoded (view value.now)) }
+{
+    let mut out = Vec::new(alloc);
+    push_value(&mut out, value)?;
+    Ok(out)
+}

@@ -1,0 +1,13 @@
+use Rattle.std.proofs.Common.{◌≡◌, ◌++◌, List}
+use Rattle.std.specs.Borrow.{Bor}
+use Rattle.std.specs.Slice.Iter.{iter_rest}
+use Rattle.manifest_schema.specs.Paths.{Text}
+use Rattle.manifest_completion.specs.Answered.{set_names}
+use Rattle.manifest_ffi.specs.Given.{texts, AreNames, IsLeast}
+use Rattle.manifest_ffi.proofs.folders.names_of.Given as goal
+
+-- the names that it has gone over are names, and the set has them
+abbrev pub invariant-loop-name : goal.invariant-loop-name
+invariant-loop-name l =
+    (done : List (Bor Text)) × (l.given ≡ iter_rest l.name-iterator.iter ++ done)
+    × (set_names l.names ≡ texts done) × AreNames (texts done) × IsLeast l.least (texts done)

@@ -1,0 +1,36 @@
+-- What a call leaves: an answer, and a text in the memory that the caller lent.
+use Rattle.std.specs.Prelude.{◌≡◌, ◌⊎◌, ℕ, ◌<◌, ◌≤◌, ◌++◌, List, length, drop, Vec, Result, Ok, Err}
+use Rattle.std.specs.declared.alloc.Global.{Global}
+use Rattle.manifest_schema.specs.Paths.{Text}
+use Rattle.manifest_ffi.specs.declared.refusal.Refusal.{Refusal}
+use Rattle.manifest_ffi.specs.declared.telling.Told.{Told}
+use Rattle.manifest_ffi.specs.declared.answer.Answer.{Answer}
+use Rattle.manifest_ffi.specs.Told.{IsTold, TellsMemory, Tells}
+use Rattle.manifest_ffi.specs.Made.{Refusals, IsMade}
+
+-- the text stands at the front where there is room for it, and what is behind it is as it was; else all is as it was
+pub record IsHanded (text : List ℕ) (size : ℕ) (old new : List ℕ) : Type 0 where
+  pub counted : size ≡ length text
+  pub put : length text ≤ length old → new ≡ text ++ drop (length text) old
+  pub kept : length old < length text → new ≡ old
+
+-- the answer has these numbers, and hands out this text
+pub record Hands (told : Told) (old new : List ℕ) (a : Answer) : Type 0 where
+  pub status : a.status ≡ told.status
+  pub cause : a.cause ≡ told.cause
+  pub start : a.start ≡ told.start
+  pub end : a.end ≡ told.end
+  pub handed : IsHanded told.text.items a.length old new
+
+-- what is told of what was made: status 0 with the text, or the refusal; or that no memory was left to tell it
+abbrev pub Outcome : Result (Vec ℕ Global) Refusal → Told → Type 0
+Outcome (Ok v) t = IsTold t 0 0 v.items
+Outcome (Err r) t = TellsMemory t ⊎ Tells r t
+
+-- THE ANSWER of a call that gives one of these texts, or has one of these refusals
+pub record IsAnswered (gives : Text → Type 0) (refuses : Refusals) (old new : List ℕ) (a : Answer) : Type 0 where
+  pub made : Result (Vec ℕ Global) Refusal
+  pub told : Told
+  pub is_made : IsMade gives refuses made
+  pub outcome : Outcome made told
+  pub hands : Hands told old new a

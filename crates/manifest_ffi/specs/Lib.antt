@@ -1,0 +1,9 @@
+pub use Rattle.cargo_manifest.specs.Canonical
+pub use Rattle.cargo_manifest.specs.Answers
+pub use Rattle.manifest_bytes.specs.Encoded
+pub use Rattle.manifest_bytes.specs.Decoded
+pub mod Given
+pub mod Told
+pub mod Answered
+pub mod Made
+pub mod Calls

@@ -1,0 +1,58 @@
+//! What a call answers, and how its text comes into memory that the caller lent.
+
+ghost use Rattle.manifest_ffi.specs.Answered.{IsHanded, Outcome, Hands};
+
+use crate::refusal::Refusal;
+use crate::telling::{Told, tell, with_text};
+use std::alloc::Global;
+
+/// What a call answers. `docs/LIBRARY.md` has the statuses and the causes.
+#[repr(C)]
+#[derive(Debug, Clone, Copy)]
+pub struct Answer {
+    /// 0 where the text is what was asked for, else why it is not.
+    pub status: u8,
+    /// More of the status: the cause of a fault of the schema, or the number of a listing's fault; else 0.
+    pub cause: u8,
+    /// How many bytes the text takes. It stands in `out` where that is as long or longer.
+    pub length: usize,
+    /// Where in the bytes the fault of a text that is no TOML begins.
+    pub start: usize,
+    /// Where it ends.
+    pub end: usize,
+}
+
+/// Copies a text to the front of `out`, where there is room for it.
+fn hand(text: &[u8], out: &mut [u8]) -> usize
+    ensures { IsHanded text.now result out.old out.new }
+{
+    let length = text.len();
+    if length <= out.len() {
+        out[..length].copy_from_slice(text);
+    }
+    length
+}
+
+/// What is told of what was made.
+pub(crate) fn outcome(alloc: Global, made: Result<Vec<u8>, Refusal>) -> Told
+    ensures { Outcome made result }
+{
+    match made {
+        Ok(text) => with_text(0, 0, text),
+        Err(refusal) => tell(alloc, refusal),
+    }
+}
+
+/// Hands out what is told.
+pub(crate) fn handed(told: &Told, out: &mut [u8]) -> Answer
+    ensures { Hands told.now out.old out.new result }
+{
+    let length = hand(told.text.as_slice(), out);
+    Answer {
+        status: told.status,
+        cause: told.cause,
+        length,
+        start: told.start,
+        end: told.end,
+    }
+}

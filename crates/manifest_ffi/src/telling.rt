@@ -1,0 +1,166 @@
+//! A refusal in numbers and a text.
+
+ghost use Rattle.std.specs.Prelude.{◌≡◌, ◌≤◌, ◌⊎◌};
+ghost use Rattle.std.specs.IoError.{error_kind};
+ghost use Rattle.manifest_value.specs.Faults.{cause_of};
+ghost use Rattle.manifest_ffi.specs.Told.{cause_number, kind_number, at_root, IsTold, TellsMemory, TellsToml, TellsSchema, TellsError, TellsResolving, TellsPrinting, Tells};
+
+use crate::refusal::Refusal;
+use cargo_manifest::{Cause, Error, ParseFault, SchemaFault};
+use manifest_inherit::ResolveError;
+use std::alloc::Global;
+use std::io;
+use std::io::ErrorKind;
+
+/// What is told: the numbers of an answer, and its text.
+#[derive(Debug, Drop)]
+pub struct Told {
+    pub status: u8,
+    pub cause: u8,
+    pub start: usize,
+    pub end: usize,
+    pub text: Vec<u8>,
+}
+
+/// Added to the status where it is the root that is refused.
+const OF_ROOT: u8 = 16;
+
+/// A status with a cause and a text.
+pub(crate) fn with_text(status: u8, cause: u8, text: Vec<u8>) -> Told
+    ensures { IsTold result status cause text.items }
+{
+    Told {
+        status,
+        cause,
+        start: 0,
+        end: 0,
+        text,
+    }
+}
+
+/// Want of memory.
+fn memory(alloc: Global) -> Told
+    ensures { TellsMemory result }
+{
+    with_text(6, 0, Vec::new(alloc))
+}
+
+/// The number of a cause.
+fn cause_number(cause: Cause) -> u8
+    ensures { result ≡ cause_number (cause_of cause) }
+{
+    match cause {
+        Cause::WrongKind => 1,
+        Cause::Missing => 2,
+        Cause::TwoSpellings => 3,
+        Cause::NotAChoice => 4,
+        Cause::OutOfRange => 5,
+        Cause::NotTrue => 6,
+        Cause::HoldsFloat => 7,
+        Cause::Metadata => 8,
+    }
+}
+
+/// The number of a fault of a listing.
+fn kind_number(fault: io::Error) -> u8
+    ensures { result ≡ kind_number (error_kind fault) }
+{
+    match fault.kind() {
+        ErrorKind::NotFound => 1,
+        ErrorKind::OutOfMemory => 2,
+        _ => 3,
+    }
+}
+
+/// The status, where it is the root that is refused.
+fn at_root(is_root: bool, status: u8) -> u8
+    requires { status ≤ 15 }
+    ensures { result ≡ at_root is_root status }
+{
+    if is_root { status + OF_ROOT } else { status }
+}
+
+/// A text that is no TOML: `toml`'s words, and where in the bytes.
+fn tell_toml(alloc: Global, fault: &toml::de::Error, is_root: bool) -> Told
+    ensures { TellsMemory result ⊎ TellsToml is_root fault.now result }
+{
+    let Some(range) = fault.span() else {
+        return memory(alloc);
+    };
+    match String::from_str(alloc, fault.message()) {
+        Ok(text) => Told {
+            status: at_root(is_root, 1),
+            cause: 0,
+            start: range.start,
+            end: range.end,
+            text: text.into_bytes(),
+        },
+        Err(_) => memory(alloc),
+    }
+}
+
+/// A fault of the schema: its cause, and the text of its key path.
+fn tell_schema(alloc: Global, fault: &SchemaFault, is_root: bool) -> Told
+    ensures { TellsMemory result ⊎ TellsSchema is_root fault.now result }
+{
+    match fault.path.to_text(alloc) {
+        Ok(text) => {
+            let cause = cause_number(fault.cause);
+            with_text(at_root(is_root, 2), cause, text.into_bytes())
+        }
+        Err(_) => memory(alloc),
+    }
+}
+
+/// An error of a manifest.
+fn tell_error(alloc: Global, error: Error, is_root: bool) -> Told
+    ensures { TellsMemory result ⊎ TellsError is_root error result }
+{
+    match error {
+        Error::Parse(ParseFault::Toml(fault)) => tell_toml(alloc, &fault, is_root),
+        Error::Parse(ParseFault::Schema(fault)) => tell_schema(alloc, &fault, is_root),
+        Error::Io(fault) => with_text(3, kind_number(fault), Vec::new(alloc)),
+        Error::Utf8(_) => with_text(at_root(is_root, 4), 0, Vec::new(alloc)),
+        Error::Other(text) => with_text(5, 0, text.into_bytes()),
+        Error::Memory(_) => memory(alloc),
+    }
+}
+
+/// Why a manifest is not resolved.
+fn tell_resolving(alloc: Global, error: ResolveError) -> Told
+    ensures { TellsMemory result ⊎ TellsResolving error result }
+{
+    match error {
+        ResolveError::NotInWorkspace(key) => with_text(10, 0, key.into_bytes()),
+        ResolveError::InheritedInWorkspace(name) => with_text(11, 0, name.into_bytes()),
+        ResolveError::MixedLints => with_text(12, 0, Vec::new(alloc)),
+        ResolveError::ToolNamedWorkspace => with_text(13, 0, Vec::new(alloc)),
+        ResolveError::Memory(_) => memory(alloc),
+    }
+}
+
+/// Why a manifest's table is not printed.
+fn tell_printing(alloc: Global, error: Error) -> Told
+    ensures { TellsMemory result ⊎ TellsPrinting error result }
+{
+    match error {
+        Error::Other(text) => with_text(7, 0, text.into_bytes()),
+        error => tell_error(alloc, error, false),
+    }
+}
+
+/// The numbers and the text of a refusal.
+pub(crate) fn tell(alloc: Global, refusal: Refusal) -> Told
+    ensures { TellsMemory result ⊎ Tells refusal result }
+{
+    match refusal {
+        Refusal::Bytes(error) => tell_error(alloc, error, false),
+        Refusal::Root(error) => tell_error(alloc, error, true),
+        Refusal::NoWorkspace => with_text(9, 0, Vec::new(alloc)),
+        Refusal::Resolving(error) => tell_resolving(alloc, error),
+        Refusal::Listings => with_text(8, 0, Vec::new(alloc)),
+        Refusal::Completion(error) => tell_error(alloc, error, false),
+        Refusal::Printing(error) => tell_printing(alloc, error),
+        Refusal::Memory => memory(alloc),
+    }
+}

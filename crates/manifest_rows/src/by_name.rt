@@ -1,0 +1,180 @@
+//! The calls that take memory and that no other test names: faults, rows that are written, and targets that are completed.
+use crate::answers::{answer_of, assert_is, assert_written, laid_out, told, value};
+use crate::folders::listings;
+use cargo_manifest::{
+    Cause, Edition, MaybeInherited, Product, ReadFault, Schema, Step, StringOrBool,
+};
+use manifest_completion::{CompletedTargets, DeclaredTargets, complete};
+use manifest_parts::error::refusal;
+use manifest_value::fault::{here, prefixed, under_key};
+use manifest_value::maps::{entries_table, map_of_list};
+use manifest_value::metadata::put_tree;
+use manifest_value::rows::{at_key, put_nonempty, put_optional, put_row, put_unless, read_under};
+use std::alloc::Global;
+use std::collections::BTreeMap;
+use std::process::Abort;
+use std::test::Fail;
+use toml::{Table, Value};
+
+/// How a fault is told.
+fn told_of(alloc: Global, fault: ReadFault) -> Result<String, Fail> {
+    Ok(told(alloc, &refusal(fault))?)
+}
+
+#[test]
+fn faults_behind_steps(rt: HostRuntime) -> Result<(), Fail> {
+    let alloc = rt.alloc();
+    let not_true = || at_key(alloc, "a b", Cause::NotTrue);
+    for (fault, expected) in [
+        (here(alloc, Cause::Missing), "missing at (top)"),
+        (not_true(), "not true at \"a b\""),
+        (under_key(alloc, "x", not_true()), "not true at x.\"a b\""),
+        (
+            prefixed(Step::Index(3), not_true()),
+            "not true at [3].\"a b\"",
+        ),
+    ] {
+        assert_is(&rt, told_of(alloc, fault), expected, expected)?;
+    }
+    Ok(())
+}
+
+/// What is written of the value of a text, read as a `T` under a key, or how it is told to be refused.
+fn answer_under<T: Schema>(alloc: Global, text: &str) -> Result<String, Fail> {
+    match read_under::<T>(alloc, &value(alloc, text)?, "k") {
+        Ok(x) => answer_of(alloc, Ok(x)),
+        Err(fault) => told_of(alloc, fault),
+    }
+}
+
+#[test]
+fn values_under_a_key(rt: HostRuntime) -> Result<(), Fail> {
+    let alloc = rt.alloc();
+    assert_is(
+        &rt,
+        answer_under::<bool>(alloc, "true"),
+        "value = true\n",
+        "true",
+    )?;
+    assert_is(
+        &rt,
+        answer_under::<bool>(alloc, "1"),
+        "wrong kind at k",
+        "1",
+    )?;
+    let numbers = answer_under::<Vec<u16>>(alloc, "[1, 65536]");
+    assert_is(&rt, numbers, "out of range at k[1]", "numbers")?;
+    assert_is(
+        &rt,
+        answer_under::<()>(alloc, "{}"),
+        "metadata at k",
+        "nothing",
+    )?;
+    assert_written(&rt, alloc, Ok(()), "{}")
+}
+
+/// A table of rows that are written: one key twice, and three rows that are left out.
+fn written_rows(alloc: Global) -> Result<Table, Fail> {
+    let text = Some(String::from_str(alloc, "a")?);
+    let tree = Some(value(alloc, "{ a = [1] }")?);
+    let list = Vec::<u16>::from_array(alloc, [65535])?;
+    let mut table = Table::new(alloc);
+    put_row(alloc, &mut table, "row", &true)?;
+    put_row(alloc, &mut table, "row", &false)?;
+    put_optional(alloc, &mut table, "optional", &text)?;
+    put_optional(alloc, &mut table, "absent", &None::<String>)?;
+    put_unless(alloc, &mut table, "unless", false, &1_u16)?;
+    put_unless(alloc, &mut table, "skipped", true, &1_u16)?;
+    put_nonempty(alloc, &mut table, "list", &list)?;
+    put_nonempty(alloc, &mut table, "empty", &Vec::<u16>::new(alloc))?;
+    put_tree(alloc, &mut table, "tree", &tree)?;
+    put_tree(alloc, &mut table, "no-tree", &None::<Value>)?;
+    Ok(table)
+}
+
+#[test]
+fn rows_that_are_written(rt: HostRuntime) -> Result<(), Fail> {
+    let alloc = rt.alloc();
+    let rows = "row = false\noptional = 'a'\nunless = 1\nlist = [65535]\ntree = { a = [1] }";
+    let expected = laid_out(alloc, rows)?;
+    let got = toml::table_to_string(alloc, &written_rows(alloc)?)?;
+    assert_is(&rt, Ok(got), expected.as_str(), rows)
+}
+
+/// The text of the table of a map.
+fn map_text(alloc: Global, map: &BTreeMap<String, i8>) -> Result<String, Fail> {
+    Ok(toml::table_to_string(alloc, &entries_table(alloc, map)?)?)
+}
+
+#[test]
+fn maps_that_are_written(rt: HostRuntime) -> Result<(), Fail> {
+    let alloc = rt.alloc();
+    let mut levels: BTreeMap<String, i8> = BTreeMap::new(alloc);
+    assert_is(&rt, map_text(alloc, &levels), "", "no entry")?;
+    levels.insert(String::from_str(alloc, "b")?, 127)?;
+    levels.insert(String::from_str(alloc, "a")?, -128)?;
+    assert_is(
+        &rt,
+        map_text(alloc, &levels),
+        "a = -128\nb = 127\n",
+        "two entries",
+    )?;
+    let none: BTreeMap<String, i8> = map_of_list(alloc, Vec::new(alloc))?;
+    assert_is(&rt, map_text(alloc, &none), "", "a map of no list")
+}
+
+/// What has to be there.
+fn there<T: Schema>(value: Option<T>) -> Result<T, Fail> {
+    match value {
+        Some(x) => Ok(x),
+        None => Err(Fail::from("a target is not there")),
+    }
+}
+
+/// Asserts what a package's targets are completed to.
+fn assert_targets(rt: &impl Abort, alloc: Global, completed: CompletedTargets) -> Result<(), Fail> {
+    let CompletedTargets {
+        build,
+        lib,
+        bin,
+        example,
+        test,
+        bench,
+    } = completed;
+    assert_written(rt, alloc, there(build), "'build.rs'")?;
+    let expected =
+        "{ name = 'a_b', path = 'src/lib.rs', edition = '2021', required-features = [], crate-type = ['lib'] }";
+    assert_written(rt, alloc, there(lib), expected)?;
+    let expected =
+        "[{ name = 'c', path = 'src/bin/c.rs', edition = '2021', required-features = [] }]";
+    assert_written(rt, alloc, Ok(bin), expected)?;
+    let expected =
+        "[{ edition = '2015', required-features = [], crate-type = ['bin'] }, { name = 'e', path = 'examples/e.rs', edition = '2021', required-features = [], crate-type = ['bin'] }]";
+    assert_written(rt, alloc, Ok(example), expected)?;
+    assert_written(rt, alloc, Ok(test), "[]")?;
+    assert_written(rt, alloc, Ok(bench), "[]")
+}
+
+#[test]
+fn targets_of_a_package(rt: HostRuntime) -> Result<(), Fail> {
+    let alloc = rt.alloc();
+    let folders = "src|lib.rs;src/bin|c.rs;examples|e.rs;tests|t.rs;.|build.rs";
+    let examples = Vec::from_array(alloc, [Product::default(alloc)])?;
+    let declared = DeclaredTargets {
+        name: "a-b",
+        edition: &Some(MaybeInherited::Local(Edition::E2021)),
+        autolib: None,
+        autobins: None,
+        autoexamples: None,
+        autotests: Some(false),
+        autobenches: None,
+        build: &Some(StringOrBool::Bool(true)),
+        lib: &None,
+        bin: &[],
+        example: examples.as_slice(),
+        test: &[],
+        bench: &[],
+    };
+    let completed = complete(alloc, &listings(alloc, folders)?, &declared)?;
+    assert_targets(&rt, alloc, completed)
+}

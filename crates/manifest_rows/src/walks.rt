@@ -1,0 +1,115 @@
+//! A walk over a table, and the readers of its rows, by their names.
+use crate::answers::{assert_is, told};
+use manifest_parts::error::refusal;
+use manifest_value::cursor::{
+    fill, fill_default, fill_tree, lenient_default, lenient_optional, optional, or_default,
+    required, rows_of,
+};
+use manifest_value::entries::map_of_entries;
+use manifest_value::{Slot, Spellings, find_slots, spelled, walk};
+use std::alloc::Global;
+use std::process::Abort;
+use std::test::Fail;
+use toml::Value;
+
+/// A row of two spellings, and two of one.
+static ROWS: [Spellings; 3] = spelled!["a-b" | "a_b", "c", "d"];
+
+/// A table that has both spellings of the first row, the second row, and a key that no row has.
+const ENTRIES: &str = "a-b = 1\na_b = 2\nz = 3\nc = 4";
+
+/// What stands in the slots, in their order.
+fn found(alloc: Global, slots: &[Slot<'_>]) -> Result<String, Fail> {
+    let mut text = String::new(alloc);
+    for slot in slots {
+        match slot {
+            Slot::Absent => text.push_str("absent;")?,
+            Slot::One { spelling, value } => {
+                text.push_str(spelling)?;
+                text.push_str(match value {
+                    Value::Integer(4) => " is 4;",
+                    _ => " is something else;",
+                })?;
+            }
+            Slot::Clash => text.push_str("clash;")?,
+        }
+    }
+    Ok(text)
+}
+
+const FOUND: &str = "clash;c is 4;absent;";
+
+#[test]
+fn a_walk_finds_the_rows_and_the_rest(rt: HostRuntime) -> Result<(), Fail> {
+    let alloc = rt.alloc();
+    let table = toml::table_from_str(alloc, ENTRIES)?;
+    let walk = walk(alloc, &table, &ROWS)?;
+    assert_is(&rt, found(alloc, walk.slots.as_slice()), FOUND, ENTRIES)?;
+    assert_eq!(rt; walk.rest.len(), 1);
+    assert_eq!(rt; walk.rest[0].0, "z");
+    assert!(rt; matches!(walk.rest[0].1, Value::Integer(3)));
+    Ok(())
+}
+
+#[test]
+fn slots_on_the_stack_hold_the_same(rt: HostRuntime) -> Result<(), Fail> {
+    let alloc = rt.alloc();
+    let table = toml::table_from_str(alloc, ENTRIES)?;
+    let mut slots = [Slot::Absent; 3];
+    find_slots(&table, &ROWS, &mut slots);
+    assert_is(&rt, found(alloc, &slots), FOUND, ENTRIES)
+}
+
+/// A row for each reader of a row, and one that is not there.
+static READ: [Spellings; 9] = spelled!["a", "b", "c", "d", "e", "f", "g", "h", "missing"];
+
+/// Rows of `READ`, of which two hold no boolean, and a key that no row has.
+const READ_FROM: &str =
+    "a = true\nb = true\nc = true\nd = true\ne = true\nf = 6\ng = 1\nh = 1\nother = true";
+
+#[test]
+fn each_reader_reads_the_next_row(rt: HostRuntime) -> Result<(), Fail> {
+    let alloc = rt.alloc();
+    let table = toml::table_from_str(alloc, READ_FROM)?;
+    let walk = walk(alloc, &table, &READ)?;
+    let mut rows = rows_of(&READ, walk.slots.as_slice());
+    assert!(rt; matches!(required::<bool>(alloc, &mut rows), Ok(true)));
+    assert!(rt; matches!(optional::<bool>(alloc, &mut rows), Ok(Some(true))));
+    assert!(rt; matches!(or_default(alloc, &mut rows, false), Ok(true)));
+    let mut place: Option<bool> = None;
+    assert!(rt; fill(alloc, &mut rows, &mut place).is_ok());
+    assert_eq!(rt; place, Some(true));
+    let mut flag = false;
+    assert!(rt; fill_default(alloc, &mut rows, false, &mut flag).is_ok());
+    assert!(rt; flag);
+    let mut tree: Option<Value> = None;
+    assert!(rt; fill_tree(alloc, &mut rows, &mut tree).is_ok());
+    assert!(rt; matches!(tree, Some(Value::Integer(6))));
+    assert!(rt; matches!(lenient_optional::<bool>(alloc, &mut rows), Ok(None)));
+    assert!(rt; matches!(lenient_default(alloc, &mut rows, true), Ok(true)));
+    let told = match required::<bool>(alloc, &mut rows) {
+        Ok(_) => String::from_str(alloc, "accepted")?,
+        Err(fault) => told(alloc, &refusal(fault))?,
+    };
+    assert_is(&rt, Ok(told), "missing at missing", READ_FROM)
+}
+
+#[test]
+fn the_rest_of_a_walk_is_read_as_a_map(rt: HostRuntime) -> Result<(), Fail> {
+    let alloc = rt.alloc();
+    let table = toml::table_from_str(alloc, READ_FROM)?;
+    let walk = walk(alloc, &table, &READ)?;
+    match map_of_entries::<bool>(alloc, walk.rest.as_slice()) {
+        Ok(map) => {
+            assert_eq!(rt; map.len(), 1);
+            assert_eq!(rt; map.get("other").copied(), Some(true));
+            Ok(())
+        }
+        Err(fault) => assert_is(
+            &rt,
+            Ok(told(alloc, &refusal(fault))?),
+            "accepted",
+            READ_FROM,
+        ),
+    }
+}

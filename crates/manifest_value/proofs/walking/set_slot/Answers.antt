@@ -1,0 +1,13 @@
+use Rattle.std.proofs.lemmas.List.{length-set}
+use Rattle.toml.specs.View.{view}
+use Rattle.manifest_value.proofs.WalkLemmas.{filled_at-set}
+use Rattle.manifest_value.proofs.walking.set_slot.Goals as goal
+
+pub returns-clause-views : goal.returns-clause-views
+returns-clause-views c =
+    let k = c.args.spelling.now in
+    let d = view c.args.value.now in
+    filled_at-set c.args.i c.args.slots.now c.filled.result c.index-slots-i.result k d (c.filled.ensures) c.requires
+
+pub returns-clause-many : goal.returns-clause-many
+returns-clause-many c = length-set c.args.slots.now c.args.i c.filled.result

@@ -1,0 +1,91 @@
+-- What a walk over a table finds, as the definitions see it.
+use Rattle.std.specs.Prelude.{◌≡◌, ℕ, zero, suc, Bool, true, false, ◌&&◌, List, [], ◌∷◌, Option, Some, None, option_copied}
+use Rattle.std.specs.Borrow.{Bor}
+use Rattle.std.specs.Cmp.Lexicographic.{slice_cmp}
+use Rattle.std.specs.Ordering.{nat_cmp}
+use Rattle.std.specs.declared.cmp.Ordering.TheVariants.{Less}
+use Rattle.toml.specs.Data.{Data, Members, no_members, member}
+use Rattle.toml.specs.declared.value.Value.{Value}
+use Rattle.toml.specs.View.{view}
+use Rattle.manifest_schema.specs.Paths.{Text}
+use Rattle.manifest_schema.specs.Slots.{Spellings, Slot, absent, one, clash, at, is_among}
+use Rattle.manifest_schema.specs.Forms.{Rows, ◌⨾◌, spell, differ}
+use Rattle.manifest_schema.specs.ForProofs.{spellings_of}
+use Rattle.manifest_value.specs.declared.spellings.Spellings.{Spellings as CodeSpellings}
+use Rattle.manifest_value.specs.declared.walked.Slot.{Slot as CodeSlot}
+
+-- SPELLINGS
+-- the spellings of a row, as the definitions have them
+abbrev pub spellings_view : CodeSpellings → Spellings
+spellings_view s = spellings_of s.first.now (option_copied s.second)
+
+-- the spellings of a form, row by row
+abbrev pub names_of : {A : Type 0} → Rows A → List Spellings
+names_of (r ⨾ rs) = r.spellings ∷ names_of rs
+names_of _ = []
+
+-- all spellings of some rows
+abbrev pub all_words : List Spellings → List Text
+all_words [] = []
+all_words (s ∷ ss) = spell s (all_words ss)
+
+-- all spellings differ
+abbrev pub distinct_words : List Spellings → Bool
+distinct_words [] = true
+distinct_words (s ∷ ss) = differ s (all_words ss) && distinct_words ss
+
+-- the key is a spelling of the row at this place
+abbrev pub is_word_at : ℕ → List Spellings → Text → Bool
+is_word_at i [] k = false
+is_word_at zero (s ∷ ss) k = is_among (spell s []) k
+is_word_at (suc i) (s ∷ ss) k = is_word_at i ss k
+
+-- SLOTS
+-- what stands under the spellings of a row, as the definitions have it
+abbrev pub slot_view : CodeSlot → Slot
+slot_view CodeSlot.Absent = absent
+slot_view (CodeSlot.One s v) = one s.now (view v.now)
+slot_view CodeSlot.Clash = clash
+
+-- what a table holds for each row
+abbrev pub slots_at : List Spellings → Members → List Slot
+slots_at [] ms = []
+slots_at (s ∷ ss) ms = at s ms ∷ slots_at ss ms
+
+-- the value that a slot has: Some None where nothing stands there, and None where two spellings clash
+abbrev pub value_in : Slot → Option (Option Data)
+value_in absent = Some None
+value_in (one k d) = Some (Some d)
+value_in clash = None
+
+-- slots in which nothing is found yet
+abbrev pub blanks : ℕ → List CodeSlot
+blanks zero = []
+blanks (suc n) = CodeSlot.Absent ∷ blanks n
+
+-- a slot in which one more value is found
+abbrev pub filled : Slot → Text → Data → Slot
+filled absent k d = one k d
+filled _ k d = clash
+
+-- slots in one of which, at this place, one more value is found
+abbrev pub filled_at : ℕ → Text → Data → List Slot → List Slot
+filled_at i k d [] = []
+filled_at zero k d (s ∷ ss) = filled s k d ∷ ss
+filled_at (suc i) k d (s ∷ ss) = s ∷ filled_at i k d ss
+
+-- THE REST
+-- entries that are borrowed from a table
+abbrev pub rest_view : List (Bor Text × Bor Value) → Members
+rest_view [] = no_members
+rest_view (e ∷ es) = member e.0.now (view e.1.now) (rest_view es)
+
+-- the key is below each key of the members
+abbrev pub IsBelow : Text → Members → Type 0
+IsBelow k no_members = Unit {0}
+IsBelow k (member l d ms) = (slice_cmp nat_cmp k l ≡ Less) × IsBelow k ms
+
+-- each key is below those after it
+abbrev pub Ascend : Members → Type 0
+Ascend no_members = Unit {0}
+Ascend (member k d ms) = IsBelow k ms × Ascend ms

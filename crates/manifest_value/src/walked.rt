@@ -1,0 +1,28 @@
+//! What a walk over a table finds.
+
+use toml::Value;
+
+/// What a table holds under the spellings of a row.
+#[derive(Drop, Clone, Copy)]
+pub enum Slot<'a> {
+    /// Neither spelling.
+    Absent,
+    /// One spelling, and the value under it.
+    One {
+        /// The spelling that is there.
+        spelling: &'static str,
+        /// The value, not a copy.
+        value: &'a Value,
+    },
+    /// Both spellings.
+    Clash,
+}
+
+/// What a walk finds: a slot for each row, and all other keys with their values, in byte order.
+#[derive(Drop)]
+pub struct Walk<'a> {
+    /// What the table holds for each row, in the order of the rows.
+    pub slots: Vec<Slot<'a>>,
+    /// Every key that no row names, with its value.
+    pub rest: Vec<(&'a str, &'a Value)>,
+}
