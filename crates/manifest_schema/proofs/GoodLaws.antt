@@ -156,9 +156,6 @@ product_are_good = search good_laws
 pub product_good : IsGood (form product_rows)
 product_good = form_good product_rows product_are_good
 
-pub products_good : IsGood (list_of (form product_rows))
-products_good = list_good product_good
-
 pub features_good : IsGood (map_of texts)
 features_good = map_good texts_good
 

@@ -4,7 +4,7 @@ use Rattle.std.proofs.lemmas.Bool.{and_parts, not-true}
 use Rattle.std.specs.Option.{is_some}
 use Rattle.toml.specs.Data.{Data, Members, no_members, member, get_member}
 use Rattle.manifest_schema.specs.Paths.{Text, Path, Cause}
-use Rattle.manifest_schema.specs.Slots.{Spellings, only, both, absent, at, is_among, without}
+use Rattle.manifest_schema.specs.Slots.{Spellings, only, both, at, is_among, without}
 use Rattle.manifest_schema.specs.Forms.{Rows, no_more, others, ◌⨾◌, Fields, fits_beside, unfit_beside}
 use Rattle.manifest_schema.proofs.TableLaws.{same_key-false, get-member_other, get-member_same}
 
@@ -22,16 +22,6 @@ get-without_at false names j l d ms known h ih = rw ih
 pub get-without : (names : List Text) (j : Text) (ms : Members) → is_among names j ≡ false → get_member j (without names ms) ≡ get_member j ms
 get-without names j no_members h = refl
 get-without names j (member l d ms) h = get-without_at (is_among names l) names j l d ms refl h (get-without names j ms h)
-
-get-gone_at : (t : Bool) (names : List Text) (j l : Text) (d : Data) (ms : Members) → is_among names l ≡ t → is_among names j ≡ true → get_member j (without names ms) ≡ None
-    → get_member j (if t then without names ms else member l d (without names ms)) ≡ None
-get-gone_at true names j l d ms known h ih = ih
-get-gone_at false names j l d ms known h ih = get-member_other j l d (without names ms) (same_key-false j l (differ_by names j l h known)) ∙ ih
-
--- under a key that is taken out nothing is found
-pub get-gone : (names : List Text) (j : Text) (ms : Members) → is_among names j ≡ true → get_member j (without names ms) ≡ None
-get-gone names j no_members h = refl
-get-gone names j (member l d ms) h = get-gone_at (is_among names l) names j l d ms refl h (get-gone names j ms h)
 
 -- none of the names is a key of the members
 abbrev pub HasNone : List Text → Members → Type 0
@@ -75,12 +65,6 @@ at-without names (only k) ms h = rw (get-without names k ms (not-true _ h))
 at-without names (both k l) ms h =
     let (first, second) = and_parts (not (is_among names k)) (not (is_among names l)) h in
     rw (get-without names k ms (not-true _ first), get-without names l ms (not-true _ second))
-
-pub at-gone : (names : List Text) (s : Spellings) (ms : Members) → are_among names s ≡ true → at s (without names ms) ≡ absent
-at-gone names (only k) ms h = rw (get-gone names k ms h)
-at-gone names (both k l) ms h =
-    let (first, second) = and_parts (is_among names k) (is_among names l) h in
-    rw (get-gone names k ms first, get-gone names l ms second)
 
 module _ {A : Type 0} (names named : List Text) where
   pub fits-without : (rows : Rows A) (ms : Members) (t : Fields rows) → rows_are_apart names rows ≡ true → fits_beside named rows (without names ms) t → fits_beside named rows ms t

@@ -1,6 +1,6 @@
 -- Faults one step further out.
 use Rattle.std.specs.declared.alloc.AllocError.{AllocError}
-use Rattle.manifest_schema.specs.Paths.{Path, Step, Cause as SchemaCause, Faults, no_fault, behind}
+use Rattle.manifest_schema.specs.Paths.{Path, Step, Cause as SchemaCause, behind}
 use Rattle.manifest_value.specs.Faults.{FaultIn, IsBehind, path_of}
 use Rattle.manifest_value.specs.declared.fault.ReadFault.{ReadFault}
 use Rattle.manifest_value.specs.declared.fault.ReadFault.TheVariants.{Schema, Memory}
@@ -20,8 +20,3 @@ fault_behind P s (Schema f) (Schema g) h k = (path_of f.path, k.0, rw k.1 h)
 pub memory_behind : (s : Step) (f : ReadFault) (e : AllocError) → IsBehind s f (Memory e)
 memory_behind s (Schema f) e = tt
 memory_behind s (Memory e') e = tt
-
--- want of memory is no fault of the schema
-pub no_fault_in : (F : Faults) (f : ReadFault) → FaultIn no_fault f → FaultIn F f
-no_fault_in F (Schema f) h = absurd h
-no_fault_in F (Memory e) h = tt

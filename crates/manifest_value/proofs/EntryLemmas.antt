@@ -11,9 +11,8 @@ use Rattle.std.specs.String.{string_cmp}
 use Rattle.toml.specs.Data.{Data, Members}
 use Rattle.toml.specs.declared.value.Value.{Value}
 use Rattle.toml.specs.View.{view, members_view}
-use Rattle.manifest_schema.specs.Kinds.{Kind, written_entries, has_entry, faulty_entry}
+use Rattle.manifest_schema.specs.Kinds.{Kind, has_entry, faulty_entry}
 use Rattle.manifest_schema.specs.Paths.{behind, key}
-use Rattle.manifest_value.specs.Entries.{entries_content}
 use Rattle.manifest_value.specs.Faults.{FaultIn}
 use Rattle.manifest_value.specs.declared.fault.ReadFault.{ReadFault}
 use Rattle.manifest_value.proofs.Behind.{fault_weaker}
@@ -41,10 +40,6 @@ insert_last (x ∷ es) (first ∷ done) e more name v same named h =
     rw (heads, named) (nat_list_cmp_total.antisymm (string_bytes e.0) (string_bytes first.0) ∙ ap ordering_reverse (key_below first done e more h.0)) in
     rw above (ap (λ t. x ∷ t) (insert_last es done e more name v tails named h.1))
 
-pub texts-last : {X : Type 0} (es : List (String Global × X)) (e : String Global × X) → texts (es ++ e ∷ []) ≡ texts es ++ string_bytes e.0 ∷ []
-texts-last [] e = refl
-texts-last (x ∷ es) e = ap (λ t. string_bytes x.0 ∷ t) (texts-last es e)
-
 pub has_entry_within : (done : List (String Global × Value)) (e : String Global × Value) (more : List (String Global × Value)) → has_entry (string_bytes e.0) (view e.1) (members_view (done ++ e ∷ more))
 has_entry_within [] e more = inl (refl, refl)
 has_entry_within (d ∷ done) e more = inr (has_entry_within done e more)
@@ -52,15 +47,3 @@ has_entry_within (d ∷ done) e more = inr (has_entry_within done e more)
 -- a fault of a value is a fault of the entries that have it
 pub entry_fault : {A : Type 0} (K : Kind A) (ms : Members) (k : List ℕ) (d : Data) (f : ReadFault) → has_entry k d ms → FaultIn (behind (key k) (K.faulty d)) f → FaultIn (faulty_entry K ms) f
 entry_fault K ms k d f within h = fault_weaker (behind (key k) (K.faulty d)) (faulty_entry K ms) f (λ p c q. (k, d, within, q)) h
-
--- one more entry is written
-pub written_last : {A X : Type 0} (K : Kind A) (f : X → A) (all : List (String Global × Value)) (done : List (String Global × X)) (x : String Global × Value) (e : String Global × X)
-    → members_view all ≡ written_entries K (entries_content f done) → string_bytes x.0 ≡ string_bytes e.0 → view x.1 ≡ K.written (f e.1)
-    → members_view (all ++ x ∷ []) ≡ written_entries K (entries_content f (done ++ e ∷ []))
-written_last K f [] [] x e h named is = cc
-written_last K f [] (d ∷ done) x e h named is = cc
-written_last K f (y ∷ all) [] x e h named is = cc
-written_last K f (y ∷ all) (d ∷ done) x e h named is =
-    let tails : members_view all ≡ written_entries K (entries_content f done) = cc in
-    let rest = written_last K f all done x e tails named is in
-    cc

@@ -1,19 +1,18 @@
--- Calls of a reader or a writer of a kind: the list or the map of what it gives is that of the kind.
-use Rattle.std.proofs.Common.{◌≡◌, Result, Ok, Err, string_bytes, IfOk, IfErr, Vec, BTreeMap, String, Global, List, [], ◌∷◌, ◌++◌, length, map, Some, inl, inr, refl, sym, ap, ◌∙◌}
+-- Calls of a reader or a writer of a kind: the list of what it gives is that of the kind, and so are the entries that it writes.
+use Rattle.std.proofs.Common.{◌≡◌, Result, Ok, Err, IfOk, IfErr, Vec, BTreeMap, String, Global, List, [], ◌∷◌, ◌++◌, length, map, Some, inl, inr, refl, ap, ◌∙◌}
 use Rattle.std.specs.declared.alloc.AllocError.{AllocError}
 use Rattle.toml.specs.Data.{Data, string, integer, float, boolean, datetime, array, table, get_item}
-use Rattle.toml.specs.View.{view, items_view, members_view}
+use Rattle.toml.specs.View.{view, items_view, members_view, table_view}
 use Rattle.toml.specs.declared.value.Value.{Value}
-use Rattle.toml.proofs.Views.{view-Array, view-Table}
-use Rattle.manifest_schema.specs.Kinds.{Kind, reads_items, faulty_item, written_items, list_of, reads_entries, faulty_entry, written_entries, map_of}
+use Rattle.toml.proofs.Views.{view-Array}
+use Rattle.manifest_schema.specs.Kinds.{Kind, reads_items, faulty_item, written_items, list_of, written_entries}
 use Rattle.manifest_schema.specs.Paths.{Path, Cause as SchemaCause}
-use Rattle.manifest_value.specs.Calls.{Reads, Refused, Writes, ItemsGiven, EntriesGiven, ListGiven, ItemRefused, ListRefused, MapGiven, EntryRefused, MapRefused, ListWritten, MapWritten}
+use Rattle.manifest_value.specs.Calls.{Reads, Refused, Writes, ItemsGiven, EntriesGiven, ListGiven, ItemRefused, ListRefused, ListWritten}
 use Rattle.manifest_value.specs.Entries.{entries_content}
-use Rattle.manifest_value.specs.Faults.{FaultIn, no_list, no_table}
+use Rattle.manifest_value.specs.Faults.{FaultIn, no_list}
 use Rattle.manifest_value.specs.declared.fault.ReadFault.{ReadFault}
 use Rattle.manifest_value.specs.declared.fault.ReadFault.TheVariants.{Schema}
 use Rattle.manifest_value.proofs.CallLemmas.{refused_weaker}
-use Rattle.manifest_value.proofs.EntryLemmas.{has_entry_within}
 
 -- WHAT IS READ
 module _ {A T : Type 0} (K : Kind A) (content : T → A) (R : Reads T) where
@@ -29,19 +28,6 @@ module _ {A T : Type 0} (K : Kind A) (content : T → A) (R : Reads T) where
   list_reads (Ok xs) v h is = rw (h.is, view-Array h.list) (items_read h.list.items xs.items h.given is)
   list_reads (Err f) v h is = tt
 
-  entries_read : (es : List (String Global × Value)) (gs : List (String Global × T)) → EntriesGiven R es gs → ((v : Value) (x : T) → R v (Ok x) → K.reads (view v) (content x))
-      → reads_entries K (members_view es) (entries_content content gs)
-  entries_read [] [] h is = tt
-  entries_read [] (g ∷ gs) h is = absurd h
-  entries_read (e ∷ es) [] h is = absurd h
-  entries_read (e ∷ es) (g ∷ gs) h is = (sym h.0.0, is e.1 g.1 h.0.1, entries_read es gs h.1 is)
-
-  -- a map of what the reader gives
-  pub map_reads : (r : Result (BTreeMap (String Global) T) ReadFault) (v : Value) → IfOk r (λ m. MapGiven R v m.entries)
-      → ((w : Value) (x : T) → R w (Ok x) → K.reads (view w) (content x)) → IfOk r (λ m. (map_of K).reads (view v) (entries_content content m.entries))
-  map_reads (Ok m) v h is = rw (h.is, view-Table h.table) (entries_read h.table.entries m.entries h.given is)
-  map_reads (Err f) v h is = tt
-
 -- WHAT IS REFUSED
 item_after : (before : List Value) (v : Value) (after : List Value) → get_item (length before) (items_view (before ++ v ∷ after)) ≡ Some (view v)
 item_after [] v after = refl
@@ -55,15 +41,6 @@ no_list_faulty K (float x) p c h = h
 no_list_faulty K (boolean b) p c h = h
 no_list_faulty K (datetime t) p c h = h
 no_list_faulty K (table ms) p c h = h
-
-no_table_faulty : {A : Type 0} (K : Kind A) (d : Data) (p : Path) (c : SchemaCause) → no_table d p c → (map_of K).faulty d p c
-no_table_faulty K (table ms) p c h = absurd h
-no_table_faulty K (string s) p c h = h
-no_table_faulty K (integer z) p c h = h
-no_table_faulty K (float x) p c h = h
-no_table_faulty K (boolean b) p c h = h
-no_table_faulty K (datetime t) p c h = h
-no_table_faulty K (array ds) p c h = h
 
 module _ {A T : Type 0} (K : Kind A) (R : Reads T) where
   value_faulty : ((w : Value) (f : ReadFault) → R w (Err f) → FaultIn (K.faulty (view w)) f) → (v : Value) (p : Path) (c : SchemaCause) → Refused R v p c → K.faulty (view v) p c
@@ -82,20 +59,6 @@ module _ {A T : Type 0} (K : Kind A) (R : Reads T) where
   pub list_refuses : {X : Type 0} (r : Result X ReadFault) (v : Value) → IfErr r (FaultIn (ListRefused R v))
       → ((w : Value) (f : ReadFault) → R w (Err f) → FaultIn (K.faulty (view w)) f) → IfErr r (FaultIn ((list_of K).faulty (view v)))
   list_refuses r v h is = refused_weaker (ListRefused R v) ((list_of K).faulty (view v)) r (list_faulty is v) h
-
-  entry_faulty : ((w : Value) (f : ReadFault) → R w (Err f) → FaultIn (K.faulty (view w)) f) → (es : List (String Global × Value)) (p : Path) (c : SchemaCause) → EntryRefused R es p c → faulty_entry K (members_view es) p c
-  entry_faulty is es p c h =
-      let (q, path, r) = h.refused in
-      (string_bytes h.entry.0, view h.entry.1, rw h.whole (has_entry_within h.before h.entry h.after), (q, path, value_faulty is h.entry.1 q c r))
-
-  map_faulty : ((w : Value) (f : ReadFault) → R w (Err f) → FaultIn (K.faulty (view w)) f) → (v : Value) (p : Path) (c : SchemaCause) → MapRefused R v p c → (map_of K).faulty (view v) p c
-  map_faulty is v p c (inl h) = no_table_faulty K (view v) p c h
-  map_faulty is v p c (inr h) = rw (h.1, view-Table h.0) (entry_faulty is h.0.entries p c h.2)
-
-  -- a map with an entry whose value the reader refuses
-  pub map_refuses : {X : Type 0} (r : Result X ReadFault) (v : Value) → IfErr r (FaultIn (MapRefused R v))
-      → ((w : Value) (f : ReadFault) → R w (Err f) → FaultIn (K.faulty (view w)) f) → IfErr r (FaultIn ((map_of K).faulty (view v)))
-  map_refuses r v h is = refused_weaker (MapRefused R v) ((map_of K).faulty (view v)) r (map_faulty is v) h
 
 -- WHAT IS WRITTEN
 module _ {A X : Type 0} (K : Kind A) (content : X → A) (W : Writes X) where
@@ -118,8 +81,8 @@ module _ {A X : Type 0} (K : Kind A) (content : X → A) (W : Writes X) where
   entries_written (e ∷ es) [] h is = absurd h
   entries_written (e ∷ es) (g ∷ gs) h is = rw (h.0.0, is e.1 g.1 h.0.1, entries_written es gs h.1 is)
 
-  -- a map of what the writer gives
-  pub map_writes : (r : Result Value AllocError) (es : List (String Global × X)) → IfOk r (MapWritten W es)
-      → ((x : X) (v : Value) → W x (Ok v) → view v ≡ K.written (content x)) → IfOk r (λ v. view v ≡ (map_of K).written (entries_content content es))
-  map_writes (Ok v) es h is = h.is ∙ ap table (entries_written es h.entries h.given is)
-  map_writes (Err e) es h is = tt
+  -- a table of what the writer gives
+  pub table_writes : (r : Result (BTreeMap (String Global) Value) AllocError) (es : List (String Global × X)) → IfOk r (λ m. EntriesGiven W es m.entries)
+      → ((x : X) (v : Value) → W x (Ok v) → view v ≡ K.written (content x)) → IfOk r (λ m. table_view m ≡ written_entries K (entries_content content es))
+  table_writes (Ok m) es h is = entries_written es m.entries h is
+  table_writes (Err e) es h is = tt

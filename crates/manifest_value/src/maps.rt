@@ -13,6 +13,7 @@ use crate::entries::map_of_entries;
 use crate::fault::{Cause, ReadFault, here};
 use crate::schema::Schema;
 use crate::walking::walk;
+use crate::writers::entries_by;
 use std::alloc::{AllocError, Global};
 use std::collections::BTreeMap;
 use toml::{Table, Value};
@@ -34,7 +35,7 @@ pub fn map_of_list<X: Drop>(
 }
 
 /// The entries of a table, each of one kind.
-fn entries_of<T: Schema>(alloc: Global, table: &Table) -> Result<BTreeMap<String, T>, ReadFault>
+fn map_from<T: Schema>(alloc: Global, table: &Table) -> Result<BTreeMap<String, T>, ReadFault>
     ensures ok { IfOk result
         (λ m. reads_entries T.kind (table_view table.now) (entries_content T.content m.entries)) }
     ensures fault { IfErr result (FaultIn (faulty_entry T.kind (table_view table.now))) }
@@ -54,13 +55,7 @@ pub fn entries_table<T: Schema>(
     ensures { IfOk result
         (λ t. table_view t ≡ written_entries T.kind (entries_content T.content map.now.entries)) }
 {
-    let mut all = Table::new(alloc);
-    for (key, x) in map.iter() {
-        let value = x.to_value(alloc)?;
-        let name = String::from_str(alloc, key.as_str())?;
-        drop(all.insert(name, value)?);
-    }
-    Ok(all)
+    entries_by(alloc, map, &|x: &T| x.to_value(alloc))
 }
 
 impl<T: Schema> Schema for BTreeMap<String, T> {
@@ -72,7 +67,7 @@ impl<T: Schema> Schema for BTreeMap<String, T> {
 
     fn from_value(alloc: Global, value: &Value) -> Result<BTreeMap<String, T>, ReadFault> {
         match value {
-            Value::Table(table) => entries_of(alloc, table),
+            Value::Table(table) => map_from(alloc, table),
             _ => Err(here(alloc, Cause::WrongKind)),
         }
     }

@@ -65,7 +65,7 @@ pub fn write_list<T, F: Fn(&T) -> Result<Value, AllocError> + Drop>(
 }
 
 /// The entries of a map, with what a given writer writes of each value.
-fn entries_by<T, F: Fn(&T) -> Result<Value, AllocError>>(
+pub(crate) fn entries_by<T, F: Fn(&T) -> Result<Value, AllocError>>(
     alloc: Global,
     map: &BTreeMap<String, T>,
     write: &F,
