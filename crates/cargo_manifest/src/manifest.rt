@@ -245,7 +245,24 @@ fn manifest_names<P: Metadata, W: Metadata>() -> &'static [Spellings; 17]
 
 /// Reads the rows of a table.
 #[tactic(auto, unfolding(manifest_schema::specs::ManifestForms::manifest_rows))]
-pub(crate) fn manifest_from<P: Metadata, W: Metadata>(
+pub(crate) fn read_rows<P: Metadata, W: Metadata>(
+    alloc: Global,
+    table: &Table,
+    x: &mut Manifest<P, W>,
+) -> Result<(), ReadFault>
+    ensures ok { OnOk result
+        (Reads (manifest_form P.kind W.kind) (manifest_of P.kind W.kind P.content W.content)
+        (data_of table.now) x.new) }
+    ensures fault { IfErr result
+        (FaultIn ((manifest_form P.kind W.kind).faulty (data_of table.now))) }
+{
+    let names = manifest_names::<P, W>();
+    let walk = walk(alloc, table, names)?;
+    fill_manifest(alloc, &mut rows_of(names, walk.slots.as_slice()), x)
+}
+
+/// Reads the rows of a table into a manifest of its own.
+fn manifest_from<P: Metadata, W: Metadata>(
     alloc: Global,
     table: &Table,
 ) -> Result<Manifest<P, W>, ReadFault>
@@ -255,11 +272,8 @@ pub(crate) fn manifest_from<P: Metadata, W: Metadata>(
     ensures fault { IfErr result
         (FaultIn ((manifest_form P.kind W.kind).faulty (data_of table.now))) }
 {
-    let names = manifest_names::<P, W>();
-    let walk = walk(alloc, table, names)?;
-    let mut rows = rows_of(names, walk.slots.as_slice());
     let mut x = Manifest::default(alloc);
-    fill_manifest(alloc, &mut rows, &mut x).and(Ok(x))
+    read_rows(alloc, table, &mut x).and(Ok(x))
 }
 
 /// Reads all rows.

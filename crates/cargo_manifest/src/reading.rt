@@ -1,6 +1,6 @@
 //! A manifest from bytes or from a text.
 
-ghost use Rattle.std.specs.Prelude.{◌≡◌, false, codes, IfOk, IfErr, IsUtf8};
+ghost use Rattle.std.specs.Prelude.{◌≡◌, false, codes, IfOk, IfErr, OnOk, IsUtf8};
 ghost use Rattle.toml.specs.Data.{get_member};
 ghost use Rattle.toml.specs.View.{view, table_view};
 ghost use Rattle.manifest_schema.specs.Kinds.{kept, tree_of};
@@ -10,7 +10,7 @@ ghost use Rattle.manifest_tables.specs.Tables.{package_of, package_form};
 ghost use Rattle.cargo_manifest.specs.Whole.{manifest_content, manifest_of, manifest_kept};
 ghost use Rattle.cargo_manifest.specs.Answers.{IsDocumentOf, Refuses, RefusesText};
 
-use crate::manifest::{Manifest, manifest_from};
+use crate::manifest::{Manifest, read_rows};
 use manifest_parts::error::refusal;
 use manifest_parts::{Error, ParseFault};
 use manifest_tables::Package;
@@ -50,54 +50,49 @@ fn read_old_package<P: Metadata>(alloc: Global, table: &Table) -> Result<Package
     }
 }
 
-/// The manifest that a table without a header means: its package is that of `project`, or else of the whole table.
+/// Reads the manifest that a table without a header means: its package is that of `project`, or else of the whole table.
 fn read_headless<P: Metadata, W: Metadata>(
     alloc: Global,
     table: &Table,
-) -> Result<Manifest<P, W>, ReadFault>
-    ensures ok { IfOk result
-        (λ m. means_by (tree_of P.kind) (tree_of W.kind) false (table_view table.now)
-        (manifest_of P.kind W.kind P.content W.content m)) }
+    x: &mut Manifest<P, W>,
+) -> Result<(), ReadFault>
+    ensures ok { OnOk result
+        (means_by (tree_of P.kind) (tree_of W.kind) false (table_view table.now)
+        (manifest_of P.kind W.kind P.content W.content x.new)) }
     ensures fault { IfErr result
         (FaultIn (unmeant_by (tree_of P.kind) (tree_of W.kind) false (table_view table.now))) }
 {
-    let mut manifest = match manifest_from(alloc, table) {
-        Ok(manifest) => manifest,
-        Err(fault) => return Err(fault),
-    };
-    match read_old_package(alloc, table) {
-        Ok(package) => {
-            drop(manifest.package.replace(package));
-            Ok(manifest)
-        }
-        Err(fault) => {
-            drop(manifest);
-            Err(fault)
-        }
-    }
+    read_rows(alloc, table, x)?;
+    x.package = Some(read_old_package(alloc, table)?);
+    Ok(())
 }
 
-/// The manifest that a table means, with or without a header.
+/// Reads the manifest that a table means, with or without a header.
 fn read_table<P: Metadata, W: Metadata>(
     alloc: Global,
     table: Table,
-) -> Result<Manifest<P, W>, ReadFault>
-    ensures ok { IfOk result (λ m. means (tree_of P.kind) (tree_of W.kind) (table_view table)
-        (manifest_of P.kind W.kind P.content W.content m)) }
+    x: &mut Manifest<P, W>,
+) -> Result<(), ReadFault>
+    ensures ok { OnOk result (means (tree_of P.kind) (tree_of W.kind) (table_view table)
+        (manifest_of P.kind W.kind P.content W.content x.new)) }
     ensures fault { IfErr result
         (FaultIn (unmeant (tree_of P.kind) (tree_of W.kind) (table_view table))) }
 {
     if has_package_or_workspace(&table) {
-        manifest_from(alloc, &table)
+        read_rows(alloc, &table, x)
     } else {
-        read_headless(alloc, &table)
+        read_headless(alloc, &table, x)
     }
 }
 
-/// The manifest that a text means.
-fn read_text<P: Metadata, W: Metadata>(alloc: Global, text: &str) -> Result<Manifest<P, W>, Error>
-    ensures ok { IfOk result (λ m. IsDocumentOf (tree_of P.kind) (tree_of W.kind) text.now
-        (manifest_of P.kind W.kind P.content W.content m)) }
+/// Reads the manifest that a text means.
+fn read_text<P: Metadata, W: Metadata>(
+    alloc: Global,
+    text: &str,
+    x: &mut Manifest<P, W>,
+) -> Result<(), Error>
+    ensures ok { OnOk result (IsDocumentOf (tree_of P.kind) (tree_of W.kind) text.now
+        (manifest_of P.kind W.kind P.content W.content x.new)) }
     ensures refused { IfErr result (RefusesText (tree_of P.kind) (tree_of W.kind) text.now) }
 {
     let table = match toml::table_from_str(alloc, text) {
@@ -107,8 +102,8 @@ fn read_text<P: Metadata, W: Metadata>(alloc: Global, text: &str) -> Result<Mani
             return Err(Error::Parse(ParseFault::Toml(shared)));
         }
     };
-    match read_table(alloc, table) {
-        Ok(manifest) => Ok(manifest),
+    match read_table(alloc, table, x) {
+        Ok(()) => Ok(()),
         Err(fault) => Err(refusal(fault)),
     }
 }
@@ -135,10 +130,12 @@ impl<P: Metadata> Manifest<P, Value> {
             (manifest_kept P.kind P.content m)) }
         ensures refused { IfErr result (Refuses (tree_of P.kind) (tree_of kept) bytes.now) }
     {
-        match std::str::from_utf8(bytes) {
-            Ok(text) => read_text(alloc, text),
-            Err(fault) => Err(Error::Utf8(fault)),
-        }
+        let text = match std::str::from_utf8(bytes) {
+            Ok(text) => text,
+            Err(fault) => return Err(Error::Utf8(fault)),
+        };
+        let mut manifest = Manifest::default(alloc);
+        read_text(alloc, text, &mut manifest).and(Ok(manifest))
     }
 }
 
@@ -169,6 +166,7 @@ impl Manifest<Value, Value> {
             (manifest_content view view m)) }
         ensures refused { IfErr result (RefusesText (tree_of kept) (tree_of kept) text.now) }
     {
-        read_text(alloc, text)
+        let mut manifest = Manifest::default(alloc);
+        read_text(alloc, text, &mut manifest).and(Ok(manifest))
     }
 }

@@ -255,16 +255,15 @@ fn fill_detail(
 /// Reads the rows of a table, over slots on the stack.
 #[inline(always)]
 #[tactic(auto, unfolding(manifest_schema::specs::PartForms::detailed_rows))]
-fn detail_from(alloc: Global, table: &Table) -> Result<DependencyDetail, ReadFault>
-    ensures ok { IfOk result (Reads (form detailed_rows) detail_content (data_of table.now)) }
+fn read_detail(alloc: Global, table: &Table, x: &mut DependencyDetail) -> Result<(), ReadFault>
+    ensures ok { OnOk result
+        (Reads (form detailed_rows) detail_content (data_of table.now) x.new) }
     ensures fault { IfErr result (FaultIn ((form detailed_rows).faulty (data_of table.now))) }
 {
     let names = detailed_names();
     let mut slots = [Slot::Absent; 12];
     find_slots(table, names, &mut slots);
-    let mut rows = rows_of(names, &slots);
-    let mut x = DependencyDetail::default();
-    fill_detail(alloc, &mut rows, &mut x).and(Ok(x))
+    fill_detail(alloc, &mut rows_of(names, &slots), x)
 }
 
 impl Schema for InheritedDependencyDetail {
@@ -331,7 +330,10 @@ impl Schema for DependencyDetail {
 
     fn from_value(alloc: Global, value: &Value) -> Result<DependencyDetail, ReadFault> {
         match value {
-            Value::Table(table) => detail_from(alloc, table),
+            Value::Table(table) => {
+                let mut detail = DependencyDetail::default();
+                read_detail(alloc, table, &mut detail).and(Ok(detail))
+            }
             _ => Err(here(alloc, Cause::WrongKind)),
         }
     }
@@ -359,10 +361,8 @@ fn table_dependency(alloc: Global, table: &Table) -> Result<Dependency, ReadFaul
             Err(fault) => Err(fault),
         }
     } else {
-        match detail_from(alloc, table) {
-            Ok(detail) => Ok(Dependency::Detailed(detail)),
-            Err(fault) => Err(fault),
-        }
+        let mut detail = DependencyDetail::default();
+        read_detail(alloc, table, &mut detail).and(Ok(Dependency::Detailed(detail)))
     }
 }
 

@@ -16,3 +16,8 @@ filled_after (Err e) x A P h a = tt
 pub refused : {T E : Type 0} (done : Result Unit E) (x : T) (P : E → Type 0) → IfErr done P → IfErr (result_and done (Ok x)) P
 refused (Ok u) x P h = tt
 refused (Err e) x P h = h
+
+-- what holds under a condition that holds
+pub on_ok_after : {E : Type 0} (done : Result Unit E) (A P : Type 0) → OnOk done (A → P) → A → OnOk done P
+on_ok_after (Ok u) A P h a = h a
+on_ok_after (Err e) A P h a = tt

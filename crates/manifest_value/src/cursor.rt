@@ -142,7 +142,11 @@ pub fn fill<T: Schema>(
         (FaultIn (faulty_free s T.kind slot))) }
     ensures next { StepsOn rows.old rows.new }
 {
-    *place = optional(alloc, rows)?;
+    match next_row(rows) {
+        (_, Slot::Absent) => *place = None,
+        (first, Slot::Clash) => return Err(at_key(alloc, first, Cause::TwoSpellings)),
+        (_, Slot::One { spelling, value }) => *place = Some(read_under(alloc, value, spelling)?),
+    }
     Ok(())
 }
 
@@ -164,7 +168,11 @@ pub fn fill_default<T: Schema>(
         (FaultIn (faulty_free s T.kind slot))) }
     ensures next { StepsOn rows.old rows.new }
 {
-    *place = or_default(alloc, rows, default)?;
+    match next_row(rows) {
+        (_, Slot::Absent) => *place = default,
+        (first, Slot::Clash) => return Err(at_key(alloc, first, Cause::TwoSpellings)),
+        (_, Slot::One { spelling, value }) => *place = read_under(alloc, value, spelling)?,
+    }
     Ok(())
 }
 
