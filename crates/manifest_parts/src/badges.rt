@@ -128,20 +128,16 @@ impl Badges {
     }
 }
 
-static BADGE: [Spellings; 5] = spelled![
-    "repository",
-    "branch",
-    "service",
-    "id",
-    "project-name" | "project_name",
-];
+static BADGE: &[Spellings] = &spelled! {
+    "repository", "branch", "service", "id", "project-name" | "project_name",
+};
 
 /// The spellings of the rows.
 #[tactic(auto, unfolding(manifest_schema::specs::PartForms::badge_rows))]
-fn badge_names() -> &'static [Spellings; 5]
+fn badge_names() -> &'static [Spellings]
     ensures { map spellings_view result.now ≡ names_of badge_rows }
 {
-    &BADGE
+    BADGE
 }
 
 /// Reads the rows of a table.
@@ -162,14 +158,14 @@ fn badge_from(alloc: Global, table: &Table) -> Result<Badge, ReadFault>
     })
 }
 
-static MAINTENANCE: [Spellings; 1] = spelled!["status",];
+static MAINTENANCE: &[Spellings] = &spelled! { "status" };
 
 /// The spellings of the rows.
 #[tactic(auto, unfolding(manifest_schema::specs::PartForms::maintenance_rows))]
-fn maintenance_names() -> &'static [Spellings; 1]
+fn maintenance_names() -> &'static [Spellings]
     ensures { map spellings_view result.now ≡ names_of maintenance_rows }
 {
-    &MAINTENANCE
+    MAINTENANCE
 }
 
 /// Reads the rows of a table.
@@ -187,24 +183,17 @@ fn maintenance_from(alloc: Global, table: &Table) -> Result<Maintenance, ReadFau
     })
 }
 
-static BADGES: [Spellings; 9] = spelled![
-    "appveyor",
-    "circle-ci",
-    "gitlab",
-    "travis-ci",
-    "codecov",
-    "coveralls",
-    "is-it-maintained-issue-resolution",
-    "is-it-maintained-open-issues",
-    "maintenance",
-];
+static BADGES: &[Spellings] = &spelled! {
+    "appveyor", "circle-ci", "gitlab", "travis-ci", "codecov", "coveralls",
+    "is-it-maintained-issue-resolution", "is-it-maintained-open-issues", "maintenance",
+};
 
 /// The spellings of the rows.
 #[tactic(auto, unfolding(manifest_schema::specs::PartForms::badges_rows))]
-fn badges_names() -> &'static [Spellings; 9]
+fn badges_names() -> &'static [Spellings]
     ensures { map spellings_view result.now ≡ names_of badges_rows }
 {
-    &BADGES
+    BADGES
 }
 
 /// Reads the rows of a table. A badge that does not fit is `None`, so that only want of memory refuses.

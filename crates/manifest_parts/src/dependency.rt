@@ -133,12 +133,9 @@ impl Dependency {
     }
 }
 
-static INHERITED: [Spellings; 4] = spelled![
-    "workspace",
-    "features",
-    "optional",
-    "default-features" | "default_features",
-];
+static INHERITED: [Spellings; 4] = spelled! {
+    "workspace", "features", "optional", "default-features" | "default_features",
+};
 
 /// The spellings of the rows.
 #[tactic(auto, unfolding(manifest_schema::specs::PartForms::inherited_rows))]
@@ -167,20 +164,10 @@ fn inherited_from(alloc: Global, table: &Table) -> Result<InheritedDependencyDet
     })
 }
 
-static DETAILED: [Spellings; 12] = spelled![
-    "version",
-    "registry",
-    "registry-index" | "registry_index",
-    "path",
-    "git",
-    "branch",
-    "tag",
-    "rev",
-    "features",
-    "optional",
-    "default-features" | "default_features",
-    "package",
-];
+static DETAILED: [Spellings; 12] = spelled! {
+    "version", "registry", "registry-index" | "registry_index", "path", "git", "branch", "tag",
+    "rev", "features", "optional", "default-features" | "default_features", "package",
+};
 
 /// The spellings of the rows.
 #[tactic(auto, unfolding(manifest_schema::specs::PartForms::detailed_rows))]

@@ -96,27 +96,17 @@ impl Product {
     }
 }
 
-static PRODUCT: [Spellings; 12] = spelled![
-    "path",
-    "name",
-    "test",
-    "doctest",
-    "bench",
-    "doc",
-    "plugin",
-    "proc-macro" | "proc_macro",
-    "harness",
-    "edition",
-    "required-features" | "required_features",
-    "crate-type" | "crate_type",
-];
+static PRODUCT: &[Spellings] = &spelled! {
+    "path", "name", "test", "doctest", "bench", "doc", "plugin", "proc-macro" | "proc_macro",
+    "harness", "edition", "required-features" | "required_features", "crate-type" | "crate_type",
+};
 
 /// The spellings of the rows.
 #[tactic(auto, unfolding(manifest_schema::specs::PartForms::product_rows))]
-fn product_names() -> &'static [Spellings; 12]
+fn product_names() -> &'static [Spellings]
     ensures { map spellings_view result.now ≡ names_of product_rows }
 {
-    &PRODUCT
+    PRODUCT
 }
 
 /// Reads the rows of a table.

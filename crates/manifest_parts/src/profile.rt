@@ -136,29 +136,19 @@ fn units_fit(units: &Option<u16>)
     }
 }
 
-static PROFILE: [Spellings; 14] = spelled![
-    "opt-level" | "opt_level",
-    "debug",
-    "rpath",
-    "inherits",
-    "lto",
-    "debug-assertions" | "debug_assertions",
-    "codegen-units" | "codegen_units",
-    "panic",
-    "incremental",
-    "overflow-checks" | "overflow_checks",
-    "strip",
-    "package",
-    "split-debuginfo",
+static PROFILE: &[Spellings] = &spelled! {
+    "opt-level" | "opt_level", "debug", "rpath", "inherits", "lto",
+    "debug-assertions" | "debug_assertions", "codegen-units" | "codegen_units", "panic",
+    "incremental", "overflow-checks" | "overflow_checks", "strip", "package", "split-debuginfo",
     "build-override",
-];
+};
 
 /// The spellings of the rows.
 #[tactic(auto, unfolding(manifest_schema::specs::PartForms::profile_rows))]
-fn profile_names() -> &'static [Spellings; 14]
+fn profile_names() -> &'static [Spellings]
     ensures { map spellings_view result.now ≡ names_of profile_rows }
 {
-    &PROFILE
+    PROFILE
 }
 
 /// Reads the rows of a table.
