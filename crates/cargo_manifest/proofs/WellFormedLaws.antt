@@ -11,7 +11,7 @@ use Rattle.cargo_manifest.specs.WellFormed.{PackageByMetadata, WorkspaceByParts,
 
 lints_good : (K : Kind Data) (w : Workspace) → (form (workspace_rows K)).good w → good_some (map_of (map_of lint)) w.lints
 unfolding workspace_rows
-lints_good K w g = g.1.1.1.1.1.1.1.0
+lints_good K w g = assumption
 
 pub package_by_metadata : (K : Kind Data) → PackageByMetadata K
 package_by_metadata K p = (package_metadata_good K p, package_good K p)

@@ -214,33 +214,19 @@ impl<P, W> Manifest<P, W> {
     }
 }
 
-static MANIFEST: [Spellings; 17] = spelled![
-    "package",
-    "cargo-features",
-    "workspace",
-    "dependencies",
-    "dev-dependencies" | "dev_dependencies",
-    "build-dependencies" | "build_dependencies",
-    "target",
-    "features",
-    "bin",
-    "bench",
-    "test",
-    "example",
-    "patch",
-    "lib",
-    "profile",
-    "badges",
-    "lints",
-];
+static MANIFEST: &[Spellings] = &spelled! {
+    "package", "cargo-features", "workspace", "dependencies",
+    "dev-dependencies" | "dev_dependencies", "build-dependencies" | "build_dependencies", "target",
+    "features", "bin", "bench", "test", "example", "patch", "lib", "profile", "badges", "lints",
+};
 
 /// The spellings of the rows.
 #[tactic(auto, unfolding(manifest_schema::specs::ManifestForms::manifest_rows))]
-fn manifest_names<P: Metadata, W: Metadata>() -> &'static [Spellings; 17]
+fn manifest_names<P: Metadata, W: Metadata>() -> &'static [Spellings]
     ensures { map spellings_view result.now
         ≡ names_of (manifest_rows (tree_of P.kind) (tree_of W.kind)) }
 {
-    &MANIFEST
+    MANIFEST
 }
 
 /// Reads the rows of a table.
@@ -282,12 +268,13 @@ fn fill_manifest<P: Metadata, W: Metadata>(
     rows: &mut RowCursor<'_, '_>,
     x: &mut Manifest<P, W>,
 ) -> Result<(), ReadFault>
-    ensures ok { Filled 0 17 (manifest_rows (tree_of P.kind) (tree_of W.kind)) rows.old
+    ensures ok { Filled "package" "lints" (manifest_rows (tree_of P.kind) (tree_of W.kind)) rows.old
         (manifest_of P.kind W.kind P.content W.content x.old)
         (manifest_of P.kind W.kind P.content W.content x.new) result }
-    ensures next { Passed 0 17 (manifest_rows (tree_of P.kind) (tree_of W.kind)) rows.old rows.new
+    ensures next { Passed "package" "lints" (manifest_rows (tree_of P.kind) (tree_of W.kind))
+        rows.old rows.new result }
+    ensures fault { UnfitFrom "package" (manifest_rows (tree_of P.kind) (tree_of W.kind)) rows.old
         result }
-    ensures fault { UnfitFrom 0 (manifest_rows (tree_of P.kind) (tree_of W.kind)) rows.old result }
 {
     fill_header(alloc, rows, x)?;
     fill_dependencies(alloc, rows, x)?;
@@ -296,19 +283,20 @@ fn fill_manifest<P: Metadata, W: Metadata>(
     Ok(())
 }
 
-/// Reads rows 1 to 3.
+/// Reads `package` to `workspace`.
 #[tactic(auto, unfolding(manifest_schema::specs::ManifestForms::manifest_rows))]
 fn fill_header<P: Metadata, W: Metadata>(
     alloc: Global,
     rows: &mut RowCursor<'_, '_>,
     x: &mut Manifest<P, W>,
 ) -> Result<(), ReadFault>
-    ensures ok { Filled 0 3 (manifest_rows (tree_of P.kind) (tree_of W.kind)) rows.old
-        (manifest_of P.kind W.kind P.content W.content x.old)
+    ensures ok { Filled "package" "workspace" (manifest_rows (tree_of P.kind) (tree_of W.kind))
+        rows.old (manifest_of P.kind W.kind P.content W.content x.old)
         (manifest_of P.kind W.kind P.content W.content x.new) result }
-    ensures next { Passed 0 3 (manifest_rows (tree_of P.kind) (tree_of W.kind)) rows.old rows.new
+    ensures next { Passed "package" "workspace" (manifest_rows (tree_of P.kind) (tree_of W.kind))
+        rows.old rows.new result }
+    ensures fault { UnfitFrom "package" (manifest_rows (tree_of P.kind) (tree_of W.kind)) rows.old
         result }
-    ensures fault { UnfitFrom 0 (manifest_rows (tree_of P.kind) (tree_of W.kind)) rows.old result }
 {
     fill(alloc, rows, &mut x.package)?;
     fill(alloc, rows, &mut x.cargo_features)?;
@@ -316,19 +304,21 @@ fn fill_header<P: Metadata, W: Metadata>(
     Ok(())
 }
 
-/// Reads rows 4 to 6.
+/// Reads `dependencies` to `build-dependencies`.
 #[tactic(auto, unfolding(manifest_schema::specs::ManifestForms::manifest_rows))]
 fn fill_dependencies<P: Metadata, W: Metadata>(
     alloc: Global,
     rows: &mut RowCursor<'_, '_>,
     x: &mut Manifest<P, W>,
 ) -> Result<(), ReadFault>
-    ensures ok { Filled 3 6 (manifest_rows (tree_of P.kind) (tree_of W.kind)) rows.old
+    ensures ok { Filled "dependencies" "build-dependencies"
+        (manifest_rows (tree_of P.kind) (tree_of W.kind)) rows.old
         (manifest_of P.kind W.kind P.content W.content x.old)
         (manifest_of P.kind W.kind P.content W.content x.new) result }
-    ensures next { Passed 3 6 (manifest_rows (tree_of P.kind) (tree_of W.kind)) rows.old rows.new
-        result }
-    ensures fault { UnfitFrom 3 (manifest_rows (tree_of P.kind) (tree_of W.kind)) rows.old result }
+    ensures next { Passed "dependencies" "build-dependencies"
+        (manifest_rows (tree_of P.kind) (tree_of W.kind)) rows.old rows.new result }
+    ensures fault { UnfitFrom "dependencies" (manifest_rows (tree_of P.kind) (tree_of W.kind))
+        rows.old result }
 {
     fill(alloc, rows, &mut x.dependencies)?;
     fill(alloc, rows, &mut x.dev_dependencies)?;
@@ -336,19 +326,20 @@ fn fill_dependencies<P: Metadata, W: Metadata>(
     Ok(())
 }
 
-/// Reads rows 7 to 12.
+/// Reads `target` to `example`.
 #[tactic(auto, unfolding(manifest_schema::specs::ManifestForms::manifest_rows))]
 fn fill_features<P: Metadata, W: Metadata>(
     alloc: Global,
     rows: &mut RowCursor<'_, '_>,
     x: &mut Manifest<P, W>,
 ) -> Result<(), ReadFault>
-    ensures ok { Filled 6 12 (manifest_rows (tree_of P.kind) (tree_of W.kind)) rows.old
-        (manifest_of P.kind W.kind P.content W.content x.old)
+    ensures ok { Filled "target" "example" (manifest_rows (tree_of P.kind) (tree_of W.kind))
+        rows.old (manifest_of P.kind W.kind P.content W.content x.old)
         (manifest_of P.kind W.kind P.content W.content x.new) result }
-    ensures next { Passed 6 12 (manifest_rows (tree_of P.kind) (tree_of W.kind)) rows.old rows.new
+    ensures next { Passed "target" "example" (manifest_rows (tree_of P.kind) (tree_of W.kind))
+        rows.old rows.new result }
+    ensures fault { UnfitFrom "target" (manifest_rows (tree_of P.kind) (tree_of W.kind)) rows.old
         result }
-    ensures fault { UnfitFrom 6 (manifest_rows (tree_of P.kind) (tree_of W.kind)) rows.old result }
 {
     fill(alloc, rows, &mut x.target)?;
     fill(alloc, rows, &mut x.features)?;
@@ -359,19 +350,20 @@ fn fill_features<P: Metadata, W: Metadata>(
     Ok(())
 }
 
-/// Reads rows 13 to 17.
+/// Reads `patch` to `lints`.
 #[tactic(auto, unfolding(manifest_schema::specs::ManifestForms::manifest_rows))]
 fn fill_settings<P: Metadata, W: Metadata>(
     alloc: Global,
     rows: &mut RowCursor<'_, '_>,
     x: &mut Manifest<P, W>,
 ) -> Result<(), ReadFault>
-    ensures ok { Filled 12 17 (manifest_rows (tree_of P.kind) (tree_of W.kind)) rows.old
+    ensures ok { Filled "patch" "lints" (manifest_rows (tree_of P.kind) (tree_of W.kind)) rows.old
         (manifest_of P.kind W.kind P.content W.content x.old)
         (manifest_of P.kind W.kind P.content W.content x.new) result }
-    ensures next { Passed 12 17 (manifest_rows (tree_of P.kind) (tree_of W.kind)) rows.old rows.new
+    ensures next { Passed "patch" "lints" (manifest_rows (tree_of P.kind) (tree_of W.kind)) rows.old
+        rows.new result }
+    ensures fault { UnfitFrom "patch" (manifest_rows (tree_of P.kind) (tree_of W.kind)) rows.old
         result }
-    ensures fault { UnfitFrom 12 (manifest_rows (tree_of P.kind) (tree_of W.kind)) rows.old result }
 {
     fill(alloc, rows, &mut x.patch)?;
     fill(alloc, rows, &mut x.lib)?;
@@ -381,7 +373,7 @@ fn fill_settings<P: Metadata, W: Metadata>(
     Ok(())
 }
 
-/// Writes rows 1 to 6, from the last to the first.
+/// Writes `package` to `build-dependencies`, from the last to the first.
 #[tactic(auto, unfolding(manifest_schema::specs::ManifestForms::manifest_rows))]
 fn put_header<P: Metadata, W: Metadata>(
     alloc: Global,
@@ -389,7 +381,8 @@ fn put_header<P: Metadata, W: Metadata>(
     x: &Manifest<P, W>,
 ) -> Result<(), AllocError>
     ensures { OnOk result
-        (WritesRows 0 6 (manifest_rows (tree_of P.kind) (tree_of W.kind))
+        (WritesRows "package" "build-dependencies"
+        (manifest_rows (tree_of P.kind) (tree_of W.kind))
         (manifest_of P.kind W.kind P.content W.content x.now) out.old out.new) }
 {
     put_optional(alloc, out, "build-dependencies", &x.build_dependencies)?;
@@ -401,7 +394,7 @@ fn put_header<P: Metadata, W: Metadata>(
     Ok(())
 }
 
-/// Writes rows 7 to 12, from the last to the first.
+/// Writes `target` to `example`, from the last to the first.
 #[tactic(auto, unfolding(manifest_schema::specs::ManifestForms::manifest_rows))]
 fn put_features<P: Metadata, W: Metadata>(
     alloc: Global,
@@ -409,7 +402,7 @@ fn put_features<P: Metadata, W: Metadata>(
     x: &Manifest<P, W>,
 ) -> Result<(), AllocError>
     ensures { OnOk result
-        (WritesRows 6 6 (manifest_rows (tree_of P.kind) (tree_of W.kind))
+        (WritesRows "target" "example" (manifest_rows (tree_of P.kind) (tree_of W.kind))
         (manifest_of P.kind W.kind P.content W.content x.now) out.old out.new) }
 {
     put_nonempty(alloc, out, "example", &x.example)?;
@@ -421,7 +414,7 @@ fn put_features<P: Metadata, W: Metadata>(
     Ok(())
 }
 
-/// Writes rows 13 to 17, from the last to the first.
+/// Writes `patch` to `lints`, from the last to the first.
 #[tactic(auto, unfolding(manifest_schema::specs::ManifestForms::manifest_rows))]
 fn put_settings<P: Metadata, W: Metadata>(
     alloc: Global,
@@ -429,7 +422,7 @@ fn put_settings<P: Metadata, W: Metadata>(
     x: &Manifest<P, W>,
 ) -> Result<(), AllocError>
     ensures { OnOk result
-        (WritesRows 12 5 (manifest_rows (tree_of P.kind) (tree_of W.kind))
+        (WritesRows "patch" "lints" (manifest_rows (tree_of P.kind) (tree_of W.kind))
         (manifest_of P.kind W.kind P.content W.content x.now) out.old out.new) }
 {
     put_optional(alloc, out, "lints", &x.lints)?;

@@ -128,20 +128,16 @@ impl Badges {
     }
 }
 
-static BADGE: [Spellings; 5] = spelled![
-    "repository",
-    "branch",
-    "service",
-    "id",
-    "project-name" | "project_name",
-];
+static BADGE: &[Spellings] = &spelled! {
+    "repository", "branch", "service", "id", "project-name" | "project_name",
+};
 
 /// The spellings of the rows.
 #[tactic(auto, unfolding(manifest_schema::specs::PartForms::badge_rows))]
-fn badge_names() -> &'static [Spellings; 5]
+fn badge_names() -> &'static [Spellings]
     ensures { map spellings_view result.now ≡ names_of badge_rows }
 {
-    &BADGE
+    BADGE
 }
 
 /// Reads the rows of a table.
@@ -162,14 +158,14 @@ fn badge_from(alloc: Global, table: &Table) -> Result<Badge, ReadFault>
     })
 }
 
-static MAINTENANCE: [Spellings; 1] = spelled!["status",];
+static MAINTENANCE: &[Spellings] = &spelled! { "status" };
 
 /// The spellings of the rows.
 #[tactic(auto, unfolding(manifest_schema::specs::PartForms::maintenance_rows))]
-fn maintenance_names() -> &'static [Spellings; 1]
+fn maintenance_names() -> &'static [Spellings]
     ensures { map spellings_view result.now ≡ names_of maintenance_rows }
 {
-    &MAINTENANCE
+    MAINTENANCE
 }
 
 /// Reads the rows of a table.
@@ -187,24 +183,17 @@ fn maintenance_from(alloc: Global, table: &Table) -> Result<Maintenance, ReadFau
     })
 }
 
-static BADGES: [Spellings; 9] = spelled![
-    "appveyor",
-    "circle-ci",
-    "gitlab",
-    "travis-ci",
-    "codecov",
-    "coveralls",
-    "is-it-maintained-issue-resolution",
-    "is-it-maintained-open-issues",
-    "maintenance",
-];
+static BADGES: &[Spellings] = &spelled! {
+    "appveyor", "circle-ci", "gitlab", "travis-ci", "codecov", "coveralls",
+    "is-it-maintained-issue-resolution", "is-it-maintained-open-issues", "maintenance",
+};
 
 /// The spellings of the rows.
 #[tactic(auto, unfolding(manifest_schema::specs::PartForms::badges_rows))]
-fn badges_names() -> &'static [Spellings; 9]
+fn badges_names() -> &'static [Spellings]
     ensures { map spellings_view result.now ≡ names_of badges_rows }
 {
-    &BADGES
+    BADGES
 }
 
 /// Reads the rows of a table. A badge that does not fit is `None`, so that only want of memory refuses.
@@ -226,25 +215,25 @@ fn fill_badges(
     rows: &mut RowCursor<'_, '_>,
     x: &mut Badges,
 ) -> Result<(), AllocError>
-    ensures ok { Filled 0 9 badges_rows rows.old (badges_content x.old)
+    ensures ok { Filled "appveyor" "maintenance" badges_rows rows.old (badges_content x.old)
         (badges_content x.new) result }
-    ensures next { Passed 0 9 badges_rows rows.old rows.new result }
+    ensures next { Passed "appveyor" "maintenance" badges_rows rows.old rows.new result }
 {
     fill_services(alloc, rows, x)?;
     fill_reports(alloc, rows, x)?;
     Ok(())
 }
 
-/// Reads rows 1 to 4.
+/// Reads `appveyor` to `travis-ci`.
 #[tactic(auto, unfolding(manifest_schema::specs::PartForms::badges_rows))]
 fn fill_services(
     alloc: Global,
     rows: &mut RowCursor<'_, '_>,
     x: &mut Badges,
 ) -> Result<(), AllocError>
-    ensures ok { Filled 0 4 badges_rows rows.old (badges_content x.old)
+    ensures ok { Filled "appveyor" "travis-ci" badges_rows rows.old (badges_content x.old)
         (badges_content x.new) result }
-    ensures next { Passed 0 4 badges_rows rows.old rows.new result }
+    ensures next { Passed "appveyor" "travis-ci" badges_rows rows.old rows.new result }
 {
     x.appveyor = lenient_optional(alloc, rows)?;
     x.circle_ci = lenient_optional(alloc, rows)?;
@@ -253,16 +242,16 @@ fn fill_services(
     Ok(())
 }
 
-/// Reads rows 5 to 9.
+/// Reads `codecov` to `maintenance`.
 #[tactic(auto, unfolding(manifest_schema::specs::PartForms::badges_rows))]
 fn fill_reports(
     alloc: Global,
     rows: &mut RowCursor<'_, '_>,
     x: &mut Badges,
 ) -> Result<(), AllocError>
-    ensures ok { Filled 4 9 badges_rows rows.old (badges_content x.old)
+    ensures ok { Filled "codecov" "maintenance" badges_rows rows.old (badges_content x.old)
         (badges_content x.new) result }
-    ensures next { Passed 4 9 badges_rows rows.old rows.new result }
+    ensures next { Passed "codecov" "maintenance" badges_rows rows.old rows.new result }
 {
     x.codecov = lenient_optional(alloc, rows)?;
     x.coveralls = lenient_optional(alloc, rows)?;
@@ -272,10 +261,11 @@ fn fill_reports(
     Ok(())
 }
 
-/// Writes rows 1 to 4, from the last to the first.
+/// Writes `appveyor` to `travis-ci`, from the last to the first.
 #[tactic(auto, unfolding(manifest_schema::specs::PartForms::badges_rows))]
 fn put_services(alloc: Global, out: &mut Table, x: &Badges) -> Result<(), AllocError>
-    ensures { OnOk result (WritesRows 0 4 badges_rows (badges_content x.now) out.old out.new) }
+    ensures { OnOk result
+        (WritesRows "appveyor" "travis-ci" badges_rows (badges_content x.now) out.old out.new) }
 {
     put_optional(alloc, out, "travis-ci", &x.travis_ci)?;
     put_optional(alloc, out, "gitlab", &x.gitlab)?;
@@ -284,10 +274,11 @@ fn put_services(alloc: Global, out: &mut Table, x: &Badges) -> Result<(), AllocE
     Ok(())
 }
 
-/// Writes rows 5 to 9, from the last to the first.
+/// Writes `codecov` to `maintenance`, from the last to the first.
 #[tactic(auto, unfolding(manifest_schema::specs::PartForms::badges_rows))]
 fn put_reports(alloc: Global, out: &mut Table, x: &Badges) -> Result<(), AllocError>
-    ensures { OnOk result (WritesRows 4 5 badges_rows (badges_content x.now) out.old out.new) }
+    ensures { OnOk result
+        (WritesRows "codecov" "maintenance" badges_rows (badges_content x.now) out.old out.new) }
 {
     put_row(alloc, out, "maintenance", &x.maintenance)?;
     put_optional(

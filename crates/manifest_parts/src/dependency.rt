@@ -133,12 +133,9 @@ impl Dependency {
     }
 }
 
-static INHERITED: [Spellings; 4] = spelled![
-    "workspace",
-    "features",
-    "optional",
-    "default-features" | "default_features",
-];
+static INHERITED: [Spellings; 4] = spelled! {
+    "workspace", "features", "optional", "default-features" | "default_features",
+};
 
 /// The spellings of the rows.
 #[tactic(auto, unfolding(manifest_schema::specs::PartForms::inherited_rows))]
@@ -167,20 +164,10 @@ fn inherited_from(alloc: Global, table: &Table) -> Result<InheritedDependencyDet
     })
 }
 
-static DETAILED: [Spellings; 12] = spelled![
-    "version",
-    "registry",
-    "registry-index" | "registry_index",
-    "path",
-    "git",
-    "branch",
-    "tag",
-    "rev",
-    "features",
-    "optional",
-    "default-features" | "default_features",
-    "package",
-];
+static DETAILED: [Spellings; 12] = spelled! {
+    "version", "registry", "registry-index" | "registry_index", "path", "git", "branch", "tag",
+    "rev", "features", "optional", "default-features" | "default_features", "package",
+};
 
 /// The spellings of the rows.
 #[tactic(auto, unfolding(manifest_schema::specs::PartForms::detailed_rows))]
@@ -190,7 +177,7 @@ fn detailed_names() -> &'static [Spellings; 12]
     &DETAILED
 }
 
-/// Reads rows 1 to 6.
+/// Reads `version` to `branch`.
 #[inline(always)]
 #[tactic(auto, unfolding(manifest_schema::specs::PartForms::detailed_rows))]
 fn fill_place(
@@ -198,10 +185,10 @@ fn fill_place(
     rows: &mut RowCursor<'_, '_>,
     x: &mut DependencyDetail,
 ) -> Result<(), ReadFault>
-    ensures ok { Filled 0 6 detailed_rows rows.old (detail_content x.old)
+    ensures ok { Filled "version" "branch" detailed_rows rows.old (detail_content x.old)
         (detail_content x.new) result }
-    ensures next { Passed 0 6 detailed_rows rows.old rows.new result }
-    ensures fault { UnfitFrom 0 detailed_rows rows.old result }
+    ensures next { Passed "version" "branch" detailed_rows rows.old rows.new result }
+    ensures fault { UnfitFrom "version" detailed_rows rows.old result }
 {
     fill(alloc, rows, &mut x.version)?;
     fill(alloc, rows, &mut x.registry)?;
@@ -212,7 +199,7 @@ fn fill_place(
     Ok(())
 }
 
-/// Reads rows 7 to 12.
+/// Reads `tag` to `package`.
 #[inline(always)]
 #[tactic(auto, unfolding(manifest_schema::specs::PartForms::detailed_rows))]
 fn fill_choice(
@@ -220,10 +207,10 @@ fn fill_choice(
     rows: &mut RowCursor<'_, '_>,
     x: &mut DependencyDetail,
 ) -> Result<(), ReadFault>
-    ensures ok { Filled 6 12 detailed_rows rows.old (detail_content x.old)
+    ensures ok { Filled "tag" "package" detailed_rows rows.old (detail_content x.old)
         (detail_content x.new) result }
-    ensures next { Passed 6 12 detailed_rows rows.old rows.new result }
-    ensures fault { UnfitFrom 6 detailed_rows rows.old result }
+    ensures next { Passed "tag" "package" detailed_rows rows.old rows.new result }
+    ensures fault { UnfitFrom "tag" detailed_rows rows.old result }
 {
     fill(alloc, rows, &mut x.tag)?;
     fill(alloc, rows, &mut x.rev)?;
@@ -242,10 +229,10 @@ fn fill_detail(
     rows: &mut RowCursor<'_, '_>,
     x: &mut DependencyDetail,
 ) -> Result<(), ReadFault>
-    ensures ok { Filled 0 12 detailed_rows rows.old (detail_content x.old)
+    ensures ok { Filled "version" "package" detailed_rows rows.old (detail_content x.old)
         (detail_content x.new) result }
-    ensures next { Passed 0 12 detailed_rows rows.old rows.new result }
-    ensures fault { UnfitFrom 0 detailed_rows rows.old result }
+    ensures next { Passed "version" "package" detailed_rows rows.old rows.new result }
+    ensures fault { UnfitFrom "version" detailed_rows rows.old result }
 {
     fill_place(alloc, rows, x)?;
     fill_choice(alloc, rows, x)?;
@@ -293,10 +280,11 @@ impl Schema for InheritedDependencyDetail {
     ghost lawful = { inherited_lawful };
 }
 
-/// Writes rows 1 to 6, from the last to the first.
+/// Writes `version` to `branch`, from the last to the first.
 #[tactic(auto, unfolding(manifest_schema::specs::PartForms::detailed_rows))]
 fn put_place(alloc: Global, out: &mut Table, x: &DependencyDetail) -> Result<(), AllocError>
-    ensures { OnOk result (WritesRows 0 6 detailed_rows (detail_content x.now) out.old out.new) }
+    ensures { OnOk result
+        (WritesRows "version" "branch" detailed_rows (detail_content x.now) out.old out.new) }
 {
     put_optional(alloc, out, "branch", &x.branch)?;
     put_optional(alloc, out, "git", &x.git)?;
@@ -307,10 +295,11 @@ fn put_place(alloc: Global, out: &mut Table, x: &DependencyDetail) -> Result<(),
     Ok(())
 }
 
-/// Writes rows 7 to 12, from the last to the first.
+/// Writes `tag` to `package`, from the last to the first.
 #[tactic(auto, unfolding(manifest_schema::specs::PartForms::detailed_rows))]
 fn put_choice(alloc: Global, out: &mut Table, x: &DependencyDetail) -> Result<(), AllocError>
-    ensures { OnOk result (WritesRows 6 6 detailed_rows (detail_content x.now) out.old out.new) }
+    ensures { OnOk result
+        (WritesRows "tag" "package" detailed_rows (detail_content x.now) out.old out.new) }
 {
     put_optional(alloc, out, "package", &x.package)?;
     put_optional(alloc, out, "default-features", &x.default_features)?;

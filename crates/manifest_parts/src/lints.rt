@@ -154,14 +154,14 @@ pub fn lints_fit(lints: &LintsSet)
     }
 }
 
-static LINT: [Spellings; 2] = spelled!["level", "priority",];
+static LINT: &[Spellings] = &spelled! { "level", "priority" };
 
 /// The spellings of the rows.
 #[tactic(auto, unfolding(manifest_schema::specs::PartForms::lint_rows))]
-fn lint_names() -> &'static [Spellings; 2]
+fn lint_names() -> &'static [Spellings]
     ensures { map spellings_view result.now ≡ names_of lint_rows }
 {
-    &LINT
+    LINT
 }
 
 /// Reads the rows of a table.
@@ -233,14 +233,14 @@ impl Schema for Lint {
     ghost lawful = { lint_lawful };
 }
 
-static LINTS: [Spellings; 1] = spelled!["workspace",];
+static LINTS: &[Spellings] = &spelled! { "workspace" };
 
 /// The spellings of the rows.
 #[tactic(auto, unfolding(manifest_schema::specs::PartForms::lints_rows))]
-fn lints_names() -> &'static [Spellings; 1]
+fn lints_names() -> &'static [Spellings]
     ensures { map spellings_view result.now ≡ names_of lints_rows }
 {
-    &LINTS
+    LINTS
 }
 
 /// Reads the rows of a table: every key but `workspace` is a tool.

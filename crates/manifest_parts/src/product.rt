@@ -96,27 +96,17 @@ impl Product {
     }
 }
 
-static PRODUCT: [Spellings; 12] = spelled![
-    "path",
-    "name",
-    "test",
-    "doctest",
-    "bench",
-    "doc",
-    "plugin",
-    "proc-macro" | "proc_macro",
-    "harness",
-    "edition",
-    "required-features" | "required_features",
-    "crate-type" | "crate_type",
-];
+static PRODUCT: &[Spellings] = &spelled! {
+    "path", "name", "test", "doctest", "bench", "doc", "plugin", "proc-macro" | "proc_macro",
+    "harness", "edition", "required-features" | "required_features", "crate-type" | "crate_type",
+};
 
 /// The spellings of the rows.
 #[tactic(auto, unfolding(manifest_schema::specs::PartForms::product_rows))]
-fn product_names() -> &'static [Spellings; 12]
+fn product_names() -> &'static [Spellings]
     ensures { map spellings_view result.now ≡ names_of product_rows }
 {
-    &PRODUCT
+    PRODUCT
 }
 
 /// Reads the rows of a table.
@@ -139,23 +129,23 @@ fn fill_product(
     rows: &mut RowCursor<'_, '_>,
     x: &mut Product,
 ) -> Result<(), ReadFault>
-    ensures ok { Filled 0 12 product_rows rows.old (product_content x.old)
+    ensures ok { Filled "path" "crate-type" product_rows rows.old (product_content x.old)
         (product_content x.new) result }
-    ensures next { Passed 0 12 product_rows rows.old rows.new result }
-    ensures fault { UnfitFrom 0 product_rows rows.old result }
+    ensures next { Passed "path" "crate-type" product_rows rows.old rows.new result }
+    ensures fault { UnfitFrom "path" product_rows rows.old result }
 {
     fill_uses(alloc, rows, x)?;
     fill_build(alloc, rows, x)?;
     Ok(())
 }
 
-/// Reads rows 1 to 6.
+/// Reads `path` to `doc`.
 #[tactic(auto, unfolding(manifest_schema::specs::PartForms::product_rows))]
 fn fill_uses(alloc: Global, rows: &mut RowCursor<'_, '_>, x: &mut Product) -> Result<(), ReadFault>
-    ensures ok { Filled 0 6 product_rows rows.old (product_content x.old)
+    ensures ok { Filled "path" "doc" product_rows rows.old (product_content x.old)
         (product_content x.new) result }
-    ensures next { Passed 0 6 product_rows rows.old rows.new result }
-    ensures fault { UnfitFrom 0 product_rows rows.old result }
+    ensures next { Passed "path" "doc" product_rows rows.old rows.new result }
+    ensures fault { UnfitFrom "path" product_rows rows.old result }
 {
     fill(alloc, rows, &mut x.path)?;
     fill(alloc, rows, &mut x.name)?;
@@ -166,13 +156,13 @@ fn fill_uses(alloc: Global, rows: &mut RowCursor<'_, '_>, x: &mut Product) -> Re
     Ok(())
 }
 
-/// Reads rows 7 to 12.
+/// Reads `plugin` to `crate-type`.
 #[tactic(auto, unfolding(manifest_schema::specs::PartForms::product_rows))]
 fn fill_build(alloc: Global, rows: &mut RowCursor<'_, '_>, x: &mut Product) -> Result<(), ReadFault>
-    ensures ok { Filled 6 12 product_rows rows.old (product_content x.old)
+    ensures ok { Filled "plugin" "crate-type" product_rows rows.old (product_content x.old)
         (product_content x.new) result }
-    ensures next { Passed 6 12 product_rows rows.old rows.new result }
-    ensures fault { UnfitFrom 6 product_rows rows.old result }
+    ensures next { Passed "plugin" "crate-type" product_rows rows.old rows.new result }
+    ensures fault { UnfitFrom "plugin" product_rows rows.old result }
 {
     fill_default(alloc, rows, false, &mut x.plugin)?;
     fill_default(alloc, rows, false, &mut x.proc_macro)?;
@@ -183,10 +173,11 @@ fn fill_build(alloc: Global, rows: &mut RowCursor<'_, '_>, x: &mut Product) -> R
     Ok(())
 }
 
-/// Writes rows 1 to 6, from the last to the first.
+/// Writes `path` to `doc`, from the last to the first.
 #[tactic(auto, unfolding(manifest_schema::specs::PartForms::product_rows))]
 fn put_uses(alloc: Global, out: &mut Table, x: &Product) -> Result<(), AllocError>
-    ensures { OnOk result (WritesRows 0 6 product_rows (product_content x.now) out.old out.new) }
+    ensures { OnOk result
+        (WritesRows "path" "doc" product_rows (product_content x.now) out.old out.new) }
 {
     put_unless(alloc, out, "doc", x.doc, &x.doc)?;
     put_unless(alloc, out, "bench", x.bench, &x.bench)?;
@@ -197,10 +188,11 @@ fn put_uses(alloc: Global, out: &mut Table, x: &Product) -> Result<(), AllocErro
     Ok(())
 }
 
-/// Writes rows 7 to 12, from the last to the first.
+/// Writes `plugin` to `crate-type`, from the last to the first.
 #[tactic(auto, unfolding(manifest_schema::specs::PartForms::product_rows))]
 fn put_build(alloc: Global, out: &mut Table, x: &Product) -> Result<(), AllocError>
-    ensures { OnOk result (WritesRows 6 6 product_rows (product_content x.now) out.old out.new) }
+    ensures { OnOk result
+        (WritesRows "plugin" "crate-type" product_rows (product_content x.now) out.old out.new) }
 {
     put_optional(alloc, out, "crate-type", &x.crate_type)?;
     put_row(alloc, out, "required-features", &x.required_features)?;

@@ -136,29 +136,19 @@ fn units_fit(units: &Option<u16>)
     }
 }
 
-static PROFILE: [Spellings; 14] = spelled![
-    "opt-level" | "opt_level",
-    "debug",
-    "rpath",
-    "inherits",
-    "lto",
-    "debug-assertions" | "debug_assertions",
-    "codegen-units" | "codegen_units",
-    "panic",
-    "incremental",
-    "overflow-checks" | "overflow_checks",
-    "strip",
-    "package",
-    "split-debuginfo",
+static PROFILE: &[Spellings] = &spelled! {
+    "opt-level" | "opt_level", "debug", "rpath", "inherits", "lto",
+    "debug-assertions" | "debug_assertions", "codegen-units" | "codegen_units", "panic",
+    "incremental", "overflow-checks" | "overflow_checks", "strip", "package", "split-debuginfo",
     "build-override",
-];
+};
 
 /// The spellings of the rows.
 #[tactic(auto, unfolding(manifest_schema::specs::PartForms::profile_rows))]
-fn profile_names() -> &'static [Spellings; 14]
+fn profile_names() -> &'static [Spellings]
     ensures { map spellings_view result.now ≡ names_of profile_rows }
 {
-    &PROFILE
+    PROFILE
 }
 
 /// Reads the rows of a table.
@@ -196,27 +186,27 @@ fn fill_profile(
     rows: &mut RowCursor<'_, '_>,
     x: &mut Profile,
 ) -> Result<(), ReadFault>
-    ensures ok { Filled 0 14 profile_rows rows.old (profile_content x.old)
+    ensures ok { Filled "opt-level" "build-override" profile_rows rows.old (profile_content x.old)
         (profile_content x.new) result }
-    ensures next { Passed 0 14 profile_rows rows.old rows.new result }
-    ensures fault { UnfitFrom 0 profile_rows rows.old result }
+    ensures next { Passed "opt-level" "build-override" profile_rows rows.old rows.new result }
+    ensures fault { UnfitFrom "opt-level" profile_rows rows.old result }
 {
     fill_building(alloc, rows, x)?;
     fill_output(alloc, rows, x)?;
     Ok(())
 }
 
-/// Reads rows 1 to 7.
+/// Reads `opt-level` to `codegen-units`.
 #[tactic(auto, unfolding(manifest_schema::specs::PartForms::profile_rows))]
 fn fill_building(
     alloc: Global,
     rows: &mut RowCursor<'_, '_>,
     x: &mut Profile,
 ) -> Result<(), ReadFault>
-    ensures ok { Filled 0 7 profile_rows rows.old (profile_content x.old)
+    ensures ok { Filled "opt-level" "codegen-units" profile_rows rows.old (profile_content x.old)
         (profile_content x.new) result }
-    ensures next { Passed 0 7 profile_rows rows.old rows.new result }
-    ensures fault { UnfitFrom 0 profile_rows rows.old result }
+    ensures next { Passed "opt-level" "codegen-units" profile_rows rows.old rows.new result }
+    ensures fault { UnfitFrom "opt-level" profile_rows rows.old result }
 {
     fill(alloc, rows, &mut x.opt_level)?;
     fill(alloc, rows, &mut x.debug)?;
@@ -228,17 +218,17 @@ fn fill_building(
     Ok(())
 }
 
-/// Reads rows 8 to 14.
+/// Reads `panic` to `build-override`.
 #[tactic(auto, unfolding(manifest_schema::specs::PartForms::profile_rows))]
 fn fill_output(
     alloc: Global,
     rows: &mut RowCursor<'_, '_>,
     x: &mut Profile,
 ) -> Result<(), ReadFault>
-    ensures ok { Filled 7 14 profile_rows rows.old (profile_content x.old)
+    ensures ok { Filled "panic" "build-override" profile_rows rows.old (profile_content x.old)
         (profile_content x.new) result }
-    ensures next { Passed 7 14 profile_rows rows.old rows.new result }
-    ensures fault { UnfitFrom 7 profile_rows rows.old result }
+    ensures next { Passed "panic" "build-override" profile_rows rows.old rows.new result }
+    ensures fault { UnfitFrom "panic" profile_rows rows.old result }
 {
     fill(alloc, rows, &mut x.panic)?;
     fill(alloc, rows, &mut x.incremental)?;
@@ -250,10 +240,12 @@ fn fill_output(
     Ok(())
 }
 
-/// Writes rows 1 to 7, from the last to the first.
+/// Writes `opt-level` to `codegen-units`, from the last to the first.
 #[tactic(auto, unfolding(manifest_schema::specs::PartForms::profile_rows))]
 fn put_building(alloc: Global, out: &mut Table, x: &Profile) -> Result<(), AllocError>
-    ensures { OnOk result (WritesRows 0 7 profile_rows (profile_content x.now) out.old out.new) }
+    ensures { OnOk result
+        (WritesRows "opt-level" "codegen-units" profile_rows (profile_content x.now) out.old
+        out.new) }
 {
     put_optional(alloc, out, "codegen-units", &x.codegen_units)?;
     put_optional(alloc, out, "debug-assertions", &x.debug_assertions)?;
@@ -265,10 +257,11 @@ fn put_building(alloc: Global, out: &mut Table, x: &Profile) -> Result<(), Alloc
     Ok(())
 }
 
-/// Writes rows 8 to 14, from the last to the first.
+/// Writes `panic` to `build-override`, from the last to the first.
 #[tactic(auto, unfolding(manifest_schema::specs::PartForms::profile_rows))]
 fn put_output(alloc: Global, out: &mut Table, x: &Profile) -> Result<(), AllocError>
-    ensures { OnOk result (WritesRows 7 7 profile_rows (profile_content x.now) out.old out.new) }
+    ensures { OnOk result
+        (WritesRows "panic" "build-override" profile_rows (profile_content x.now) out.old out.new) }
 {
     put_optional(alloc, out, "build-override", &x.build_override)?;
     put_optional(alloc, out, "split-debuginfo", &x.split_debuginfo)?;

@@ -52,18 +52,17 @@ impl Target {
     }
 }
 
-static PLATFORM: [Spellings; 3] = spelled![
-    "dependencies",
-    "dev-dependencies" | "dev_dependencies",
+static PLATFORM: &[Spellings] = &spelled! {
+    "dependencies", "dev-dependencies" | "dev_dependencies",
     "build-dependencies" | "build_dependencies",
-];
+};
 
 /// The spellings of the rows.
 #[tactic(auto, unfolding(manifest_schema::specs::PartForms::platform_rows))]
-fn platform_names() -> &'static [Spellings; 3]
+fn platform_names() -> &'static [Spellings]
     ensures { map spellings_view result.now ≡ names_of platform_rows }
 {
-    &PLATFORM
+    PLATFORM
 }
 
 /// Reads the rows of a table.

@@ -195,16 +195,16 @@ package_good K p g = search (some_good, text_good, flag_good, edition_good, reso
 
 pub package_metadata_good : (K : Kind Data) (p : Package) → (form (package_rows K)).good p → good_some K p.metadata
 unfolding package_rows
-package_metadata_good K p g = g.1.1.1.1.1.1.1.1.1.1.1.1.1.1.1.1.0
+package_metadata_good K p g = assumption
 
 -- A WORKSPACE is well-formed exactly if its metadata and its lints are
 pub workspace_good : (K : Kind Data) (w : Workspace) → good_some K w.metadata → good_some (map_of (map_of lint)) w.lints → (form (workspace_rows K)).good w
 unfolding workspace_rows
-workspace_good K w g h = (texts_good.good w.members, (some_good texts_good w.default_members, (some_good texts_good w.exclude, (some_good resolver_good w.resolver, (some_good dependencies_good w.dependencies, (some_good workspace_package_good w.«package», (g, (h, tt))))))))
+workspace_good K w g h = search (some_good, texts_good, texts_good.good, resolver_good, dependencies_good, workspace_package_good)
 
 pub workspace_metadata_good : (K : Kind Data) (w : Workspace) → (form (workspace_rows K)).good w → good_some K w.metadata
 unfolding workspace_rows
-workspace_metadata_good K w g = g.1.1.1.1.1.1.0
+workspace_metadata_good K w g = assumption
 
 -- A PROFILE is well-formed exactly if its kept values and its units of code generation are
 pub profile_good : (p : Profile) → good_some kept p.opt_level → good_some kept p.debug → good_some kept p.lto → good_some codegen p.codegen_units → good_entries kept p.«package» → good_some kept p.build_override → (form profile_rows).good p
@@ -214,7 +214,7 @@ profile_good p a b c u e d = search (some_good, text_good, flag_good, strip_good
 pub profile_parts_good : (p : Profile) → (form profile_rows).good p
     → good_some kept p.opt_level × good_some kept p.debug × good_some kept p.lto × good_entries kept p.«package» × good_some kept p.build_override
 unfolding profile_rows
-profile_parts_good p g = (g.0, g.1.0, g.1.1.1.1.0, g.1.1.1.1.1.1.1.1.1.1.1.0, g.1.1.1.1.1.1.1.1.1.1.1.1.1.0)
+profile_parts_good p g = assumption
 
 -- the same by two tests
 pub profile_exactly : (p : Profile) (settings overrides : Bool) → good_some codegen p.codegen_units
@@ -233,8 +233,8 @@ pub profiles_exactly : (p : Profiles) (named customs : Bool)
     → (IsTrue (named && customs) ↔ (form profiles_rows).good p)
 unfolding profiles_rows
 profiles_exactly p named customs n o = (
-  λ h. let ((a, b, d, e, f), (u, g)) = (exactly_both named customs n o).0 h in (a, (b, (d, (e, (f, (u, g)))))),
-  λ g. (exactly_both named customs n o).1 ((g.0, g.1.0, g.1.1.0, g.1.1.1.0, g.1.1.1.1.0), (g.1.1.1.1.1.0, g.1.1.1.1.1.1)),
+  λ h. assumption ((exactly_both named customs n o).0 h),
+  λ g. (exactly_both named customs n o).1 assumption,
 )
 
 -- A MANIFEST is well-formed exactly if its package, its workspace, its profiles and its lints are
@@ -245,7 +245,7 @@ manifest_good K W m a b c d = search (some_good, items_good, texts_good, depende
 pub manifest_parts_good : (K W : Kind Data) (m : Manifest) → (form (manifest_rows K W)).good m
     → good_some (form (package_rows K)) m.«package» × good_some (form (workspace_rows W)) m.workspace × good_some (form profiles_rows) m.profile × good_some (form lints_rows) m.lints
 unfolding manifest_rows
-manifest_parts_good K W m g = (g.0, g.1.1.0, g.1.1.1.1.1.1.1.1.1.1.1.1.1.1.0, g.1.1.1.1.1.1.1.1.1.1.1.1.1.1.1.1.0)
+manifest_parts_good K W m g = assumption
 
 -- the same by two tests
 pub manifest_exactly : (K W : Kind Data) (m : Manifest) (tables settings : Bool)

@@ -7,6 +7,7 @@ pub mod WithoutLaws
 pub mod Totals
 pub mod ChoiceLaws
 pub mod RowLaws
+pub mod Built
 pub mod PartLaws
 pub mod ManifestLaws
 pub mod MeaningLaws

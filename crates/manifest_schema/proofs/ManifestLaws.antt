@@ -5,6 +5,7 @@ use Rattle.manifest_schema.specs.Kinds.{Kind}
 use Rattle.manifest_schema.specs.Forms.{form}
 use Rattle.manifest_schema.specs.Lawful.{IsLawful, AreLawful, IsBuilt, IsTotal, AreTotal}
 use Rattle.manifest_schema.specs.ManifestForms.{package_rows, workspace_package_rows, workspace_rows, manifest_rows}
+use Rattle.manifest_schema.proofs.Built.{turned, built}
 use Rattle.manifest_schema.proofs.FormLaws.{form_lawful}
 use Rattle.manifest_schema.proofs.Totals.{form_total}
 use Rattle.manifest_schema.proofs.RowLaws.{row_laws, row_totals}
@@ -13,40 +14,7 @@ use Rattle.manifest_schema.proofs.PartLaws.{dependencies_lawful, dependencies_to
 -- PACKAGE
 package_built : (K : Kind Data) → IsBuilt (package_rows K)
 unfolding package_rows
-package_built K = record {
-  build = λ t. record {
-    name = t.0;
-    edition = t.1.0;
-    version = t.1.1.0;
-    build = t.1.1.1.0;
-    workspace = t.1.1.1.1.0;
-    authors = t.1.1.1.1.1.0;
-    links = t.1.1.1.1.1.1.0;
-    description = t.1.1.1.1.1.1.1.0;
-    homepage = t.1.1.1.1.1.1.1.1.0;
-    documentation = t.1.1.1.1.1.1.1.1.1.0;
-    readme = t.1.1.1.1.1.1.1.1.1.1.0;
-    keywords = t.1.1.1.1.1.1.1.1.1.1.1.0;
-    categories = t.1.1.1.1.1.1.1.1.1.1.1.1.0;
-    license = t.1.1.1.1.1.1.1.1.1.1.1.1.1.0;
-    license_file = t.1.1.1.1.1.1.1.1.1.1.1.1.1.1.0;
-    repository = t.1.1.1.1.1.1.1.1.1.1.1.1.1.1.1.0;
-    metadata = t.1.1.1.1.1.1.1.1.1.1.1.1.1.1.1.1.0;
-    rust_version = t.1.1.1.1.1.1.1.1.1.1.1.1.1.1.1.1.1.0;
-    exclude = t.1.1.1.1.1.1.1.1.1.1.1.1.1.1.1.1.1.1.0;
-    include = t.1.1.1.1.1.1.1.1.1.1.1.1.1.1.1.1.1.1.1.0;
-    default_run = t.1.1.1.1.1.1.1.1.1.1.1.1.1.1.1.1.1.1.1.1.0;
-    autolib = t.1.1.1.1.1.1.1.1.1.1.1.1.1.1.1.1.1.1.1.1.1.0;
-    autobins = t.1.1.1.1.1.1.1.1.1.1.1.1.1.1.1.1.1.1.1.1.1.1.0;
-    autoexamples = t.1.1.1.1.1.1.1.1.1.1.1.1.1.1.1.1.1.1.1.1.1.1.1.0;
-    autotests = t.1.1.1.1.1.1.1.1.1.1.1.1.1.1.1.1.1.1.1.1.1.1.1.1.0;
-    autobenches = t.1.1.1.1.1.1.1.1.1.1.1.1.1.1.1.1.1.1.1.1.1.1.1.1.1.0;
-    publish = t.1.1.1.1.1.1.1.1.1.1.1.1.1.1.1.1.1.1.1.1.1.1.1.1.1.1.0;
-    resolver = t.1.1.1.1.1.1.1.1.1.1.1.1.1.1.1.1.1.1.1.1.1.1.1.1.1.1.1.0;
-  };
-  all = λ x. refl;
-  each = λ t. refl;
-}
+package_built K = built (package_rows K) (λ F m. hlevel turned) (λ x. refl) (λ t. refl)
 
 package_are_lawful : (K : Kind Data) → IsLawful K → AreLawful (package_rows K)
 unfolding package_rows
@@ -66,28 +34,7 @@ package_total K t = form_total (package_rows K) (package_built K) (package_are_t
 -- THE PACKAGE FIELDS OF A WORKSPACE
 workspace_package_built : IsBuilt workspace_package_rows
 unfolding workspace_package_rows
-workspace_package_built = record {
-  build = λ t. record {
-    edition = t.0;
-    version = t.1.0;
-    authors = t.1.1.0;
-    description = t.1.1.1.0;
-    homepage = t.1.1.1.1.0;
-    documentation = t.1.1.1.1.1.0;
-    readme = t.1.1.1.1.1.1.0;
-    keywords = t.1.1.1.1.1.1.1.0;
-    categories = t.1.1.1.1.1.1.1.1.0;
-    license = t.1.1.1.1.1.1.1.1.1.0;
-    license_file = t.1.1.1.1.1.1.1.1.1.1.0;
-    repository = t.1.1.1.1.1.1.1.1.1.1.1.0;
-    rust_version = t.1.1.1.1.1.1.1.1.1.1.1.1.0;
-    exclude = t.1.1.1.1.1.1.1.1.1.1.1.1.1.0;
-    include = t.1.1.1.1.1.1.1.1.1.1.1.1.1.1.0;
-    publish = t.1.1.1.1.1.1.1.1.1.1.1.1.1.1.1.0;
-  };
-  all = λ x. refl;
-  each = λ t. refl;
-}
+workspace_package_built = built workspace_package_rows (λ F m. hlevel turned) (λ x. refl) (λ t. refl)
 
 workspace_package_are_lawful : AreLawful workspace_package_rows
 unfolding workspace_package_rows
@@ -107,20 +54,7 @@ workspace_package_total = form_total workspace_package_rows workspace_package_bu
 -- WORKSPACE
 workspace_built : (K : Kind Data) → IsBuilt (workspace_rows K)
 unfolding workspace_rows
-workspace_built K = record {
-  build = λ t. record {
-    members = t.0;
-    default_members = t.1.0;
-    exclude = t.1.1.0;
-    resolver = t.1.1.1.0;
-    dependencies = t.1.1.1.1.0;
-    «package» = t.1.1.1.1.1.0;
-    metadata = t.1.1.1.1.1.1.0;
-    lints = t.1.1.1.1.1.1.1.0;
-  };
-  all = λ x. refl;
-  each = λ t. refl;
-}
+workspace_built K = built (workspace_rows K) (λ F m. hlevel turned) (λ x. refl) (λ t. refl)
 
 workspace_are_lawful : (K : Kind Data) → IsLawful K → AreLawful (workspace_rows K)
 unfolding workspace_rows
@@ -140,29 +74,7 @@ workspace_total K t = form_total (workspace_rows K) (workspace_built K) (workspa
 -- MANIFEST
 manifest_built : (K W : Kind Data) → IsBuilt (manifest_rows K W)
 unfolding manifest_rows
-manifest_built K W = record {
-  build = λ t. record {
-    «package» = t.0;
-    cargo_features = t.1.0;
-    workspace = t.1.1.0;
-    dependencies = t.1.1.1.0;
-    dev_dependencies = t.1.1.1.1.0;
-    build_dependencies = t.1.1.1.1.1.0;
-    target = t.1.1.1.1.1.1.0;
-    features = t.1.1.1.1.1.1.1.0;
-    bin = t.1.1.1.1.1.1.1.1.0;
-    bench = t.1.1.1.1.1.1.1.1.1.0;
-    test = t.1.1.1.1.1.1.1.1.1.1.0;
-    example = t.1.1.1.1.1.1.1.1.1.1.1.0;
-    patch = t.1.1.1.1.1.1.1.1.1.1.1.1.0;
-    lib = t.1.1.1.1.1.1.1.1.1.1.1.1.1.0;
-    profile = t.1.1.1.1.1.1.1.1.1.1.1.1.1.1.0;
-    badges = t.1.1.1.1.1.1.1.1.1.1.1.1.1.1.1.0;
-    lints = t.1.1.1.1.1.1.1.1.1.1.1.1.1.1.1.1.0;
-  };
-  all = λ x. refl;
-  each = λ t. refl;
-}
+manifest_built K W = built (manifest_rows K W) (λ F m. hlevel turned) (λ x. refl) (λ t. refl)
 
 manifest_are_lawful : (K W : Kind Data) → IsLawful K → IsLawful W → AreLawful (manifest_rows K W)
 unfolding manifest_rows

@@ -46,8 +46,8 @@ present N k (Some d) (Some x) a = refl
 headers : (K W : Kind Data) (ms : Members) (m : Manifest) → fits (manifest_rows K W) ms m → has_header ms ≡ is_headed m
 unfolding manifest_rows
 headers K W ms m a =
-    ap₂ (λ a b. a || b) (present (form (package_rows K)) (codes "package") (get_member (codes "package") ms) m.package a.0)
-    (present (form (workspace_rows W)) (codes "workspace") (get_member (codes "workspace") ms) m.workspace a.1.1.0)
+    ap₂ (λ a b. a || b) (present (form (package_rows K)) (codes "package") (get_member (codes "package") ms) m.package assumption)
+    (present (form (workspace_rows W)) (codes "workspace") (get_member (codes "workspace") ms) m.workspace assumption)
 
 means_by_headed : (K W : Kind Data) (h : Bool) (ms : Members) (m : Manifest) → h ≡ has_header ms → means_by K W h ms m → is_headed m ≡ true
 means_by_headed K W true ms m e a = sym (headers K W ms m a) ∙ sym e

@@ -10,6 +10,7 @@ use Rattle.manifest_schema.specs.Contents.{InheritedDependency, DependencyDetail
 use Rattle.manifest_schema.specs.PartForms.{texts, inherited_rows, detailed_rows, dependency_table, dependency_side, dependency, lint_rows, lint_side, lint, product_rows, badge_rows, maintenance_rows, badges_rows, profile_rows, profiles_rows, lints_rows, platform_rows}
 use Rattle.manifest_schema.proofs.KindLaws.{text_lawful, list_lawful, map_lawful, split_lawful}
 use Rattle.manifest_schema.proofs.TableLaws.{get-put_same}
+use Rattle.manifest_schema.proofs.Built.{turned, built}
 use Rattle.manifest_schema.proofs.FormLaws.{form_lawful, written_none}
 use Rattle.manifest_schema.proofs.Totals.{text_total, list_total, map_total, split_total, form_total}
 use Rattle.manifest_schema.proofs.ChoiceLaws.{level_lawful, level_total}
@@ -19,11 +20,7 @@ use Rattle.manifest_schema.proofs.RowLaws.{row_laws, row_totals, texts_lawful, t
 inherited_built : IsBuilt inherited_rows
 unfolding inherited_rows
 inherited_built = record {
-  build = λ t. record {
-    features = t.1.0;
-    «optional» = t.1.1.0;
-    default_features = t.1.1.1.0;
-  };
+  build = λ (workspace, (features, («optional», (default_features, end)))). record { features = features; «optional» = «optional»; default_features = default_features };
   all = λ x. refl;
   each = λ t. refl;
 }
@@ -46,24 +43,7 @@ inherited_total = form_total inherited_rows inherited_built inherited_are_total
 -- DETAILED DEPENDENCY
 detailed_built : IsBuilt detailed_rows
 unfolding detailed_rows
-detailed_built = record {
-  build = λ t. record {
-    version = t.0;
-    registry = t.1.0;
-    registry_index = t.1.1.0;
-    path = t.1.1.1.0;
-    git = t.1.1.1.1.0;
-    branch = t.1.1.1.1.1.0;
-    tag = t.1.1.1.1.1.1.0;
-    rev = t.1.1.1.1.1.1.1.0;
-    features = t.1.1.1.1.1.1.1.1.0;
-    «optional» = t.1.1.1.1.1.1.1.1.1.0;
-    default_features = t.1.1.1.1.1.1.1.1.1.1.0;
-    «package» = t.1.1.1.1.1.1.1.1.1.1.1.0;
-  };
-  all = λ x. refl;
-  each = λ t. refl;
-}
+detailed_built = built detailed_rows (λ F m. hlevel turned) (λ x. refl) (λ t. refl)
 
 detailed_are_lawful : AreLawful detailed_rows
 unfolding detailed_rows
@@ -136,14 +116,7 @@ dependencies_total = map_total dependency_total
 -- LINT
 lint_built : IsBuilt lint_rows
 unfolding lint_rows
-lint_built = record {
-  build = λ t. record {
-    level = t.0;
-    priority = t.1.0;
-  };
-  all = λ x. refl;
-  each = λ t. refl;
-}
+lint_built = built lint_rows (λ F m. hlevel turned) (λ x. refl) (λ t. refl)
 
 lint_are_lawful : AreLawful lint_rows
 unfolding lint_rows
@@ -199,24 +172,7 @@ lint_maps_total = map_total lint_map_total
 -- PRODUCT
 product_built : IsBuilt product_rows
 unfolding product_rows
-product_built = record {
-  build = λ t. record {
-    path = t.0;
-    name = t.1.0;
-    test = t.1.1.0;
-    doctest = t.1.1.1.0;
-    bench = t.1.1.1.1.0;
-    doc = t.1.1.1.1.1.0;
-    plugin = t.1.1.1.1.1.1.0;
-    proc_macro = t.1.1.1.1.1.1.1.0;
-    harness = t.1.1.1.1.1.1.1.1.0;
-    edition = t.1.1.1.1.1.1.1.1.1.0;
-    required_features = t.1.1.1.1.1.1.1.1.1.1.0;
-    crate_type = t.1.1.1.1.1.1.1.1.1.1.1.0;
-  };
-  all = λ x. refl;
-  each = λ t. refl;
-}
+product_built = built product_rows (λ F m. hlevel turned) (λ x. refl) (λ t. refl)
 
 product_are_lawful : AreLawful product_rows
 unfolding product_rows
@@ -242,17 +198,7 @@ products_total = list_total product_total
 -- BADGES
 badge_built : IsBuilt badge_rows
 unfolding badge_rows
-badge_built = record {
-  build = λ t. record {
-    repository = t.0;
-    branch = t.1.0;
-    service = t.1.1.0;
-    id = t.1.1.1.0;
-    project_name = t.1.1.1.1.0;
-  };
-  all = λ x. refl;
-  each = λ t. refl;
-}
+badge_built = built badge_rows (λ F m. hlevel turned) (λ x. refl) (λ t. refl)
 
 badge_are_lawful : AreLawful badge_rows
 unfolding badge_rows
@@ -271,13 +217,7 @@ badge_total = form_total badge_rows badge_built badge_are_total
 
 maintenance_built : IsBuilt maintenance_rows
 unfolding maintenance_rows
-maintenance_built = record {
-  build = λ t. record {
-    status = t.0;
-  };
-  all = λ x. refl;
-  each = λ t. refl;
-}
+maintenance_built = built maintenance_rows (λ F m. hlevel turned) (λ x. refl) (λ t. refl)
 
 maintenance_are_lawful : AreLawful maintenance_rows
 unfolding maintenance_rows
@@ -300,21 +240,7 @@ maintenance_good = (tt, tt)
 
 badges_built : IsBuilt badges_rows
 unfolding badges_rows
-badges_built = record {
-  build = λ t. record {
-    appveyor = t.0;
-    circle_ci = t.1.0;
-    gitlab = t.1.1.0;
-    travis_ci = t.1.1.1.0;
-    codecov = t.1.1.1.1.0;
-    coveralls = t.1.1.1.1.1.0;
-    is_it_maintained_issue_resolution = t.1.1.1.1.1.1.0;
-    is_it_maintained_open_issues = t.1.1.1.1.1.1.1.0;
-    maintenance = t.1.1.1.1.1.1.1.1.0;
-  };
-  all = λ x. refl;
-  each = λ t. refl;
-}
+badges_built = built badges_rows (λ F m. hlevel turned) (λ x. refl) (λ t. refl)
 
 badges_are_lawful : AreLawful badges_rows
 unfolding badges_rows
@@ -334,26 +260,7 @@ badges_total = form_total badges_rows badges_built badges_are_total
 -- PROFILES
 profile_built : IsBuilt profile_rows
 unfolding profile_rows
-profile_built = record {
-  build = λ t. record {
-    opt_level = t.0;
-    debug = t.1.0;
-    rpath = t.1.1.0;
-    inherits = t.1.1.1.0;
-    lto = t.1.1.1.1.0;
-    debug_assertions = t.1.1.1.1.1.0;
-    codegen_units = t.1.1.1.1.1.1.0;
-    panic = t.1.1.1.1.1.1.1.0;
-    incremental = t.1.1.1.1.1.1.1.1.0;
-    overflow_checks = t.1.1.1.1.1.1.1.1.1.0;
-    strip = t.1.1.1.1.1.1.1.1.1.1.0;
-    «package» = t.1.1.1.1.1.1.1.1.1.1.1.0;
-    split_debuginfo = t.1.1.1.1.1.1.1.1.1.1.1.1.0;
-    build_override = t.1.1.1.1.1.1.1.1.1.1.1.1.1.0;
-  };
-  all = λ x. refl;
-  each = λ t. refl;
-}
+profile_built = built profile_rows (λ F m. hlevel turned) (λ x. refl) (λ t. refl)
 
 profile_are_lawful : AreLawful profile_rows
 unfolding profile_rows
@@ -372,18 +279,7 @@ profile_total = form_total profile_rows profile_built profile_are_total
 
 profiles_built : IsBuilt profiles_rows
 unfolding profiles_rows
-profiles_built = record {
-  build = λ t. record {
-    release = t.0;
-    dev = t.1.0;
-    test = t.1.1.0;
-    bench = t.1.1.1.0;
-    doc = t.1.1.1.1.0;
-    custom = t.1.1.1.1.1;
-  };
-  all = λ x. refl;
-  each = λ t. refl;
-}
+profiles_built = built profiles_rows (λ F m. hlevel turned) (λ x. refl) (λ t. refl)
 
 profiles_are_lawful : AreLawful profiles_rows
 unfolding profiles_rows
@@ -403,14 +299,7 @@ profiles_total = form_total profiles_rows profiles_built profiles_are_total
 -- LINTS OF A MANIFEST
 lints_built : IsBuilt lints_rows
 unfolding lints_rows
-lints_built = record {
-  build = λ t. record {
-    workspace = t.0;
-    lints = t.1;
-  };
-  all = λ x. refl;
-  each = λ t. refl;
-}
+lints_built = built lints_rows (λ F m. hlevel turned) (λ x. refl) (λ t. refl)
 
 lints_are_lawful : AreLawful lints_rows
 unfolding lints_rows
@@ -430,15 +319,7 @@ lints_total = form_total lints_rows lints_built lints_are_total
 -- PLATFORM
 platform_built : IsBuilt platform_rows
 unfolding platform_rows
-platform_built = record {
-  build = λ t. record {
-    dependencies = t.0;
-    dev_dependencies = t.1.0;
-    build_dependencies = t.1.1.0;
-  };
-  all = λ x. refl;
-  each = λ t. refl;
-}
+platform_built = built platform_rows (λ F m. hlevel turned) (λ x. refl) (λ t. refl)
 
 platform_are_lawful : AreLawful platform_rows
 unfolding platform_rows

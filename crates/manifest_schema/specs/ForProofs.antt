@@ -1,7 +1,8 @@
 -- What the contracts of single steps and the laws of impls cite. The meaning of a table needs none of it: who reads for that may pass over this file.
-use Rattle.std.specs.Prelude.{ℕ, zero, suc, [], Option, Some, None, refl}
+use Prim.Native.String.{String}
+use Rattle.std.specs.Prelude.{ℕ, zero, suc, if◌then◌else◌, [], codes, Option, Some, None, refl}
 use Rattle.std.proofs.Common.{inr}
-use Rattle.toml.specs.Data.{Members}
+use Rattle.toml.specs.Data.{Members, same_key}
 use Rattle.manifest_schema.specs.Paths.{Text, metadata_fault}
 use Rattle.manifest_schema.specs.Slots.{Spellings, only, both, first, at, put_some}
 use Rattle.manifest_schema.specs.Kinds.{nothing}
@@ -13,7 +14,20 @@ abbrev pub spellings_of : Text → Option Text → Spellings
 spellings_of k None = only k
 spellings_of k (Some l) = both k l
 
--- PARTS OF A FORM, for a record that is read or written in several steps
+-- PARTS OF A FORM, for a record that is read or written in several steps: from the row of one key to the row of another
+-- a first spelling, as a contract quotes it
+abbrev pub Key : Type 0
+Key = String
+
+-- how many rows stand above the row of this key; all of them, where no row has it
+abbrev pub above : {A : Type 0} → Key → Rows A → ℕ
+above k (r ⨾ rs) = if same_key (codes k) (first r.spellings) then zero else suc (above k rs)
+above k _ = zero
+
+-- how many rows stand down to the row of this key, with it
+abbrev pub down_to : {A : Type 0} → Key → Rows A → ℕ
+down_to k rows = suc (above k rows)
+
 -- the first n rows fit
 abbrev pub first_fit : {A : Type 0} → ℕ → Rows A → Members → A → Type 0
 first_fit (suc n) (r ⨾ rs) ms x = r.need.meets (at r.spellings ms) (r.get x) × first_fit n rs ms x

@@ -198,43 +198,19 @@ fn named<M>(name: String) -> Package<M>
     }
 }
 
-static PACKAGE: [Spellings; 28] = spelled![
-    "name",
-    "edition",
-    "version",
-    "build",
-    "workspace",
-    "authors",
-    "links",
-    "description",
-    "homepage",
-    "documentation",
-    "readme",
-    "keywords",
-    "categories",
-    "license",
-    "license-file",
-    "repository",
-    "metadata",
-    "rust-version",
-    "exclude",
-    "include",
-    "default-run",
-    "autolib",
-    "autobins",
-    "autoexamples",
-    "autotests",
-    "autobenches",
-    "publish",
-    "resolver",
-];
+static PACKAGE: &[Spellings] = &spelled! {
+    "name", "edition", "version", "build", "workspace", "authors", "links", "description",
+    "homepage", "documentation", "readme", "keywords", "categories", "license", "license-file",
+    "repository", "metadata", "rust-version", "exclude", "include", "default-run", "autolib",
+    "autobins", "autoexamples", "autotests", "autobenches", "publish", "resolver",
+};
 
 /// The spellings of the rows.
 #[tactic(auto, unfolding(manifest_schema::specs::ManifestForms::package_rows))]
-fn package_names<M: Metadata>() -> &'static [Spellings; 28]
+fn package_names<M: Metadata>() -> &'static [Spellings]
     ensures { map spellings_view result.now ≡ names_of (package_rows (tree_of M.kind)) }
 {
-    &PACKAGE
+    PACKAGE
 }
 
 /// Reads a package from a table: the one reading of the table by the form of a package, as of a value that is this table.
@@ -266,10 +242,11 @@ fn fill_package<M: Metadata>(
     rows: &mut RowCursor<'_, '_>,
     x: &mut Package<M>,
 ) -> Result<(), ReadFault>
-    ensures ok { Filled 1 28 (package_rows (tree_of M.kind)) rows.old
+    ensures ok { Filled "edition" "resolver" (package_rows (tree_of M.kind)) rows.old
         (package_of M.kind M.content x.old) (package_of M.kind M.content x.new) result }
-    ensures next { Passed 1 28 (package_rows (tree_of M.kind)) rows.old rows.new result }
-    ensures fault { UnfitFrom 1 (package_rows (tree_of M.kind)) rows.old result }
+    ensures next { Passed "edition" "resolver" (package_rows (tree_of M.kind)) rows.old rows.new
+        result }
+    ensures fault { UnfitFrom "edition" (package_rows (tree_of M.kind)) rows.old result }
 {
     fill_identity(alloc, rows, x)?;
     fill_description(alloc, rows, x)?;
@@ -277,17 +254,18 @@ fn fill_package<M: Metadata>(
     Ok(())
 }
 
-/// Reads rows 2 to 10.
+/// Reads `edition` to `documentation`.
 #[tactic(auto, unfolding(manifest_schema::specs::ManifestForms::package_rows))]
 fn fill_identity<M: Metadata>(
     alloc: Global,
     rows: &mut RowCursor<'_, '_>,
     x: &mut Package<M>,
 ) -> Result<(), ReadFault>
-    ensures ok { Filled 1 10 (package_rows (tree_of M.kind)) rows.old
+    ensures ok { Filled "edition" "documentation" (package_rows (tree_of M.kind)) rows.old
         (package_of M.kind M.content x.old) (package_of M.kind M.content x.new) result }
-    ensures next { Passed 1 10 (package_rows (tree_of M.kind)) rows.old rows.new result }
-    ensures fault { UnfitFrom 1 (package_rows (tree_of M.kind)) rows.old result }
+    ensures next { Passed "edition" "documentation" (package_rows (tree_of M.kind)) rows.old
+        rows.new result }
+    ensures fault { UnfitFrom "edition" (package_rows (tree_of M.kind)) rows.old result }
 {
     fill(alloc, rows, &mut x.edition)?;
     fill(alloc, rows, &mut x.version)?;
@@ -301,17 +279,18 @@ fn fill_identity<M: Metadata>(
     Ok(())
 }
 
-/// Reads rows 11 to 19.
+/// Reads `readme` to `exclude`.
 #[tactic(auto, unfolding(manifest_schema::specs::ManifestForms::package_rows))]
 fn fill_description<M: Metadata>(
     alloc: Global,
     rows: &mut RowCursor<'_, '_>,
     x: &mut Package<M>,
 ) -> Result<(), ReadFault>
-    ensures ok { Filled 10 19 (package_rows (tree_of M.kind)) rows.old
+    ensures ok { Filled "readme" "exclude" (package_rows (tree_of M.kind)) rows.old
         (package_of M.kind M.content x.old) (package_of M.kind M.content x.new) result }
-    ensures next { Passed 10 19 (package_rows (tree_of M.kind)) rows.old rows.new result }
-    ensures fault { UnfitFrom 10 (package_rows (tree_of M.kind)) rows.old result }
+    ensures next { Passed "readme" "exclude" (package_rows (tree_of M.kind)) rows.old rows.new
+        result }
+    ensures fault { UnfitFrom "readme" (package_rows (tree_of M.kind)) rows.old result }
 {
     fill(alloc, rows, &mut x.readme)?;
     fill(alloc, rows, &mut x.keywords)?;
@@ -325,17 +304,18 @@ fn fill_description<M: Metadata>(
     Ok(())
 }
 
-/// Reads rows 20 to 28.
+/// Reads `include` to `resolver`.
 #[tactic(auto, unfolding(manifest_schema::specs::ManifestForms::package_rows))]
 fn fill_build<M: Metadata>(
     alloc: Global,
     rows: &mut RowCursor<'_, '_>,
     x: &mut Package<M>,
 ) -> Result<(), ReadFault>
-    ensures ok { Filled 19 28 (package_rows (tree_of M.kind)) rows.old
+    ensures ok { Filled "include" "resolver" (package_rows (tree_of M.kind)) rows.old
         (package_of M.kind M.content x.old) (package_of M.kind M.content x.new) result }
-    ensures next { Passed 19 28 (package_rows (tree_of M.kind)) rows.old rows.new result }
-    ensures fault { UnfitFrom 19 (package_rows (tree_of M.kind)) rows.old result }
+    ensures next { Passed "include" "resolver" (package_rows (tree_of M.kind)) rows.old rows.new
+        result }
+    ensures fault { UnfitFrom "include" (package_rows (tree_of M.kind)) rows.old result }
 {
     fill(alloc, rows, &mut x.include)?;
     fill(alloc, rows, &mut x.default_run)?;
@@ -349,7 +329,7 @@ fn fill_build<M: Metadata>(
     Ok(())
 }
 
-/// Writes rows 1 to 10, from the last to the first.
+/// Writes `name` to `documentation`, from the last to the first.
 #[tactic(auto, unfolding(manifest_schema::specs::ManifestForms::package_rows))]
 fn put_identity<M: Metadata>(
     alloc: Global,
@@ -357,8 +337,8 @@ fn put_identity<M: Metadata>(
     x: &Package<M>,
 ) -> Result<(), AllocError>
     ensures { OnOk result
-        (WritesRows 0 10 (package_rows (tree_of M.kind)) (package_of M.kind M.content x.now) out.old
-        out.new) }
+        (WritesRows "name" "documentation" (package_rows (tree_of M.kind))
+        (package_of M.kind M.content x.now) out.old out.new) }
 {
     put_optional(alloc, out, "documentation", &x.documentation)?;
     put_optional(alloc, out, "homepage", &x.homepage)?;
@@ -373,7 +353,7 @@ fn put_identity<M: Metadata>(
     Ok(())
 }
 
-/// Writes rows 11 to 19, from the last to the first.
+/// Writes `readme` to `exclude`, from the last to the first.
 #[tactic(auto, unfolding(manifest_schema::specs::ManifestForms::package_rows))]
 fn put_description<M: Metadata>(
     alloc: Global,
@@ -381,8 +361,8 @@ fn put_description<M: Metadata>(
     x: &Package<M>,
 ) -> Result<(), AllocError>
     ensures { OnOk result
-        (WritesRows 10 9 (package_rows (tree_of M.kind)) (package_of M.kind M.content x.now) out.old
-        out.new) }
+        (WritesRows "readme" "exclude" (package_rows (tree_of M.kind))
+        (package_of M.kind M.content x.now) out.old out.new) }
 {
     put_optional(alloc, out, "exclude", &x.exclude)?;
     put_optional(alloc, out, "rust-version", &x.rust_version)?;
@@ -396,12 +376,12 @@ fn put_description<M: Metadata>(
     Ok(())
 }
 
-/// Writes rows 20 to 28, from the last to the first.
+/// Writes `include` to `resolver`, from the last to the first.
 #[tactic(auto, unfolding(manifest_schema::specs::ManifestForms::package_rows))]
 fn put_build<M: Metadata>(alloc: Global, out: &mut Table, x: &Package<M>) -> Result<(), AllocError>
     ensures { OnOk result
-        (WritesRows 19 9 (package_rows (tree_of M.kind)) (package_of M.kind M.content x.now) out.old
-        out.new) }
+        (WritesRows "include" "resolver" (package_rows (tree_of M.kind))
+        (package_of M.kind M.content x.now) out.old out.new) }
 {
     put_optional(alloc, out, "resolver", &x.resolver)?;
     put_optional(alloc, out, "publish", &x.publish)?;

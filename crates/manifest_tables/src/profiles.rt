@@ -146,14 +146,14 @@ fn customs_are_well_formed(custom: &BTreeMap<String, Profile>) -> bool
     true
 }
 
-static PROFILES: [Spellings; 5] = spelled!["release", "dev", "test", "bench", "doc",];
+static PROFILES: &[Spellings] = &spelled! { "release", "dev", "test", "bench", "doc" };
 
 /// The spellings of the rows.
 #[tactic(auto, unfolding(manifest_schema::specs::PartForms::profiles_rows))]
-fn profiles_names() -> &'static [Spellings; 5]
+fn profiles_names() -> &'static [Spellings]
     ensures { map spellings_view result.now ≡ names_of profiles_rows }
 {
-    &PROFILES
+    PROFILES
 }
 
 /// Reads the rows of a table.
@@ -190,17 +190,17 @@ fn fill_profiles(
     Ok(())
 }
 
-/// Reads rows 1 to 5.
+/// Reads `release` to `doc`.
 #[tactic(auto, unfolding(manifest_schema::specs::PartForms::profiles_rows))]
 fn fill_named(
     alloc: Global,
     rows: &mut RowCursor<'_, '_>,
     x: &mut Profiles,
 ) -> Result<(), ReadFault>
-    ensures ok { Filled 0 5 profiles_rows rows.old
+    ensures ok { Filled "release" "doc" profiles_rows rows.old
         (profiles_content x.old) (profiles_content x.new) result }
-    ensures next { Passed 0 5 profiles_rows rows.old rows.new result }
-    ensures fault { UnfitFrom 0 profiles_rows rows.old result }
+    ensures next { Passed "release" "doc" profiles_rows rows.old rows.new result }
+    ensures fault { UnfitFrom "release" profiles_rows rows.old result }
 {
     fill(alloc, rows, &mut x.release)?;
     fill(alloc, rows, &mut x.dev)?;

@@ -91,31 +91,18 @@ impl WorkspacePackage {
     }
 }
 
-static LENT: [Spellings; 16] = spelled![
-    "edition",
-    "version",
-    "authors",
-    "description",
-    "homepage",
-    "documentation",
-    "readme",
-    "keywords",
-    "categories",
-    "license",
-    "license-file",
-    "repository",
-    "rust-version",
-    "exclude",
-    "include",
-    "publish",
-];
+static LENT: &[Spellings] = &spelled! {
+    "edition", "version", "authors", "description", "homepage", "documentation", "readme",
+    "keywords", "categories", "license", "license-file", "repository", "rust-version", "exclude",
+    "include", "publish",
+};
 
 /// The spellings of the rows.
 #[tactic(auto, unfolding(manifest_schema::specs::ManifestForms::workspace_package_rows))]
-fn workspace_package_names() -> &'static [Spellings; 16]
+fn workspace_package_names() -> &'static [Spellings]
     ensures { map spellings_view result.now ≡ names_of workspace_package_rows }
 {
-    &LENT
+    LENT
 }
 
 /// Reads the rows of a table.
@@ -140,27 +127,27 @@ fn fill_workspace_package(
     rows: &mut RowCursor<'_, '_>,
     x: &mut WorkspacePackage,
 ) -> Result<(), ReadFault>
-    ensures ok { Filled 0 16 workspace_package_rows rows.old
+    ensures ok { Filled "edition" "publish" workspace_package_rows rows.old
         (workspace_package_content x.old) (workspace_package_content x.new) result }
-    ensures next { Passed 0 16 workspace_package_rows rows.old rows.new result }
-    ensures fault { UnfitFrom 0 workspace_package_rows rows.old result }
+    ensures next { Passed "edition" "publish" workspace_package_rows rows.old rows.new result }
+    ensures fault { UnfitFrom "edition" workspace_package_rows rows.old result }
 {
     fill_described(alloc, rows, x)?;
     fill_licensed(alloc, rows, x)?;
     Ok(())
 }
 
-/// Reads rows 1 to 8.
+/// Reads `edition` to `keywords`.
 #[tactic(auto, unfolding(manifest_schema::specs::ManifestForms::workspace_package_rows))]
 fn fill_described(
     alloc: Global,
     rows: &mut RowCursor<'_, '_>,
     x: &mut WorkspacePackage,
 ) -> Result<(), ReadFault>
-    ensures ok { Filled 0 8 workspace_package_rows rows.old
+    ensures ok { Filled "edition" "keywords" workspace_package_rows rows.old
         (workspace_package_content x.old) (workspace_package_content x.new) result }
-    ensures next { Passed 0 8 workspace_package_rows rows.old rows.new result }
-    ensures fault { UnfitFrom 0 workspace_package_rows rows.old result }
+    ensures next { Passed "edition" "keywords" workspace_package_rows rows.old rows.new result }
+    ensures fault { UnfitFrom "edition" workspace_package_rows rows.old result }
 {
     fill(alloc, rows, &mut x.edition)?;
     fill(alloc, rows, &mut x.version)?;
@@ -173,17 +160,17 @@ fn fill_described(
     Ok(())
 }
 
-/// Reads rows 9 to 16.
+/// Reads `categories` to `publish`.
 #[tactic(auto, unfolding(manifest_schema::specs::ManifestForms::workspace_package_rows))]
 fn fill_licensed(
     alloc: Global,
     rows: &mut RowCursor<'_, '_>,
     x: &mut WorkspacePackage,
 ) -> Result<(), ReadFault>
-    ensures ok { Filled 8 16 workspace_package_rows rows.old
+    ensures ok { Filled "categories" "publish" workspace_package_rows rows.old
         (workspace_package_content x.old) (workspace_package_content x.new) result }
-    ensures next { Passed 8 16 workspace_package_rows rows.old rows.new result }
-    ensures fault { UnfitFrom 8 workspace_package_rows rows.old result }
+    ensures next { Passed "categories" "publish" workspace_package_rows rows.old rows.new result }
+    ensures fault { UnfitFrom "categories" workspace_package_rows rows.old result }
 {
     fill(alloc, rows, &mut x.categories)?;
     fill(alloc, rows, &mut x.license)?;
@@ -196,11 +183,12 @@ fn fill_licensed(
     Ok(())
 }
 
-/// Writes rows 1 to 8, from the last to the first.
+/// Writes `edition` to `keywords`, from the last to the first.
 #[tactic(auto, unfolding(manifest_schema::specs::ManifestForms::workspace_package_rows))]
 fn put_described(alloc: Global, out: &mut Table, x: &WorkspacePackage) -> Result<(), AllocError>
     ensures { OnOk result
-        (WritesRows 0 8 workspace_package_rows (workspace_package_content x.now) out.old out.new) }
+        (WritesRows "edition" "keywords" workspace_package_rows (workspace_package_content x.now)
+        out.old out.new) }
 {
     put_optional(alloc, out, "keywords", &x.keywords)?;
     put_optional(alloc, out, "readme", &x.readme)?;
@@ -213,11 +201,12 @@ fn put_described(alloc: Global, out: &mut Table, x: &WorkspacePackage) -> Result
     Ok(())
 }
 
-/// Writes rows 9 to 16, from the last to the first.
+/// Writes `categories` to `publish`, from the last to the first.
 #[tactic(auto, unfolding(manifest_schema::specs::ManifestForms::workspace_package_rows))]
 fn put_licensed(alloc: Global, out: &mut Table, x: &WorkspacePackage) -> Result<(), AllocError>
     ensures { OnOk result
-        (WritesRows 8 8 workspace_package_rows (workspace_package_content x.now) out.old out.new) }
+        (WritesRows "categories" "publish" workspace_package_rows (workspace_package_content x.now)
+        out.old out.new) }
 {
     put_optional(alloc, out, "publish", &x.publish)?;
     put_optional(alloc, out, "include", &x.include)?;
@@ -370,23 +359,17 @@ fn lent_lints_fit(lints: &Option<LintsSet>)
     }
 }
 
-static WORKSPACE: [Spellings; 8] = spelled![
-    "members",
-    "default-members" | "default_members",
-    "exclude",
-    "resolver",
-    "dependencies",
-    "package",
-    "metadata",
-    "lints",
-];
+static WORKSPACE: &[Spellings] = &spelled! {
+    "members", "default-members" | "default_members", "exclude", "resolver", "dependencies",
+    "package", "metadata", "lints",
+};
 
 /// The spellings of the rows.
 #[tactic(auto, unfolding(manifest_schema::specs::ManifestForms::workspace_rows))]
-fn workspace_names<M: Metadata>() -> &'static [Spellings; 8]
+fn workspace_names<M: Metadata>() -> &'static [Spellings]
     ensures { map spellings_view result.now ≡ names_of (workspace_rows (tree_of M.kind)) }
 {
-    &WORKSPACE
+    WORKSPACE
 }
 
 /// Reads the rows of a table.
@@ -413,10 +396,11 @@ fn fill_workspace<M: Metadata>(
     rows: &mut RowCursor<'_, '_>,
     x: &mut Workspace<M>,
 ) -> Result<(), ReadFault>
-    ensures ok { Filled 0 8 (workspace_rows (tree_of M.kind)) rows.old
+    ensures ok { Filled "members" "lints" (workspace_rows (tree_of M.kind)) rows.old
         (workspace_of M.kind M.content x.old) (workspace_of M.kind M.content x.new) result }
-    ensures next { Passed 0 8 (workspace_rows (tree_of M.kind)) rows.old rows.new result }
-    ensures fault { UnfitFrom 0 (workspace_rows (tree_of M.kind)) rows.old result }
+    ensures next { Passed "members" "lints" (workspace_rows (tree_of M.kind)) rows.old rows.new
+        result }
+    ensures fault { UnfitFrom "members" (workspace_rows (tree_of M.kind)) rows.old result }
 {
     fill_default(alloc, rows, Vec::new(alloc), &mut x.members)?;
     fill(alloc, rows, &mut x.default_members)?;
@@ -429,7 +413,7 @@ fn fill_workspace<M: Metadata>(
     Ok(())
 }
 
-/// Writes rows 1 to 8, from the last to the first.
+/// Writes `members` to `lints`, from the last to the first.
 #[tactic(auto, unfolding(manifest_schema::specs::ManifestForms::workspace_rows))]
 fn put_workspace_rows<M: Metadata>(
     alloc: Global,
@@ -437,8 +421,8 @@ fn put_workspace_rows<M: Metadata>(
     x: &Workspace<M>,
 ) -> Result<(), AllocError>
     ensures { OnOk result
-        (WritesRows 0 8 (workspace_rows (tree_of M.kind)) (workspace_of M.kind M.content x.now)
-        out.old out.new) }
+        (WritesRows "members" "lints" (workspace_rows (tree_of M.kind))
+        (workspace_of M.kind M.content x.now) out.old out.new) }
 {
     put_optional(alloc, out, "lints", &x.lints)?;
     put_tree(alloc, out, "metadata", &x.metadata)?;

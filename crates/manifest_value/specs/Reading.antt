@@ -1,5 +1,5 @@
 -- Words for what the contracts of readers and writers say again and again.
-use Rattle.std.specs.Prelude.{◌≡◌, ℕ, String}
+use Rattle.std.specs.Prelude.{◌≡◌, ◌-◌, String}
 use Rattle.std.specs.BTreeMap.{BTreeMap}
 use Rattle.std.specs.declared.alloc.Global.{Global}
 use Rattle.toml.specs.Data.{Data, table}
@@ -7,7 +7,7 @@ use Rattle.toml.specs.View.{table_view}
 use Rattle.toml.specs.declared.value.Value.{Value}
 use Rattle.manifest_schema.specs.Kinds.{Kind}
 use Rattle.manifest_schema.specs.Forms.{Rows}
-use Rattle.manifest_schema.specs.ForProofs.{first_fit, written_part}
+use Rattle.manifest_schema.specs.ForProofs.{Key, above, down_to, written_part}
 
 -- the data that a table is
 abbrev pub data_of : BTreeMap (String Global) Value → Data
@@ -21,11 +21,7 @@ written_as K content x = K.written (content x)
 abbrev pub Reads : {X A : Type 0} → Kind A → (X → A) → Data → X → Type 0
 Reads K content d x = K.reads d (content x)
 
--- where the first a rows fit what was there before, the first b rows fit what is there after
-abbrev pub ReadsRows : {A : Type 0} → ℕ → ℕ → Rows A → BTreeMap (String Global) Value → A → A → Type 0
-ReadsRows a b rows t before after = first_fit a rows (table_view t) before → first_fit b rows (table_view t) after
-
--- the table after is the one before with n rows of x, from the a-th on, written into it
-abbrev pub WritesRows : {A : Type 0} → ℕ → ℕ → Rows A → A
+-- the table after is the one before with the rows of x from key a to key b written into it
+abbrev pub WritesRows : {A : Type 0} → Key → Key → Rows A → A
     → BTreeMap (String Global) Value → BTreeMap (String Global) Value → Type 0
-WritesRows a n rows x before after = table_view after ≡ written_part a n rows x (table_view before)
+WritesRows a b rows x before after = table_view after ≡ written_part (above a rows) (down_to b rows - above a rows) rows x (table_view before)

@@ -1,4 +1,5 @@
 use Rattle.std.proofs.Common.{rules}
+use Rattle.manifest_schema.specs.ManifestForms.{manifest_rows}
 use Rattle.cargo_manifest.proofs.manifest.fill_manifest.Goals as goal
 
 pub returns-in_err-fill_header-clause-fault : goal.returns-in_err-fill_header-clause-fault
@@ -7,12 +8,14 @@ returns-in_err-fill_header-clause-fault g c = λ ms s.
     search rules
 
 pub returns-in_err-fill_dependencies-clause-fault : goal.returns-in_err-fill_dependencies-clause-fault
+unfolding manifest_rows
 returns-in_err-fill_dependencies-clause-fault g c = λ ms s.
     let after1 = c.in_ok-fill_header.ensures.next ms s in
     let told = c.in_err-fill_dependencies.ensures.fault ms after1 in
     search rules
 
 pub returns-in_err-fill_features-clause-fault : goal.returns-in_err-fill_features-clause-fault
+unfolding manifest_rows
 returns-in_err-fill_features-clause-fault g c = λ ms s.
     let after1 = c.in_ok-fill_header.ensures.next ms s in
     let after2 = c.in_ok-fill_dependencies.ensures.next ms after1 in
@@ -20,6 +23,7 @@ returns-in_err-fill_features-clause-fault g c = λ ms s.
     search rules
 
 pub returns-in_err-fill_settings-clause-fault : goal.returns-in_err-fill_settings-clause-fault
+unfolding manifest_rows
 returns-in_err-fill_settings-clause-fault g c = λ ms s.
     let after1 = c.in_ok-fill_header.ensures.next ms s in
     let after2 = c.in_ok-fill_dependencies.ensures.next ms after1 in
@@ -28,6 +32,7 @@ returns-in_err-fill_settings-clause-fault g c = λ ms s.
     search rules
 
 pub returns-clause-ok : goal.returns-clause-ok
+unfolding manifest_rows
 returns-clause-ok g c = λ ms s fit.
     let after1 = c.in_ok-fill_header.ensures.next ms s in
     let after2 = c.in_ok-fill_dependencies.ensures.next ms after1 in
@@ -35,6 +40,7 @@ returns-clause-ok g c = λ ms s fit.
     c.in_ok-fill_settings.ensures.ok ms after3 (c.in_ok-fill_features.ensures.ok ms after2 (c.in_ok-fill_dependencies.ensures.ok ms after1 (c.in_ok-fill_header.ensures.ok ms s fit)))
 
 pub returns-clause-next : goal.returns-clause-next
+unfolding manifest_rows
 returns-clause-next g c = λ ms s.
     let after1 = c.in_ok-fill_header.ensures.next ms s in
     let after2 = c.in_ok-fill_dependencies.ensures.next ms after1 in

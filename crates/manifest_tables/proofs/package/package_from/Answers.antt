@@ -1,4 +1,4 @@
-use Rattle.std.proofs.Common.{map, drop, codes, ◌∷◌, ap, ◌∙◌}
+use Rattle.std.proofs.Common.{map, drop, codes, ap, ◌∙◌}
 use Rattle.toml.specs.View.{table_view}
 use Rattle.manifest_schema.specs.Slots.{only}
 use Rattle.manifest_schema.specs.Kinds.{tree_of}
