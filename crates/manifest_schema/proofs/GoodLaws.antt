@@ -120,16 +120,9 @@ publish_good = split_good flag_good texts_good _ _
 pub ruleset good_laws = (required_good, optional_good, default_good, lenient_optional_good, lenient_default_good, text_good, flag_good, truth_good, edition_good, resolver_good, level_good, status_good, strip_good, texts_good, text_or_flag_good, publish_good, inh_good)
 
 -- DEPENDENCIES
-inherited_are_good : AreGood inherited_rows
-unfolding inherited_rows
-inherited_are_good = search good_laws
-
-detailed_are_good : AreGood detailed_rows
-unfolding detailed_rows
-detailed_are_good = search good_laws
-
 dependency_table_good : IsGood dependency_table
-dependency_table_good = split_good (form_good inherited_rows inherited_are_good) (form_good detailed_rows detailed_are_good) _ _
+unfolding inherited_rows detailed_rows
+dependency_table_good = split_good (form_good inherited_rows (search good_laws)) (form_good detailed_rows (search good_laws)) _ _
 
 pub dependency_good : IsGood dependency
 dependency_good = split_good text_good dependency_table_good _ _
@@ -141,52 +134,34 @@ pub patch_good : IsGood (map_of (map_of dependency))
 patch_good = map_good dependencies_good
 
 -- PLATFORMS
-platform_are_good : AreGood platform_rows
-unfolding platform_rows
-platform_are_good = search (good_laws, dependencies_good)
-
 pub platforms_good : IsGood (map_of (form platform_rows))
-platforms_good = map_good (form_good platform_rows platform_are_good)
+unfolding platform_rows
+platforms_good = map_good (form_good platform_rows (search (good_laws, dependencies_good)))
 
 -- PRODUCTS, features and badges
-product_are_good : AreGood product_rows
-unfolding product_rows
-product_are_good = search good_laws
-
 pub product_good : IsGood (form product_rows)
-product_good = form_good product_rows product_are_good
+unfolding product_rows
+product_good = form_good product_rows (search good_laws)
 
 pub features_good : IsGood (map_of texts)
 features_good = map_good texts_good
 
-badge_are_good : AreGood badge_rows
-unfolding badge_rows
-badge_are_good = search good_laws
-
-maintenance_are_good : AreGood maintenance_rows
-unfolding maintenance_rows
-maintenance_are_good = search good_laws
-
 badge_good : IsGood (form badge_rows)
-badge_good = form_good badge_rows badge_are_good
+unfolding badge_rows
+badge_good = form_good badge_rows (search good_laws)
 
 maintenance_good : IsGood (form maintenance_rows)
-maintenance_good = form_good maintenance_rows maintenance_are_good
-
-badges_are_good : AreGood badges_rows
-unfolding badges_rows
-badges_are_good = search (good_laws, badge_good, maintenance_good)
+unfolding maintenance_rows
+maintenance_good = form_good maintenance_rows (search good_laws)
 
 pub badges_good : IsGood (form badges_rows)
-badges_good = form_good badges_rows badges_are_good
+unfolding badges_rows
+badges_good = form_good badges_rows (search (good_laws, badge_good, maintenance_good))
 
 -- THE PACKAGE FIELDS OF A WORKSPACE
-workspace_package_are_good : AreGood workspace_package_rows
-unfolding workspace_package_rows
-workspace_package_are_good = search good_laws
-
 pub workspace_package_good : IsGood (form workspace_package_rows)
-workspace_package_good = form_good workspace_package_rows workspace_package_are_good
+unfolding workspace_package_rows
+workspace_package_good = form_good workspace_package_rows (search good_laws)
 
 -- A PACKAGE is well-formed exactly if its metadata is
 pub package_good : (K : Kind Data) (p : Package) → good_some K p.metadata → (form (package_rows K)).good p

@@ -3,7 +3,7 @@ use Rattle.std.proofs.Common.{refl}
 use Rattle.toml.specs.Data.{Data}
 use Rattle.manifest_schema.specs.Kinds.{Kind}
 use Rattle.manifest_schema.specs.Forms.{form}
-use Rattle.manifest_schema.specs.Lawful.{IsLawful, AreLawful, IsBuilt, IsTotal, AreTotal}
+use Rattle.manifest_schema.specs.Lawful.{IsLawful, IsBuilt, IsTotal}
 use Rattle.manifest_schema.specs.ManifestForms.{package_rows, workspace_package_rows, workspace_rows, manifest_rows}
 use Rattle.manifest_schema.proofs.Built.{turned, built}
 use Rattle.manifest_schema.proofs.FormLaws.{form_lawful}
@@ -16,77 +16,49 @@ package_built : (K : Kind Data) → IsBuilt (package_rows K)
 unfolding package_rows
 package_built K = built (package_rows K) (λ F m. hlevel turned) (λ x. refl) (λ t. refl)
 
-package_are_lawful : (K : Kind Data) → IsLawful K → AreLawful (package_rows K)
-unfolding package_rows
-package_are_lawful K l = search row_laws
-
-package_are_total : (K : Kind Data) → IsTotal K → AreTotal (package_rows K)
-unfolding package_rows
-package_are_total K t = search row_totals
-
 pub package_lawful : (K : Kind Data) → IsLawful K → IsLawful (form (package_rows K))
 unfolding package_rows
-package_lawful K l = form_lawful (package_rows K) (package_are_lawful K l) (package_built K) refl
+package_lawful K l = form_lawful (package_rows K) (search row_laws) (package_built K) refl
 
 pub package_total : (K : Kind Data) → IsTotal K → IsTotal (form (package_rows K))
-package_total K t = form_total (package_rows K) (package_built K) (package_are_total K t)
+unfolding package_rows
+package_total K t = form_total (package_rows K) (package_built K) (search row_totals)
 
 -- THE PACKAGE FIELDS OF A WORKSPACE
 workspace_package_built : IsBuilt workspace_package_rows
 unfolding workspace_package_rows
 workspace_package_built = built workspace_package_rows (λ F m. hlevel turned) (λ x. refl) (λ t. refl)
 
-workspace_package_are_lawful : AreLawful workspace_package_rows
-unfolding workspace_package_rows
-workspace_package_are_lawful = search row_laws
-
-workspace_package_are_total : AreTotal workspace_package_rows
-unfolding workspace_package_rows
-workspace_package_are_total = search row_totals
-
 pub workspace_package_lawful : IsLawful (form workspace_package_rows)
 unfolding workspace_package_rows
-workspace_package_lawful = form_lawful workspace_package_rows workspace_package_are_lawful workspace_package_built refl
+workspace_package_lawful = form_lawful workspace_package_rows (search row_laws) workspace_package_built refl
 
 pub workspace_package_total : IsTotal (form workspace_package_rows)
-workspace_package_total = form_total workspace_package_rows workspace_package_built workspace_package_are_total
+unfolding workspace_package_rows
+workspace_package_total = form_total workspace_package_rows workspace_package_built (search row_totals)
 
 -- WORKSPACE
 workspace_built : (K : Kind Data) → IsBuilt (workspace_rows K)
 unfolding workspace_rows
 workspace_built K = built (workspace_rows K) (λ F m. hlevel turned) (λ x. refl) (λ t. refl)
 
-workspace_are_lawful : (K : Kind Data) → IsLawful K → AreLawful (workspace_rows K)
-unfolding workspace_rows
-workspace_are_lawful K l = search (row_laws, dependencies_lawful, workspace_package_lawful, lint_maps_lawful)
-
-workspace_are_total : (K : Kind Data) → IsTotal K → AreTotal (workspace_rows K)
-unfolding workspace_rows
-workspace_are_total K t = search (row_totals, dependencies_total, workspace_package_total, lint_maps_total)
-
 pub workspace_lawful : (K : Kind Data) → IsLawful K → IsLawful (form (workspace_rows K))
 unfolding workspace_rows
-workspace_lawful K l = form_lawful (workspace_rows K) (workspace_are_lawful K l) (workspace_built K) refl
+workspace_lawful K l = form_lawful (workspace_rows K) (search (row_laws, dependencies_lawful, workspace_package_lawful, lint_maps_lawful)) (workspace_built K) refl
 
 pub workspace_total : (K : Kind Data) → IsTotal K → IsTotal (form (workspace_rows K))
-workspace_total K t = form_total (workspace_rows K) (workspace_built K) (workspace_are_total K t)
+unfolding workspace_rows
+workspace_total K t = form_total (workspace_rows K) (workspace_built K) (search (row_totals, dependencies_total, workspace_package_total, lint_maps_total))
 
 -- MANIFEST
 manifest_built : (K W : Kind Data) → IsBuilt (manifest_rows K W)
 unfolding manifest_rows
 manifest_built K W = built (manifest_rows K W) (λ F m. hlevel turned) (λ x. refl) (λ t. refl)
 
-manifest_are_lawful : (K W : Kind Data) → IsLawful K → IsLawful W → AreLawful (manifest_rows K W)
-unfolding manifest_rows
-manifest_are_lawful K W k w = search (row_laws, package_lawful, workspace_lawful, dependencies_lawful, platforms_lawful, features_lawful, product_lawful, products_lawful, patch_lawful, profiles_lawful, badges_lawful, lints_lawful)
-
-manifest_are_total : (K W : Kind Data) → IsTotal K → IsTotal W → AreTotal (manifest_rows K W)
-unfolding manifest_rows
-manifest_are_total K W k w = search (row_totals, package_total, workspace_total, dependencies_total, platforms_total, features_total, product_total, products_total, patch_total, profiles_total, badges_total, lints_total)
-
 pub manifest_lawful : (K W : Kind Data) → IsLawful K → IsLawful W → IsLawful (form (manifest_rows K W))
 unfolding manifest_rows
-manifest_lawful K W k w = form_lawful (manifest_rows K W) (manifest_are_lawful K W k w) (manifest_built K W) refl
+manifest_lawful K W k w = form_lawful (manifest_rows K W) (search (row_laws, package_lawful, workspace_lawful, dependencies_lawful, platforms_lawful, features_lawful, product_lawful, products_lawful, patch_lawful, profiles_lawful, badges_lawful, lints_lawful)) (manifest_built K W) refl
 
 pub manifest_total : (K W : Kind Data) → IsTotal K → IsTotal W → IsTotal (form (manifest_rows K W))
-manifest_total K W k w = form_total (manifest_rows K W) (manifest_built K W) (manifest_are_total K W k w)
+unfolding manifest_rows
+manifest_total K W k w = form_total (manifest_rows K W) (manifest_built K W) (search (row_totals, package_total, workspace_total, dependencies_total, platforms_total, features_total, product_total, products_total, patch_total, profiles_total, badges_total, lints_total))

@@ -5,7 +5,7 @@ use Rattle.manifest_schema.specs.Paths.{Text}
 use Rattle.manifest_schema.specs.Slots.{put_some}
 use Rattle.manifest_schema.specs.Kinds.{list_of, map_of, is_truth}
 use Rattle.manifest_schema.specs.Forms.{form, gets, good_rows, written_rows}
-use Rattle.manifest_schema.specs.Lawful.{IsLawful, AreLawful, IsBuilt, IsTotal, AreTotal}
+use Rattle.manifest_schema.specs.Lawful.{IsLawful, IsBuilt, IsTotal}
 use Rattle.manifest_schema.specs.Contents.{InheritedDependency, DependencyDetail, Dependency, simple, by_workspace, detailed, Level, forbid, deny, warn, allow, LintConfig, Lint, lint_level, lint_config, no_status}
 use Rattle.manifest_schema.specs.PartForms.{texts, inherited_rows, detailed_rows, dependency_table, dependency_side, dependency, lint_rows, lint_side, lint, product_rows, badge_rows, maintenance_rows, badges_rows, profile_rows, profiles_rows, lints_rows, platform_rows}
 use Rattle.manifest_schema.proofs.KindLaws.{text_lawful, list_lawful, map_lawful, split_lawful}
@@ -25,40 +25,26 @@ inherited_built = record {
   each = λ t. refl;
 }
 
-inherited_are_lawful : AreLawful inherited_rows
-unfolding inherited_rows
-inherited_are_lawful = search row_laws
-
-inherited_are_total : AreTotal inherited_rows
-unfolding inherited_rows
-inherited_are_total = search row_totals
-
 pub inherited_lawful : IsLawful (form inherited_rows)
 unfolding inherited_rows
-inherited_lawful = form_lawful inherited_rows inherited_are_lawful inherited_built refl
+inherited_lawful = form_lawful inherited_rows (search row_laws) inherited_built refl
 
 pub inherited_total : IsTotal (form inherited_rows)
-inherited_total = form_total inherited_rows inherited_built inherited_are_total
+unfolding inherited_rows
+inherited_total = form_total inherited_rows inherited_built (search row_totals)
 
 -- DETAILED DEPENDENCY
 detailed_built : IsBuilt detailed_rows
 unfolding detailed_rows
 detailed_built = built detailed_rows (λ F m. hlevel turned) (λ x. refl) (λ t. refl)
 
-detailed_are_lawful : AreLawful detailed_rows
-unfolding detailed_rows
-detailed_are_lawful = search row_laws
-
-detailed_are_total : AreTotal detailed_rows
-unfolding detailed_rows
-detailed_are_total = search row_totals
-
 pub detailed_lawful : IsLawful (form detailed_rows)
 unfolding detailed_rows
-detailed_lawful = form_lawful detailed_rows detailed_are_lawful detailed_built refl
+detailed_lawful = form_lawful detailed_rows (search row_laws) detailed_built refl
 
 pub detailed_total : IsTotal (form detailed_rows)
-detailed_total = form_total detailed_rows detailed_built detailed_are_total
+unfolding detailed_rows
+detailed_total = form_total detailed_rows detailed_built (search row_totals)
 
 -- DEPENDENCY
 dependency_from : Text ⊎ (InheritedDependency ⊎ DependencyDetail) → Dependency
@@ -118,20 +104,13 @@ lint_built : IsBuilt lint_rows
 unfolding lint_rows
 lint_built = built lint_rows (λ F m. hlevel turned) (λ x. refl) (λ t. refl)
 
-lint_are_lawful : AreLawful lint_rows
-unfolding lint_rows
-lint_are_lawful = search row_laws
-
-lint_are_total : AreTotal lint_rows
-unfolding lint_rows
-lint_are_total = search row_totals
-
 pub lint_config_lawful : IsLawful (form lint_rows)
 unfolding lint_rows
-lint_config_lawful = form_lawful lint_rows lint_are_lawful lint_built refl
+lint_config_lawful = form_lawful lint_rows (search row_laws) lint_built refl
 
 pub lint_config_total : IsTotal (form lint_rows)
-lint_config_total = form_total lint_rows lint_built lint_are_total
+unfolding lint_rows
+lint_config_total = form_total lint_rows lint_built (search row_totals)
 
 lint_from : Level ⊎ LintConfig → Lint
 lint_from (inl l) = lint_level l
@@ -174,20 +153,13 @@ product_built : IsBuilt product_rows
 unfolding product_rows
 product_built = built product_rows (λ F m. hlevel turned) (λ x. refl) (λ t. refl)
 
-product_are_lawful : AreLawful product_rows
-unfolding product_rows
-product_are_lawful = search row_laws
-
-product_are_total : AreTotal product_rows
-unfolding product_rows
-product_are_total = search row_totals
-
 pub product_lawful : IsLawful (form product_rows)
 unfolding product_rows
-product_lawful = form_lawful product_rows product_are_lawful product_built refl
+product_lawful = form_lawful product_rows (search row_laws) product_built refl
 
 pub product_total : IsTotal (form product_rows)
-product_total = form_total product_rows product_built product_are_total
+unfolding product_rows
+product_total = form_total product_rows product_built (search row_totals)
 
 pub products_lawful : IsLawful (list_of (form product_rows))
 products_lawful = list_lawful product_lawful
@@ -200,39 +172,25 @@ badge_built : IsBuilt badge_rows
 unfolding badge_rows
 badge_built = built badge_rows (λ F m. hlevel turned) (λ x. refl) (λ t. refl)
 
-badge_are_lawful : AreLawful badge_rows
-unfolding badge_rows
-badge_are_lawful = search row_laws
-
-badge_are_total : AreTotal badge_rows
-unfolding badge_rows
-badge_are_total = search row_totals
-
 pub badge_lawful : IsLawful (form badge_rows)
 unfolding badge_rows
-badge_lawful = form_lawful badge_rows badge_are_lawful badge_built refl
+badge_lawful = form_lawful badge_rows (search row_laws) badge_built refl
 
 pub badge_total : IsTotal (form badge_rows)
-badge_total = form_total badge_rows badge_built badge_are_total
+unfolding badge_rows
+badge_total = form_total badge_rows badge_built (search row_totals)
 
 maintenance_built : IsBuilt maintenance_rows
 unfolding maintenance_rows
 maintenance_built = built maintenance_rows (λ F m. hlevel turned) (λ x. refl) (λ t. refl)
 
-maintenance_are_lawful : AreLawful maintenance_rows
-unfolding maintenance_rows
-maintenance_are_lawful = search row_laws
-
-maintenance_are_total : AreTotal maintenance_rows
-unfolding maintenance_rows
-maintenance_are_total = search row_totals
-
 pub maintenance_lawful : IsLawful (form maintenance_rows)
 unfolding maintenance_rows
-maintenance_lawful = form_lawful maintenance_rows maintenance_are_lawful maintenance_built refl
+maintenance_lawful = form_lawful maintenance_rows (search row_laws) maintenance_built refl
 
 pub maintenance_total : IsTotal (form maintenance_rows)
-maintenance_total = form_total maintenance_rows maintenance_built maintenance_are_total
+unfolding maintenance_rows
+maintenance_total = form_total maintenance_rows maintenance_built (search row_totals)
 
 maintenance_good : (form maintenance_rows).good (record { status = no_status })
 unfolding maintenance_rows
@@ -242,99 +200,64 @@ badges_built : IsBuilt badges_rows
 unfolding badges_rows
 badges_built = built badges_rows (λ F m. hlevel turned) (λ x. refl) (λ t. refl)
 
-badges_are_lawful : AreLawful badges_rows
-unfolding badges_rows
-badges_are_lawful = search (row_laws, badge_lawful, maintenance_lawful, maintenance_good)
-
-badges_are_total : AreTotal badges_rows
-unfolding badges_rows
-badges_are_total = search (row_totals, badge_lawful, badge_total, maintenance_lawful, maintenance_total)
-
 pub badges_lawful : IsLawful (form badges_rows)
 unfolding badges_rows
-badges_lawful = form_lawful badges_rows badges_are_lawful badges_built refl
+badges_lawful = form_lawful badges_rows (search (row_laws, badge_lawful, maintenance_lawful, maintenance_good)) badges_built refl
 
 pub badges_total : IsTotal (form badges_rows)
-badges_total = form_total badges_rows badges_built badges_are_total
+unfolding badges_rows
+badges_total = form_total badges_rows badges_built (search (row_totals, badge_lawful, badge_total, maintenance_lawful, maintenance_total))
 
 -- PROFILES
 profile_built : IsBuilt profile_rows
 unfolding profile_rows
 profile_built = built profile_rows (λ F m. hlevel turned) (λ x. refl) (λ t. refl)
 
-profile_are_lawful : AreLawful profile_rows
-unfolding profile_rows
-profile_are_lawful = search row_laws
-
-profile_are_total : AreTotal profile_rows
-unfolding profile_rows
-profile_are_total = search row_totals
-
 pub profile_lawful : IsLawful (form profile_rows)
 unfolding profile_rows
-profile_lawful = form_lawful profile_rows profile_are_lawful profile_built refl
+profile_lawful = form_lawful profile_rows (search row_laws) profile_built refl
 
 pub profile_total : IsTotal (form profile_rows)
-profile_total = form_total profile_rows profile_built profile_are_total
+unfolding profile_rows
+profile_total = form_total profile_rows profile_built (search row_totals)
 
 profiles_built : IsBuilt profiles_rows
 unfolding profiles_rows
 profiles_built = built profiles_rows (λ F m. hlevel turned) (λ x. refl) (λ t. refl)
 
-profiles_are_lawful : AreLawful profiles_rows
-unfolding profiles_rows
-profiles_are_lawful = search (row_laws, profile_lawful)
-
-profiles_are_total : AreTotal profiles_rows
-unfolding profiles_rows
-profiles_are_total = search (row_totals, profile_total)
-
 pub profiles_lawful : IsLawful (form profiles_rows)
 unfolding profiles_rows
-profiles_lawful = form_lawful profiles_rows profiles_are_lawful profiles_built refl
+profiles_lawful = form_lawful profiles_rows (search (row_laws, profile_lawful)) profiles_built refl
 
 pub profiles_total : IsTotal (form profiles_rows)
-profiles_total = form_total profiles_rows profiles_built profiles_are_total
+unfolding profiles_rows
+profiles_total = form_total profiles_rows profiles_built (search (row_totals, profile_total))
 
 -- LINTS OF A MANIFEST
 lints_built : IsBuilt lints_rows
 unfolding lints_rows
 lints_built = built lints_rows (λ F m. hlevel turned) (λ x. refl) (λ t. refl)
 
-lints_are_lawful : AreLawful lints_rows
-unfolding lints_rows
-lints_are_lawful = search (row_laws, lint_map_lawful)
-
-lints_are_total : AreTotal lints_rows
-unfolding lints_rows
-lints_are_total = search (row_totals, lint_map_total)
-
 pub lints_lawful : IsLawful (form lints_rows)
 unfolding lints_rows
-lints_lawful = form_lawful lints_rows lints_are_lawful lints_built refl
+lints_lawful = form_lawful lints_rows (search (row_laws, lint_map_lawful)) lints_built refl
 
 pub lints_total : IsTotal (form lints_rows)
-lints_total = form_total lints_rows lints_built lints_are_total
+unfolding lints_rows
+lints_total = form_total lints_rows lints_built (search (row_totals, lint_map_total))
 
 -- PLATFORM
 platform_built : IsBuilt platform_rows
 unfolding platform_rows
 platform_built = built platform_rows (λ F m. hlevel turned) (λ x. refl) (λ t. refl)
 
-platform_are_lawful : AreLawful platform_rows
-unfolding platform_rows
-platform_are_lawful = search (row_laws, dependencies_lawful)
-
-platform_are_total : AreTotal platform_rows
-unfolding platform_rows
-platform_are_total = search (row_totals, dependencies_total)
-
 pub platform_lawful : IsLawful (form platform_rows)
 unfolding platform_rows
-platform_lawful = form_lawful platform_rows platform_are_lawful platform_built refl
+platform_lawful = form_lawful platform_rows (search (row_laws, dependencies_lawful)) platform_built refl
 
 pub platform_total : IsTotal (form platform_rows)
-platform_total = form_total platform_rows platform_built platform_are_total
+unfolding platform_rows
+platform_total = form_total platform_rows platform_built (search (row_totals, dependencies_total))
 
 pub platforms_lawful : IsLawful (map_of (form platform_rows))
 platforms_lawful = map_lawful platform_lawful
