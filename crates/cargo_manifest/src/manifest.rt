@@ -247,21 +247,6 @@ pub(crate) fn read_rows<P: Metadata, W: Metadata>(
     fill_manifest(alloc, &mut rows_of(names, walk.slots.as_slice()), x)
 }
 
-/// Reads the rows of a table into a manifest of its own.
-fn manifest_from<P: Metadata, W: Metadata>(
-    alloc: Global,
-    table: &Table,
-) -> Result<Manifest<P, W>, ReadFault>
-    ensures ok { IfOk result
-        (Reads (manifest_form P.kind W.kind) (manifest_of P.kind W.kind P.content W.content)
-        (data_of table.now)) }
-    ensures fault { IfErr result
-        (FaultIn ((manifest_form P.kind W.kind).faulty (data_of table.now))) }
-{
-    let mut x = Manifest::default(alloc);
-    read_rows(alloc, table, &mut x).and(Ok(x))
-}
-
 /// Reads all rows.
 fn fill_manifest<P: Metadata, W: Metadata>(
     alloc: Global,
@@ -458,7 +443,10 @@ impl<P: Metadata, W: Metadata> Schema for Manifest<P, W> {
 
     fn from_value(alloc: Global, value: &Value) -> Result<Manifest<P, W>, ReadFault> {
         match value {
-            Value::Table(table) => manifest_from(alloc, table),
+            Value::Table(table) => {
+                let mut manifest = Manifest::default(alloc);
+                read_rows(alloc, table, &mut manifest).and(Ok(manifest))
+            }
             _ => Err(here(alloc, Cause::WrongKind)),
         }
     }
