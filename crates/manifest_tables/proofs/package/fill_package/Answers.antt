@@ -8,16 +8,13 @@ returns-in_err-fill_identity-clause-fault g c = λ ms s. let told = c.in_err-fil
 pub returns-in_err-fill_description-clause-fault : goal.returns-in_err-fill_description-clause-fault
 unfolding package_rows
 returns-in_err-fill_description-clause-fault g c = λ ms s.
-    let first = c.in_ok-fill_identity.ensures.next ms s in
-    let told = c.in_err-fill_description.ensures.fault ms first in
+    let told = c.in_err-fill_description.ensures.fault ms (c.in_ok-fill_identity.ensures.next ms s) in
     search rules
 
 pub returns-in_err-fill_build-clause-fault : goal.returns-in_err-fill_build-clause-fault
 unfolding package_rows
 returns-in_err-fill_build-clause-fault g c = λ ms s.
-    let first = c.in_ok-fill_identity.ensures.next ms s in
-    let second = c.in_ok-fill_description.ensures.next ms first in
-    let told = c.in_err-fill_build.ensures.fault ms second in
+    let told = c.in_err-fill_build.ensures.fault ms (c.in_ok-fill_description.ensures.next ms (c.in_ok-fill_identity.ensures.next ms s)) in
     search rules
 
 pub returns-clause-ok : goal.returns-clause-ok
@@ -30,5 +27,4 @@ returns-clause-ok g c = λ ms s fit.
 pub returns-clause-next : goal.returns-clause-next
 unfolding package_rows
 returns-clause-next g c = λ ms s.
-    let first = c.in_ok-fill_identity.ensures.next ms s in
-    c.in_ok-fill_build.ensures.next ms (c.in_ok-fill_description.ensures.next ms first)
+    c.in_ok-fill_build.ensures.next ms (c.in_ok-fill_description.ensures.next ms (c.in_ok-fill_identity.ensures.next ms s))
