@@ -1,43 +1,86 @@
-// Takes the time of three steps over one manifest, each as often as it is told, in turns: reading the TOML table alone,
-// reading the manifest, and reading the manifest and writing its text. For each it prints the least time and the middle
-// one, in milliseconds.
+// Takes the time, and the memory, of the steps of crates/manifest_speed:
+//
+//     speed time FILE CALLS TURNS              toml alone, from_slice, and from_slice with a text
+//     speed complete FILE NAMES CALLS TURNS    a completion, with `src/bin` listing the lines of NAMES
+//     speed once STEP CALLS FILE [NAMES]       the peak of memory, in kB; a step is named as in an answer, or `nothing`
+//
+// A line of the answer is a step, the least and the middle of TURNS times, each the time of CALLS calls over CALLS, in
+// nanoseconds, and what the step answered. What a step makes is dropped within its time. scripts/speed_rust answers the
+// same words.
 //
 // It takes no header: the toolchain's compiler has none.
 typedef __SIZE_TYPE__ size_t;
 struct time {
     long seconds, nanoseconds;
 };
+struct bytes {
+    unsigned char *front;
+    size_t length;
+};
 
 size_t manifest_speed_toml(const unsigned char *, size_t);
 _Bool manifest_speed_read(const unsigned char *, size_t);
 size_t manifest_speed_rewrite(const unsigned char *, size_t);
+size_t manifest_speed_prepare(const unsigned char *, size_t, const unsigned char *, size_t);
+size_t manifest_speed_complete(const unsigned char *, size_t, const unsigned char *, size_t);
 int atoi(const char *);
 int clock_gettime(int, struct time *);
+void exit(int);
 int open(const char *, int, ...);
 int printf(const char *, ...);
 long read(int, void *, size_t);
 void *malloc(size_t);
 void qsort(void *, size_t, size_t, int (*)(const void *, const void *));
+int strcmp(const char *, const char *);
+char *strstr(const char *, const char *);
 
-enum { STEPS = 3, ROOM = 1 << 26, MOST = 10000, STEADY_CLOCK = 1 };
+enum { ROOM = 1 << 26, MOST = 10000, STEADY_CLOCK = 1 };
+enum step { TOML, READ, REWRITE, PREPARE, COMPLETE, STEPS };
 
-static const char *const names[STEPS] = {"toml alone", "from_slice", "from_slice and to_toml_string"};
+static const char *const names[STEPS] = {"toml", "from_slice", "text", "prepared", "completed"};
 static double taken[STEPS][MOST];
+static struct bytes manifest, listed;
+
+static void refuse(const char *why)
+{
+    printf("speed: %s\n", why);
+    exit(1);
+}
 
 static double now(void)
 {
     struct time time;
     clock_gettime(STEADY_CLOCK, &time);
-    return (double)time.seconds * 1e3 + (double)time.nanoseconds * 1e-6;
+    return (double)time.seconds * 1e9 + (double)time.nanoseconds;
 }
 
-static size_t answer(int step, const unsigned char *bytes, size_t length)
+static struct bytes contents(const char *name)
 {
-    if (step == 0)
-        return manifest_speed_toml(bytes, length);
-    if (step == 1)
-        return manifest_speed_read(bytes, length);
-    return manifest_speed_rewrite(bytes, length);
+    int file = open(name, 0);
+    struct bytes bytes = {malloc(ROOM), 0};
+    if (file < 0 || !bytes.front)
+        refuse("a file does not open");
+    for (long more; bytes.length < ROOM && (more = read(file, bytes.front + bytes.length, ROOM - bytes.length)) > 0;)
+        bytes.length += (size_t)more;
+    if (bytes.length == ROOM)
+        refuse("a file is too large");
+    return bytes;
+}
+
+static size_t answer(enum step step)
+{
+    switch (step) {
+    case TOML:
+        return manifest_speed_toml(manifest.front, manifest.length);
+    case READ:
+        return manifest_speed_read(manifest.front, manifest.length);
+    case REWRITE:
+        return manifest_speed_rewrite(manifest.front, manifest.length);
+    case PREPARE:
+        return manifest_speed_prepare(manifest.front, manifest.length, listed.front, listed.length);
+    default:
+        return manifest_speed_complete(manifest.front, manifest.length, listed.front, listed.length);
+    }
 }
 
 static int order(const void *a, const void *b)
@@ -46,38 +89,67 @@ static int order(const void *a, const void *b)
     return (x > y) - (x < y);
 }
 
-int main(int count, char **words)
+// Takes the steps from the first to the last by turns, and prints their times.
+static void take(enum step first, enum step last, int calls, int turns)
 {
-    int file = count == 3 ? open(words[1], 0) : -1;
-    int turns = count == 3 ? atoi(words[2]) : 0;
-    unsigned char *bytes = malloc(ROOM);
-    if (file < 0 || turns < 1 || turns > MOST || !bytes) {
-        printf("usage: speed FILE TURNS, from 1 to %d turns\n", MOST);
-        return 2;
-    }
-    size_t length = 0;
-    for (long more; length < ROOM && (more = read(file, bytes + length, ROOM - length)) > 0;)
-        length += (size_t)more;
-    if (length == ROOM) {
-        printf("speed: the file is too large\n");
-        return 1;
-    }
     size_t answers[STEPS];
+    if (calls < 1 || turns < 1 || turns > MOST)
+        refuse("there is at least one call, and at least one turn and at most 10000");
     for (int turn = 0; turn < turns; turn++) {
-        for (int step = 0; step < STEPS; step++) {
+        for (enum step step = first; step <= last; step++) {
             double began = now();
-            answers[step] = answer(step, bytes, length);
-            taken[step][turn] = now() - began;
-            if (!answers[step]) {
-                printf("speed: %s refuses the manifest\n", names[step]);
-                return 1;
-            }
+            for (int call = 0; call < calls; call++)
+                if (!(answers[step] = answer(step)))
+                    refuse("a step refuses");
+            taken[step][turn] = (now() - began) / calls;
         }
     }
-    printf("%zu bytes read, %zu bytes written, %d turns\n", length, answers[2], turns);
-    for (int step = 0; step < STEPS; step++) {
+    for (enum step step = first; step <= last; step++) {
         qsort(taken[step], (size_t)turns, sizeof(double), order);
-        printf("%-30s least %8.3f ms, middle %8.3f ms\n", names[step], taken[step][0], taken[step][turns / 2]);
+        printf("%s %.1f %.1f %zu\n", names[step], taken[step][0], taken[step][turns / 2], answers[step]);
+    }
+}
+
+// The most memory that this process has had, in kB.
+static int peak(void)
+{
+    static char status[1 << 13];
+    int file = open("/proc/self/status", 0);
+    if (file < 0 || read(file, status, sizeof status - 1) < 0 || !strstr(status, "VmHWM:"))
+        refuse("there is no /proc/self/status");
+    return atoi(strstr(status, "VmHWM:") + 6);
+}
+
+// Takes one step so many times, and prints the peak of memory.
+static void once(const char *name, int calls)
+{
+    enum step step = TOML;
+    int takes_none = !strcmp(name, "nothing");
+    while (!takes_none && strcmp(name, names[step]))
+        if (++step == STEPS)
+            refuse("there is no such step");
+    for (int call = 0; call < calls; call++)
+        if (!takes_none && !answer(step))
+            refuse("a step refuses");
+    printf("peak %d\n", peak());
+}
+
+int main(int count, char **words)
+{
+    if (count == 5 && !strcmp(words[1], "time")) {
+        manifest = contents(words[2]);
+        take(TOML, REWRITE, atoi(words[3]), atoi(words[4]));
+    } else if (count == 6 && !strcmp(words[1], "complete")) {
+        manifest = contents(words[2]);
+        listed = contents(words[3]);
+        take(PREPARE, COMPLETE, atoi(words[4]), atoi(words[5]));
+    } else if ((count == 5 || count == 6) && !strcmp(words[1], "once")) {
+        manifest = contents(words[4]);
+        if (count == 6)
+            listed = contents(words[5]);
+        once(words[2], atoi(words[3]));
+    } else {
+        refuse("usage: speed time FILE CALLS TURNS | complete FILE NAMES CALLS TURNS | once STEP CALLS FILE [NAMES]");
     }
     return 0;
 }

@@ -1,8 +1,9 @@
 //! The steps that scripts/speed takes the time of, for its driver in C.
 #![tactic(auto)]
 
-use cargo_manifest::Manifest;
-use std::alloc::Global;
+use cargo_manifest::{Error, Listing, Listings, Manifest};
+use std::alloc::{AllocError, Global};
+use std::collections::BTreeSet;
 
 /// Reads bytes as a TOML table alone, and answers how many keys stand at its top, or 0 where it is refused.
 #[unsafe(no_mangle)]
@@ -35,4 +36,55 @@ pub extern "C" fn manifest_speed_rewrite(alloc: Global, bytes: &[u8]) -> usize {
         Ok(text) => text.len(),
         Err(_) => 0,
     }
+}
+
+/// Names, which stand in a text one a line.
+fn names_in(alloc: Global, text: &str) -> Result<BTreeSet<String>, AllocError> {
+    let mut names = BTreeSet::new(alloc);
+    for name in text.lines() {
+        names.insert(String::from_str(alloc, name)?)?;
+    }
+    Ok(names)
+}
+
+/// Listings of a package whose `src/bin` has these names.
+fn listings(alloc: Global, binaries: BTreeSet<String>) -> Result<Listings, AllocError> {
+    let mut listings = Listings::new(alloc);
+    listings.put(alloc, "src/bin", Listing::Names(binaries))?;
+    listings.put(alloc, ".", Listing::Names(BTreeSet::new(alloc)))?;
+    Ok(listings)
+}
+
+/// Makes the listings and reads the manifest, and answers how many names are listed.
+fn prepare(alloc: Global, bytes: &[u8], names: &[u8]) -> Result<usize, Error> {
+    let names = names_in(alloc, std::str::from_utf8(names)?)?;
+    let count = names.len();
+    let listings = listings(alloc, names)?;
+    let manifest = Manifest::from_slice(alloc, bytes)?;
+    drop(manifest);
+    drop(listings);
+    Ok(count)
+}
+
+/// Makes the listings and reads the manifest, completes it, and answers how many binaries it has.
+fn complete(alloc: Global, bytes: &[u8], names: &[u8]) -> Result<usize, Error> {
+    let names = names_in(alloc, std::str::from_utf8(names)?)?;
+    let listings = listings(alloc, names)?;
+    let mut manifest = Manifest::from_slice(alloc, bytes)?;
+    manifest.complete_from_abstract_filesystem(alloc, &listings)?;
+    Ok(manifest.bin.len())
+}
+
+/// What [`manifest_speed_complete`] does besides completing: reads bytes as a manifest, and makes listings of a package
+/// whose `src/bin` has the names that stand in a text one a line. Answers how many they are, or 0 where it is refused.
+#[unsafe(no_mangle)]
+pub extern "C" fn manifest_speed_prepare(alloc: Global, bytes: &[u8], names: &[u8]) -> usize {
+    prepare(alloc, bytes, names).unwrap_or(0)
+}
+
+/// Reads bytes as a manifest, and completes it over listings of a package whose `src/bin` has the names that stand in a
+/// text one a line. Answers how many binaries it has then, or 0 where it is refused.
+#[unsafe(no_mangle)]
+pub extern "C" fn manifest_speed_complete(alloc: Global, bytes: &[u8], names: &[u8]) -> usize {
+    complete(alloc, bytes, names).unwrap_or(0)
 }
