@@ -1,9 +1,9 @@
 -- A value without floats is what its bytes hold.
-use Rattle.std.proofs.Common.{◌≡◌, ℕ, zero, suc, ◌+◌, ◌-◌, ◌≤◌, ◌<◌, max, List, [], ◌∷◌, ◌++◌, length, length-append, take, drop, Bool, true, false, ℤ, pos, negsuc, Option, Some, None, refl, ap, sym, ◌∙◌, append_assoc, arith}
+use Rattle.std.proofs.Common.{◌≡◌, ℕ, zero, suc, ◌≤◌, ◌<◌, List, [], ◌++◌, length, length-append, true, false, pos, negsuc, Option, Some, None, refl, ap, append_assoc, arith}
 use Rattle.std.proofs.lemmas.Bool.{and_parts}
 use Rattle.std.proofs.lemmas.Bool.Decides.{nat_tests}
 use Rattle.std.proofs.lemmas.List.{append-nil, take_at, drop_at}
-use Rattle.std.specs.Prelude.{nat_lt, if◌then◌else◌}
+use Rattle.std.specs.Prelude.{nat_lt}
 use Rattle.toml_datetime.specs.declared.datetime.Date.{Date}
 use Rattle.toml_datetime.specs.declared.datetime.Time.{Time}
 use Rattle.toml_datetime.specs.declared.datetime.Offset.{Offset}
@@ -11,9 +11,9 @@ use Rattle.toml_datetime.specs.declared.datetime.Offset.TheVariants.{Z, Custom}
 use Rattle.toml_datetime.specs.declared.datetime.Datetime.{Datetime}
 use Rattle.toml.specs.Data.{Data, string, integer, float, boolean, datetime, array, table, Items, no_items, item, Members, no_members, member, depth, items_depth, members_depth}
 use Rattle.manifest_schema.specs.Kinds.{plain, plain_items, plain_members}
-use Rattle.manifest_bytes.specs.Numbers.{Taken, number_bytes, take_number}
-use Rattle.manifest_bytes.specs.Encoded.{text_bytes, integer_bytes, part_bytes, date_bytes, second_bytes, time_bytes, offset_bytes, datetime_bytes, item_count, member_count, encoded, items_bytes, members_bytes}
-use Rattle.manifest_bytes.specs.Decoded.{made, behind, take_byte, take_front, take_text, take_part, take_date, take_time, take_offset, take_datetime, take_items, take_members, take_tagged, take_value, whole, decoded}
+use Rattle.manifest_bytes.specs.Numbers.{number_bytes, take_number}
+use Rattle.manifest_bytes.specs.Encoded.{text_bytes, part_bytes, date_bytes, second_bytes, time_bytes, offset_bytes, datetime_bytes, item_count, member_count, encoded, items_bytes, members_bytes}
+use Rattle.manifest_bytes.specs.Decoded.{take_byte, take_front, take_text, take_part, take_date, take_time, take_offset, take_datetime, take_items, take_members, take_value, whole}
 use Rattle.manifest_bytes.specs.Laws.{EncodedIsDecoded}
 use Rattle.manifest_bytes.proofs.NumberLemmas.{number_back}
 

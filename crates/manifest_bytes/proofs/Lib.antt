@@ -1,3 +1,4 @@
 pub mod NumberLemmas
 pub mod ValueLemmas
 pub mod DecodedLemmas
+pub mod FloatLemmas

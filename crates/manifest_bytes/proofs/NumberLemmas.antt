@@ -1,8 +1,8 @@
 -- Lemmas on whole numbers as bytes.
-use Rattle.std.proofs.Common.{◌≡◌, ℕ, zero, suc, ◌+◌, ◌-◌, ◌*◌, ◌/◌, ◌%◌, ◌≤◌, ◌<◌, List, [], ◌∷◌, ◌++◌, Bool, true, false, if◌then◌else◌, Some, refl, ap, sym, ◌∙◌, arith}
+use Rattle.std.proofs.Common.{◌≡◌, ℕ, zero, suc, ◌+◌, ◌-◌, ◌*◌, ◌/◌, ◌%◌, ◌≤◌, ◌<◌, List, [], ◌∷◌, ◌++◌, Bool, true, false, if◌then◌else◌, Some, refl, ap, arith}
 use Rattle.std.proofs.lemmas.Bool.Decides.{nat_tests}
 use Rattle.std.specs.Prelude.{nat_lt}
-use Rattle.manifest_bytes.specs.Numbers.{groups, number_bytes, take_number, with_low, Taken}
+use Rattle.manifest_bytes.specs.Numbers.{groups, number_bytes, take_number}
 
 -- room for more bytes changes none
 groups_same : (f g n : ℕ) → n ≤ f → n ≤ g → groups f n ≡ groups g n

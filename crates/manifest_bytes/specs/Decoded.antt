@@ -1,5 +1,5 @@
 -- The value that some bytes hold.
-use Rattle.std.specs.Prelude.{ℕ, zero, suc, ◌≤◌, ◌==◌, nat_lt, List, [], ◌∷◌, length, take, drop, Bool, true, false, if◌then◌else◌, ℤ, pos, negsuc, Option, Some, None}
+use Rattle.std.specs.Prelude.{ℕ, zero, suc, ◌==◌, nat_lt, List, [], ◌∷◌, length, take, drop, true, false, if◌then◌else◌, pos, negsuc, Option, Some, None}
 use Rattle.toml_datetime.specs.declared.datetime.Date.{Date}
 use Rattle.toml_datetime.specs.declared.datetime.Time.{Time}
 use Rattle.toml_datetime.specs.declared.datetime.Offset.{Offset}

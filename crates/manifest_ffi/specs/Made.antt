@@ -13,6 +13,7 @@ use Rattle.manifest_inherit.specs.Answers.{ResolvesTo, RefusedIn}
 use Rattle.manifest_inherit.specs.Refused.{refuses}
 use Rattle.toml.specs.Data.{table}
 use Rattle.manifest_bytes.specs.Encoded.{encoded}
+use Rattle.manifest_bytes.specs.Decoded.{decoded}
 use Rattle.manifest_ffi.specs.declared.refusal.Refusal.{Refusal}
 use Rattle.manifest_ffi.specs.declared.refusal.Refusal.TheVariants.{Bytes, Root, NoWorkspace, Resolving, Listings, Completion, Printing, Memory}
 
@@ -39,9 +40,11 @@ Resolved root makes n = (m : Manifest) × makes m × IsLent root m n
 abbrev pub Gives : Makes → Text → Type 0
 Gives makes text = (m : Manifest) × makes m × IsTextOf m text
 
--- the bytes are those of the table of what the bytes mean
+-- these are the bytes of the table of what the bytes mean, and hold it
 abbrev pub GivesTable : List ℕ → Text → Type 0
-GivesTable bytes t = (m : Manifest) × Means bytes m × (t ≡ encoded (table (rewritten m)))
+GivesTable bytes t =
+    (m : Manifest) × Means bytes m
+    × (t ≡ encoded (table (rewritten m))) × (decoded t ≡ Some (table (rewritten m)))
 
 -- REFUSALS of each step
 abbrev pub Refusals : Type 1

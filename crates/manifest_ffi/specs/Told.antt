@@ -39,9 +39,10 @@ kind_number _ = 3
 abbrev pub at_root : Bool → ℕ → ℕ
 at_root is_root status = if is_root then status + 16 else status
 
--- WHAT IS TOLD: this status, with this cause and this text
+-- WHAT IS TOLD: this status, with this cause and this text, and no place in the bytes
 abbrev pub IsTold : Told → ℕ → ℕ → Text → Type 0
-IsTold t status cause text = (t.status ≡ status) × (t.cause ≡ cause) × (t.text.items ≡ text)
+IsTold t status cause text =
+    (t.status ≡ status) × (t.cause ≡ cause) × (t.text.items ≡ text) × (t.start ≡ 0) × (t.end ≡ 0)
 
 -- want of memory
 abbrev pub TellsMemory : Told → Type 0

@@ -1,6 +1,5 @@
-use Rattle.std.proofs.Common.{◌≡◌, [], ◌++◌, drop, length, arith, rules, ◌∙◌}
+use Rattle.std.proofs.Common.{◌≡◌, [], drop, length, arith, rules, ◌∙◌}
 use Rattle.std.proofs.lemmas.List.{drop_all}
-use Rattle.std.proofs.lemmas.Grind.{common_steps}
 use Rattle.toml.specs.View.{items_view, members_view}
 use Rattle.manifest_bytes.specs.Numbers.{number_bytes}
 use Rattle.manifest_bytes.specs.Encoded.{item_count, member_count, items_bytes, members_bytes}

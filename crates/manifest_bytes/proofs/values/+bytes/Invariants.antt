@@ -1,7 +1,6 @@
 use Rattle.std.proofs.Common.{◌≡◌, ◌++◌, drop}
 use Rattle.toml.specs.View.{items_view, members_view}
-use Rattle.manifest_bytes.specs.Numbers.{number_bytes}
-use Rattle.manifest_bytes.specs.Encoded.{item_count, member_count, items_bytes, members_bytes}
+use Rattle.manifest_bytes.specs.Encoded.{items_bytes, members_bytes}
 use Rattle.manifest_bytes.proofs.values.+bytes.Given as goal
 
 -- what is appended, and the bytes of what is left

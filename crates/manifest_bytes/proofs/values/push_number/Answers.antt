@@ -1,4 +1,4 @@
-use Rattle.std.proofs.Common.{◌≡◌, ◌++◌, ◌∷◌, [], ◌+◌, ◌%◌, ◌/◌, ◌≤◌, arith, append_assoc, sym, ap, ◌∙◌}
+use Rattle.std.proofs.Common.{◌≡◌, ◌++◌, ◌∷◌, [], ◌+◌, ◌%◌, ◌/◌, arith, append_assoc, sym, ap, ◌∙◌}
 use Rattle.manifest_bytes.specs.Numbers.{number_bytes}
 use Rattle.manifest_bytes.proofs.NumberLemmas.{number_more}
 use Rattle.manifest_bytes.proofs.values.push_number.Goals as goal
