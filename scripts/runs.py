@@ -78,6 +78,10 @@ class Runner:
         self.seconds = seconds
         self.streams = [os.memfd_create(name) for name in ("input", "output", "errors")]
 
+    def close(self):
+        for stream in self.streams:
+            os.close(stream)
+
     def run(self, words, data=b""):
         """One run with these words on this input. One that lasts too long is ended, which its status tells."""
         for stream in self.streams:
