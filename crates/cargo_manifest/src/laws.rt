@@ -5,10 +5,11 @@
 ghost use Rattle.manifest_schema.specs.Kinds.{kept, tree_of};
 ghost use Rattle.manifest_schema.specs.Meaning.{MeansOne, WrittenIsRead, AcceptedIsWellFormed, RewrittenMeansTheSame, SameExactly, FaultyMeansNothing, AcceptedOrFaulty};
 ghost use Rattle.manifest_schema.specs.Former.{OldWrittenIsRead};
-ghost use Rattle.manifest_completion.specs.Laws.{AskedDiffer, AscendingDiffer, AskedDecides, CompletedIsFixed};
+ghost use Rattle.manifest_completion.specs.Laws.{CompletedIsFixed};
 ghost use Rattle.cargo_manifest.specs.Completes.{StoredDecides};
 ghost use Rattle.cargo_manifest.specs.WellFormed.{PackageByMetadata, WorkspaceByParts, ManifestByParts};
 
+pub use manifest_completion::laws::{ascending_differ, asked_decides, asked_differ};
 use manifest_value::Metadata;
 
 /// A table means at most one manifest.
@@ -17,6 +18,7 @@ pub fn means_one<P: Metadata, W: Metadata>()
 {}
 
 /// What is written of a well-formed manifest is read as that manifest.
+#[tactic(auto, using(manifest_schema::proofs::MeaningLaws::written_is_read, manifest_schema::proofs::KindLaws::tree_lawful))]
 pub fn written_is_read<P: Metadata, W: Metadata>()
     ensures { WrittenIsRead (tree_of P.kind) (tree_of W.kind) }
 {}
@@ -28,6 +30,7 @@ pub fn accepted_is_well_formed<P: Metadata, W: Metadata>()
 
 /// A package is well-formed exactly where its metadata is; a workspace, where its metadata and its lints are; a manifest,
 /// where its package, its workspace, its profiles and its lints are.
+#[tactic(auto, using(crate::proofs::WellFormedLaws::package_by_metadata, crate::proofs::WellFormedLaws::workspace_by_parts, crate::proofs::WellFormedLaws::manifest_by_parts))]
 pub fn well_formed_by_parts<P: Metadata, W: Metadata>()
     ensures package { PackageByMetadata (tree_of P.kind) }
     ensures workspace { WorkspaceByParts (tree_of W.kind) }
@@ -35,6 +38,7 @@ pub fn well_formed_by_parts<P: Metadata, W: Metadata>()
 {}
 
 /// The rewritten table of an accepted table means the same manifest.
+#[tactic(auto, using(manifest_schema::proofs::MeaningLaws::rewritten_means_the_same, manifest_schema::proofs::KindLaws::tree_lawful))]
 pub fn rewritten_means_the_same<P: Metadata, W: Metadata>()
     ensures { RewrittenMeansTheSame (tree_of P.kind) (tree_of W.kind) }
 {}
@@ -60,25 +64,10 @@ pub fn old_written_is_read<P: Metadata, W: Metadata>()
     ensures { OldWrittenIsRead (tree_of P.kind) (tree_of W.kind) }
 {}
 
-/// All path texts that are asked in one completion differ, whatever names, slashes and empty names are listed.
-pub fn asked_differ()
-    ensures { AskedDiffer }
-{}
-
-/// Names that ascend, as those of a map that explains what was answered, are in no folder twice.
-pub fn ascending_differ()
-    ensures { AscendingDiffer }
-{}
-
-/// Two maps of listings that agree at every place that is asked over one of them have the same places asked, and come to the
-/// same.
-pub fn asked_decides()
-    ensures { AskedDecides }
-{}
-
 /// Over a filesystem that has one answer stored for each path text, as [`Listings`](crate::Listings) has, the answer of
 /// [`Manifest::complete_from_abstract_filesystem`](crate::Manifest::complete_from_abstract_filesystem) is the completion of
 /// the map of what is stored; a listing for which no memory was found, or other want of memory, aside.
+#[tactic(auto, using(crate::proofs::StoredLaws::stored_decides))]
 pub fn stored_decides()
     ensures { StoredDecides }
 {}

@@ -52,6 +52,7 @@ fn is_memory_fault(answer: &io::Result<BTreeSet<String>>) -> bool
 }
 
 /// The names of a set ascend.
+#[tactic(auto, using(crate::proofs::AskLemmas::set_ascends))]
 pub fn names_ascend(names: &BTreeSet<String>)
     ensures { IsAscending (set_names names.now) }
 {

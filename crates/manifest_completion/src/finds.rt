@@ -20,6 +20,7 @@ pub struct FoundTarget {
 }
 
 /// A name without its ending `.rs`.
+#[tactic(auto, using(crate::proofs::FindLemmas::stem_is))]
 fn stem(name: &str) -> Option<&str>
     ensures { option_copied result ≡ stem name.now }
 {

@@ -7,17 +7,20 @@ ghost use Rattle.manifest_completion.specs.Laws.{AskedDiffer, AscendingDiffer, A
 use manifest_schema::kinds::LawfulKind;
 
 /// All path texts that are asked in one completion differ, whatever names, slashes and empty names are listed.
+#[tactic(auto, using(crate::proofs::AskedLaws::asked_differ))]
 pub fn asked_differ()
     ensures { AskedDiffer }
 {}
 
 /// Names that ascend, as those of a map that explains what was answered, are in no folder twice.
+#[tactic(auto, using(crate::proofs::AskedLaws::no_name_twice))]
 pub fn ascending_differ()
     ensures { AscendingDiffer }
 {}
 
 /// Two maps of listings that agree at every place that is asked over one of them have the same places asked, and come to the
 /// same.
+#[tactic(auto, using(crate::proofs::DecidesLaws::asked_decides))]
 pub fn asked_decides()
     ensures { AskedDecides }
 {}
@@ -25,6 +28,7 @@ pub fn asked_decides()
 /// Over a filesystem that has one answer stored for each path text, as [`Listings`](crate::Listings) has, the answer of
 /// [`complete`](crate::complete) is the completion of the map of what is stored; a listing for which no memory was found,
 /// or other want of memory, aside.
+#[tactic(auto, using(crate::proofs::StoredLaws::stored_decides))]
 pub fn stored_decides()
     ensures { StoredDecides }
 {}

@@ -119,6 +119,7 @@ pub fn needs_are_total<K: TotalKind>()
 {}
 
 /// A form keeps the laws of a kind.
+#[tactic(auto, using(crate::proofs::FormLaws::form_lawful))]
 pub fn form_is_lawful<F: LawfulForm>()
     ensures { IsLawful (form F.rows) }
 {}

@@ -15,16 +15,19 @@ pub fn means_one<P: LawfulKind, W: LawfulKind>()
 {}
 
 /// What is written of a well-formed manifest is read as that manifest.
+#[tactic(auto, using(crate::proofs::MeaningLaws::written_is_read, crate::proofs::KindLaws::tree_lawful))]
 pub fn written_is_read<P: LawfulKind, W: LawfulKind>()
     ensures { WrittenIsRead (tree_of P.kind) (tree_of W.kind) }
 {}
 
 /// What a table means is well-formed, and has a package or a workspace.
+#[tactic(auto, using(crate::proofs::MeaningLaws::accepted_is_well_formed, crate::proofs::KindLaws::tree_lawful))]
 pub fn accepted_is_well_formed<P: LawfulKind, W: LawfulKind>()
     ensures { AcceptedIsWellFormed (tree_of P.kind) (tree_of W.kind) }
 {}
 
 /// The rewritten table of an accepted table means the same manifest.
+#[tactic(auto, using(crate::proofs::MeaningLaws::rewritten_means_the_same, crate::proofs::KindLaws::tree_lawful))]
 pub fn rewritten_means_the_same<P: LawfulKind, W: LawfulKind>()
     ensures { RewrittenMeansTheSame (tree_of P.kind) (tree_of W.kind) }
 {}

@@ -123,6 +123,7 @@ pub fn table(alloc: Global, value: &Value) -> Result<&Table, ReadFault>
 /// let name = find(table, "name");
 /// ```
 #[inline(always)]
+#[tactic(auto, using(toml::proofs::Views::table_get))]
 pub fn find<'a>(table: &'a Table, key: &str) -> Option<&'a Value>
     ensures { option_map (λ v. view v.now) result ≡ get_member key.now (table_view table.now) }
 {

@@ -1,5 +1,0 @@
-use Rattle.manifest_completion.proofs.AskedLaws.{no_name_twice}
-use Rattle.cargo_manifest.proofs.laws.ascending_differ.Goals as goal
-
-pub returns : goal.returns
-returns c = no_name_twice
