@@ -108,6 +108,23 @@ fn read_text<P: Metadata, W: Metadata>(
     }
 }
 
+/// The manifest that a text means.
+#[inline(always)]
+fn from_text<P: Metadata>(alloc: Global, text: &str) -> Result<Manifest<P, Value>, Error>
+    ensures ok { IfOk result (λ m. IsDocumentOf (tree_of P.kind) (tree_of kept) text.now
+        (manifest_kept P.kind P.content m)) }
+    ensures refused { IfErr result (RefusesText (tree_of P.kind) (tree_of kept) text.now) }
+{
+    let mut manifest = Manifest::default(alloc);
+    match read_text(alloc, text, &mut manifest) {
+        Ok(()) => Ok(manifest),
+        Err(fault) => {
+            drop(manifest);
+            Err(fault)
+        }
+    }
+}
+
 impl<P: Metadata> Manifest<P, Value> {
     /// Reads the bytes of a `Cargo.toml`, with the package's metadata as a `P`.
     ///
@@ -134,8 +151,7 @@ impl<P: Metadata> Manifest<P, Value> {
             Ok(text) => text,
             Err(fault) => return Err(Error::Utf8(fault)),
         };
-        let mut manifest = Manifest::default(alloc);
-        read_text(alloc, text, &mut manifest).and(Ok(manifest))
+        from_text(alloc, text)
     }
 }
 
@@ -166,7 +182,6 @@ impl Manifest<Value, Value> {
             (manifest_content view view m)) }
         ensures refused { IfErr result (RefusesText (tree_of kept) (tree_of kept) text.now) }
     {
-        let mut manifest = Manifest::default(alloc);
-        read_text(alloc, text, &mut manifest).and(Ok(manifest))
+        from_text(alloc, text)
     }
 }

@@ -20,10 +20,7 @@ pub extern "C" fn manifest_speed_toml(alloc: Global, bytes: &[u8]) -> usize {
 /// Reads bytes as a manifest, and answers whether it is accepted.
 #[unsafe(no_mangle)]
 pub extern "C" fn manifest_speed_read(alloc: Global, bytes: &[u8]) -> bool {
-    let read = Manifest::from_slice(alloc, bytes);
-    let is_accepted = read.is_ok();
-    drop(read);
-    is_accepted
+    Manifest::from_slice(alloc, bytes).is_ok()
 }
 
 /// Reads bytes as a manifest and writes its text, and answers how long the text is, or 0 where there is none.

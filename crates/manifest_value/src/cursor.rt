@@ -2,7 +2,9 @@
 
 ghost use Rattle.std.specs.Prelude.{◌≡◌, ◌∷◌, List, Some, None, IfOk, IfErr, OnOk, option_map, map};
 ghost use Rattle.toml.specs.Data.{Members};
-ghost use Rattle.manifest_schema.specs.Slots.{Spellings as Words, first, at};
+ghost use Rattle.toml.specs.View.{view};
+ghost use Rattle.manifest_schema.specs.Paths.{behind, key};
+ghost use Rattle.manifest_schema.specs.Slots.{Spellings as Words, first, one, at};
 ghost use Rattle.manifest_schema.specs.Kinds.{tree_of};
 ghost use Rattle.manifest_schema.specs.Needs.{meets_required, meets_optional, meets_default, meets_lenient, faulty_free, faulty_required};
 ghost use Rattle.manifest_value.specs.Faults.{FaultIn};
@@ -17,6 +19,7 @@ use crate::schema::Schema;
 use crate::spellings::Spellings;
 use crate::walked::Slot;
 use std::alloc::{AllocError, Global};
+use toml::Value;
 
 /// The rows of a table that are still to be read. Each reader below reads the next one and steps behind it.
 #[derive(Drop)]
@@ -108,6 +111,7 @@ pub fn optional<T: Schema>(
 /// ```ignore
 /// let tested: bool = or_default(alloc, &mut rows, true)?; // without the key it is true
 /// ```
+#[inline(always)]
 pub fn or_default<T: Schema>(
     alloc: Global,
     rows: &mut RowCursor<'_, '_>,
@@ -124,6 +128,41 @@ pub fn or_default<T: Schema>(
         (first, Slot::Clash) => Err(at_key(alloc, first, Cause::TwoSpellings)),
         (_, Slot::One { spelling, value }) => read_under(alloc, value, spelling),
     }
+}
+
+/// Empties a place.
+#[cold]
+fn empty<T: Drop>(place: &mut Option<T>)
+    ensures { place.new ≡ None }
+{
+    *place = None;
+}
+
+/// Leaves a place with nothing in it, which is not written where there was nothing: a wide one would be written whole.
+#[inline(always)]
+fn leave_empty<T: Drop>(place: &mut Option<T>)
+    ensures { place.new ≡ None }
+{
+    if place.is_some() {
+        empty(place);
+    }
+}
+
+/// Reads a value under a key into its place. It is never inlined, so that an absent row clears no room for the value.
+#[inline(never)]
+fn fill_with<T: Schema>(
+    alloc: Global,
+    value: &Value,
+    word: &str,
+    place: &mut Option<T>,
+) -> Result<(), ReadFault>
+    ensures ok { OnOk result
+        (meets_optional T.kind (one word.now (view value.now)) (option_map T.content place.new)) }
+    ensures fault { IfErr result
+        (FaultIn (behind (key word.now) (T.kind.faulty (view value.now)))) }
+{
+    *place = Some(read_under(alloc, value, word)?);
+    Ok(())
 }
 
 /// Reads a row that may be absent into its place. It refuses as [`optional`] does; the place is then as it was.
@@ -143,11 +182,10 @@ pub fn fill<T: Schema>(
     ensures next { StepsOn rows.old rows.new }
 {
     match next_row(rows) {
-        (_, Slot::Absent) => *place = None,
-        (first, Slot::Clash) => return Err(at_key(alloc, first, Cause::TwoSpellings)),
-        (_, Slot::One { spelling, value }) => *place = Some(read_under(alloc, value, spelling)?),
+        (_, Slot::Absent) => Ok(leave_empty(place)),
+        (first, Slot::Clash) => Err(at_key(alloc, first, Cause::TwoSpellings)),
+        (_, Slot::One { spelling, value }) => fill_with(alloc, value, spelling, place),
     }
-    Ok(())
 }
 
 /// Reads a row into its place, or else the value that stands for its absence. It refuses as [`optional`] does; the
@@ -168,11 +206,7 @@ pub fn fill_default<T: Schema>(
         (FaultIn (faulty_free s T.kind slot))) }
     ensures next { StepsOn rows.old rows.new }
 {
-    match next_row(rows) {
-        (_, Slot::Absent) => *place = default,
-        (first, Slot::Clash) => return Err(at_key(alloc, first, Cause::TwoSpellings)),
-        (_, Slot::One { spelling, value }) => *place = read_under(alloc, value, spelling)?,
-    }
+    *place = or_default(alloc, rows, default)?;
     Ok(())
 }
 
