@@ -56,7 +56,7 @@ fn is_memory_fault(answer: &io::Result<BTreeSet<String>>) -> bool
 pub fn names_ascend(names: &BTreeSet<String>)
     ensures { IsAscending (set_names names.now) }
 {
-    let _count = names.len();
+    let _ascending = names.len();
 }
 
 /// Asks at a path.
