@@ -80,45 +80,65 @@ static struct manifest_bytes bytes_of(const char *text)
     return bytes;
 }
 
-/* Whether an answer has this status and cause, and this text in `out`. */
-static int is_answer(struct manifest_answer answer, int status, int cause, const uint8_t *out, const char *text)
+/* How many answers are as wanted, and how many are not. */
+struct counts {
+    int passed;
+    int failed;
+};
+
+/* Counts an answer, which has to have this status and cause, and this text in `out`. */
+static void count(struct counts *counts, struct manifest_answer answer, int status, int cause, const uint8_t *out, const char *text)
 {
-    return answer.status == status && answer.cause == cause && answer.length == strlen(text)
-           && !memcmp(out, text, answer.length);
+    int is_right = answer.status == status && answer.cause == cause && answer.length == strlen(text)
+                   && !memcmp(out, text, answer.length);
+    counts->passed += is_right;
+    counts->failed += !is_right;
 }
 
-/* How many of the calls with folders and with a root are not answered as wanted. */
-static int others(void)
+/* Counts the calls with folders and with a root, and the one that answers a table. */
+static struct counts others(void)
 {
     static const char member[] = "[package]\nname = 'p-q'\nversion.workspace = true\nedition = '2021'\n";
     static const char root[] = "[workspace.package]\nversion = '2.0.0'\n";
     static const char completed[] = "[lib]\ncrate-type = [\"lib\"]\nedition = \"2021\"\nname = \"p_q\"\npath = \"src/lib.rs\"\n"
                                     "required-features = []\n\n[package]\nedition = \"2021\"\nname = \"p-q\"\n"
                                     "version = \"2.0.0\"\n";
+    static const char flagged[] = "[package]\nname = 'a'\nautobins = false\n";
     struct manifest_bytes names[] = {bytes_of("lib.rs"), bytes_of("other.rs")};
-    struct manifest_bytes turned[] = {names[1], names[0]};
+    struct manifest_bytes turned[] = {names[1], names[0]}, alike[] = {names[0], names[0]}, cut = bytes_of("a\xc3");
     struct manifest_folder folders[] = {{bytes_of("src"), {names, 2}, MANIFEST_NO_FAULT},
-                                        {bytes_of("."), {names, 0}, MANIFEST_NO_FAULT}};
-    struct manifest_folder wrong = {bytes_of("src"), {turned, 2}, MANIFEST_NO_FAULT};
+                                        {bytes_of("."), {names, 0}, MANIFEST_NO_FAULT},
+                                        {bytes_of("not/asked"), {names, 1}, MANIFEST_OUT_OF_MEMORY}};
     struct manifest_folder faulty = {bytes_of("src"), {names, 0}, 9};
-    struct manifest_folder twice[] = {folders[0], folders[0]};
+    struct manifest_folder no_listings[][2] = {{folders[0], folders[0]},
+                                               {folders[1], {bytes_of("src"), {turned, 2}, MANIFEST_NO_FAULT}},
+                                               {folders[1], {bytes_of("src"), {alike, 2}, MANIFEST_NO_FAULT}},
+                                               {folders[1], {bytes_of("src"), {&cut, 1}, MANIFEST_NO_FAULT}},
+                                               {folders[1], {cut, {names, 2}, MANIFEST_NO_FAULT}}};
     const uint8_t *bytes = (const uint8_t *)member, *of_root = (const uint8_t *)root;
     size_t length = sizeof member - 1, root_length = sizeof root - 1, room = 512;
     uint8_t out[512];
-    int failed = 0;
+    struct counts counts = {0, 0};
 
-    failed += !is_answer(manifest_resolved_completed(bytes, length, of_root, root_length, folders, 2, out, room), 0, 0, out, completed);
-    failed += !is_answer(manifest_resolved(bytes, length, of_root, root_length, out, room), 0, 0, out,
-                         "[package]\nedition = \"2021\"\nname = \"p-q\"\nversion = \"2.0.0\"\n");
-    failed += !is_answer(manifest_resolved(bytes, length, bytes, length, out, room), MANIFEST_NO_WORKSPACE, 0, out, "");
-    failed += !is_answer(manifest_resolved(bytes, length, bytes, 0, out, room), MANIFEST_ROOT_SCHEMA, MANIFEST_MISSING, out, "name");
-    failed += !is_answer(manifest_completed(bytes, length, folders + 1, 1, out, room), 0, 0, out,
-                         "[package]\nedition = \"2021\"\nname = \"p-q\"\n\n[package.version]\nworkspace = true\n");
-    failed += !is_answer(manifest_completed(bytes, length, &wrong, 1, out, room), MANIFEST_LISTINGS, 0, out, "");
-    failed += !is_answer(manifest_completed(bytes, length, twice, 2, out, room), MANIFEST_LISTINGS, 0, out, "");
-    failed += !is_answer(manifest_completed(bytes, length, &faulty, 1, out, room), MANIFEST_IO, MANIFEST_OTHER_FAULT, out, "");
-    failed += !is_answer(manifest_completed(bytes, length, folders, 0, out, room), MANIFEST_IO, MANIFEST_NOT_FOUND, out, "");
-    return failed;
+    count(&counts, manifest_resolved_completed(bytes, length, of_root, root_length, folders, 2, out, room), 0, 0, out, completed);
+    count(&counts, manifest_resolved_completed(bytes, length, of_root, root_length, folders, 3, out, room), 0, 0, out, completed);
+    count(&counts, manifest_resolved(bytes, length, of_root, root_length, out, room), 0, 0, out,
+          "[package]\nedition = \"2021\"\nname = \"p-q\"\nversion = \"2.0.0\"\n");
+    count(&counts, manifest_resolved(bytes, length, bytes, length, out, room), MANIFEST_NO_WORKSPACE, 0, out, "");
+    count(&counts, manifest_resolved(bytes, length, bytes, 0, out, room), MANIFEST_ROOT_SCHEMA, MANIFEST_MISSING, out, "name");
+    count(&counts, manifest_resolved(bytes, length, cut.at, cut.length, out, room), MANIFEST_ROOT_NOT_UTF8, 0, out, "");
+    count(&counts, manifest_completed(bytes, length, folders + 1, 1, out, room), 0, 0, out,
+          "[package]\nedition = \"2021\"\nname = \"p-q\"\n\n[package.version]\nworkspace = true\n");
+    for (size_t i = 0; i < sizeof no_listings / sizeof no_listings[0]; i++)
+        count(&counts, manifest_completed(bytes, length, no_listings[i], 2, out, room), MANIFEST_LISTINGS, 0, out, "");
+    /* the folders are looked at before the bytes, and the bytes before the root */
+    count(&counts, manifest_completed(cut.at, cut.length, no_listings[0], 2, out, room), MANIFEST_LISTINGS, 0, out, "");
+    count(&counts, manifest_resolved(cut.at, cut.length, cut.at, cut.length, out, room), MANIFEST_NOT_UTF8, 0, out, "");
+    count(&counts, manifest_completed(bytes, length, &faulty, 1, out, room), MANIFEST_IO, MANIFEST_OTHER_FAULT, out, "");
+    count(&counts, manifest_completed(bytes, length, folders, 0, out, room), MANIFEST_IO, MANIFEST_NOT_FOUND, out, "");
+    count(&counts, manifest_table((const uint8_t *)flagged, sizeof flagged - 1, out, room), 0, 0, out,
+          "\x08\x01\x07package\x08\x02\x08" "autobins\x04\x04name\x01\x01" "a");
+    return counts;
 }
 
 static void print_layout(void)
@@ -142,18 +162,16 @@ int main(int count, char **words)
         print_layout();
         return 0;
     }
-    int failed = 0;
+    struct counts counts = others();
+    if (counts.failed)
+        printf("%d calls with folders, with a root or for a table are not answered as wanted\n", counts.failed);
     for (int i = 0; i < COUNT; i++) {
         int is_right = is_answered(&all[i]);
-        failed += !is_right;
+        counts.passed += is_right;
+        counts.failed += !is_right;
         if (!is_right)
             printf("call %d is not answered as wanted\n", i + 1);
     }
-
-    int failed_others = others();
-    if (failed_others)
-        printf("%d calls with folders or a root are not answered as wanted\n", failed_others);
-    failed += failed_others;
 
     pthread_t threads[4];
     int failed_there[4] = {0};
@@ -164,8 +182,9 @@ int main(int count, char **words)
         pthread_join(threads[i], NULL);
         if (failed_there[i])
             printf("in thread %d, %d answers are not as wanted\n", i + 1, failed_there[i]);
-        failed += failed_there[i] != 0;
+        counts.passed += failed_there[i] == 0;
+        counts.failed += failed_there[i] != 0;
     }
-    printf("%d passed, %d failed\n", COUNT + 9 + 4 - failed, failed);
-    return failed != 0;
+    printf("%d passed, %d failed\n", counts.passed, counts.failed);
+    return counts.failed != 0;
 }

@@ -8,6 +8,10 @@ int main(void)
 {
     static uint8_t bytes[1 << 20];
     size_t length = fread(bytes, 1, sizeof bytes, stdin);
+    if (ferror(stdin) || length == sizeof bytes) {
+        fputs("standard input is not read, or has more than a megabyte\n", stderr);
+        return 2;
+    }
 
     /* room for most texts; a second call where it is not enough */
     size_t room = 2 * length + 256;

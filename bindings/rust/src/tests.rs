@@ -3,7 +3,8 @@
 use crate::calls::{manifest_canonical, Answer};
 use crate::folders::{Folder, Slice};
 use crate::heap::refusals::{blocks, with_refused};
-use crate::{canonical, resolved_completed, Error, Fault, Listings};
+use crate::{canonical, resolved_completed, table, Error, Fault, Listings};
+use std::fmt::Debug;
 use std::mem::{offset_of, size_of};
 
 const FIVE: [&[u8]; 5] = [
@@ -39,7 +40,7 @@ fn the_text_is_put_whole_or_not_at_all() {
 
 /// Refuses each request for memory of a call in turn: it answers want of memory, or the answer that is wanted, and gives all
 /// blocks back.
-fn are_refused(run: impl Fn() -> Result<String, Error>, wanted: &Result<String, Error>) {
+fn are_refused<T: Debug + PartialEq>(run: impl Fn() -> Result<T, Error>, wanted: &Result<T, Error>) {
     let held = blocks();
     let mut granted = 0;
     loop {
@@ -65,6 +66,7 @@ fn each_growth_is_refused() {
     ];
     for bytes in manifests {
         are_refused(|| canonical(bytes), &canonical(bytes));
+        are_refused(|| table(bytes), &table(bytes));
     }
 }
 

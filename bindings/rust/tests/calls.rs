@@ -36,6 +36,31 @@ fn each_kind_of_answer() {
 }
 
 #[test]
+fn the_place_of_no_toml_lies_within_the_bytes() {
+    let text = "[package]\nname = 'é'\nauthors = [\"\\u00e9\", 'x']\n[a.'b c']\nd = {e = 1979-05-27T07:32:00Z}\n";
+    let mut refused = 0;
+    for end in 0..=text.len() {
+        for tail in ["", "[", "\"\n", "= =", "\n\u{0}"] {
+            let bytes = [&text.as_bytes()[..end], tail.as_bytes()].concat();
+            if let Err(Error::Toml { range, .. }) = canonical(&bytes) {
+                assert!(range.start <= range.end && range.end <= bytes.len(), "{range:?} of {bytes:?}");
+                refused += 1;
+            }
+        }
+    }
+    assert!(refused > 100);
+}
+
+#[test]
+fn what_is_answered_may_go_to_other_threads() {
+    fn goes<T: Send + Sync + 'static>() {}
+    fn is_told<E: std::error::Error + Send + Sync + 'static>() {}
+    goes::<Value>();
+    goes::<Listings>();
+    is_told::<Error>();
+}
+
+#[test]
 fn from_four_threads() {
     thread::scope(|scope| {
         for _ in 0..4 {
@@ -116,6 +141,14 @@ fn what_listings_refuse() {
     let none = completed(b"[package]\nname = 'p'\nedition = '2021'\n[lib]\n", &Listings::new());
     let text = "can't find library, rename file to `src/lib.rs` or specify lib.path";
     assert_eq!(none, Err(Error::Other(text.into())));
+}
+
+#[test]
+fn folders_that_are_not_asked_for_change_nothing() {
+    let mut more = with_library();
+    more.put("docs", ["lib.rs", "main.rs"]);
+    more.put_fault("src/bin/main.rs/deeper", Fault::OutOfMemory);
+    assert_eq!(resolved_completed(MEMBER, ROOT, &more), resolved_completed(MEMBER, ROOT, &with_library()));
 }
 
 #[test]
