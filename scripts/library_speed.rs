@@ -72,6 +72,9 @@ fn measure(path: &str) {
         };
         println!("  {name:38} {least:10.2} us least, {middle:10.2} in the middle{written}");
     }
+    let [ours, _, _, theirs] = &times;
+    let (least, middle) = (ours[0] / theirs[0], ours[BATCHES / 2] / theirs[BATCHES / 2]);
+    println!("  {:38} {least:10.2}    least, {middle:10.2} in the middle", "canonical / from_slice and to_string");
 }
 
 fn main() {

@@ -1,9 +1,11 @@
-"""What scripts/answers, scripts/folders and scripts/hostile share: runs of manifest_canon, and how they are judged.
+"""What scripts/answers, scripts/folders, scripts/hostile and scripts/library share: what the Rust crate answered, runs of
+manifest_canon and its like, and how they are judged.
 
 What is printed is read by Python's tomllib, and tables are compared strictly in the kinds of their values: a boolean is no
 number, a float is no whole number, and each kind of date-times is one of its own.
 """
 import datetime
+import json
 import os
 import re
 import select
@@ -12,6 +14,15 @@ import sys
 import tomllib
 from pathlib import Path
 from typing import NamedTuple
+
+ANSWERS = Path(__file__).resolve().parent.parent / "tests" / "rust-answers"
+NO_LIBRARY = "can't find library, rename file to `src/lib.rs` or specify lib.path"
+
+
+def stored(name):
+    """The objects of a file of lines in tests/rust-answers."""
+    with open(ANSWERS / name, encoding="utf-8") as file:
+        return [json.loads(line) for line in file]
 
 
 def told(value):
