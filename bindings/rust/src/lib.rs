@@ -6,7 +6,8 @@
 //! # Ok::<(), cargo_manifest_proved::Error>(())
 //! ```
 //!
-//! Nothing is kept between calls, so each may be made from any thread at any time.
+//! Nothing is kept between calls, so each may be made from any thread at any time. A call takes the more stack the deeper
+//! its text nests tables: `LIBRARY.md` says how much that may be.
 
 mod calls;
 mod error;

@@ -3,9 +3,11 @@
 use crate::calls::{manifest_canonical, Answer};
 use crate::folders::{Folder, Slice};
 use crate::heap::refusals::{blocks, with_refused};
-use crate::{canonical, resolved_completed, table, Error, Fault, Listings};
+use crate::value::decoded;
+use crate::{canonical, resolved_completed, table, Error, Fault, Listings, Value};
 use std::fmt::Debug;
 use std::mem::{offset_of, size_of};
+use std::thread;
 
 const FIVE: [&[u8]; 5] = [
     b"[package]\nname = 'foo'\nversion = '1.0.0'\n",
@@ -82,6 +84,30 @@ fn each_growth_of_a_completion_is_refused() {
     let wanted = run();
     assert!(wanted.is_ok(), "{wanted:?}");
     are_refused(run, &wanted);
+}
+
+/// A hundred thousand tables in one another, around an array.
+fn deep_tables() -> Vec<u8> {
+    let mut bytes = [8, 1, 1, b'a'].repeat(100_000);
+    bytes.extend([7, 2, 4, 7, 0]);
+    bytes
+}
+
+#[test]
+fn a_deep_table_is_decoded_on_a_small_stack() {
+    let run = || {
+        let mut value = decoded(&deep_tables()).unwrap();
+        // (it is taken apart by a loop, since dropping goes as deep)
+        let mut depth = 0;
+        while let Value::Table(mut members) = value {
+            value = members.remove("a").unwrap();
+            depth += 1;
+        }
+        let inner = Value::Array(vec![Value::Boolean(false), Value::Array(Vec::new())]);
+        assert_eq!((depth, value), (100_000, inner));
+        assert_eq!(decoded(&deep_tables()[..400_001]), None);
+    };
+    thread::Builder::new().stack_size(256 << 10).spawn(run).unwrap().join().unwrap();
 }
 
 /// `scripts/library` compares the line with that of C's side.

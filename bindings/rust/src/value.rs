@@ -131,22 +131,86 @@ impl<'a> Reader<'a> {
         Some(Datetime { date, time, offset })
     }
 
-    fn member(&mut self) -> Option<(String, Value)> {
-        Some((self.text()?, self.value()?))
-    }
-
-    fn value(&mut self) -> Option<Value> {
-        Some(match self.byte()? {
+    /// What stands behind the tag of a value that holds no other.
+    fn simple(&mut self, tag: u8) -> Option<Value> {
+        Some(match tag {
             1 => Value::String(self.text()?),
             2 => Value::Integer(self.number()?.try_into().ok()?),
             3 => Value::Integer(!i64::try_from(self.number()?).ok()?),
             4 => Value::Boolean(false),
             5 => Value::Boolean(true),
             6 => Value::Datetime(self.datetime()?),
-            7 => Value::Array((0..self.number()?).map(|_| self.value()).collect::<Option<_>>()?),
-            8 => Value::Table((0..self.number()?).map(|_| self.member()).collect::<Option<_>>()?),
             _ => return None,
         })
+    }
+
+    /// A value. What it holds is read by a loop, so that no nesting takes stack.
+    fn value(&mut self) -> Option<Value> {
+        let mut open = Vec::new();
+        loop {
+            if let Some(Open::Table(_, _, key)) = open.last_mut() {
+                *key = self.text()?;
+            }
+            let tag = self.byte()?;
+            let mut value = match tag {
+                7 | 8 => match self.number()? {
+                    0 if tag == 7 => Value::Array(Vec::new()),
+                    0 => Value::Table(BTreeMap::new()),
+                    left => {
+                        open.push(Open::new(tag, left));
+                        continue;
+                    }
+                },
+                tag => self.simple(tag)?,
+            };
+            // what is whole goes into what holds it, which may be whole by that
+            loop {
+                let Some(holder) = open.pop() else { return Some(value) };
+                match holder.with(value) {
+                    Ok(whole) => value = whole,
+                    Err(holder) => {
+                        open.push(holder);
+                        break;
+                    }
+                }
+            }
+        }
+    }
+}
+
+/// An array or a table that is being read: how many values are still to come, those that were read, and in a table the key
+/// of the next one.
+enum Open {
+    Array(u64, Vec<Value>),
+    Table(u64, Vec<(String, Value)>, String),
+}
+
+impl Open {
+    fn new(tag: u8, left: u64) -> Open {
+        match tag {
+            7 => Open::Array(left, Vec::new()),
+            _ => Open::Table(left, Vec::new(), String::new()),
+        }
+    }
+
+    /// With one value more: the whole value, or what is still open.
+    fn with(self, value: Value) -> Result<Value, Open> {
+        match self {
+            Open::Array(left, mut items) => {
+                items.push(value);
+                match left - 1 {
+                    0 => Ok(Value::Array(items)),
+                    left => Err(Open::Array(left, items)),
+                }
+            }
+            Open::Table(left, mut members, key) => {
+                members.push((key, value));
+                match left - 1 {
+                    0 => Ok(Value::Table(members.into_iter().collect())),
+                    left => Err(Open::Table(left, members, String::new())),
+                }
+            }
+        }
     }
 }
 
