@@ -22,6 +22,9 @@ pub struct Answer {
     pub end: usize,
 }
 
+// as the other languages declare it: `scripts/library` compares the number
+const _: () = prove!(size_of::<Answer>() == 32);
+
 /// Copies a text to the front of `out`, where there is room for it.
 fn hand(text: &[u8], out: &mut [u8]) -> usize
     ensures { IsHanded text.now result out.old out.new }

@@ -24,6 +24,9 @@ pub struct Folder<'a> {
     pub fault: u8,
 }
 
+// as the other languages declare it: `scripts/library` compares the number
+const _: () = prove!(size_of::<Folder<'static>>() == 40);
+
 /// What a folder is answered.
 #[derive(Debug, Drop)]
 pub enum Listed {
