@@ -14,7 +14,8 @@ ghost use Rattle.manifest_schema.specs.Meaning.{rewritten};
 ghost use Rattle.manifest_schema.proofs.KindLaws.{tree_lawful};
 ghost use Rattle.manifest_schema.proofs.ManifestLaws.{manifest_lawful};
 ghost use Rattle.manifest_value.specs.Faults.{FaultIn};
-ghost use Rattle.manifest_value.specs.Reading.{data_of, Reads, WritesRows};
+ghost use Rattle.manifest_value.specs.Reading.{Reads, WritesRows};
+ghost use Rattle.manifest_value.specs.Sources.{table_source};
 ghost use Rattle.manifest_value.specs.Walks.{spellings_view, names_of};
 ghost use Rattle.manifest_value.specs.Cursors.{Filled, Passed, UnfitFrom};
 ghost use Rattle.manifest_parts.specs.Records.{lints_content};
@@ -29,8 +30,9 @@ use manifest_parts::{
 use manifest_tables::{Package, Profiles, Workspace};
 use manifest_value::cursor::{RowCursor, fill, fill_default, rows_of};
 use manifest_value::fault::here;
+use manifest_value::row_slots::slots_of;
 use manifest_value::rows::{put_nonempty, put_optional};
-use manifest_value::{Cause, Metadata, ReadFault, Schema, Spellings, spelled, walk};
+use manifest_value::{Cause, Metadata, ReadFault, Schema, Spellings, TableSource, spelled};
 use std::alloc::{AllocError, Global};
 use toml::{Table, Value};
 
@@ -233,18 +235,18 @@ fn manifest_names<P: Metadata, W: Metadata>() -> &'static [Spellings]
 #[tactic(auto, unfolding(manifest_schema::specs::ManifestForms::manifest_rows))]
 pub(crate) fn read_rows<P: Metadata, W: Metadata>(
     alloc: Global,
-    table: &Table,
+    table: TableSource<'_>,
     x: &mut Manifest<P, W>,
 ) -> Result<(), ReadFault>
     ensures ok { OnOk result
         (Reads (manifest_form P.kind W.kind) (manifest_of P.kind W.kind P.content W.content)
-        (data_of table.now) x.new) }
+        (table_source table.entry) x.new) }
     ensures fault { IfErr result
-        (FaultIn ((manifest_form P.kind W.kind).faulty (data_of table.now))) }
+        (FaultIn ((manifest_form P.kind W.kind).faulty (table_source table.entry))) }
 {
     let names = manifest_names::<P, W>();
-    let walk = walk(alloc, table, names)?;
-    fill_manifest(alloc, &mut rows_of(names, walk.slots.as_slice()), x)
+    let mut rows = rows_of(names, slots_of(alloc, table, names)?);
+    fill_manifest(alloc, &mut rows, x)
 }
 
 /// Reads all rows.
@@ -445,7 +447,17 @@ impl<P: Metadata, W: Metadata> Schema for Manifest<P, W> {
         match value {
             Value::Table(table) => {
                 let mut manifest = Manifest::default(alloc);
-                read_rows(alloc, table, &mut manifest).and(Ok(manifest))
+                read_rows(alloc, TableSource::Lent(table), &mut manifest).and(Ok(manifest))
+            }
+            _ => Err(here(alloc, Cause::WrongKind)),
+        }
+    }
+
+    fn take(alloc: Global, value: Value) -> Result<Manifest<P, W>, ReadFault> {
+        match value {
+            Value::Table(table) => {
+                let mut manifest = Manifest::default(alloc);
+                read_rows(alloc, TableSource::Taken(table), &mut manifest).and(Ok(manifest))
             }
             _ => Err(here(alloc, Cause::WrongKind)),
         }

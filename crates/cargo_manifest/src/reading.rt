@@ -17,7 +17,7 @@ use manifest_tables::Package;
 use manifest_tables::package::package_from;
 use manifest_value::readers::find;
 use manifest_value::rows::read_under;
-use manifest_value::{Metadata, ReadFault};
+use manifest_value::{Metadata, ReadFault, TableSource};
 use std::alloc::Global;
 use std::rc::Rc;
 use toml::{Table, Value};
@@ -62,7 +62,7 @@ fn read_headless<P: Metadata, W: Metadata>(
     ensures fault { IfErr result
         (FaultIn (unmeant_by (tree_of P.kind) (tree_of W.kind) false (table_view table.now))) }
 {
-    read_rows(alloc, table, x)?;
+    read_rows(alloc, TableSource::Lent(table), x)?;
     x.package = Some(read_old_package(alloc, table)?);
     Ok(())
 }
@@ -79,7 +79,7 @@ fn read_table<P: Metadata, W: Metadata>(
         (FaultIn (unmeant (tree_of P.kind) (tree_of W.kind) (table_view table))) }
 {
     if has_package_or_workspace(&table) {
-        read_rows(alloc, &table, x)
+        read_rows(alloc, TableSource::Taken(table), x)
     } else {
         read_headless(alloc, &table, x)
     }

@@ -20,8 +20,9 @@ use manifest_value::cursor::{
     RowCursor, lenient_default, lenient_optional, optional, or_default, required, rows_of,
 };
 use manifest_value::fault::here;
+use manifest_value::row_slots::slots_of;
 use manifest_value::rows::{put_optional, put_row};
-use manifest_value::{Cause, ReadFault, Schema, Spellings, spelled, walk};
+use manifest_value::{Cause, ReadFault, Schema, Spellings, TableSource, spelled};
 use std::alloc::{AllocError, Global};
 use toml::{Table, Value};
 
@@ -147,8 +148,7 @@ fn badge_from(alloc: Global, table: &Table) -> Result<Badge, ReadFault>
     ensures fault { IfErr result (FaultIn ((form badge_rows).faulty (data_of table.now))) }
 {
     let names = badge_names();
-    let walk = walk(alloc, table, names)?;
-    let mut rows = rows_of(names, walk.slots.as_slice());
+    let mut rows = rows_of(names, slots_of(alloc, TableSource::Lent(table), names)?);
     Ok(Badge {
         repository: required(alloc, &mut rows)?,
         branch: or_default(alloc, &mut rows, String::from_str(alloc, "master")?)?,
@@ -176,8 +176,7 @@ fn maintenance_from(alloc: Global, table: &Table) -> Result<Maintenance, ReadFau
     ensures fault { IfErr result (FaultIn ((form maintenance_rows).faulty (data_of table.now))) }
 {
     let names = maintenance_names();
-    let walk = walk(alloc, table, names)?;
-    let mut rows = rows_of(names, walk.slots.as_slice());
+    let mut rows = rows_of(names, slots_of(alloc, TableSource::Lent(table), names)?);
     Ok(Maintenance {
         status: required(alloc, &mut rows)?,
     })
@@ -202,8 +201,7 @@ fn badges_from(alloc: Global, table: &Table) -> Result<Badges, AllocError>
     ensures { IfOk result (Reads (form badges_rows) badges_content (data_of table.now)) }
 {
     let names = badges_names();
-    let walk = walk(alloc, table, names)?;
-    let mut rows = rows_of(names, walk.slots.as_slice());
+    let mut rows = rows_of(names, slots_of(alloc, TableSource::Lent(table), names)?);
     let mut x = Badges::default();
     fill_badges(alloc, &mut rows, &mut x).and(Ok(x))
 }

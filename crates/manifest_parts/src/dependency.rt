@@ -8,7 +8,8 @@ ghost use Rattle.manifest_schema.specs.Defaults.{lent, no_detail};
 ghost use Rattle.manifest_schema.specs.PartForms.{inherited_rows, detailed_rows, dependency};
 ghost use Rattle.manifest_schema.proofs.PartLaws.{inherited_lawful, detailed_lawful, dependency_lawful};
 ghost use Rattle.manifest_value.specs.Faults.{FaultIn};
-ghost use Rattle.manifest_value.specs.Reading.{data_of, Reads, WritesRows};
+ghost use Rattle.manifest_value.specs.Reading.{Reads, WritesRows};
+ghost use Rattle.manifest_value.specs.Sources.{table_source};
 ghost use Rattle.manifest_value.specs.Walks.{spellings_view, names_of};
 ghost use Rattle.manifest_value.specs.Cursors.{Filled, Passed, UnfitFrom};
 ghost use Rattle.manifest_parts.specs.Records.{inherited_content, detail_content, dependency_content};
@@ -18,8 +19,9 @@ use crate::error::{Error, read};
 use crate::inherited::{True, has_workspace};
 use manifest_value::cursor::{RowCursor, fill, optional, required, rows_of};
 use manifest_value::fault::here;
+use manifest_value::row_slots::slots_of;
 use manifest_value::rows::{put_optional, put_row};
-use manifest_value::{Cause, ReadFault, Schema, Slot, Spellings, find_slots, spelled};
+use manifest_value::{Cause, ReadFault, Schema, Spellings, TableSource, spelled};
 use std::alloc::{AllocError, Global};
 use toml::{Table, Value};
 
@@ -133,29 +135,32 @@ impl Dependency {
     }
 }
 
-static INHERITED: [Spellings; 4] = spelled! {
+static INHERITED: &[Spellings] = &spelled! {
     "workspace", "features", "optional", "default-features" | "default_features",
 };
 
 /// The spellings of the rows.
 #[tactic(auto, unfolding(manifest_schema::specs::PartForms::inherited_rows))]
-fn inherited_names() -> &'static [Spellings; 4]
+fn inherited_names() -> &'static [Spellings]
     ensures { map spellings_view result.now ≡ names_of inherited_rows }
 {
-    &INHERITED
+    INHERITED
 }
 
-/// Reads the rows of a table, over slots on the stack.
+/// Reads the rows of a table.
 #[inline(always)]
 #[tactic(auto, unfolding(manifest_schema::specs::PartForms::inherited_rows))]
-fn inherited_from(alloc: Global, table: &Table) -> Result<InheritedDependencyDetail, ReadFault>
-    ensures ok { IfOk result (Reads (form inherited_rows) inherited_content (data_of table.now)) }
-    ensures fault { IfErr result (FaultIn ((form inherited_rows).faulty (data_of table.now))) }
+fn inherited_from(
+    alloc: Global,
+    table: TableSource<'_>,
+) -> Result<InheritedDependencyDetail, ReadFault>
+    ensures ok { IfOk result
+        (Reads (form inherited_rows) inherited_content (table_source table.entry)) }
+    ensures fault { IfErr result
+        (FaultIn ((form inherited_rows).faulty (table_source table.entry))) }
 {
     let names = inherited_names();
-    let mut slots = [Slot::Absent; 4];
-    find_slots(table, names, &mut slots);
-    let mut rows = rows_of(names, &slots);
+    let mut rows = rows_of(names, slots_of(alloc, table, names)?);
     Ok(InheritedDependencyDetail {
         workspace: required(alloc, &mut rows)?,
         features: optional(alloc, &mut rows)?,
@@ -164,17 +169,17 @@ fn inherited_from(alloc: Global, table: &Table) -> Result<InheritedDependencyDet
     })
 }
 
-static DETAILED: [Spellings; 12] = spelled! {
+static DETAILED: &[Spellings] = &spelled! {
     "version", "registry", "registry-index" | "registry_index", "path", "git", "branch", "tag",
     "rev", "features", "optional", "default-features" | "default_features", "package",
 };
 
 /// The spellings of the rows.
 #[tactic(auto, unfolding(manifest_schema::specs::PartForms::detailed_rows))]
-fn detailed_names() -> &'static [Spellings; 12]
+fn detailed_names() -> &'static [Spellings]
     ensures { map spellings_view result.now ≡ names_of detailed_rows }
 {
-    &DETAILED
+    DETAILED
 }
 
 /// Reads `version` to `branch`.
@@ -239,18 +244,22 @@ fn fill_detail(
     Ok(())
 }
 
-/// Reads the rows of a table, over slots on the stack.
+/// Reads the rows of a table.
 #[inline(always)]
 #[tactic(auto, unfolding(manifest_schema::specs::PartForms::detailed_rows))]
-fn read_detail(alloc: Global, table: &Table, x: &mut DependencyDetail) -> Result<(), ReadFault>
+fn read_detail(
+    alloc: Global,
+    table: TableSource<'_>,
+    x: &mut DependencyDetail,
+) -> Result<(), ReadFault>
     ensures ok { OnOk result
-        (Reads (form detailed_rows) detail_content (data_of table.now) x.new) }
-    ensures fault { IfErr result (FaultIn ((form detailed_rows).faulty (data_of table.now))) }
+        (Reads (form detailed_rows) detail_content (table_source table.entry) x.new) }
+    ensures fault { IfErr result
+        (FaultIn ((form detailed_rows).faulty (table_source table.entry))) }
 {
     let names = detailed_names();
-    let mut slots = [Slot::Absent; 12];
-    find_slots(table, names, &mut slots);
-    fill_detail(alloc, &mut rows_of(names, &slots), x)
+    let mut rows = rows_of(names, slots_of(alloc, table, names)?);
+    fill_detail(alloc, &mut rows, x)
 }
 
 impl Schema for InheritedDependencyDetail {
@@ -262,7 +271,14 @@ impl Schema for InheritedDependencyDetail {
 
     fn from_value(alloc: Global, value: &Value) -> Result<InheritedDependencyDetail, ReadFault> {
         match value {
-            Value::Table(table) => inherited_from(alloc, table),
+            Value::Table(table) => inherited_from(alloc, TableSource::Lent(table)),
+            _ => Err(here(alloc, Cause::WrongKind)),
+        }
+    }
+
+    fn take(alloc: Global, value: Value) -> Result<InheritedDependencyDetail, ReadFault> {
+        match value {
+            Value::Table(table) => inherited_from(alloc, TableSource::Taken(table)),
             _ => Err(here(alloc, Cause::WrongKind)),
         }
     }
@@ -321,7 +337,17 @@ impl Schema for DependencyDetail {
         match value {
             Value::Table(table) => {
                 let mut detail = DependencyDetail::default();
-                read_detail(alloc, table, &mut detail).and(Ok(detail))
+                read_detail(alloc, TableSource::Lent(table), &mut detail).and(Ok(detail))
+            }
+            _ => Err(here(alloc, Cause::WrongKind)),
+        }
+    }
+
+    fn take(alloc: Global, value: Value) -> Result<DependencyDetail, ReadFault> {
+        match value {
+            Value::Table(table) => {
+                let mut detail = DependencyDetail::default();
+                read_detail(alloc, TableSource::Taken(table), &mut detail).and(Ok(detail))
             }
             _ => Err(here(alloc, Cause::WrongKind)),
         }
@@ -340,11 +366,11 @@ impl Schema for DependencyDetail {
 
 /// Reads a table, by whether its `workspace` is the boolean true.
 #[inline(always)]
-fn table_dependency(alloc: Global, table: &Table) -> Result<Dependency, ReadFault>
-    ensures ok { IfOk result (Reads dependency dependency_content (data_of table.now)) }
-    ensures fault { IfErr result (FaultIn (dependency.faulty (data_of table.now))) }
+fn table_dependency(alloc: Global, table: TableSource<'_>) -> Result<Dependency, ReadFault>
+    ensures ok { IfOk result (Reads dependency dependency_content (table_source table.entry)) }
+    ensures fault { IfErr result (FaultIn (dependency.faulty (table_source table.entry))) }
 {
-    if has_workspace(table) {
+    if has_workspace(table.table()) {
         match inherited_from(alloc, table) {
             Ok(detail) => Ok(Dependency::Inherited(detail)),
             Err(fault) => Err(fault),
@@ -365,12 +391,20 @@ impl Schema for Dependency {
     fn from_value(alloc: Global, value: &Value) -> Result<Dependency, ReadFault> {
         match value {
             Value::String(s) => Ok(Dependency::Simple(String::from_str(alloc, s.as_str())?)),
-            Value::Table(table) => table_dependency(alloc, table),
+            Value::Table(table) => table_dependency(alloc, TableSource::Lent(table)),
             Value::Integer(_) => Err(here(alloc, Cause::WrongKind)),
             Value::Float(_) => Err(here(alloc, Cause::WrongKind)),
             Value::Boolean(_) => Err(here(alloc, Cause::WrongKind)),
             Value::Datetime(_) => Err(here(alloc, Cause::WrongKind)),
             Value::Array(_) => Err(here(alloc, Cause::WrongKind)),
+        }
+    }
+
+    fn take(alloc: Global, value: Value) -> Result<Dependency, ReadFault> {
+        match value {
+            Value::String(s) => Ok(Dependency::Simple(s)),
+            Value::Table(table) => table_dependency(alloc, TableSource::Taken(table)),
+            other => <Dependency as Schema>::from_value(alloc, &other),
         }
     }
 

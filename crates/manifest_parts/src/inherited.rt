@@ -155,6 +155,16 @@ impl<T: Plain> Schema for MaybeInherited<T> {
         }
     }
 
+    fn take(alloc: Global, value: Value) -> Result<MaybeInherited<T>, ReadFault> {
+        if says_workspace(&value) {
+            return Ok(MaybeInherited::Inherited { workspace: True });
+        }
+        match &value {
+            Value::Table(_) => Err(here(alloc, Cause::WrongKind)),
+            _ => Ok(MaybeInherited::Local(T::take(alloc, value)?)),
+        }
+    }
+
     #[tactic(auto, unfolding(manifest_schema::specs::Slots::put_some))]
     fn to_value(&self, alloc: Global) -> Result<Value, AllocError> {
         match self {

@@ -22,9 +22,10 @@ use manifest_value::cursor::{optional, or_default, required, rows_of};
 use manifest_value::entries::map_of_entries;
 use manifest_value::fault::here;
 use manifest_value::maps::entries_table;
+use manifest_value::row_slots::{lent_slots, slots_of};
 use manifest_value::rows::{put_optional, put_row};
 use manifest_value::well_formed::none_is_named;
-use manifest_value::{Cause, ReadFault, Schema, Spellings, spelled, walk};
+use manifest_value::{Cause, ReadFault, Schema, Spellings, TableSource, spelled, walk};
 use std::alloc::{AllocError, Global};
 use toml::{Table, Value};
 
@@ -171,8 +172,7 @@ fn lint_config_from(alloc: Global, table: &Table) -> Result<LintConfig, ReadFaul
     ensures fault { IfErr result (FaultIn ((form lint_rows).faulty (data_of table.now))) }
 {
     let names = lint_names();
-    let walk = walk(alloc, table, names)?;
-    let mut rows = rows_of(names, walk.slots.as_slice());
+    let mut rows = rows_of(names, slots_of(alloc, TableSource::Lent(table), names)?);
     Ok(LintConfig {
         level: required(alloc, &mut rows)?,
         priority: or_default(alloc, &mut rows, 0)?,
@@ -251,7 +251,7 @@ fn lints_from(alloc: Global, table: &Table) -> Result<MaybeInheritedLintsSet, Re
 {
     let names = lints_names();
     let walk = walk(alloc, table, names)?;
-    let mut rows = rows_of(names, walk.slots.as_slice());
+    let mut rows = rows_of(names, lent_slots(alloc, walk.slots.as_slice())?);
     Ok(MaybeInheritedLintsSet {
         workspace: optional(alloc, &mut rows)?,
         lints: map_of_entries(alloc, walk.rest.as_slice())?,

@@ -8,7 +8,8 @@ ghost use Rattle.manifest_schema.specs.Defaults.{default_product};
 ghost use Rattle.manifest_schema.specs.PartForms.{product_rows};
 ghost use Rattle.manifest_schema.proofs.PartLaws.{product_lawful};
 ghost use Rattle.manifest_value.specs.Faults.{FaultIn};
-ghost use Rattle.manifest_value.specs.Reading.{data_of, Reads, WritesRows};
+ghost use Rattle.manifest_value.specs.Reading.{Reads, WritesRows};
+ghost use Rattle.manifest_value.specs.Sources.{table_source};
 ghost use Rattle.manifest_value.specs.Walks.{spellings_view, names_of};
 ghost use Rattle.manifest_value.specs.Cursors.{Filled, Passed, UnfitFrom};
 ghost use Rattle.manifest_parts.specs.Records.{product_content};
@@ -18,8 +19,9 @@ use crate::choices::Edition;
 use crate::error::{Error, read};
 use manifest_value::cursor::{RowCursor, fill, fill_default, rows_of};
 use manifest_value::fault::here;
+use manifest_value::row_slots::slots_of;
 use manifest_value::rows::{put_optional, put_row, put_unless};
-use manifest_value::{Cause, ReadFault, Schema, Spellings, spelled, walk};
+use manifest_value::{Cause, ReadFault, Schema, Spellings, TableSource, spelled};
 use std::alloc::{AllocError, Global};
 use toml::{Table, Value};
 
@@ -111,13 +113,12 @@ fn product_names() -> &'static [Spellings]
 
 /// Reads the rows of a table.
 #[tactic(auto, unfolding(manifest_schema::specs::PartForms::product_rows))]
-fn product_from(alloc: Global, table: &Table) -> Result<Product, ReadFault>
-    ensures ok { IfOk result (Reads (form product_rows) product_content (data_of table.now)) }
-    ensures fault { IfErr result (FaultIn ((form product_rows).faulty (data_of table.now))) }
+fn product_from(alloc: Global, table: TableSource<'_>) -> Result<Product, ReadFault>
+    ensures ok { IfOk result (Reads (form product_rows) product_content (table_source table.entry)) }
+    ensures fault { IfErr result (FaultIn ((form product_rows).faulty (table_source table.entry))) }
 {
     let names = product_names();
-    let walk = walk(alloc, table, names)?;
-    let mut rows = rows_of(names, walk.slots.as_slice());
+    let mut rows = rows_of(names, slots_of(alloc, table, names)?);
     let mut x = Product::default(alloc);
     fill_product(alloc, &mut rows, &mut x).and(Ok(x))
 }
@@ -212,7 +213,14 @@ impl Schema for Product {
 
     fn from_value(alloc: Global, value: &Value) -> Result<Product, ReadFault> {
         match value {
-            Value::Table(table) => product_from(alloc, table),
+            Value::Table(table) => product_from(alloc, TableSource::Lent(table)),
+            _ => Err(here(alloc, Cause::WrongKind)),
+        }
+    }
+
+    fn take(alloc: Global, value: Value) -> Result<Product, ReadFault> {
+        match value {
+            Value::Table(table) => product_from(alloc, TableSource::Taken(table)),
             _ => Err(here(alloc, Cause::WrongKind)),
         }
     }

@@ -20,9 +20,10 @@ use crate::error::{Error, read};
 use crate::strip::StripSetting;
 use manifest_value::cursor::{RowCursor, fill, fill_default, rows_of};
 use manifest_value::fault::here;
+use manifest_value::row_slots::slots_of;
 use manifest_value::rows::{put_optional, put_row};
 use manifest_value::well_formed::{optional_is_well_formed, values_are_well_formed};
-use manifest_value::{Cause, ReadFault, Schema, Spellings, spelled, walk};
+use manifest_value::{Cause, ReadFault, Schema, Spellings, TableSource, spelled};
 use std::alloc::{AllocError, Global};
 use std::collections::BTreeMap;
 use toml::{Table, Value};
@@ -158,8 +159,7 @@ fn profile_from(alloc: Global, table: &Table) -> Result<Profile, ReadFault>
     ensures fault { IfErr result (FaultIn ((form profile_rows).faulty (data_of table.now))) }
 {
     let names = profile_names();
-    let walk = walk(alloc, table, names)?;
-    let mut rows = rows_of(names, walk.slots.as_slice());
+    let mut rows = rows_of(names, slots_of(alloc, TableSource::Lent(table), names)?);
     let mut x = Profile {
         opt_level: None,
         debug: None,

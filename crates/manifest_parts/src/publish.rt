@@ -57,6 +57,14 @@ impl Schema for StringOrBool {
         }
     }
 
+    fn take(alloc: Global, value: Value) -> Result<StringOrBool, ReadFault> {
+        match value {
+            Value::Boolean(b) => Ok(StringOrBool::Bool(b)),
+            Value::String(s) => Ok(StringOrBool::String(s)),
+            _ => Err(here(alloc, Cause::WrongKind)),
+        }
+    }
+
     fn to_value(&self, alloc: Global) -> Result<Value, AllocError> {
         match self {
             StringOrBool::Bool(b) => Ok(Value::Boolean(*b)),

@@ -7,7 +7,8 @@ ghost use Rattle.manifest_schema.specs.Contents;
 ghost use Rattle.manifest_schema.specs.PartForms.{platform_rows};
 ghost use Rattle.manifest_schema.proofs.PartLaws.{platform_lawful};
 ghost use Rattle.manifest_value.specs.Faults.{FaultIn};
-ghost use Rattle.manifest_value.specs.Reading.{data_of, Reads};
+ghost use Rattle.manifest_value.specs.Reading.{Reads};
+ghost use Rattle.manifest_value.specs.Sources.{table_source};
 ghost use Rattle.manifest_value.specs.Walks.{spellings_view, names_of};
 ghost use Rattle.manifest_parts.specs.Records.{platform_content};
 ghost use Rattle.manifest_parts.specs.Refusals.{RefusedIn};
@@ -16,8 +17,9 @@ use crate::DepsSet;
 use crate::error::{Error, read};
 use manifest_value::cursor::{or_default, rows_of};
 use manifest_value::fault::here;
+use manifest_value::row_slots::slots_of;
 use manifest_value::rows::put_row;
-use manifest_value::{Cause, ReadFault, Schema, Spellings, spelled, walk};
+use manifest_value::{Cause, ReadFault, Schema, Spellings, TableSource, spelled};
 use std::alloc::{AllocError, Global};
 use std::collections::BTreeMap;
 use toml::{Table, Value};
@@ -67,13 +69,12 @@ fn platform_names() -> &'static [Spellings]
 
 /// Reads the rows of a table.
 #[tactic(auto, unfolding(manifest_schema::specs::PartForms::platform_rows))]
-fn platform_from(alloc: Global, table: &Table) -> Result<Target, ReadFault>
-    ensures ok { IfOk result (Reads (form platform_rows) platform_content (data_of table.now)) }
-    ensures fault { IfErr result (FaultIn ((form platform_rows).faulty (data_of table.now))) }
+fn platform_from(alloc: Global, table: TableSource<'_>) -> Result<Target, ReadFault>
+    ensures ok { IfOk result (Reads (form platform_rows) platform_content (table_source table.entry)) }
+    ensures fault { IfErr result (FaultIn ((form platform_rows).faulty (table_source table.entry))) }
 {
     let names = platform_names();
-    let walk = walk(alloc, table, names)?;
-    let mut rows = rows_of(names, walk.slots.as_slice());
+    let mut rows = rows_of(names, slots_of(alloc, table, names)?);
     Ok(Target {
         dependencies: or_default(alloc, &mut rows, BTreeMap::new(alloc))?,
         dev_dependencies: or_default(alloc, &mut rows, BTreeMap::new(alloc))?,
@@ -90,7 +91,14 @@ impl Schema for Target {
 
     fn from_value(alloc: Global, value: &Value) -> Result<Target, ReadFault> {
         match value {
-            Value::Table(table) => platform_from(alloc, table),
+            Value::Table(table) => platform_from(alloc, TableSource::Lent(table)),
+            _ => Err(here(alloc, Cause::WrongKind)),
+        }
+    }
+
+    fn take(alloc: Global, value: Value) -> Result<Target, ReadFault> {
+        match value {
+            Value::Table(table) => platform_from(alloc, TableSource::Taken(table)),
             _ => Err(here(alloc, Cause::WrongKind)),
         }
     }

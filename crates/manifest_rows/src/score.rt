@@ -11,8 +11,9 @@ ghost use Rattle.manifest_rows.specs.Scores.{score_rows, score_lawful, score_pla
 
 use manifest_value::cursor::{required, rows_of};
 use manifest_value::fault::here;
+use manifest_value::row_slots::slots_of;
 use manifest_value::rows::put_row;
-use manifest_value::{Cause, Metadata, ReadFault, Schema, Slot, Spellings, find_slots, spelled};
+use manifest_value::{Cause, Metadata, ReadFault, Schema, Spellings, TableSource, spelled};
 use std::alloc::{AllocError, Global};
 use toml::{Table, Value};
 
@@ -56,14 +57,14 @@ pub struct Score {
     pub level: Level,
 }
 
-static SCORE: [Spellings; 1] = spelled!["level"];
+static SCORE: &[Spellings] = &spelled!["level"];
 
 /// The spellings of the rows.
 #[tactic(auto, unfolding(crate::specs::Scores::score_rows))]
-fn score_names() -> &'static [Spellings; 1]
+fn score_names() -> &'static [Spellings]
     ensures { map spellings_view result.now ≡ names_of score_rows }
 {
-    &SCORE
+    SCORE
 }
 
 /// The score of a table.
@@ -74,9 +75,7 @@ fn score_from(alloc: Global, table: &Table) -> Result<Score, ReadFault>
     ensures fault { IfErr result (FaultIn ((form score_rows).faulty (data_of table.now))) }
 {
     let names = score_names();
-    let mut slots = [Slot::Absent; 1];
-    find_slots(table, names, &mut slots);
-    let mut rows = rows_of(names, &slots);
+    let mut rows = rows_of(names, slots_of(alloc, TableSource::Lent(table), names)?);
     Ok(Score {
         level: required(alloc, &mut rows)?,
     })

@@ -6,7 +6,8 @@ use manifest_value::cursor::{
     required, rows_of,
 };
 use manifest_value::entries::map_of_entries;
-use manifest_value::{Slot, Spellings, find_slots, spelled, walk};
+use manifest_value::row_slots::{RowSlot, slots_of};
+use manifest_value::{Slot, Source, Spellings, TableSource, spelled, walk};
 use std::alloc::Global;
 use std::process::Abort;
 use std::test::Fail;
@@ -51,13 +52,37 @@ fn a_walk_finds_the_rows_and_the_rest(rt: HostRuntime) -> Result<(), Fail> {
     Ok(())
 }
 
+/// What stands in the slots of rows, in their order, and whether it is lent or taken.
+fn slots_text(alloc: Global, slots: &[RowSlot<'_>]) -> Result<String, Fail> {
+    let mut text = String::new(alloc);
+    for slot in slots {
+        match slot {
+            RowSlot::Absent => text.push_str("absent;")?,
+            RowSlot::One { spelling, value } => {
+                text.push_str(spelling)?;
+                text.push_str(match value {
+                    Source::Taken(Value::Integer(4)) => " is a taken 4;",
+                    Source::Lent(Value::Integer(4)) => " is a lent 4;",
+                    _ => " is something else;",
+                })?;
+            }
+            RowSlot::Clash => text.push_str("clash;")?,
+        }
+    }
+    Ok(text)
+}
+
 #[test]
-fn slots_on_the_stack_hold_the_same(rt: HostRuntime) -> Result<(), Fail> {
+fn slots_of_a_table_that_is_taken_or_lent(rt: HostRuntime) -> Result<(), Fail> {
     let alloc = rt.alloc();
     let table = toml::table_from_str(alloc, ENTRIES)?;
-    let mut slots = [Slot::Absent; 3];
-    find_slots(&table, &ROWS, &mut slots);
-    assert_is(&rt, found(alloc, &slots), FOUND, ENTRIES)
+    let lent = slots_of(alloc, TableSource::Lent(&table), &ROWS)?;
+    let text = slots_text(alloc, lent.as_slice());
+    assert_is(&rt, text, "clash;c is a lent 4;absent;", ENTRIES)?;
+    drop(lent);
+    let taken = slots_of(alloc, TableSource::Taken(table), &ROWS)?;
+    let text = slots_text(alloc, taken.as_slice());
+    assert_is(&rt, text, "clash;c is a taken 4;absent;", ENTRIES)
 }
 
 /// A row for each reader of a row, and one that is not there.
@@ -71,8 +96,7 @@ const READ_FROM: &str =
 fn each_reader_reads_the_next_row(rt: HostRuntime) -> Result<(), Fail> {
     let alloc = rt.alloc();
     let table = toml::table_from_str(alloc, READ_FROM)?;
-    let walk = walk(alloc, &table, &READ)?;
-    let mut rows = rows_of(&READ, walk.slots.as_slice());
+    let mut rows = rows_of(&READ, slots_of(alloc, TableSource::Taken(table), &READ)?);
     assert!(rt; matches!(required::<bool>(alloc, &mut rows), Ok(true)));
     assert!(rt; matches!(optional::<bool>(alloc, &mut rows), Ok(Some(true))));
     assert!(rt; matches!(or_default(alloc, &mut rows, false), Ok(true)));

@@ -12,6 +12,7 @@ ghost use Rattle.manifest_schema.proofs.KindLaws.{tree_lawful};
 ghost use Rattle.manifest_schema.proofs.ManifestLaws.{package_lawful};
 ghost use Rattle.manifest_value.specs.Faults.{FaultIn};
 ghost use Rattle.manifest_value.specs.Reading.{data_of, Reads, WritesRows};
+ghost use Rattle.manifest_value.specs.Sources.{table_source};
 ghost use Rattle.manifest_value.specs.Walks.{spellings_view, names_of};
 ghost use Rattle.manifest_value.specs.Cursors.{Filled, Passed, UnfitFrom};
 ghost use Rattle.manifest_parts.specs.Parts.{inh_content};
@@ -24,9 +25,10 @@ use manifest_parts::{Edition, MaybeInherited, Publish, Resolver, StringOrBool};
 use manifest_value::cursor::{RowCursor, fill, fill_tree, required, rows_of};
 use manifest_value::fault::here;
 use manifest_value::metadata::put_tree;
+use manifest_value::row_slots::slots_of;
 use manifest_value::rows::{put_optional, put_row};
 use manifest_value::well_formed::tree_is_well_formed;
-use manifest_value::{Cause, Metadata, ReadFault, Schema, Spellings, spelled, walk};
+use manifest_value::{Cause, Metadata, ReadFault, Schema, Spellings, TableSource, spelled};
 use std::alloc::{AllocError, Global};
 use toml::{Table, Value};
 
@@ -222,15 +224,24 @@ fn package_names<M: Metadata>() -> &'static [Spellings]
 /// let table = toml::table_from_str(alloc, "name = 'a'")?;
 /// let package: Package<Value> = package_from(alloc, &table)?; // without a version
 /// ```
-#[tactic(auto, unfolding(manifest_schema::specs::ManifestForms::package_rows))]
 pub fn package_from<M: Metadata>(alloc: Global, table: &Table) -> Result<Package<M>, ReadFault>
     ensures ok { IfOk result
         (Reads (package_form M.kind) (package_of M.kind M.content) (data_of table.now)) }
     ensures fault { IfErr result (FaultIn ((package_form M.kind).faulty (data_of table.now))) }
 {
+    package_in(alloc, TableSource::Lent(table))
+}
+
+/// Reads the rows of a table.
+#[tactic(auto, unfolding(manifest_schema::specs::ManifestForms::package_rows))]
+fn package_in<M: Metadata>(alloc: Global, table: TableSource<'_>) -> Result<Package<M>, ReadFault>
+    ensures ok { IfOk result
+        (Reads (package_form M.kind) (package_of M.kind M.content) (table_source table.entry)) }
+    ensures fault { IfErr result
+        (FaultIn ((package_form M.kind).faulty (table_source table.entry))) }
+{
     let names = package_names::<M>();
-    let walk = walk(alloc, table, names)?;
-    let mut rows = rows_of(names, walk.slots.as_slice());
+    let mut rows = rows_of(names, slots_of(alloc, table, names)?);
     let mut x = named(required(alloc, &mut rows)?);
     fill_package(alloc, &mut rows, &mut x).and(Ok(x))
 }
@@ -404,7 +415,14 @@ impl<M: Metadata> Schema for Package<M> {
 
     fn from_value(alloc: Global, value: &Value) -> Result<Package<M>, ReadFault> {
         match value {
-            Value::Table(table) => package_from(alloc, table),
+            Value::Table(table) => package_in(alloc, TableSource::Lent(table)),
+            _ => Err(here(alloc, Cause::WrongKind)),
+        }
+    }
+
+    fn take(alloc: Global, value: Value) -> Result<Package<M>, ReadFault> {
+        match value {
+            Value::Table(table) => package_in(alloc, TableSource::Taken(table)),
             _ => Err(here(alloc, Cause::WrongKind)),
         }
     }

@@ -26,6 +26,7 @@ use manifest_value::cursor::{RowCursor, fill, rows_of};
 use manifest_value::entries::map_of_entries;
 use manifest_value::fault::here;
 use manifest_value::maps::entries_table;
+use manifest_value::row_slots::lent_slots;
 use manifest_value::rows::put_optional;
 use manifest_value::well_formed::none_is_named;
 use manifest_value::{Cause, ReadFault, Schema, Spellings, spelled, walk};
@@ -164,7 +165,7 @@ fn profiles_from(alloc: Global, table: &Table) -> Result<Profiles, ReadFault>
 {
     let names = profiles_names();
     let walk = walk(alloc, table, names)?;
-    let mut rows = rows_of(names, walk.slots.as_slice());
+    let mut rows = rows_of(names, lent_slots(alloc, walk.slots.as_slice())?);
     let mut x = Profiles::default(alloc);
     fill_profiles(alloc, &mut rows, walk.rest.as_slice(), &mut x).and(Ok(x))
 }

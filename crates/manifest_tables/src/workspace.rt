@@ -14,7 +14,8 @@ ghost use Rattle.manifest_schema.proofs.KindLaws.{tree_lawful};
 ghost use Rattle.manifest_schema.proofs.ManifestLaws.{workspace_package_lawful, workspace_lawful};
 ghost use Rattle.manifest_value.specs.Faults.{FaultIn};
 ghost use Rattle.manifest_value.specs.Entries.{entries_content};
-ghost use Rattle.manifest_value.specs.Reading.{data_of, Reads, WritesRows};
+ghost use Rattle.manifest_value.specs.Reading.{Reads, WritesRows};
+ghost use Rattle.manifest_value.specs.Sources.{table_source};
 ghost use Rattle.manifest_value.specs.Walks.{spellings_view, names_of};
 ghost use Rattle.manifest_value.specs.Cursors.{Filled, Passed, UnfitFrom};
 ghost use Rattle.manifest_parts.specs.Records.{lint_content};
@@ -27,9 +28,10 @@ use manifest_parts::{DepsSet, Edition, LintsSet, Publish, Resolver, StringOrBool
 use manifest_value::cursor::{RowCursor, fill, fill_default, fill_tree, rows_of};
 use manifest_value::fault::here;
 use manifest_value::metadata::put_tree;
+use manifest_value::row_slots::slots_of;
 use manifest_value::rows::{put_optional, put_row};
 use manifest_value::well_formed::tree_is_well_formed;
-use manifest_value::{Cause, Metadata, ReadFault, Schema, Spellings, spelled, walk};
+use manifest_value::{Cause, Metadata, ReadFault, Schema, Spellings, TableSource, spelled};
 use std::alloc::{AllocError, Global};
 use toml::{Table, Value};
 
@@ -107,15 +109,17 @@ fn workspace_package_names() -> &'static [Spellings]
 
 /// Reads the rows of a table.
 #[tactic(auto, unfolding(manifest_schema::specs::ManifestForms::workspace_package_rows))]
-fn workspace_package_from(alloc: Global, table: &Table) -> Result<WorkspacePackage, ReadFault>
+fn workspace_package_from(
+    alloc: Global,
+    table: TableSource<'_>,
+) -> Result<WorkspacePackage, ReadFault>
     ensures ok { IfOk result
-        (Reads (form workspace_package_rows) workspace_package_content (data_of table.now)) }
+        (Reads (form workspace_package_rows) workspace_package_content (table_source table.entry)) }
     ensures fault { IfErr result
-        (FaultIn ((form workspace_package_rows).faulty (data_of table.now))) }
+        (FaultIn ((form workspace_package_rows).faulty (table_source table.entry))) }
 {
     let names = workspace_package_names();
-    let walk = walk(alloc, table, names)?;
-    let mut rows = rows_of(names, walk.slots.as_slice());
+    let mut rows = rows_of(names, slots_of(alloc, table, names)?);
     let mut x = WorkspacePackage::default();
     fill_workspace_package(alloc, &mut rows, &mut x).and(Ok(x))
 }
@@ -228,7 +232,14 @@ impl Schema for WorkspacePackage {
 
     fn from_value(alloc: Global, value: &Value) -> Result<WorkspacePackage, ReadFault> {
         match value {
-            Value::Table(table) => workspace_package_from(alloc, table),
+            Value::Table(table) => workspace_package_from(alloc, TableSource::Lent(table)),
+            _ => Err(here(alloc, Cause::WrongKind)),
+        }
+    }
+
+    fn take(alloc: Global, value: Value) -> Result<WorkspacePackage, ReadFault> {
+        match value {
+            Value::Table(table) => workspace_package_from(alloc, TableSource::Taken(table)),
             _ => Err(here(alloc, Cause::WrongKind)),
         }
     }
@@ -376,15 +387,14 @@ fn workspace_names<M: Metadata>() -> &'static [Spellings]
 #[tactic(auto, unfolding(manifest_schema::specs::ManifestForms::workspace_rows))]
 pub(crate) fn workspace_from<M: Metadata>(
     alloc: Global,
-    table: &Table,
+    table: TableSource<'_>,
 ) -> Result<Workspace<M>, ReadFault>
     ensures ok { IfOk result
-        (Reads (workspace_form M.kind) (workspace_of M.kind M.content) (data_of table.now)) }
-    ensures fault { IfErr result (FaultIn ((workspace_form M.kind).faulty (data_of table.now))) }
+        (Reads (workspace_form M.kind) (workspace_of M.kind M.content) (table_source table.entry)) }
+    ensures fault { IfErr result (FaultIn ((workspace_form M.kind).faulty (table_source table.entry))) }
 {
     let names = workspace_names::<M>();
-    let walk = walk(alloc, table, names)?;
-    let mut rows = rows_of(names, walk.slots.as_slice());
+    let mut rows = rows_of(names, slots_of(alloc, table, names)?);
     let mut x = Workspace::default(alloc);
     fill_workspace(alloc, &mut rows, &mut x).and(Ok(x))
 }
@@ -444,7 +454,14 @@ impl<M: Metadata> Schema for Workspace<M> {
 
     fn from_value(alloc: Global, value: &Value) -> Result<Workspace<M>, ReadFault> {
         match value {
-            Value::Table(table) => workspace_from(alloc, table),
+            Value::Table(table) => workspace_from(alloc, TableSource::Lent(table)),
+            _ => Err(here(alloc, Cause::WrongKind)),
+        }
+    }
+
+    fn take(alloc: Global, value: Value) -> Result<Workspace<M>, ReadFault> {
+        match value {
+            Value::Table(table) => workspace_from(alloc, TableSource::Taken(table)),
             _ => Err(here(alloc, Cause::WrongKind)),
         }
     }

@@ -29,7 +29,7 @@ module _ {A T : Type 0} (K : Kind A) (content : T → A) (R : Reads T) where
   list_reads (Err f) v h is = tt
 
 -- WHAT IS REFUSED
-item_after : (before : List Value) (v : Value) (after : List Value) → get_item (length before) (items_view (before ++ v ∷ after)) ≡ Some (view v)
+pub item_after : (before : List Value) (v : Value) (after : List Value) → get_item (length before) (items_view (before ++ v ∷ after)) ≡ Some (view v)
 item_after [] v after = refl
 item_after (b ∷ before) v after = item_after before v after
 

@@ -1,5 +1,5 @@
 -- Entries that are read of the first members of a table: their keys ascend as the table's do.
-use Rattle.std.proofs.Common.{◌≡◌, Bool, true, false, List, [], ◌∷◌, String, Global, Less, nat_cmp, string_bytes, if◌then◌else◌, subst, ◌++◌, refl, inl, inr}
+use Rattle.std.proofs.Common.{◌≡◌, Bool, true, false, List, [], ◌∷◌, String, Global, Less, nat_cmp, string_bytes, if◌then◌else◌, subst, ◌++◌, map, length, suc, ap, refl, inl, inr}
 use Rattle.std.specs.Cmp.Lexicographic.{slice_cmp}
 use Rattle.std.specs.List.{AllByRecursion}
 use Rattle.std.specs.List.Sorted.{IsStrictlySortedBy}
@@ -7,10 +7,10 @@ use Rattle.std.specs.Map.{keys_of}
 use Rattle.std.specs.String.{string_cmp}
 use Rattle.toml.specs.Data.{Data, Members, no_members, member}
 use Rattle.toml.specs.declared.value.Value.{Value}
-use Rattle.toml.specs.View.{members_view}
+use Rattle.toml.specs.View.{view, items_view, members_view}
 use Rattle.manifest_schema.specs.Paths.{Text}
 use Rattle.manifest_schema.specs.Slots.{is_among, without}
-use Rattle.manifest_schema.specs.Kinds.{Kind, Entries, has_entry, reads_entries}
+use Rattle.manifest_schema.specs.Kinds.{Kind, Entries, has_entry, reads_items, reads_entries}
 use Rattle.manifest_value.specs.Entries.{entries_content, reads_first}
 use Rattle.manifest_value.specs.Walks.{IsBelow, Ascend}
 
@@ -26,6 +26,21 @@ pub next_within : {A : Type 0} (K : Kind A) (ms : Members) (es : Entries A) (k :
 next_within K ms [] k d rest h = rw h (inl (refl, refl))
 next_within K no_members (e ∷ es) k d rest h = absurd h
 next_within K (member l c ms) (e ∷ es) k d rest h = inr (next_within K ms es k d rest h.2)
+
+-- one more item is read
+pub items_more : {A X : Type 0} (K : Kind A) (f : X → A) (vs : List Value) (xs : List X) (v : Value) (x : X)
+    → reads_items K (items_view vs) (map f xs) → K.reads (view v) (f x) → reads_items K (items_view (vs ++ v ∷ [])) (map f (xs ++ x ∷ []))
+items_more K f [] [] v x h r = (r, tt)
+items_more K f [] (y ∷ xs) v x h r = absurd h
+items_more K f (w ∷ vs) [] v x h r = absurd h
+items_more K f (w ∷ vs) (y ∷ xs) v x h r = (h.0, items_more K f vs xs v x h.1 r)
+
+-- as many are read as there are items
+pub items_many : {A X : Type 0} (K : Kind A) (f : X → A) (vs : List Value) (xs : List X) → reads_items K (items_view vs) (map f xs) → length vs ≡ length xs
+items_many K f [] [] h = refl
+items_many K f [] (y ∷ xs) h = absurd h
+items_many K f (w ∷ vs) [] h = absurd h
+items_many K f (w ∷ vs) (y ∷ xs) h = ap suc (items_many K f vs xs h.1)
 
 -- where nothing is left, all are read
 pub none_left : {A : Type 0} (K : Kind A) (ms : Members) (es : Entries A) → reads_first K ms es no_members → reads_entries K ms es

@@ -15,13 +15,12 @@ use Rattle.toml.specs.declared.value.Value.{Value}
 use Rattle.toml.specs.Data.{Data, Members, no_members, member, get_member, same_key}
 use Rattle.toml.proofs.Views.{Entry, with_last}
 use Rattle.manifest_schema.specs.Paths.{Text}
-use Rattle.manifest_schema.specs.Slots.{Spellings, only, both, absent, slot_of_two, at, is_among, without}
+use Rattle.manifest_schema.specs.Slots.{Spellings, Slot, only, both, absent, slot_of_two, at, is_among, without}
 use Rattle.manifest_schema.specs.Forms.{spell, differ}
 use Rattle.manifest_schema.specs.ForProofs.{spellings_of}
 use Rattle.manifest_schema.proofs.TableLaws.{same_key-true, turned, get-member_other, get-member_same}
-use Rattle.manifest_value.specs.Walks.{spellings_view, all_words, distinct_words, slot_view, slots_at, rest_view, filled, filled_at, is_word_at, blanks}
+use Rattle.manifest_value.specs.Walks.{spellings_view, all_words, distinct_words, slots_at, rest_view, filled, filled_at, is_word_at, blanks}
 use Rattle.manifest_value.specs.declared.spellings.Spellings.{Spellings as CodeSpellings}
-use Rattle.manifest_value.specs.declared.walked.Slot.{Slot as CodeSlot}
 
 key_below : {X : Type 0} (first : String Global × X) (es : List (String Global × X)) (e : String Global × X) (more : List (String Global × X))
     → AllByRecursion (λ y. string_cmp first.0 y ≡ Less) (keys_of (es ++ e ∷ more)) → string_cmp first.0 e.0 ≡ Less
@@ -174,17 +173,17 @@ at_none : (s : Spellings) → absent ≡ at s no_members
 at_none (only k) = refl
 at_none (both k l) = refl
 
-pub blanks-last : (n : ℕ) → blanks n ++ CodeSlot.Absent ∷ [] ≡ blanks (suc n)
-blanks-last zero = refl
-blanks-last (suc n) = ap (λ t. CodeSlot.Absent ∷ t) (blanks-last n)
+pub blanks-last : {X : Type 0} (x : X) (n : ℕ) → blanks x n ++ x ∷ [] ≡ blanks x (suc n)
+blanks-last x zero = refl
+blanks-last x (suc n) = ap (λ t. x ∷ t) (blanks-last x n)
 
-pub blanks-view : (rows : List CodeSpellings) → map slot_view (blanks (length rows)) ≡ slots_at (map spellings_view rows) no_members
-blanks-view [] = refl
-blanks-view (r ∷ rows) = rw (blanks-view rows, ← at_none (spellings_view r)) refl
+pub blanks-view : {X : Type 0} (f : X → Slot) (x : X) → f x ≡ absent → (rows : List CodeSpellings) → map f (blanks x (length rows)) ≡ slots_at (map spellings_view rows) no_members
+blanks-view f x h [] = refl
+blanks-view f x h (r ∷ rows) = rw (blanks-view f x h rows, ← at_none (spellings_view r), h) refl
 
-pub blanks-length : (n : ℕ) → length (blanks n) ≡ n
-blanks-length zero = refl
-blanks-length (suc n) = ap suc (blanks-length n)
+pub blanks-length : {X : Type 0} (x : X) (n : ℕ) → length (blanks x n) ≡ n
+blanks-length x zero = refl
+blanks-length x (suc n) = ap suc (blanks-length x n)
 
 pub word_at : (rows : List CodeSpellings) (i : ℕ) (d0 : CodeSpellings) (k : Text) → i < length rows → is_among (spell (spellings_view (get_or rows i d0)) []) k ≡ true → is_word_at i (map spellings_view rows) k ≡ true
 word_at [] i d0 k h g = absurd (omega (arith, h))
@@ -219,10 +218,16 @@ rest-last [] e = refl
 rest-last (x ∷ es) e = ap (member x.0.now (view x.1.now)) (rest-last es e)
 
 -- THE SLOTS OF A LIST
-pub filled_at-set : (i : ℕ) (xs : List CodeSlot) (x d0 : CodeSlot) (k : Text) (d : Data) → slot_view x ≡ filled (slot_view (get_or xs i d0)) k d → i < length xs → map slot_view (slice_set xs i x) ≡ filled_at i k d (map slot_view xs)
-filled_at-set i [] x d0 k d h g = absurd (omega (arith, g))
-filled_at-set zero (y ∷ xs) x d0 k d h g = rw h refl
-filled_at-set (suc i) (y ∷ xs) x d0 k d h g = ap (λ t. slot_view y ∷ t) (filled_at-set i xs x d0 k d h (omega (arith, g)))
+pub filled_at-set : {X : Type 0} (f : X → Slot) (i : ℕ) (xs : List X) (x d0 : X) (k : Text) (d : Data) → f x ≡ filled (f (get_or xs i d0)) k d → i < length xs → map f (slice_set xs i x) ≡ filled_at i k d (map f xs)
+filled_at-set f i [] x d0 k d h g = absurd (omega (arith, g))
+filled_at-set f zero (y ∷ xs) x d0 k d h g = rw h refl
+filled_at-set f (suc i) (y ∷ xs) x d0 k d h g = ap (λ t. f y ∷ t) (filled_at-set f i xs x d0 k d h (omega (arith, g)))
+
+-- what is left behind a place does not turn on what stands there
+pub drop-set : {X : Type 0} (i : ℕ) (xs : List X) (x : X) → drop (suc i) (slice_set xs i x) ≡ drop (suc i) xs
+drop-set i [] x = refl
+drop-set zero (y ∷ xs) x = refl
+drop-set (suc i) (y ∷ xs) x = drop-set i xs x
 
 -- A KEY THAT IS ABOVE ALL BEFORE
 pub not_before : (done : List Entry) (e : Entry) (more : List Entry) → IsStrictlySortedBy string_cmp (keys_of (done ++ e ∷ more)) → get_member (string_bytes e.0) (members_view done) ≡ None

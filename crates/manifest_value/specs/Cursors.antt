@@ -5,13 +5,14 @@ use Rattle.manifest_schema.specs.Slots.{Spellings, Slot, at}
 use Rattle.manifest_schema.specs.Forms.{Rows, form}
 use Rattle.manifest_schema.specs.ForProofs.{Key, above, down_to, first_fit}
 use Rattle.manifest_value.specs.Faults.{FaultIn}
-use Rattle.manifest_value.specs.Walks.{spellings_view, slot_view, slots_at, names_of}
+use Rattle.manifest_value.specs.Walks.{spellings_view, slots_at, names_of}
+use Rattle.manifest_value.specs.Sources.{row_view}
 use Rattle.manifest_value.specs.declared.fault.ReadFault.{ReadFault}
 use Rattle.manifest_value.specs.declared.cursor.RowCursor.{RowCursor}
 
 -- these rows of this table are still to come
 unfoldable pub Stands : RowCursor → List Spellings → Members → Type 0
-Stands r ss ms = (map spellings_view r.names.now ≡ ss) × (map slot_view r.slots.now ≡ slots_at ss ms)
+Stands r ss ms = (map spellings_view r.names.now ≡ ss) × (map row_view (drop r.next r.slots.items) ≡ slots_at ss ms)
 
 -- the rows of this table from the row of key a on are still to come
 abbrev pub StandsAt : {A : Type 0} → Key → Rows A → RowCursor → Members → Type 0

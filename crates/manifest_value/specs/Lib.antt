@@ -9,6 +9,7 @@ pub use Rattle.manifest_schema.specs.ForProofs
 pub mod Faults
 pub mod Entries
 pub mod Walks
+pub mod Sources
 pub mod Cursors
 pub mod Reading
 pub mod Calls

@@ -58,10 +58,10 @@ value_in absent = Some None
 value_in (one k d) = Some (Some d)
 value_in clash = None
 
--- slots in which nothing is found yet
-abbrev pub blanks : ℕ → List CodeSlot
-blanks zero = []
-blanks (suc n) = CodeSlot.Absent ∷ blanks n
+-- so many slots of one kind, as those in which nothing is found yet
+abbrev pub blanks : {X : Type 0} → X → ℕ → List X
+blanks x zero = []
+blanks x (suc n) = x ∷ blanks x n
 
 -- a slot in which one more value is found
 abbrev pub filled : Slot → Text → Data → Slot

@@ -2,63 +2,67 @@
 
 ghost use Rattle.std.specs.Prelude.{◌≡◌, ◌∷◌, List, Some, None, IfOk, IfErr, OnOk, option_map, map};
 ghost use Rattle.toml.specs.Data.{Members};
-ghost use Rattle.toml.specs.View.{view};
 ghost use Rattle.manifest_schema.specs.Paths.{behind, key};
 ghost use Rattle.manifest_schema.specs.Slots.{Spellings as Words, first, one, at};
 ghost use Rattle.manifest_schema.specs.Kinds.{tree_of};
 ghost use Rattle.manifest_schema.specs.Needs.{meets_required, meets_optional, meets_default, meets_lenient, faulty_free, faulty_required};
 ghost use Rattle.manifest_value.specs.Faults.{FaultIn};
 ghost use Rattle.manifest_value.specs.Reading.{written_as};
-ghost use Rattle.manifest_value.specs.Walks.{spellings_view, slot_view, slots_at};
+ghost use Rattle.manifest_value.specs.Walks.{spellings_view, slots_at};
+ghost use Rattle.manifest_value.specs.Sources.{source_view, row_view};
 ghost use Rattle.manifest_value.specs.Cursors.{Stands, AtRow, StepsOn};
 
 use crate::fault::{Cause, ReadFault};
 use crate::metadata::Metadata;
-use crate::rows::{at_key, read_under};
+use crate::row_slots::{RowSlot, take_slot};
+use crate::rows::at_key;
 use crate::schema::Schema;
+use crate::source::{Source, read_source, source_under};
 use crate::spellings::Spellings;
-use crate::walked::Slot;
 use std::alloc::{AllocError, Global};
-use toml::Value;
 
 /// The rows of a table that are still to be read. Each reader below reads the next one and steps behind it.
 #[derive(Drop)]
 pub struct RowCursor<'t, 'w> {
     names: &'w [Spellings],
-    slots: &'w [Slot<'t>],
+    slots: Vec<RowSlot<'t>>,
+    next: usize,
 }
 
-/// A cursor before the first row.
+/// A cursor before the first of these rows.
 ///
 /// ```ignore
-/// let walk = walk(alloc, table, &ROWS)?;
-/// let mut rows = rows_of(&ROWS, walk.slots.as_slice());
+/// let mut rows = rows_of(&ROWS, slots_of(alloc, TableSource::Lent(table), &ROWS)?);
 /// let name: String = required(alloc, &mut rows)?;
 /// ```
 #[tactic(auto, unfolding(crate::specs::Cursors::Stands))]
-pub fn rows_of<'t, 'w>(names: &'w [Spellings], slots: &'w [Slot<'t>]) -> RowCursor<'t, 'w>
+pub fn rows_of<'t, 'w>(names: &'w [Spellings], slots: Vec<RowSlot<'t>>) -> RowCursor<'t, 'w>
     ensures { (ss : List Words) (ms : Members) → map spellings_view names.now ≡ ss
-        → map slot_view slots.now ≡ slots_at ss ms → Stands result ss ms }
+        → map row_view slots.entry.items ≡ slots_at ss ms → Stands result ss ms }
 {
-    RowCursor { names, slots }
+    RowCursor {
+        names,
+        slots,
+        next: 0,
+    }
 }
 
 /// The next row: its first spelling, and what stands there.
 #[inline(always)]
 #[tactic(auto, unfolding(crate::specs::Cursors::Stands))]
-fn next_row<'t, 'w>(rows: &mut RowCursor<'t, 'w>) -> (&'static str, Slot<'t>)
+fn next_row<'t, 'w>(rows: &mut RowCursor<'t, 'w>) -> (&'static str, RowSlot<'t>)
     ensures named { AtRow rows.old (λ s slot. result.0.now ≡ first s) }
-    ensures found { AtRow rows.old (λ s slot. slot_view result.1 ≡ slot) }
+    ensures found { AtRow rows.old (λ s slot. row_view result.1 ≡ slot) }
     ensures next { StepsOn rows.old rows.new }
 {
     let names: &'w [Spellings] = rows.names;
-    let slots: &'w [Slot<'t>] = rows.slots;
-    if names.is_empty() || slots.is_empty() {
-        return ("", Slot::Absent);
+    let i = rows.next;
+    if names.is_empty() || rows.slots.len() <= i {
+        return ("", RowSlot::Absent);
     }
     rows.names = &names[1..];
-    rows.slots = &slots[1..];
-    (names[0].first, slots[0])
+    rows.next = i + 1;
+    (names[0].first, take_slot(&mut rows.slots, i))
 }
 
 /// A row that must be there. An absent one is refused under its first spelling with `Missing`, and two spellings with
@@ -76,9 +80,9 @@ pub fn required<T: Schema>(alloc: Global, rows: &mut RowCursor<'_, '_>) -> Resul
     ensures next { StepsOn rows.old rows.new }
 {
     match next_row(rows) {
-        (first, Slot::Absent) => Err(at_key(alloc, first, Cause::Missing)),
-        (first, Slot::Clash) => Err(at_key(alloc, first, Cause::TwoSpellings)),
-        (_, Slot::One { spelling, value }) => read_under(alloc, value, spelling),
+        (first, RowSlot::Absent) => Err(at_key(alloc, first, Cause::Missing)),
+        (first, RowSlot::Clash) => Err(at_key(alloc, first, Cause::TwoSpellings)),
+        (_, RowSlot::One { spelling, value }) => source_under(alloc, value, spelling),
     }
 }
 
@@ -100,9 +104,9 @@ pub fn optional<T: Schema>(
     ensures next { StepsOn rows.old rows.new }
 {
     match next_row(rows) {
-        (_, Slot::Absent) => Ok(None),
-        (first, Slot::Clash) => Err(at_key(alloc, first, Cause::TwoSpellings)),
-        (_, Slot::One { spelling, value }) => Ok(Some(read_under(alloc, value, spelling)?)),
+        (_, RowSlot::Absent) => Ok(None),
+        (first, RowSlot::Clash) => Err(at_key(alloc, first, Cause::TwoSpellings)),
+        (_, RowSlot::One { spelling, value }) => Ok(Some(source_under(alloc, value, spelling)?)),
     }
 }
 
@@ -124,9 +128,9 @@ pub fn or_default<T: Schema>(
     ensures next { StepsOn rows.old rows.new }
 {
     match next_row(rows) {
-        (_, Slot::Absent) => Ok(default),
-        (first, Slot::Clash) => Err(at_key(alloc, first, Cause::TwoSpellings)),
-        (_, Slot::One { spelling, value }) => read_under(alloc, value, spelling),
+        (_, RowSlot::Absent) => Ok(default),
+        (first, RowSlot::Clash) => Err(at_key(alloc, first, Cause::TwoSpellings)),
+        (_, RowSlot::One { spelling, value }) => source_under(alloc, value, spelling),
     }
 }
 
@@ -152,16 +156,16 @@ fn leave_empty<T: Drop>(place: &mut Option<T>)
 #[inline(never)]
 fn fill_with<T: Schema>(
     alloc: Global,
-    value: &Value,
+    value: Source<'_>,
     word: &str,
     place: &mut Option<T>,
 ) -> Result<(), ReadFault>
     ensures ok { OnOk result
-        (meets_optional T.kind (one word.now (view value.now)) (option_map T.content place.new)) }
+        (meets_optional T.kind (one word.now (source_view value.entry)) (option_map T.content place.new)) }
     ensures fault { IfErr result
-        (FaultIn (behind (key word.now) (T.kind.faulty (view value.now)))) }
+        (FaultIn (behind (key word.now) (T.kind.faulty (source_view value.entry)))) }
 {
-    *place = Some(read_under(alloc, value, word)?);
+    *place = Some(source_under(alloc, value, word)?);
     Ok(())
 }
 
@@ -182,9 +186,9 @@ pub fn fill<T: Schema>(
     ensures next { StepsOn rows.old rows.new }
 {
     match next_row(rows) {
-        (_, Slot::Absent) => Ok(leave_empty(place)),
-        (first, Slot::Clash) => Err(at_key(alloc, first, Cause::TwoSpellings)),
-        (_, Slot::One { spelling, value }) => fill_with(alloc, value, spelling, place),
+        (_, RowSlot::Absent) => Ok(leave_empty(place)),
+        (first, RowSlot::Clash) => Err(at_key(alloc, first, Cause::TwoSpellings)),
+        (_, RowSlot::One { spelling, value }) => fill_with(alloc, value, spelling, place),
     }
 }
 
@@ -247,8 +251,8 @@ pub fn lenient_optional<T: Schema>(
     ensures next { StepsOn rows.old rows.new }
 {
     match next_row(rows) {
-        (_, Slot::Absent | Slot::Clash) => Ok(None),
-        (_, Slot::One { value, .. }) => match T::from_value(alloc, value) {
+        (_, RowSlot::Absent | RowSlot::Clash) => Ok(None),
+        (_, RowSlot::One { value, .. }) => match read_source(alloc, value) {
             Ok(x) => Ok(Some(x)),
             Err(ReadFault::Schema(_)) => Ok(None),
             Err(ReadFault::Memory(refused)) => Err(refused),
@@ -272,8 +276,8 @@ pub fn lenient_default<T: Schema>(
     ensures next { StepsOn rows.old rows.new }
 {
     match next_row(rows) {
-        (_, Slot::Absent | Slot::Clash) => Ok(default),
-        (_, Slot::One { value, .. }) => match T::from_value(alloc, value) {
+        (_, RowSlot::Absent | RowSlot::Clash) => Ok(default),
+        (_, RowSlot::One { value, .. }) => match read_source(alloc, value) {
             Ok(x) => Ok(x),
             Err(ReadFault::Schema(_)) => Ok(default),
             Err(ReadFault::Memory(memory)) => Err(memory),

@@ -126,6 +126,11 @@ impl Schema for Value {
         kept(alloc, value)
     }
 
+    fn take(alloc: Global, value: Value) -> Result<Value, ReadFault> {
+        refuse_float(alloc, &value)?;
+        Ok(value)
+    }
+
     fn to_value(&self, _alloc: Global) -> Result<Value, AllocError> {
         self.clone()
     }

@@ -12,6 +12,7 @@ ghost use Rattle.manifest_schema.proofs.KindLaws.{map_lawful};
 use crate::entries::map_of_entries;
 use crate::fault::{Cause, ReadFault, here};
 use crate::schema::Schema;
+use crate::taken::taken_map;
 use crate::walking::walk;
 use crate::writers::entries_by;
 use std::alloc::{AllocError, Global};
@@ -68,6 +69,13 @@ impl<T: Schema> Schema for BTreeMap<String, T> {
     fn from_value(alloc: Global, value: &Value) -> Result<BTreeMap<String, T>, ReadFault> {
         match value {
             Value::Table(table) => map_from(alloc, table),
+            _ => Err(here(alloc, Cause::WrongKind)),
+        }
+    }
+
+    fn take(alloc: Global, value: Value) -> Result<BTreeMap<String, T>, ReadFault> {
+        match value {
+            Value::Table(table) => taken_map(alloc, table),
             _ => Err(here(alloc, Cause::WrongKind)),
         }
     }

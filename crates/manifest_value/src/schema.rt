@@ -9,8 +9,9 @@ ghost use Rattle.manifest_value.specs.Faults.{FaultIn, IsSchema};
 ghost use Rattle.manifest_value.specs.Reading.{Reads};
 
 use crate::closures::list_of;
-use crate::fault::ReadFault;
+use crate::fault::{Cause, ReadFault, here};
 use crate::readers::{boolean, text};
+use crate::taken::taken_items;
 use crate::writers::{write_list, write_text};
 use std::alloc::{AllocError, Global};
 use toml::Value;
@@ -31,6 +32,14 @@ pub trait Schema: Sized + Drop {
         ensures ok { IfOk result (Reads kind content (view value.now)) }
         ensures fault { IfErr result (FaultIn (kind.faulty (view value.now))) };
 
+    /// The same reading of a value that nobody else wants: what it holds is moved where the type can, and copied else.
+    fn take(alloc: Global, value: Value) -> Result<Self, ReadFault>
+        ensures ok { IfOk result (Reads kind content (view value)) }
+        ensures fault { IfErr result (FaultIn (kind.faulty (view value))) }
+    {
+        Self::from_value(alloc, &value)
+    }
+
     /// The value that is written.
     fn to_value(&self, alloc: Global) -> Result<Value, AllocError>
         ensures { IfOk result (λ v. view v ≡ kind.written (content self.now)) };
@@ -48,6 +57,14 @@ impl Schema for String {
     #[inline(always)]
     fn from_value(alloc: Global, value: &Value) -> Result<String, ReadFault> {
         text(alloc, value)
+    }
+
+    #[inline(always)]
+    fn take(alloc: Global, value: Value) -> Result<String, ReadFault> {
+        match value {
+            Value::String(s) => Ok(s),
+            _ => Err(here(alloc, Cause::WrongKind)),
+        }
     }
 
     fn to_value(&self, alloc: Global) -> Result<Value, AllocError> {
@@ -91,6 +108,13 @@ impl<T: Schema> Schema for Vec<T> {
     #[inline(always)]
     fn from_value(alloc: Global, value: &Value) -> Result<Vec<T>, ReadFault> {
         list_of(alloc, value, |item| T::from_value(alloc, item))
+    }
+
+    fn take(alloc: Global, value: Value) -> Result<Vec<T>, ReadFault> {
+        match value {
+            Value::Array(items) => taken_items(alloc, items),
+            _ => Err(here(alloc, Cause::WrongKind)),
+        }
     }
 
     fn to_value(&self, alloc: Global) -> Result<Value, AllocError> {

@@ -5,7 +5,7 @@ ghost use Rattle.toml.specs.Data.{no_members};
 ghost use Rattle.toml.specs.View.{view, table_view};
 ghost use Rattle.manifest_schema.specs.Slots.{is_among, without};
 ghost use Rattle.manifest_schema.specs.Forms.{spell};
-ghost use Rattle.manifest_value.specs.Walks.{spellings_view, all_words, distinct_words, is_word_at, slot_view, slots_at, blanks, filled, filled_at, rest_view, Ascend};
+ghost use Rattle.manifest_value.specs.Walks.{spellings_view, all_words, distinct_words, is_word_at, slot_view, slots_at, filled, filled_at, rest_view, Ascend};
 
 use crate::spellings::Spellings;
 use crate::walked::{Slot, Walk};
@@ -30,7 +30,7 @@ fn spelling_of(row: &Spellings, key: &str) -> Option<&'static str>
 
 /// The place of the row that has the key as a spelling, and that spelling.
 #[inline(always)]
-fn row_of(rows: &[Spellings], key: &str) -> Option<(usize, &'static str)>
+pub(crate) fn row_of(rows: &[Spellings], key: &str) -> Option<(usize, &'static str)>
     ensures { let ss = map spellings_view rows.now in
         MatchOption result (is_among (all_words ss) key.now ≡ false)
         (λ f. (f.1.now ≡ key.now) × (f.0 < length rows.now) × (is_word_at f.0 ss key.now ≡ true)) }
@@ -79,17 +79,6 @@ fn fill_slot<'a>(slots: &mut Vec<Slot<'a>>, i: usize, spelling: &'static str, va
     slots[i] = filled(&slots[i], spelling, value);
 }
 
-/// Finds one more value in a slot of a slice.
-#[inline(always)]
-fn set_slot<'a>(slots: &mut [Slot<'a>], i: usize, spelling: &'static str, value: &'a Value)
-    requires { i < length slots.now }
-    ensures views { map slot_view slots.new
-        ≡ filled_at i spelling.now (view value.now) (map slot_view slots.old) }
-    ensures many { length slots.new ≡ length slots.old }
-{
-    slots[i] = filled(&slots[i], spelling, value);
-}
-
 /// Walks once over a table: what it holds under the spellings of each row, and all other keys. Nothing of the table is
 /// copied, and the values are not looked at.
 ///
@@ -118,27 +107,4 @@ pub fn walk<'a>(alloc: Global, table: &'a Table, rows: &[Spellings]) -> Result<W
         }
     }
     Ok(Walk { slots, rest })
-}
-
-/// Walks once over a table for what it holds under the spellings of each row, into slots of the caller's: it takes no
-/// memory.
-///
-/// All spellings of the rows have to differ, and there has to be one slot for each row, in which nothing is found yet.
-///
-/// ```ignore
-/// let mut slots = [Slot::Absent; 2];
-/// find_slots(table, &spelled!["name", "proc-macro" | "proc_macro"], &mut slots);
-/// ```
-pub fn find_slots<'a>(table: &'a Table, rows: &[Spellings], slots: &mut [Slot<'a>])
-    requires distinct { IsTrue (distinct_words (map spellings_view rows.now)) }
-    requires empty { slots.now ≡ blanks (length rows.now) }
-    ensures { map slot_view slots.new
-        ≡ slots_at (map spellings_view rows.now) (table_view table.now) }
-{
-    let _ascending = table.len();
-    for (key, value) in table.iter() {
-        if let Some((i, spelling)) = row_of(rows, key.as_str()) {
-            set_slot(slots, i, spelling, value);
-        }
-    }
 }

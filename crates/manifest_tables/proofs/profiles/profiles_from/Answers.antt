@@ -10,7 +10,7 @@ pub returns-clause-ok : goal.returns-clause-ok
 returns-clause-ok c =
     let ms = table_view c.args.table.now in
     let named = c.profiles_names-names.ensures in
-    let found = ap (map slot_view) c.as_slice.ensures.value ∙ c.in_ok-walk.ensures.slots ∙ ap (λ ns. slots_at ns ms) named in
+    let found = c.in_ok-lent_slots.ensures ∙ ap (map slot_view) c.as_slice.ensures.value ∙ c.in_ok-walk.ensures.slots ∙ ap (λ ns. slots_at ns ms) named in
     let all = c.rows_of-rows.ensures (names_of profiles_rows) ms named found in
     let whole = ap rest_view c.as_slice-2.ensures.value ∙ c.in_ok-walk.ensures.rest ∙ ap (λ ns. without (all_words ns) ms) named in
     rw c.and.ensures (filled c.fill_profiles.result _ _ (c.fill_profiles.ensures.ok ms all whole))
@@ -19,7 +19,7 @@ pub returns-clause-fault : goal.returns-clause-fault
 returns-clause-fault c =
     let ms = table_view c.args.table.now in
     let named = c.profiles_names-names.ensures in
-    let found = ap (map slot_view) c.as_slice.ensures.value ∙ c.in_ok-walk.ensures.slots ∙ ap (λ ns. slots_at ns ms) named in
+    let found = c.in_ok-lent_slots.ensures ∙ ap (map slot_view) c.as_slice.ensures.value ∙ c.in_ok-walk.ensures.slots ∙ ap (λ ns. slots_at ns ms) named in
     let all = c.rows_of-rows.ensures (names_of profiles_rows) ms named found in
     let whole = ap rest_view c.as_slice-2.ensures.value ∙ c.in_ok-walk.ensures.rest ∙ ap (λ ns. without (all_words ns) ms) named in
     rw c.and.ensures (refused c.fill_profiles.result _ _ (c.fill_profiles.ensures.fault ms all whole))

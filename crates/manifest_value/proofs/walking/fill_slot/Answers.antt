@@ -9,7 +9,7 @@ pub returns-clause-views : goal.returns-clause-views
 returns-clause-views c =
     let k = c.args.spelling.now in
     let d = view c.args.value.now in
-    filled_at-set c.args.i c.args.slots.now.items c.filled.result c.index.result.now k d (c.filled.ensures ∙ ap (λ s. filled (slot_view s) k d) c.index.ensures) c.requires
+    filled_at-set slot_view c.args.i c.args.slots.now.items c.filled.result c.index.result.now k d (c.filled.ensures ∙ ap (λ s. filled (slot_view s) k d) c.index.ensures) c.requires
 
 pub returns-clause-many : goal.returns-clause-many
 returns-clause-many c = length-set c.args.slots.now.items c.args.i c.filled.result

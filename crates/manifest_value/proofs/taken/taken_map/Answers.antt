@@ -1,0 +1,19 @@
+use Rattle.std.proofs.Common.{subst, sym}
+use Rattle.toml.specs.Data.{no_members}
+use Rattle.toml.specs.View.{table_view}
+use Rattle.manifest_schema.specs.Kinds.{reads_entries}
+use Rattle.manifest_value.specs.Entries.{entries_content}
+use Rattle.manifest_value.proofs.ReadingLemmas.{ascend_view, first_ascend}
+use Rattle.manifest_value.proofs.CollectLemmas.{same_content}
+use Rattle.manifest_value.proofs.ReadingLemmas.{none_left}
+use Rattle.manifest_value.proofs.taken.taken_map.Goals as goal
+
+pub map_of_list-requires : goal.map_of_list-requires
+map_of_list-requires g c =
+    first_ascend g.T.Schema.kind g.T.Schema.content (table_view c.args.table) no_members c.in_ok-all.all.items (ascend_view c.args.table.entries c.len-ascending.ensures.ordered) c.in_ok-all.ensures.ok
+
+pub returns-clause-ok : goal.returns-clause-ok
+returns-clause-ok g c =
+    let K = g.T.Schema.kind in
+    let ms = table_view c.args.table in
+    subst (reads_entries K ms) (sym (same_content g.T.Schema.content c.in_ok-map_of_list.field-0.entries c.in_ok-all.all.items c.in_ok-map_of_list.ensures)) (none_left K ms (entries_content g.T.Schema.content c.in_ok-all.all.items) c.in_ok-all.ensures.ok)

@@ -1,0 +1,154 @@
+//! What stands in the rows of a table, by reference or by value.
+
+ghost use Rattle.std.specs.Prelude.{◌≡◌, ◌<◌, ◌+◌, ◌∷◌, IsTrue, map, length, drop, IfOk};
+ghost use Rattle.toml.specs.View.{table_view};
+ghost use Rattle.manifest_value.specs.Sources.{source_view, members_of, row_view};
+ghost use Rattle.manifest_value.specs.Walks.{spellings_view, distinct_words, slot_view, slots_at, filled, filled_at, blanks};
+
+use crate::source::{Source, TableSource};
+use crate::spellings::Spellings;
+use crate::walked::Slot;
+use crate::walking::{row_of, walk};
+use std::alloc::{AllocError, Global};
+use std::mem;
+use toml::Table;
+
+/// What a table holds under the spellings of a row.
+#[derive(Drop)]
+pub enum RowSlot<'t> {
+    /// Neither spelling.
+    Absent,
+    /// One spelling, and the value under it.
+    One {
+        /// The spelling that is there.
+        spelling: &'static str,
+        /// The value.
+        value: Source<'t>,
+    },
+    /// Both spellings.
+    Clash,
+}
+
+/// A slot of a walk.
+fn lent_slot<'t>(slot: &Slot<'t>) -> RowSlot<'t>
+    ensures { row_view result ≡ slot_view slot.now }
+{
+    match slot {
+        Slot::Absent => RowSlot::Absent,
+        Slot::One { spelling, value } => RowSlot::One {
+            spelling: *spelling,
+            value: Source::Lent(*value),
+        },
+        Slot::Clash => RowSlot::Clash,
+    }
+}
+
+/// The slots of a walk, as rows are read from them: for a form with a map of all other keys.
+///
+/// It fails where the slots find no room, and only there.
+///
+/// ```ignore
+/// let walk = walk(alloc, table, &ROWS)?;
+/// let mut rows = rows_of(&ROWS, lent_slots(alloc, walk.slots.as_slice())?); // the other keys are `walk.rest`
+/// ```
+pub fn lent_slots<'t>(alloc: Global, slots: &[Slot<'t>]) -> Result<Vec<RowSlot<'t>>, AllocError>
+    ensures { IfOk result (λ v. map row_view v.items ≡ map slot_view slots.now) }
+{
+    let mut all = Vec::with_capacity(alloc, slots.len())?;
+    for slot in slots {
+        all.push(lent_slot(slot))?;
+    }
+    Ok(all)
+}
+
+/// What a table holds under the spellings of each row, by one walk over it.
+///
+/// All spellings of the rows have to differ. It fails where the slots find no room, and only there.
+///
+/// ```ignore
+/// let slots = slots_of(alloc, TableSource::Taken(table), &ROWS)?;
+/// ```
+pub fn slots_of<'t>(
+    alloc: Global,
+    table: TableSource<'t>,
+    rows: &[Spellings],
+) -> Result<Vec<RowSlot<'t>>, AllocError>
+    requires { IsTrue (distinct_words (map spellings_view rows.now)) }
+    ensures { IfOk result (λ v. map row_view v.items
+        ≡ slots_at (map spellings_view rows.now) (members_of table.entry)) }
+{
+    match table {
+        TableSource::Lent(table) => {
+            let walk = walk(alloc, table, rows)?;
+            lent_slots(alloc, walk.slots.as_slice())
+        }
+        TableSource::Taken(table) => taken_slots(alloc, table, rows),
+    }
+}
+
+/// Slots in which nothing is found yet.
+fn empty_slots<'t>(alloc: Global, many: usize) -> Result<Vec<RowSlot<'t>>, AllocError>
+    ensures { IfOk result (λ v. v.items ≡ blanks RowSlot.Absent many) }
+{
+    let mut slots = Vec::with_capacity(alloc, many)?;
+    for _i in 0..many {
+        slots.push(RowSlot::Absent)?;
+    }
+    Ok(slots)
+}
+
+/// A slot in which one more value is found: a second one clashes with the first.
+#[inline(always)]
+fn filled<'t>(slot: &RowSlot<'t>, spelling: &'static str, value: Source<'t>) -> RowSlot<'t>
+    ensures { row_view result ≡ filled (row_view slot.now) spelling.now (source_view value.entry) }
+{
+    match slot {
+        RowSlot::Absent => RowSlot::One { spelling, value },
+        RowSlot::One { .. } => RowSlot::Clash,
+        RowSlot::Clash => RowSlot::Clash,
+    }
+}
+
+/// Finds one more value in a slot of a list.
+#[inline(always)]
+fn fill_slot<'t>(slots: &mut Vec<RowSlot<'t>>, i: usize, spelling: &'static str, value: Source<'t>)
+    requires { i < length slots.now.items }
+    ensures views { map row_view slots.new.items
+        ≡ filled_at i spelling.now (source_view value.entry) (map row_view slots.old.items) }
+    ensures many { length slots.new.items ≡ length slots.old.items }
+{
+    slots[i] = filled(&slots[i], spelling, value);
+}
+
+/// Takes a table apart: what it held under the spellings of each row. Every other key is dropped.
+///
+/// All spellings of the rows have to differ.
+fn taken_slots<'t>(
+    alloc: Global,
+    table: Table,
+    rows: &[Spellings],
+) -> Result<Vec<RowSlot<'t>>, AllocError>
+    requires { IsTrue (distinct_words (map spellings_view rows.now)) }
+    ensures { IfOk result (λ v. map row_view v.items
+        ≡ slots_at (map spellings_view rows.now) (table_view table)) }
+{
+    let _ascending = table.len();
+    let mut slots = empty_slots(alloc, rows.len())?;
+    for (key, value) in table {
+        match row_of(rows, key.as_str()) {
+            Some((i, spelling)) => fill_slot(&mut slots, i, spelling, Source::Taken(value)),
+            None => drop(value),
+        }
+    }
+    Ok(slots)
+}
+
+/// Takes what stands in a slot of a list.
+#[inline(always)]
+pub(crate) fn take_slot<'t>(slots: &mut Vec<RowSlot<'t>>, i: usize) -> RowSlot<'t>
+    requires { i < length slots.now.items }
+    ensures { map row_view (drop i slots.old.items)
+        ≡ row_view result ∷ map row_view (drop (i + 1) slots.new.items) }
+{
+    mem::replace(&mut slots[i], RowSlot::Absent)
+}

@@ -1,0 +1,72 @@
+//! What is read: a value or a table that stays where it is, or one that is taken apart.
+
+ghost use Rattle.std.specs.Prelude.{◌≡◌, IfOk, IfErr};
+ghost use Rattle.manifest_schema.specs.Paths.{behind, key};
+ghost use Rattle.manifest_value.specs.Faults.{FaultIn};
+ghost use Rattle.manifest_value.specs.Reading.{Reads, data_of};
+ghost use Rattle.manifest_value.specs.Sources.{source_view, table_source};
+
+use crate::fault::{ReadFault, under_key};
+use crate::schema::Schema;
+use std::alloc::Global;
+use toml::{Table, Value};
+
+/// A value that is read.
+#[derive(Drop)]
+pub enum Source<'t> {
+    /// It stays where it is: what it holds is copied.
+    Lent(&'t Value),
+    /// It is wanted by nobody else: what it holds is moved.
+    Taken(Value),
+}
+
+/// A table that is read.
+#[derive(Drop)]
+pub enum TableSource<'t> {
+    /// It stays where it is: what its values hold is copied.
+    Lent(&'t Table),
+    /// It is wanted by nobody else: what its values hold is moved, and every key that no row names is dropped.
+    Taken(Table),
+}
+
+impl<'t> TableSource<'t> {
+    /// The table itself.
+    pub fn table(&self) -> &Table
+        ensures { data_of result.now ≡ table_source self.now }
+    {
+        match self {
+            TableSource::Lent(table) => *table,
+            TableSource::Taken(table) => table,
+        }
+    }
+}
+
+/// The one reading of a source.
+#[inline(always)]
+pub(crate) fn read_source<T: Schema>(alloc: Global, source: Source<'_>) -> Result<T, ReadFault>
+    ensures ok { IfOk result (Reads T.kind T.content (source_view source.entry)) }
+    ensures fault { IfErr result (FaultIn (T.kind.faulty (source_view source.entry))) }
+{
+    match source {
+        Source::Lent(value) => T::from_value(alloc, value),
+        Source::Taken(value) => T::take(alloc, value),
+    }
+}
+
+/// The value under a key, with the key before the path of a fault.
+#[inline(always)]
+#[tactic(auto, using(crate::proofs::Behind::fault_behind))]
+pub(crate) fn source_under<T: Schema>(
+    alloc: Global,
+    source: Source<'_>,
+    word: &str,
+) -> Result<T, ReadFault>
+    ensures ok { IfOk result (Reads T.kind T.content (source_view source.entry)) }
+    ensures fault { IfErr result
+        (FaultIn (behind (key word.now) (T.kind.faulty (source_view source.entry)))) }
+{
+    match read_source(alloc, source) {
+        Ok(x) => Ok(x),
+        Err(fault) => Err(under_key(alloc, word, fault)),
+    }
+}
