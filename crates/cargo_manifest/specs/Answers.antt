@@ -2,7 +2,7 @@
 use Rattle.std.specs.Prelude.{◌≡◌, ℕ, List, false, Some, None, IsUtf8, codes, string_bytes}
 use Rattle.toml.specs.Data.{Data, Members, members_have_valid_dates}
 use Rattle.toml.specs.Parse.{parse_document}
-use Rattle.toml.specs.Errors.{IsMemory}
+use Rattle.toml.specs.Errors.{IsMemory, IsWithin}
 use Rattle.manifest_schema.specs.Kinds.{Kind, tree_of}
 use Rattle.manifest_schema.specs.Contents.{Manifest}
 use Rattle.manifest_schema.specs.Meaning.{means, unmeant, rewritten}
@@ -27,9 +27,9 @@ pub record HasFault (K W : Kind Data) (bytes : List ℕ) (f : SchemaFault) : Typ
   pub stands : IsOneOf (unmeant K W document) f
   pub nothing : (m : Manifest) → means K W document m → ⊥
 
--- the refusal of a text: by `toml`, memory aside, only where it is no document; by the schema only with a fault that stands there; else want of memory
+-- the refusal of a text: by `toml` with a place within the text, and, memory aside, only where it is no document; by the schema only with a fault that stands there; else want of memory
 abbrev pub RefusesText : Kind Data → Kind Data → List ℕ → Error → Type 0
-RefusesText K W text (Parse (Toml e)) = ¬ IsMemory e.value → parse_document text ≡ None
+RefusesText K W text (Parse (Toml e)) = IsWithin text e.value × (¬ IsMemory e.value → parse_document text ≡ None)
 RefusesText K W text (Parse (Schema f)) = HasFault K W text f
 RefusesText K W text (Memory e) = Unit {0}
 RefusesText K W text _ = ⊥

@@ -13,9 +13,10 @@ RefusesCanonical bytes r = RefusesBytes bytes r ⊎ Then (Means bytes) RefusesTe
 abbrev pub RefusesTable : List ℕ → Refusals
 RefusesTable bytes r = RefusesBytes bytes r ⊎ IsWantOfMemory r
 
--- COMPLETED over the folders
+-- COMPLETED over the folders, which are listings
 abbrev pub MakesCompleted : List ℕ → List Folder → Makes
-MakesCompleted bytes folders = Completed (given folders) (Means bytes)
+MakesCompleted bytes folders n =
+    AreListings folders × Completed (given folders) (Means bytes) n
 
 abbrev pub RefusesCompleted : List ℕ → List Folder → Refusals
 RefusesCompleted bytes folders r =
@@ -34,9 +35,10 @@ RefusesResolved bytes root r =
     ⊎ Then (Means bytes) (RefusesToLend root) r
     ⊎ Then (MakesResolved bytes root) RefusesText r
 
--- RESOLVED over the root, and then COMPLETED over the folders
+-- RESOLVED over the root, and then COMPLETED over the folders, which are listings
 abbrev pub MakesResolvedCompleted : List ℕ → List ℕ → List Folder → Makes
-MakesResolvedCompleted bytes root folders = Completed (given folders) (MakesResolved bytes root)
+MakesResolvedCompleted bytes root folders n =
+    AreListings folders × Completed (given folders) (MakesResolved bytes root) n
 
 abbrev pub RefusesResolvedCompleted : List ℕ → List ℕ → List Folder → Refusals
 RefusesResolvedCompleted bytes root folders r =

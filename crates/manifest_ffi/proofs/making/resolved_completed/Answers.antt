@@ -19,4 +19,4 @@ returns-in-Ok-complete c =
     let m = manifest_content view view c.lend.new.manifest in
     let n = manifest_content view view c.complete.new.manifest in
     let becomes : completed m (stored_map (given folders)) ≡ completed_to n = subst (λ (stored : Text → Answer). completed m (stored_map stored) ≡ completed_to n) c.in-Ok.ensures.ok c.in-Ok-complete.ensures.ok in
-    text_made (MakesResolvedCompleted bytes root folders) (RefusesResolvedCompleted bytes root folders) n c.text_of-text.result (m, (member, c.in-Ok-read.ensures.ok, c.in_default.ensures.ok), becomes) (λ e h. inr (inr (inr (inr h)))) c.text_of-text.ensures
+    text_made (MakesResolvedCompleted bytes root folders) (RefusesResolvedCompleted bytes root folders) n c.text_of-text.result (c.in-Ok.ensures.listings, (m, (member, c.in-Ok-read.ensures.ok, c.in_default.ensures.ok), becomes)) (λ e h. inr (inr (inr (inr h)))) c.text_of-text.ensures
