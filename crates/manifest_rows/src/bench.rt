@@ -1,6 +1,6 @@
 //! Every row of every form, at each place of the form: each kind of value under each of its spellings, both spellings
-//! together, the row without its key where it is needed, all rows filled, and keys that no row has. The answers come
-//! from the tables of docs/KEYS.md.
+//! together, the row without its key where it is needed, all rows filled, and keys that no row has; and one table in which
+//! all rows of all forms are filled. The answers come from the tables of docs/KEYS.md.
 
 use crate::answers::{FromValue, answer_of, assert_is, document_answer, laid_out, shown};
 use crate::bench_keys;
@@ -573,4 +573,110 @@ fn manifests(rt: HostRuntime) -> Result<(), Fail> {
         lent("workspace = { members = [] }\n", ""),
     ];
     assert_form::<Manifest<Value, Value>>(&rt, rt.alloc(), bench_keys::MANIFEST, &places)
+}
+
+/// A value with a table of each form that a kind of many values holds; a form stands there as `table` and a name.
+const MANY: &[(&str, &str)] = &[
+    (
+        "map of dependencies",
+        "{ a = 'a', b = table [Detailed], c = table [Inherited] }",
+    ),
+    (
+        "map of maps of dependencies",
+        "{ a = { a = 'a', b = table [Detailed], c = table [Inherited] } }",
+    ),
+    ("map of lints", "{ a = 'warn', b = table [Lint] }"),
+    (
+        "map of maps of lints",
+        "{ a = { a = 'warn', b = table [Lint] } }",
+    ),
+    (
+        "map of tables [Platform](#platform)",
+        "{ a = table [Platform] }",
+    ),
+    (
+        "list of tables [Target](#target)",
+        "[table [Target](#target), table [Target](#target)]",
+    ),
+];
+
+/// What stands for a form, and its rows. A form stands before those that are in it.
+const FORMS: &[(&str, &[&str])] = &[
+    ("table [Package](#package)", bench_keys::PACKAGE),
+    ("table [Workspace](#workspace)", bench_keys::WORKSPACE),
+    (
+        "table [Package of the workspace](#package-of-the-workspace)",
+        bench_keys::WORKSPACE_PACKAGE,
+    ),
+    ("table [Platform]", bench_keys::PLATFORM),
+    ("table [Detailed]", bench_keys::DETAILED),
+    ("table [Inherited]", bench_keys::INHERITED),
+    ("table [Target](#target)", bench_keys::PRODUCT),
+    ("table [Profiles](#profiles)", bench_keys::PROFILES),
+    ("table [Profile](#profile)", bench_keys::PROFILE),
+    ("table [Badges](#badges)", bench_keys::BADGES),
+    ("table [Badge](#badge)", bench_keys::BADGE),
+    ("table [Maintenance](#maintenance)", bench_keys::MAINTENANCE),
+    ("table [Lints](#lints)", bench_keys::LINTS),
+    ("table [Lint]", bench_keys::LINT),
+];
+
+/// A value that fits a row and is written as it is; a form stands in it as `table` and a name.
+fn outline(row: &Row) -> &'static str {
+    for (kind, value) in MANY {
+        if *kind == row.holds {
+            return value;
+        }
+    }
+    if row.holds.starts_with("table ") {
+        return row.holds;
+    }
+    let (_, written) = fitting(row.holds, row.skipped).unwrap_or(("", ""));
+    written
+}
+
+/// The table of a form with all rows, each with the outline of a value.
+fn outlined(alloc: Global, rows: &[&'static str]) -> Result<String, AllocError> {
+    let mut text = String::new(alloc);
+    let mut before = "{ ";
+    for line in rows {
+        let row = row_of(line);
+        text.push_str(before)?;
+        text.push_str(row.key)?;
+        text.push_str(" = ")?;
+        text.push_str(outline(&row))?;
+        before = ", ";
+    }
+    text.push_str(" }")?;
+    Ok(text)
+}
+
+/// A value that fits a row, in which all rows of all forms are filled.
+fn full(alloc: Global, row: &Row) -> Result<String, AllocError> {
+    let mut text = String::from_str(alloc, outline(row))?;
+    for (form, rows) in FORMS {
+        text = text.replace(alloc, *form, outlined(alloc, rows)?.as_str())?;
+    }
+    Ok(text)
+}
+
+/// Every row of every form, in one table: it is written as it is read.
+#[test]
+fn all_forms_at_once(rt: HostRuntime) -> Result<(), Fail> {
+    let mut entries = Entries::new(rt.alloc());
+    for line in bench_keys::MANIFEST {
+        let row = row_of(line);
+        let value = full(rt.alloc(), &row)?;
+        entries.read(row.key, value.as_str())?;
+        entries.written(row.key, value.as_str())?;
+    }
+    let rows = bench_keys::MANIFEST;
+    let by_call = Form { rows, place: None };
+    by_call.assert_answer::<Manifest<Value, Value>>(&rt, rt.alloc(), &entries, None)?;
+    let place = at("", "");
+    let of_a_document = Form {
+        rows,
+        place: Some(&place),
+    };
+    of_a_document.assert_answer::<Manifest<Value, Value>>(&rt, rt.alloc(), &entries, None)
 }
