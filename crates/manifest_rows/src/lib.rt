@@ -12,6 +12,8 @@ mod bench_kinds;
 #[cfg(test)]
 mod by_name;
 #[cfg(test)]
+mod bytes;
+#[cfg(test)]
 mod calls;
 #[cfg(test)]
 mod completed;

@@ -1,0 +1,69 @@
+//! Values as tagged bytes. The bytes that are due come from the table of docs/LIBRARY.md.
+use crate::answers::value;
+use manifest_bytes::value_bytes;
+use std::alloc::Global;
+use std::test::Fail;
+use toml::Value;
+
+/// A value, and its bytes.
+const VALUES: &[(&str, &[u8])] = &[
+    ("'a'", b"\x01\x01a"),
+    ("''", b"\x01\x00"),
+    ("'\u{e9}'", b"\x01\x02\xc3\xa9"),
+    ("0", b"\x02\x00"),
+    ("127", b"\x02\x7f"),
+    ("128", b"\x02\x80\x01"),
+    ("16384", b"\x02\x80\x80\x01"),
+    ("-1", b"\x03\x00"),
+    ("-129", b"\x03\x80\x01"),
+    ("false", b"\x04"),
+    ("true", b"\x05"),
+    // a date, a time of minutes and one of nanoseconds, and offsets of none, of ahead and of behind
+    ("1979-05-27", b"\x06\x01\x05\x1b\xbb\x0f\x00\x00"),
+    ("07:32", b"\x06\x00\x01\x07\x20\x00\x00\x00"),
+    (
+        "07:32:05.000000200",
+        b"\x06\x00\x01\x07\x20\x01\x05\x01\xc8\x01\x00",
+    ),
+    (
+        "1979-05-27T07:32:00Z",
+        b"\x06\x01\x05\x1b\xbb\x0f\x01\x07\x20\x01\x00\x00\x01\x00",
+    ),
+    (
+        "1979-05-27T07:32:00+02:30",
+        b"\x06\x01\x05\x1b\xbb\x0f\x01\x07\x20\x01\x00\x00\x01\x01\x96\x01",
+    ),
+    (
+        "1979-05-27T07:32:00-00:02",
+        b"\x06\x01\x05\x1b\xbb\x0f\x01\x07\x20\x01\x00\x00\x01\x02\x01",
+    ),
+    ("[]", b"\x07\x00"),
+    ("[['b'], 'a']", b"\x07\x02\x07\x01\x01\x01b\x01\x01a"),
+    ("{}", b"\x08\x00"),
+    (
+        "{ package = { name = 'a', autobins = false } }",
+        b"\x08\x01\x07package\x08\x02\x08autobins\x04\x04name\x01\x01a",
+    ),
+];
+
+#[test]
+fn bytes_of_values(rt: HostRuntime) -> Result<(), Fail> {
+    for (text, bytes) in VALUES {
+        let got = value_bytes(rt.alloc(), &value(rt.alloc(), text)?)?;
+        assert_eq!(rt; got.as_slice(), *bytes, "at {text}");
+    }
+    Ok(())
+}
+
+fn bytes_of_a_list(alloc: Global) -> Result<Vec<u8>, Fail> {
+    let value = Value::from_str(alloc, "[true, 300]")?;
+    let bytes = value_bytes(alloc, &value)?; // 7 2 5 2 172 2
+    Ok(bytes)
+}
+
+#[test]
+fn bytes_of_the_example(rt: HostRuntime) -> Result<(), Fail> {
+    let bytes = bytes_of_a_list(rt.alloc())?;
+    assert_eq!(rt; bytes.as_slice(), [7, 2, 5, 2, 172, 2].as_slice());
+    Ok(())
+}
