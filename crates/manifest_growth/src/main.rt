@@ -21,7 +21,7 @@ use std::process::ExitCode;
 use std::{env, io};
 
 const USAGE: &str =
-    "usage: manifest_growth badges | lints | metadata | priority | float | library | binaries | example | member | fault | text\n";
+    "usage: manifest_growth badges | unfit | lints | untrue | tool | metadata | priority | float | listed | library | binaries | example | member | fault | text\n";
 
 /// What is tried.
 #[derive(Clone, Copy)]
@@ -40,10 +40,14 @@ enum Trial {
 fn named(name: &str) -> Option<Trial> {
     match name {
         "badges" => Some(Trial::Reading(Document::Badges)),
+        "unfit" => Some(Trial::Reading(Document::Unfit)),
         "lints" => Some(Trial::Reading(Document::Lints)),
+        "untrue" => Some(Trial::Reading(Document::Untrue)),
+        "tool" => Some(Trial::Reading(Document::Tool)),
         "metadata" => Some(Trial::Reading(Document::Metadata)),
         "priority" => Some(Trial::Reading(Document::Priority)),
         "float" => Some(Trial::Reading(Document::Float)),
+        "listed" => Some(Trial::Reading(Document::Listed)),
         "library" => Some(Trial::Completion(Scenario::Library)),
         "binaries" => Some(Trial::Completion(Scenario::Binaries)),
         "example" => Some(Trial::Completion(Scenario::Example)),

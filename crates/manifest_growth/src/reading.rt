@@ -9,14 +9,22 @@ use std::io::Write;
 pub enum Document {
     /// A badge that fits, one that does not, and a status.
     Badges,
-    /// A lint with a priority and one without.
+    /// A badge and a status that do not fit, and no other.
+    Unfit,
+    /// Lints with the least priority and the greatest, and one without.
     Lints,
-    /// Lists and a table in metadata.
+    /// Lints whose `workspace` is false.
+    Untrue,
+    /// A workspace that lends the lints of a tool named `workspace`.
+    Tool,
+    /// Lists and a table in metadata, and a float under a key that is not listed.
     Metadata,
     /// A priority that is out of range.
     Priority,
     /// A float deep in metadata.
     Float,
+    /// A float in a list of metadata.
+    Listed,
 }
 
 /// What reading a manifest gives.
@@ -29,16 +37,22 @@ impl Document {
             Document::Badges => {
                 b"[package]\nname = 'p'\n[badges]\ngitlab = { repository = 'r', project_name = 'a' }\ntravis-ci = { branch = 'x' }\nmaintenance = { status = 'as-is' }\n"
             }
-            Document::Lints => {
-                b"[package]\nname = 'p'\n[lints.rust]\nx = { level = 'warn', priority = -128 }\ny = 'deny'\n"
+            Document::Unfit => {
+                b"[package]\nname = 'p'\n[badges]\ntravis-ci = { branch = 'x' }\nmaintenance = 5\n"
             }
+            Document::Lints => {
+                b"[package]\nname = 'p'\n[lints.rust]\nx = { level = 'warn', priority = -128 }\ny = 'deny'\nz = { level = 'warn', priority = 127 }\n"
+            }
+            Document::Untrue => b"[package]\nname = 'p'\n[lints]\nworkspace = false\n",
+            Document::Tool => b"[package]\nname = 'p'\n[workspace.lints.workspace]\na = 'deny'\n",
             Document::Metadata => {
-                b"[package]\nname = 'p'\nmetadata = { a = [[1], []], b = { c = 'd' } }\n"
+                b"[package]\nname = 'p'\nmetadata = { a = [[1], []], b = { c = 'd' } }\n[package.zzz]\nx = [1, 0.5]\n"
             }
             Document::Priority => {
                 b"[package]\nname = 'p'\n[lints.rust]\nx = { level = 'warn', priority = 128 }\n"
             }
             Document::Float => b"[package]\nname = 'p'\n[package.metadata]\na = [[[0.5]]]\n",
+            Document::Listed => b"[package]\nname = 'p'\n[package.metadata]\nx = [1, 0.5]\n",
         }
     }
 
