@@ -453,16 +453,6 @@ impl<P: Metadata, W: Metadata> Schema for Manifest<P, W> {
         }
     }
 
-    fn take(alloc: Global, value: Value) -> Result<Manifest<P, W>, ReadFault> {
-        match value {
-            Value::Table(table) => {
-                let mut manifest = Manifest::default(alloc);
-                read_rows(alloc, TableSource::Taken(table), &mut manifest).and(Ok(manifest))
-            }
-            _ => Err(here(alloc, Cause::WrongKind)),
-        }
-    }
-
     fn to_value(&self, alloc: Global) -> Result<Value, AllocError> {
         Ok(Value::Table(manifest_table(alloc, self)?))
     }

@@ -276,13 +276,6 @@ impl Schema for InheritedDependencyDetail {
         }
     }
 
-    fn take(alloc: Global, value: Value) -> Result<InheritedDependencyDetail, ReadFault> {
-        match value {
-            Value::Table(table) => inherited_from(alloc, TableSource::Taken(table)),
-            _ => Err(here(alloc, Cause::WrongKind)),
-        }
-    }
-
     #[tactic(auto, unfolding(manifest_schema::specs::PartForms::inherited_rows))]
     fn to_value(&self, alloc: Global) -> Result<Value, AllocError> {
         let mut out = Table::new(alloc);
@@ -338,16 +331,6 @@ impl Schema for DependencyDetail {
             Value::Table(table) => {
                 let mut detail = DependencyDetail::default();
                 read_detail(alloc, TableSource::Lent(table), &mut detail).and(Ok(detail))
-            }
-            _ => Err(here(alloc, Cause::WrongKind)),
-        }
-    }
-
-    fn take(alloc: Global, value: Value) -> Result<DependencyDetail, ReadFault> {
-        match value {
-            Value::Table(table) => {
-                let mut detail = DependencyDetail::default();
-                read_detail(alloc, TableSource::Taken(table), &mut detail).and(Ok(detail))
             }
             _ => Err(here(alloc, Cause::WrongKind)),
         }

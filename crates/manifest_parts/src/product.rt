@@ -114,7 +114,8 @@ fn product_names() -> &'static [Spellings]
 /// Reads the rows of a table.
 #[tactic(auto, unfolding(manifest_schema::specs::PartForms::product_rows))]
 fn product_from(alloc: Global, table: TableSource<'_>) -> Result<Product, ReadFault>
-    ensures ok { IfOk result (Reads (form product_rows) product_content (table_source table.entry)) }
+    ensures ok { IfOk result
+        (Reads (form product_rows) product_content (table_source table.entry)) }
     ensures fault { IfErr result (FaultIn ((form product_rows).faulty (table_source table.entry))) }
 {
     let names = product_names();

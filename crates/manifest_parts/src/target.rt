@@ -70,8 +70,10 @@ fn platform_names() -> &'static [Spellings]
 /// Reads the rows of a table.
 #[tactic(auto, unfolding(manifest_schema::specs::PartForms::platform_rows))]
 fn platform_from(alloc: Global, table: TableSource<'_>) -> Result<Target, ReadFault>
-    ensures ok { IfOk result (Reads (form platform_rows) platform_content (table_source table.entry)) }
-    ensures fault { IfErr result (FaultIn ((form platform_rows).faulty (table_source table.entry))) }
+    ensures ok { IfOk result
+        (Reads (form platform_rows) platform_content (table_source table.entry)) }
+    ensures fault { IfErr result
+        (FaultIn ((form platform_rows).faulty (table_source table.entry))) }
 {
     let names = platform_names();
     let mut rows = rows_of(names, slots_of(alloc, table, names)?);

@@ -391,7 +391,8 @@ pub(crate) fn workspace_from<M: Metadata>(
 ) -> Result<Workspace<M>, ReadFault>
     ensures ok { IfOk result
         (Reads (workspace_form M.kind) (workspace_of M.kind M.content) (table_source table.entry)) }
-    ensures fault { IfErr result (FaultIn ((workspace_form M.kind).faulty (table_source table.entry))) }
+    ensures fault { IfErr result
+        (FaultIn ((workspace_form M.kind).faulty (table_source table.entry))) }
 {
     let names = workspace_names::<M>();
     let mut rows = rows_of(names, slots_of(alloc, table, names)?);
