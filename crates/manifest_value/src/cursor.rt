@@ -161,7 +161,8 @@ fn fill_with<T: Schema>(
     place: &mut Option<T>,
 ) -> Result<(), ReadFault>
     ensures ok { OnOk result
-        (meets_optional T.kind (one word.now (source_view value.entry)) (option_map T.content place.new)) }
+        (meets_optional T.kind (one word.now (source_view value.entry))
+        (option_map T.content place.new)) }
     ensures fault { IfErr result
         (FaultIn (behind (key word.now) (T.kind.faulty (source_view value.entry)))) }
 {
