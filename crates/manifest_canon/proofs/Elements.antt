@@ -1,12 +1,5 @@
 use Rattle.std.proofs.Common.{◌≡◌, ◌<◌, ◌≤◌, List, [], ◌∷◌, length, get_or, arith}
 
--- a list of two elements, by its elements
-pub two_elements : {A : Type 0} (xs : List A) (a b : A) → 2 ≤ length xs → length xs < 3 → a ≡ get_or xs 0 a → b ≡ get_or xs 1 b → xs ≡ a ∷ b ∷ []
-two_elements [] a b low high p q = absurd (omega arith)
-two_elements (x ∷ []) a b low high p q = absurd (omega arith)
-two_elements (x ∷ y ∷ []) a b low high p q = cc
-two_elements (x ∷ y ∷ z ∷ xs) a b low high p q = absurd (omega arith)
-
 -- a list of four elements, by its elements
 pub four_elements : {A : Type 0} (xs : List A) (a b c d : A) → 4 ≤ length xs → length xs < 5 → a ≡ get_or xs 0 a → b ≡ get_or xs 1 b → c ≡ get_or xs 2 c → d ≡ get_or xs 3 d → xs ≡ a ∷ b ∷ c ∷ d ∷ []
 four_elements [] a b c d low high p q r s = absurd (omega arith)

@@ -6,8 +6,8 @@ use Rattle.manifest_schema.specs.Contents.{Manifest}
 use Rattle.manifest_parts.specs.declared.error.Error.{Error}
 use Rattle.manifest_parts.specs.declared.error.Error.TheVariants.{Parse, Io, Utf8, Other, Memory}
 use Rattle.cargo_manifest.specs.Answers.{Refuses, RefusesToPrint}
-use Rattle.cargo_manifest.specs.Canonical.{metadata, rewritten, Means, IsAccepted}
-use Rattle.manifest_canon.specs.Run.{Begins, FailsToPrint, BeginsToPrint, IsPrinted, IsBegun, IsRefused}
+use Rattle.cargo_manifest.specs.Canonical.{metadata, rewritten, Means}
+use Rattle.manifest_canon.specs.Run.{Begins, FailsToPrint, IsRefused}
 
 -- a flush keeps what was written
 pub appends_kept : (old mid new : Option (List ℕ)) (text : List ℕ) → Appends old mid text → Keeps mid new → Appends old new text
@@ -44,44 +44,7 @@ refused_as_printed bytes m old new (Utf8 e) r f = (inr (m, r, f.0), f.1)
 refused_as_printed bytes m old new (Other e) r f = (inr (m, r, f.0), f.1)
 refused_as_printed bytes m old new (Memory e) r f = (inr (m, r, f.0), f.1)
 
--- where the input is not read nothing is written
-pub refused_unread : (known old : Option (List ℕ)) → IfSome known (λ bytes. IsBegun bytes old old)
-refused_unread None old = tt
-refused_unread (Some bytes) old = inl (Keeps-refl old)
-
--- a refusal leaves nothing or a beginning
-pub begun : (bytes : List ℕ) (old new : Option (List ℕ)) (e : Error) → IsRefused bytes old new e → IsBegun bytes old new
-begun bytes old new (Io e) r = r
-begun bytes old new (Parse e) r = inl r.1
-begun bytes old new (Utf8 e) r = inl r.1
-begun bytes old new (Other e) r = inl r.1
-begun bytes old new (Memory e) r = inl r.1
-
-pub begun_known : (known old new : Option (List ℕ)) (e : Error) → IfSome known (λ bytes. IsRefused bytes old new e) → IfSome known (λ bytes. IsBegun bytes old new)
-begun_known None old new e r = tt
-begun_known (Some bytes) old new e r = begun bytes old new e r
-
-pub failed : (m : Manifest) (old new : Option (List ℕ)) (e : Error) → FailsToPrint m old new e → BeginsToPrint m old new
-failed m old new (Io e) f = f
-failed m old new (Parse e) f = inl f.1
-failed m old new (Utf8 e) f = inl f.1
-failed m old new (Other e) f = inl f.1
-failed m old new (Memory e) f = inl f.1
-
 -- what holds of the bytes that were read holds of the known input
 pub at_known : (P : List ℕ → Type 0) (known : Option (List ℕ)) (bytes lent : List ℕ) → IfSome known (λ xs. bytes ≡ xs) → lent ≡ bytes → P lent → IfSome known P
 at_known P None bytes lent same l p = tt
 at_known P (Some xs) bytes lent same l p = subst P (l ∙ same) p
-
--- what is no document of an accepted table is not printed, and nothing of it is begun
-pub printed_accepted : (known old new : Option (List ℕ)) (status : ℕ) → IfSome known (λ bytes. IsPrinted bytes old new) → IfSome known (λ bytes. ¬ IsAccepted bytes → (status ≡ 1) × Keeps old new)
-printed_accepted None old new status p = tt
-printed_accepted (Some bytes) old new status (m, means, printed) = λ not. absurd (not (m, means))
-
-kept_unless : (bytes : List ℕ) (old new : Option (List ℕ)) → IsBegun bytes old new → ¬ IsAccepted bytes → Keeps old new
-kept_unless bytes old new (inl k) not = k
-kept_unless bytes old new (inr (m, means, begins)) not = absurd (not (m, means))
-
-pub begun_accepted : (known old new : Option (List ℕ)) (status : ℕ) → status ≡ 1 → IfSome known (λ bytes. IsBegun bytes old new) → IfSome known (λ bytes. ¬ IsAccepted bytes → (status ≡ 1) × Keeps old new)
-begun_accepted None old new status one b = tt
-begun_accepted (Some bytes) old new status one b = λ not. (one, kept_unless bytes old new b not)

@@ -1,13 +1,12 @@
 -- What the words are taken for is what they ask for, and nothing else.
-use Rattle.std.proofs.Common.{◌≡◌, ℕ, List, [], ◌∷◌, Option, Some, None, IfSome, ◌∙◌, sym, ap, subst, refl, length, get_or, inl, inr, arith}
-use Rattle.std.proofs.lemmas.List.{length-map}
-use Rattle.std.specs.Prelude.{◌⊎◌, String, string_bytes, codes}
+use Rattle.std.proofs.Common.{◌≡◌, ℕ, List, [], ◌∷◌, Option, Some, None, ◌∙◌, sym, ap, subst, refl, length, get_or, arith}
+use Rattle.std.specs.Prelude.{String, string_bytes, codes}
 use Rattle.std.specs.declared.alloc.Global.{Global}
 use Rattle.manifest_schema.specs.Paths.{Text}
 use Rattle.manifest_canon.specs.declared.words.Request.{Request}
 use Rattle.manifest_canon.specs.declared.words.Request.TheVariants.{CanonInput, CanonFile, CompleteFile, CompleteMember}
-use Rattle.manifest_canon.specs.Run.{IsCanonInput, Asked, canon_file, complete_file, complete_member, Asks, AreWrong, Gives, PrintsOne, BeginsOne, IsPrinted, IsBegun}
-use Rattle.manifest_canon.specs.Words.{AskFor, IsRequestOf, IsPairOf, AskForMember, IsFourOf, Serves, Fails}
+use Rattle.manifest_canon.specs.Run.{IsCanonInput, Asked, canon_file, complete_file, complete_member, Asks, AreWrong, Gives, PrintsOne, BeginsOne}
+use Rattle.manifest_canon.specs.Words.{AskFor, IsRequestOf, AskForMember, IsFourOf, Serves, Fails}
 
 -- what words there can be
 abbrev canon_words : Text → List Text
@@ -72,19 +71,6 @@ one_asked None (Some b) ws p q = absurd (input_no_file b ws p q)
 one_asked (Some a) None ws p q = absurd (input_no_file a ws q p)
 one_asked (Some a) (Some b) ws p q = ap Some (files_differ a b ws p q)
 
--- two words are taken for what they ask for
-pub pair_taken : (v w : String Global) (r : Option Request) → IsPairOf (string_bytes v) (string_bytes w) r → IsRequestOf (v ∷ w ∷ []) r
-pair_taken v w (Some CanonInput) p = p
-pair_taken v w (Some (CanonFile f)) p = (string_bytes w, ap (λ x. x ∷ string_bytes w ∷ []) p.0, p.1)
-pair_taken v w (Some (CompleteFile f)) p = (string_bytes w, ap (λ x. x ∷ string_bytes w ∷ []) p.0, p.1)
-pair_taken v w (Some (CompleteMember f r)) p = absurd p
-pair_taken v w None (input, canon, complete) = ((λ i. input i.0 i.1), λ a q. pair_asks a q)
-  where
-    pair_asks : (a : Asked) → Asks a (v ∷ w ∷ []) → ⊥
-    pair_asks canon_file (f, e, is_file) = canon (ap (λ ws. get_or ws 0 []) e) (λ dash. is_file (dash_is_no_file _ _ _ f e dash))
-    pair_asks complete_file (f, e, is_file) = complete (ap (λ ws. get_or ws 0 []) e) (λ dash. is_file (dash_is_no_file _ _ _ f e dash))
-    pair_asks complete_member (f, r, e, f_is, r_is) = two_are_no_member _ _ f r e
-
 -- four words are taken for a member where they ask for one, and else are wrong
 member_asked : (v f o r : Text) → AskForMember v f o r → v ∷ f ∷ o ∷ r ∷ [] ≡ member_words f r
 member_asked v f o r m = ap (λ x. x ∷ f ∷ o ∷ r ∷ []) m.verb_is ∙ ap (λ x. codes "complete" ∷ f ∷ x ∷ r ∷ []) m.option_is
@@ -108,34 +94,8 @@ four_taken v f o r (Some (CompleteFile g)) p = absurd p
 four_taken v f o r (Some (CompleteMember g s)) m = (string_bytes f, string_bytes r, member_asked _ _ _ _ m, m.file_is, m.root_is)
 four_taken v f o r None not = ((λ i. i), λ a q. not (four_ask v f o r a q))
 
--- words of another number are wrong
-number_asked : (a : Asked) (ws : List (String Global)) → Asks a ws → (length ws ≡ 2) ⊎ (length ws ≡ 4)
-number_asked canon_file ws (f, e, is_file) = inl (sym (length-map ws string_bytes) ∙ ap length e)
-number_asked complete_file ws (f, e, is_file) = inl (sym (length-map ws string_bytes) ∙ ap length e)
-number_asked complete_member ws (f, r, e, f_is, r_is) = inr (sym (length-map ws string_bytes) ∙ ap length e)
-
-number_of_input : (ws : List (String Global)) → IsCanonInput ws → (length ws ≡ 0) ⊎ (length ws ≡ 2)
-number_of_input [] i = inl refl
-number_of_input (v ∷ []) i = absurd i
-number_of_input (v ∷ w ∷ []) i = inr refl
-number_of_input (v ∷ w ∷ x ∷ ws) i = absurd i
-
-neither : {A B : Type 0} → (A → ⊥) → (B → ⊥) → A ⊎ B → ⊥
-neither a b (inl x) = a x
-neither a b (inr y) = b y
-
-pub wrong_by_number : (ws : List (String Global)) → (length ws ≡ 0 → ⊥) → (length ws ≡ 2 → ⊥) → (length ws ≡ 4 → ⊥) → AreWrong ws
-wrong_by_number ws none two four = ((λ i. neither none two (number_of_input ws i)), λ a q. neither two four (number_asked a ws q))
-
--- what was served, or failed, is what was asked for
-pub served_input : (b : Option Asked) (ws : List (String Global)) (known old new : Option (List ℕ)) → AskFor b ws → IsCanonInput ws → Serves b known old new → IfSome known (λ bytes. IsPrinted bytes old new)
-served_input b ws known old new q i s = subst (λ x. Serves x known old new) (one_asked b None ws q i) s
-
 pub served_file : (b : Option Asked) (a : Asked) (ws : List (String Global)) (known old new : Option (List ℕ)) → AskFor b ws → Asks a ws → Serves b known old new → PrintsOne (Gives a) old new
 served_file b a ws known old new q asks s = subst (λ x. Serves x known old new) (one_asked b (Some a) ws q asks) s
-
-pub failed_input : (b : Option Asked) (ws : List (String Global)) (known old new : Option (List ℕ)) → AskFor b ws → IsCanonInput ws → Fails b known old new → IfSome known (λ bytes. IsBegun bytes old new)
-failed_input b ws known old new q i s = subst (λ x. Fails x known old new) (one_asked b None ws q i) s
 
 pub failed_file : (b : Option Asked) (a : Asked) (ws : List (String Global)) (known old new : Option (List ℕ)) → AskFor b ws → Asks a ws → Fails b known old new → BeginsOne (Gives a) old new
 failed_file b a ws known old new q asks s = subst (λ x. Fails x known old new) (one_asked b (Some a) ws q asks) s

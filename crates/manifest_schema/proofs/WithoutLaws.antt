@@ -55,11 +55,6 @@ rows_are_apart names (r ⨾ rs) = are_apart names r.spellings && rows_are_apart 
 rows_are_apart names (others get K) = false
 rows_are_apart names no_more = true
 
--- each spelling is among the names
-abbrev pub are_among : List Text → Spellings → Bool
-are_among names (only k) = is_among names k
-are_among names (both k l) = is_among names k && is_among names l
-
 pub at-without : (names : List Text) (s : Spellings) (ms : Members) → are_apart names s ≡ true → at s (without names ms) ≡ at s ms
 at-without names (only k) ms h = rw (get-without names k ms (not-true _ h))
 at-without names (both k l) ms h =
