@@ -1,4 +1,5 @@
 //! A manifest.
+#![tactic(auto, unfolding(manifest_schema::specs::ManifestForms::manifest_rows))]
 
 ghost use Rattle.std.specs.Prelude.{◌≡◌, ◌↔◌, IsTrue, map, option_map, IfOk, IfErr, OnOk};
 ghost use Rattle.toml.specs.Data.{Data};
@@ -17,7 +18,7 @@ ghost use Rattle.manifest_value.specs.Faults.{FaultIn};
 ghost use Rattle.manifest_value.specs.Reading.{Reads, WritesRows};
 ghost use Rattle.manifest_value.specs.Sources.{table_source};
 ghost use Rattle.manifest_value.specs.Walks.{spellings_view, names_of};
-ghost use Rattle.manifest_value.specs.Cursors.{Filled, Passed, UnfitFrom};
+ghost use Rattle.manifest_value.specs.Cursors.{ReadsRows};
 ghost use Rattle.manifest_parts.specs.Records.{lints_content};
 ghost use Rattle.manifest_parts.specs.Refusals.{RefusedIn};
 ghost use Rattle.manifest_tables.specs.Tables.{profiles_content, package_of, package_form, workspace_of, workspace_form};
@@ -223,7 +224,6 @@ static MANIFEST: &[Spellings] = &spelled! {
 };
 
 /// The spellings of the rows.
-#[tactic(auto, unfolding(manifest_schema::specs::ManifestForms::manifest_rows))]
 fn manifest_names<P: Metadata, W: Metadata>() -> &'static [Spellings]
     ensures { map spellings_view result.now
         ≡ names_of (manifest_rows (tree_of P.kind) (tree_of W.kind)) }
@@ -232,7 +232,6 @@ fn manifest_names<P: Metadata, W: Metadata>() -> &'static [Spellings]
 }
 
 /// Reads the rows of a table.
-#[tactic(auto, unfolding(manifest_schema::specs::ManifestForms::manifest_rows))]
 pub(crate) fn read_rows<P: Metadata, W: Metadata>(
     alloc: Global,
     table: TableSource<'_>,
@@ -255,103 +254,47 @@ fn fill_manifest<P: Metadata, W: Metadata>(
     rows: &mut RowCursor<'_, '_>,
     x: &mut Manifest<P, W>,
 ) -> Result<(), ReadFault>
-    ensures ok { Filled "package" "lints" (manifest_rows (tree_of P.kind) (tree_of W.kind)) rows.old
-        (manifest_of P.kind W.kind P.content W.content x.old)
-        (manifest_of P.kind W.kind P.content W.content x.new) result }
-    ensures next { Passed "package" "lints" (manifest_rows (tree_of P.kind) (tree_of W.kind))
-        rows.old rows.new result }
-    ensures fault { UnfitFrom "package" (manifest_rows (tree_of P.kind) (tree_of W.kind)) rows.old
-        result }
+    ensures { ReadsRows "package" "lints" (manifest_rows (tree_of P.kind) (tree_of W.kind))
+        (manifest_of P.kind W.kind P.content W.content) rows.old rows.new x.old x.new result }
 {
     fill_header(alloc, rows, x)?;
-    fill_dependencies(alloc, rows, x)?;
-    fill_features(alloc, rows, x)?;
-    fill_settings(alloc, rows, x)?;
+    fill_targets(alloc, rows, x)?;
     Ok(())
 }
 
-/// Reads `package` to `workspace`.
-#[tactic(auto, unfolding(manifest_schema::specs::ManifestForms::manifest_rows))]
+/// Reads `package` to `features`.
 fn fill_header<P: Metadata, W: Metadata>(
     alloc: Global,
     rows: &mut RowCursor<'_, '_>,
     x: &mut Manifest<P, W>,
 ) -> Result<(), ReadFault>
-    ensures ok { Filled "package" "workspace" (manifest_rows (tree_of P.kind) (tree_of W.kind))
-        rows.old (manifest_of P.kind W.kind P.content W.content x.old)
-        (manifest_of P.kind W.kind P.content W.content x.new) result }
-    ensures next { Passed "package" "workspace" (manifest_rows (tree_of P.kind) (tree_of W.kind))
-        rows.old rows.new result }
-    ensures fault { UnfitFrom "package" (manifest_rows (tree_of P.kind) (tree_of W.kind)) rows.old
-        result }
+    ensures { ReadsRows "package" "features" (manifest_rows (tree_of P.kind) (tree_of W.kind))
+        (manifest_of P.kind W.kind P.content W.content) rows.old rows.new x.old x.new result }
 {
     fill(alloc, rows, &mut x.package)?;
     fill(alloc, rows, &mut x.cargo_features)?;
     fill(alloc, rows, &mut x.workspace)?;
-    Ok(())
-}
-
-/// Reads `dependencies` to `build-dependencies`.
-#[tactic(auto, unfolding(manifest_schema::specs::ManifestForms::manifest_rows))]
-fn fill_dependencies<P: Metadata, W: Metadata>(
-    alloc: Global,
-    rows: &mut RowCursor<'_, '_>,
-    x: &mut Manifest<P, W>,
-) -> Result<(), ReadFault>
-    ensures ok { Filled "dependencies" "build-dependencies"
-        (manifest_rows (tree_of P.kind) (tree_of W.kind)) rows.old
-        (manifest_of P.kind W.kind P.content W.content x.old)
-        (manifest_of P.kind W.kind P.content W.content x.new) result }
-    ensures next { Passed "dependencies" "build-dependencies"
-        (manifest_rows (tree_of P.kind) (tree_of W.kind)) rows.old rows.new result }
-    ensures fault { UnfitFrom "dependencies" (manifest_rows (tree_of P.kind) (tree_of W.kind))
-        rows.old result }
-{
     fill(alloc, rows, &mut x.dependencies)?;
     fill(alloc, rows, &mut x.dev_dependencies)?;
     fill(alloc, rows, &mut x.build_dependencies)?;
+    fill(alloc, rows, &mut x.target)?;
+    fill(alloc, rows, &mut x.features)?;
     Ok(())
 }
 
-/// Reads `target` to `example`.
-#[tactic(auto, unfolding(manifest_schema::specs::ManifestForms::manifest_rows))]
-fn fill_features<P: Metadata, W: Metadata>(
+/// Reads `bin` to `lints`.
+fn fill_targets<P: Metadata, W: Metadata>(
     alloc: Global,
     rows: &mut RowCursor<'_, '_>,
     x: &mut Manifest<P, W>,
 ) -> Result<(), ReadFault>
-    ensures ok { Filled "target" "example" (manifest_rows (tree_of P.kind) (tree_of W.kind))
-        rows.old (manifest_of P.kind W.kind P.content W.content x.old)
-        (manifest_of P.kind W.kind P.content W.content x.new) result }
-    ensures next { Passed "target" "example" (manifest_rows (tree_of P.kind) (tree_of W.kind))
-        rows.old rows.new result }
-    ensures fault { UnfitFrom "target" (manifest_rows (tree_of P.kind) (tree_of W.kind)) rows.old
-        result }
+    ensures { ReadsRows "bin" "lints" (manifest_rows (tree_of P.kind) (tree_of W.kind))
+        (manifest_of P.kind W.kind P.content W.content) rows.old rows.new x.old x.new result }
 {
-    fill(alloc, rows, &mut x.target)?;
-    fill(alloc, rows, &mut x.features)?;
     fill_default(alloc, rows, Vec::new(alloc), &mut x.bin)?;
     fill_default(alloc, rows, Vec::new(alloc), &mut x.bench)?;
     fill_default(alloc, rows, Vec::new(alloc), &mut x.test)?;
     fill_default(alloc, rows, Vec::new(alloc), &mut x.example)?;
-    Ok(())
-}
-
-/// Reads `patch` to `lints`.
-#[tactic(auto, unfolding(manifest_schema::specs::ManifestForms::manifest_rows))]
-fn fill_settings<P: Metadata, W: Metadata>(
-    alloc: Global,
-    rows: &mut RowCursor<'_, '_>,
-    x: &mut Manifest<P, W>,
-) -> Result<(), ReadFault>
-    ensures ok { Filled "patch" "lints" (manifest_rows (tree_of P.kind) (tree_of W.kind)) rows.old
-        (manifest_of P.kind W.kind P.content W.content x.old)
-        (manifest_of P.kind W.kind P.content W.content x.new) result }
-    ensures next { Passed "patch" "lints" (manifest_rows (tree_of P.kind) (tree_of W.kind)) rows.old
-        rows.new result }
-    ensures fault { UnfitFrom "patch" (manifest_rows (tree_of P.kind) (tree_of W.kind)) rows.old
-        result }
-{
     fill(alloc, rows, &mut x.patch)?;
     fill(alloc, rows, &mut x.lib)?;
     fill(alloc, rows, &mut x.profile)?;
@@ -361,7 +304,6 @@ fn fill_settings<P: Metadata, W: Metadata>(
 }
 
 /// Writes `package` to `build-dependencies`, from the last to the first.
-#[tactic(auto, unfolding(manifest_schema::specs::ManifestForms::manifest_rows))]
 fn put_header<P: Metadata, W: Metadata>(
     alloc: Global,
     out: &mut Table,
@@ -382,7 +324,6 @@ fn put_header<P: Metadata, W: Metadata>(
 }
 
 /// Writes `target` to `example`, from the last to the first.
-#[tactic(auto, unfolding(manifest_schema::specs::ManifestForms::manifest_rows))]
 fn put_features<P: Metadata, W: Metadata>(
     alloc: Global,
     out: &mut Table,
@@ -402,7 +343,6 @@ fn put_features<P: Metadata, W: Metadata>(
 }
 
 /// Writes `patch` to `lints`, from the last to the first.
-#[tactic(auto, unfolding(manifest_schema::specs::ManifestForms::manifest_rows))]
 fn put_settings<P: Metadata, W: Metadata>(
     alloc: Global,
     out: &mut Table,
@@ -421,7 +361,6 @@ fn put_settings<P: Metadata, W: Metadata>(
 }
 
 /// The table that is written.
-#[tactic(auto, unfolding(manifest_schema::specs::ManifestForms::manifest_rows))]
 pub(crate) fn manifest_table<P: Metadata, W: Metadata>(
     alloc: Global,
     x: &Manifest<P, W>,
@@ -443,6 +382,7 @@ impl<P: Metadata, W: Metadata> Schema for Manifest<P, W> {
 
     ghost kind = { manifest_form P.kind W.kind };
 
+    #[tactic(auto)]
     fn from_value(alloc: Global, value: &Value) -> Result<Manifest<P, W>, ReadFault> {
         match value {
             Value::Table(table) => {

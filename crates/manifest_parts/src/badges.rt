@@ -1,16 +1,16 @@
 //! Badges of a package.
+#![tactic(auto, unfolding(manifest_schema::specs::PartForms::badge_rows, manifest_schema::specs::PartForms::maintenance_rows, manifest_schema::specs::PartForms::badges_rows), using(manifest_value::proofs::Behind::form_refuses))]
 
-ghost use Rattle.std.specs.Prelude.{◌≡◌, None, map, IfOk, IfErr, OnOk};
+ghost use Rattle.std.specs.Prelude.{◌≡◌, None, map, IfOk, IfErr};
 ghost use Rattle.toml.specs.View.{view};
 ghost use Rattle.manifest_schema.specs.Forms.{form};
 ghost use Rattle.manifest_schema.specs.Contents;
 ghost use Rattle.manifest_schema.specs.Defaults.{no_badges};
 ghost use Rattle.manifest_schema.specs.PartForms.{badge_rows, maintenance_rows, badges_rows};
 ghost use Rattle.manifest_schema.proofs.PartLaws.{badge_lawful, maintenance_lawful, badges_lawful};
-ghost use Rattle.manifest_value.specs.Faults.{FaultIn};
-ghost use Rattle.manifest_value.specs.Reading.{data_of, Reads, WritesRows};
+ghost use Rattle.manifest_value.specs.Reading.{Reads};
 ghost use Rattle.manifest_value.specs.Walks.{spellings_view, names_of};
-ghost use Rattle.manifest_value.specs.Cursors.{Filled, Passed};
+ghost use Rattle.manifest_value.specs.Cursors.{ReadsRows};
 ghost use Rattle.manifest_parts.specs.Records.{badge_content, maintenance_content, badges_content};
 ghost use Rattle.manifest_parts.specs.Refusals.{RefusedIn};
 
@@ -19,10 +19,9 @@ use crate::error::{Error, read};
 use manifest_value::cursor::{
     RowCursor, lenient_default, lenient_optional, optional, or_default, required, rows_of,
 };
-use manifest_value::fault::here;
 use manifest_value::row_slots::slots_of;
 use manifest_value::rows::{put_optional, put_row};
-use manifest_value::{Cause, ReadFault, Schema, Spellings, TableSource, spelled};
+use manifest_value::{ReadFault, Schema, Source, Spellings, spelled};
 use std::alloc::{AllocError, Global};
 use toml::{Table, Value};
 
@@ -134,52 +133,19 @@ static BADGE: &[Spellings] = &spelled! {
 };
 
 /// The spellings of the rows.
-#[tactic(auto, unfolding(manifest_schema::specs::PartForms::badge_rows))]
 fn badge_names() -> &'static [Spellings]
     ensures { map spellings_view result.now ≡ names_of badge_rows }
 {
     BADGE
 }
 
-/// Reads the rows of a table.
-#[tactic(auto, unfolding(manifest_schema::specs::PartForms::badge_rows))]
-fn badge_from(alloc: Global, table: &Table) -> Result<Badge, ReadFault>
-    ensures ok { IfOk result (Reads (form badge_rows) badge_content (data_of table.now)) }
-    ensures fault { IfErr result (FaultIn ((form badge_rows).faulty (data_of table.now))) }
-{
-    let names = badge_names();
-    let mut rows = rows_of(names, slots_of(alloc, TableSource::Lent(table), names)?);
-    Ok(Badge {
-        repository: required(alloc, &mut rows)?,
-        branch: or_default(alloc, &mut rows, String::from_str(alloc, "master")?)?,
-        service: optional(alloc, &mut rows)?,
-        id: optional(alloc, &mut rows)?,
-        project_name: optional(alloc, &mut rows)?,
-    })
-}
-
 static MAINTENANCE: &[Spellings] = &spelled! { "status" };
 
 /// The spellings of the rows.
-#[tactic(auto, unfolding(manifest_schema::specs::PartForms::maintenance_rows))]
 fn maintenance_names() -> &'static [Spellings]
     ensures { map spellings_view result.now ≡ names_of maintenance_rows }
 {
     MAINTENANCE
-}
-
-/// Reads the rows of a table.
-#[tactic(auto, unfolding(manifest_schema::specs::PartForms::maintenance_rows))]
-fn maintenance_from(alloc: Global, table: &Table) -> Result<Maintenance, ReadFault>
-    ensures ok { IfOk result
-        (Reads (form maintenance_rows) maintenance_content (data_of table.now)) }
-    ensures fault { IfErr result (FaultIn ((form maintenance_rows).faulty (data_of table.now))) }
-{
-    let names = maintenance_names();
-    let mut rows = rows_of(names, slots_of(alloc, TableSource::Lent(table), names)?);
-    Ok(Maintenance {
-        status: required(alloc, &mut rows)?,
-    })
 }
 
 static BADGES: &[Spellings] = &spelled! {
@@ -188,111 +154,26 @@ static BADGES: &[Spellings] = &spelled! {
 };
 
 /// The spellings of the rows.
-#[tactic(auto, unfolding(manifest_schema::specs::PartForms::badges_rows))]
 fn badges_names() -> &'static [Spellings]
     ensures { map spellings_view result.now ≡ names_of badges_rows }
 {
     BADGES
 }
 
-/// Reads the rows of a table. A badge that does not fit is `None`, so that only want of memory refuses.
-#[tactic(auto, unfolding(manifest_schema::specs::PartForms::badges_rows))]
-fn badges_from(alloc: Global, table: &Table) -> Result<Badges, AllocError>
-    ensures { IfOk result (Reads (form badges_rows) badges_content (data_of table.now)) }
-{
-    let names = badges_names();
-    let mut rows = rows_of(names, slots_of(alloc, TableSource::Lent(table), names)?);
-    let mut x = Badges::default();
-    fill_badges(alloc, &mut rows, &mut x).and(Ok(x))
-}
-
 /// Reads all rows.
-#[tactic(auto, unfolding(manifest_schema::specs::PartForms::badges_rows))]
-fn fill_badges(
-    alloc: Global,
-    rows: &mut RowCursor<'_, '_>,
-    x: &mut Badges,
-) -> Result<(), AllocError>
-    ensures ok { Filled "appveyor" "maintenance" badges_rows rows.old (badges_content x.old)
-        (badges_content x.new) result }
-    ensures next { Passed "appveyor" "maintenance" badges_rows rows.old rows.new result }
-{
-    fill_services(alloc, rows, x)?;
-    fill_reports(alloc, rows, x)?;
-    Ok(())
-}
-
-/// Reads `appveyor` to `travis-ci`.
-#[tactic(auto, unfolding(manifest_schema::specs::PartForms::badges_rows))]
-fn fill_services(
-    alloc: Global,
-    rows: &mut RowCursor<'_, '_>,
-    x: &mut Badges,
-) -> Result<(), AllocError>
-    ensures ok { Filled "appveyor" "travis-ci" badges_rows rows.old (badges_content x.old)
-        (badges_content x.new) result }
-    ensures next { Passed "appveyor" "travis-ci" badges_rows rows.old rows.new result }
+fn fill_badges(alloc: Global, rows: &mut RowCursor<'_, '_>, x: &mut Badges) -> Result<(), ReadFault>
+    ensures { ReadsRows "appveyor" "maintenance" badges_rows badges_content rows.old rows.new x.old
+        x.new result }
 {
     x.appveyor = lenient_optional(alloc, rows)?;
     x.circle_ci = lenient_optional(alloc, rows)?;
     x.gitlab = lenient_optional(alloc, rows)?;
     x.travis_ci = lenient_optional(alloc, rows)?;
-    Ok(())
-}
-
-/// Reads `codecov` to `maintenance`.
-#[tactic(auto, unfolding(manifest_schema::specs::PartForms::badges_rows))]
-fn fill_reports(
-    alloc: Global,
-    rows: &mut RowCursor<'_, '_>,
-    x: &mut Badges,
-) -> Result<(), AllocError>
-    ensures ok { Filled "codecov" "maintenance" badges_rows rows.old (badges_content x.old)
-        (badges_content x.new) result }
-    ensures next { Passed "codecov" "maintenance" badges_rows rows.old rows.new result }
-{
     x.codecov = lenient_optional(alloc, rows)?;
     x.coveralls = lenient_optional(alloc, rows)?;
     x.is_it_maintained_issue_resolution = lenient_optional(alloc, rows)?;
     x.is_it_maintained_open_issues = lenient_optional(alloc, rows)?;
     x.maintenance = lenient_default(alloc, rows, Maintenance::default())?;
-    Ok(())
-}
-
-/// Writes `appveyor` to `travis-ci`, from the last to the first.
-#[tactic(auto, unfolding(manifest_schema::specs::PartForms::badges_rows))]
-fn put_services(alloc: Global, out: &mut Table, x: &Badges) -> Result<(), AllocError>
-    ensures { OnOk result
-        (WritesRows "appveyor" "travis-ci" badges_rows (badges_content x.now) out.old out.new) }
-{
-    put_optional(alloc, out, "travis-ci", &x.travis_ci)?;
-    put_optional(alloc, out, "gitlab", &x.gitlab)?;
-    put_optional(alloc, out, "circle-ci", &x.circle_ci)?;
-    put_optional(alloc, out, "appveyor", &x.appveyor)?;
-    Ok(())
-}
-
-/// Writes `codecov` to `maintenance`, from the last to the first.
-#[tactic(auto, unfolding(manifest_schema::specs::PartForms::badges_rows))]
-fn put_reports(alloc: Global, out: &mut Table, x: &Badges) -> Result<(), AllocError>
-    ensures { OnOk result
-        (WritesRows "codecov" "maintenance" badges_rows (badges_content x.now) out.old out.new) }
-{
-    put_row(alloc, out, "maintenance", &x.maintenance)?;
-    put_optional(
-        alloc,
-        out,
-        "is-it-maintained-open-issues",
-        &x.is_it_maintained_open_issues,
-    )?;
-    put_optional(
-        alloc,
-        out,
-        "is-it-maintained-issue-resolution",
-        &x.is_it_maintained_issue_resolution,
-    )?;
-    put_optional(alloc, out, "coveralls", &x.coveralls)?;
-    put_optional(alloc, out, "codecov", &x.codecov)?;
     Ok(())
 }
 
@@ -304,13 +185,18 @@ impl Schema for Badge {
     ghost kind = { form badge_rows };
 
     fn from_value(alloc: Global, value: &Value) -> Result<Badge, ReadFault> {
-        match value {
-            Value::Table(table) => badge_from(alloc, table),
-            _ => Err(here(alloc, Cause::WrongKind)),
-        }
+        let names = badge_names();
+        let table = Source::Lent(value).into_table(alloc)?;
+        let mut rows = rows_of(names, slots_of(alloc, table, names)?);
+        Ok(Badge {
+            repository: required(alloc, &mut rows)?,
+            branch: or_default(alloc, &mut rows, String::from_str(alloc, "master")?)?,
+            service: optional(alloc, &mut rows)?,
+            id: optional(alloc, &mut rows)?,
+            project_name: optional(alloc, &mut rows)?,
+        })
     }
 
-    #[tactic(auto, unfolding(manifest_schema::specs::PartForms::badge_rows))]
     fn to_value(&self, alloc: Global) -> Result<Value, AllocError> {
         let mut out = Table::new(alloc);
         put_optional(alloc, &mut out, "project-name", &self.project_name)?;
@@ -332,13 +218,14 @@ impl Schema for Maintenance {
     ghost kind = { form maintenance_rows };
 
     fn from_value(alloc: Global, value: &Value) -> Result<Maintenance, ReadFault> {
-        match value {
-            Value::Table(table) => maintenance_from(alloc, table),
-            _ => Err(here(alloc, Cause::WrongKind)),
-        }
+        let names = maintenance_names();
+        let table = Source::Lent(value).into_table(alloc)?;
+        let mut rows = rows_of(names, slots_of(alloc, table, names)?);
+        Ok(Maintenance {
+            status: required(alloc, &mut rows)?,
+        })
     }
 
-    #[tactic(auto, unfolding(manifest_schema::specs::PartForms::maintenance_rows))]
     fn to_value(&self, alloc: Global) -> Result<Value, AllocError> {
         let mut out = Table::new(alloc);
         put_row(alloc, &mut out, "status", &self.status)?;
@@ -356,17 +243,34 @@ impl Schema for Badges {
     ghost kind = { form badges_rows };
 
     fn from_value(alloc: Global, value: &Value) -> Result<Badges, ReadFault> {
-        match value {
-            Value::Table(table) => Ok(badges_from(alloc, table)?),
-            _ => Err(here(alloc, Cause::WrongKind)),
-        }
+        let names = badges_names();
+        let table = Source::Lent(value).into_table(alloc)?;
+        let mut rows = rows_of(names, slots_of(alloc, table, names)?);
+        let mut x = Badges::default();
+        fill_badges(alloc, &mut rows, &mut x).and(Ok(x))
     }
 
-    #[tactic(auto, unfolding(manifest_schema::specs::PartForms::badges_rows))]
     fn to_value(&self, alloc: Global) -> Result<Value, AllocError> {
         let mut out = Table::new(alloc);
-        put_reports(alloc, &mut out, self)?;
-        put_services(alloc, &mut out, self)?;
+        put_row(alloc, &mut out, "maintenance", &self.maintenance)?;
+        put_optional(
+            alloc,
+            &mut out,
+            "is-it-maintained-open-issues",
+            &self.is_it_maintained_open_issues,
+        )?;
+        put_optional(
+            alloc,
+            &mut out,
+            "is-it-maintained-issue-resolution",
+            &self.is_it_maintained_issue_resolution,
+        )?;
+        put_optional(alloc, &mut out, "coveralls", &self.coveralls)?;
+        put_optional(alloc, &mut out, "codecov", &self.codecov)?;
+        put_optional(alloc, &mut out, "travis-ci", &self.travis_ci)?;
+        put_optional(alloc, &mut out, "gitlab", &self.gitlab)?;
+        put_optional(alloc, &mut out, "circle-ci", &self.circle_ci)?;
+        put_optional(alloc, &mut out, "appveyor", &self.appveyor)?;
         Ok(Value::Table(out))
     }
 

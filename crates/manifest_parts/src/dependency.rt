@@ -1,4 +1,5 @@
 //! Dependencies.
+#![tactic(auto, unfolding(manifest_schema::specs::PartForms::inherited_rows, manifest_schema::specs::PartForms::detailed_rows), using(manifest_value::proofs::Behind::form_refuses))]
 
 ghost use Rattle.std.specs.Prelude.{◌≡◌, map, IfOk, IfErr, OnOk};
 ghost use Rattle.toml.specs.View.{view};
@@ -11,7 +12,7 @@ ghost use Rattle.manifest_value.specs.Faults.{FaultIn};
 ghost use Rattle.manifest_value.specs.Reading.{Reads, WritesRows};
 ghost use Rattle.manifest_value.specs.Sources.{table_source};
 ghost use Rattle.manifest_value.specs.Walks.{spellings_view, names_of};
-ghost use Rattle.manifest_value.specs.Cursors.{Filled, Passed, UnfitFrom};
+ghost use Rattle.manifest_value.specs.Cursors.{ReadsRows};
 ghost use Rattle.manifest_parts.specs.Records.{inherited_content, detail_content, dependency_content};
 ghost use Rattle.manifest_parts.specs.Refusals.{RefusedIn};
 
@@ -21,7 +22,7 @@ use manifest_value::cursor::{RowCursor, fill, optional, required, rows_of};
 use manifest_value::fault::here;
 use manifest_value::row_slots::slots_of;
 use manifest_value::rows::{put_optional, put_row};
-use manifest_value::{Cause, ReadFault, Schema, Spellings, TableSource, spelled};
+use manifest_value::{Cause, ReadFault, Schema, Source, Spellings, TableSource, spelled};
 use std::alloc::{AllocError, Global};
 use toml::{Table, Value};
 
@@ -140,7 +141,6 @@ static INHERITED: &[Spellings] = &spelled! {
 };
 
 /// The spellings of the rows.
-#[tactic(auto, unfolding(manifest_schema::specs::PartForms::inherited_rows))]
 fn inherited_names() -> &'static [Spellings]
     ensures { map spellings_view result.now ≡ names_of inherited_rows }
 {
@@ -149,7 +149,6 @@ fn inherited_names() -> &'static [Spellings]
 
 /// Reads the rows of a table.
 #[inline(always)]
-#[tactic(auto, unfolding(manifest_schema::specs::PartForms::inherited_rows))]
 fn inherited_from(
     alloc: Global,
     table: TableSource<'_>,
@@ -175,47 +174,21 @@ static DETAILED: &[Spellings] = &spelled! {
 };
 
 /// The spellings of the rows.
-#[tactic(auto, unfolding(manifest_schema::specs::PartForms::detailed_rows))]
 fn detailed_names() -> &'static [Spellings]
     ensures { map spellings_view result.now ≡ names_of detailed_rows }
 {
     DETAILED
 }
 
-/// Reads `version` to `branch`.
-#[inline(always)]
-#[tactic(auto, unfolding(manifest_schema::specs::PartForms::detailed_rows))]
-fn fill_place(
-    alloc: Global,
-    rows: &mut RowCursor<'_, '_>,
-    x: &mut DependencyDetail,
-) -> Result<(), ReadFault>
-    ensures ok { Filled "version" "branch" detailed_rows rows.old (detail_content x.old)
-        (detail_content x.new) result }
-    ensures next { Passed "version" "branch" detailed_rows rows.old rows.new result }
-    ensures fault { UnfitFrom "version" detailed_rows rows.old result }
-{
-    fill(alloc, rows, &mut x.version)?;
-    fill(alloc, rows, &mut x.registry)?;
-    fill(alloc, rows, &mut x.registry_index)?;
-    fill(alloc, rows, &mut x.path)?;
-    fill(alloc, rows, &mut x.git)?;
-    fill(alloc, rows, &mut x.branch)?;
-    Ok(())
-}
-
 /// Reads `tag` to `package`.
 #[inline(always)]
-#[tactic(auto, unfolding(manifest_schema::specs::PartForms::detailed_rows))]
 fn fill_choice(
     alloc: Global,
     rows: &mut RowCursor<'_, '_>,
     x: &mut DependencyDetail,
 ) -> Result<(), ReadFault>
-    ensures ok { Filled "tag" "package" detailed_rows rows.old (detail_content x.old)
-        (detail_content x.new) result }
-    ensures next { Passed "tag" "package" detailed_rows rows.old rows.new result }
-    ensures fault { UnfitFrom "tag" detailed_rows rows.old result }
+    ensures { ReadsRows "tag" "package" detailed_rows detail_content rows.old rows.new x.old x.new
+        result }
 {
     fill(alloc, rows, &mut x.tag)?;
     fill(alloc, rows, &mut x.rev)?;
@@ -228,25 +201,26 @@ fn fill_choice(
 
 /// Reads all rows.
 #[inline(always)]
-#[tactic(auto, unfolding(manifest_schema::specs::PartForms::detailed_rows))]
 fn fill_detail(
     alloc: Global,
     rows: &mut RowCursor<'_, '_>,
     x: &mut DependencyDetail,
 ) -> Result<(), ReadFault>
-    ensures ok { Filled "version" "package" detailed_rows rows.old (detail_content x.old)
-        (detail_content x.new) result }
-    ensures next { Passed "version" "package" detailed_rows rows.old rows.new result }
-    ensures fault { UnfitFrom "version" detailed_rows rows.old result }
+    ensures { ReadsRows "version" "package" detailed_rows detail_content rows.old rows.new x.old
+        x.new result }
 {
-    fill_place(alloc, rows, x)?;
+    fill(alloc, rows, &mut x.version)?;
+    fill(alloc, rows, &mut x.registry)?;
+    fill(alloc, rows, &mut x.registry_index)?;
+    fill(alloc, rows, &mut x.path)?;
+    fill(alloc, rows, &mut x.git)?;
+    fill(alloc, rows, &mut x.branch)?;
     fill_choice(alloc, rows, x)?;
     Ok(())
 }
 
 /// Reads the rows of a table.
 #[inline(always)]
-#[tactic(auto, unfolding(manifest_schema::specs::PartForms::detailed_rows))]
 fn read_detail(
     alloc: Global,
     table: TableSource<'_>,
@@ -270,13 +244,9 @@ impl Schema for InheritedDependencyDetail {
     ghost kind = { form inherited_rows };
 
     fn from_value(alloc: Global, value: &Value) -> Result<InheritedDependencyDetail, ReadFault> {
-        match value {
-            Value::Table(table) => inherited_from(alloc, TableSource::Lent(table)),
-            _ => Err(here(alloc, Cause::WrongKind)),
-        }
+        inherited_from(alloc, Source::Lent(value).into_table(alloc)?)
     }
 
-    #[tactic(auto, unfolding(manifest_schema::specs::PartForms::inherited_rows))]
     fn to_value(&self, alloc: Global) -> Result<Value, AllocError> {
         let mut out = Table::new(alloc);
         put_optional(alloc, &mut out, "default-features", &self.default_features)?;
@@ -290,7 +260,6 @@ impl Schema for InheritedDependencyDetail {
 }
 
 /// Writes `version` to `branch`, from the last to the first.
-#[tactic(auto, unfolding(manifest_schema::specs::PartForms::detailed_rows))]
 fn put_place(alloc: Global, out: &mut Table, x: &DependencyDetail) -> Result<(), AllocError>
     ensures { OnOk result
         (WritesRows "version" "branch" detailed_rows (detail_content x.now) out.old out.new) }
@@ -304,21 +273,6 @@ fn put_place(alloc: Global, out: &mut Table, x: &DependencyDetail) -> Result<(),
     Ok(())
 }
 
-/// Writes `tag` to `package`, from the last to the first.
-#[tactic(auto, unfolding(manifest_schema::specs::PartForms::detailed_rows))]
-fn put_choice(alloc: Global, out: &mut Table, x: &DependencyDetail) -> Result<(), AllocError>
-    ensures { OnOk result
-        (WritesRows "tag" "package" detailed_rows (detail_content x.now) out.old out.new) }
-{
-    put_optional(alloc, out, "package", &x.package)?;
-    put_optional(alloc, out, "default-features", &x.default_features)?;
-    put_optional(alloc, out, "optional", &x.optional)?;
-    put_optional(alloc, out, "features", &x.features)?;
-    put_optional(alloc, out, "rev", &x.rev)?;
-    put_optional(alloc, out, "tag", &x.tag)?;
-    Ok(())
-}
-
 impl Schema for DependencyDetail {
     ghost Content = { Contents.DependencyDetail };
 
@@ -327,19 +281,19 @@ impl Schema for DependencyDetail {
     ghost kind = { form detailed_rows };
 
     fn from_value(alloc: Global, value: &Value) -> Result<DependencyDetail, ReadFault> {
-        match value {
-            Value::Table(table) => {
-                let mut detail = DependencyDetail::default();
-                read_detail(alloc, TableSource::Lent(table), &mut detail).and(Ok(detail))
-            }
-            _ => Err(here(alloc, Cause::WrongKind)),
-        }
+        let table = Source::Lent(value).into_table(alloc)?;
+        let mut detail = DependencyDetail::default();
+        read_detail(alloc, table, &mut detail).and(Ok(detail))
     }
 
-    #[tactic(auto, unfolding(manifest_schema::specs::PartForms::detailed_rows))]
     fn to_value(&self, alloc: Global) -> Result<Value, AllocError> {
         let mut out = Table::new(alloc);
-        put_choice(alloc, &mut out, self)?;
+        put_optional(alloc, &mut out, "package", &self.package)?;
+        put_optional(alloc, &mut out, "default-features", &self.default_features)?;
+        put_optional(alloc, &mut out, "optional", &self.optional)?;
+        put_optional(alloc, &mut out, "features", &self.features)?;
+        put_optional(alloc, &mut out, "rev", &self.rev)?;
+        put_optional(alloc, &mut out, "tag", &self.tag)?;
         put_place(alloc, &mut out, self)?;
         Ok(Value::Table(out))
     }
@@ -383,11 +337,14 @@ impl Schema for Dependency {
         }
     }
 
-    fn take(alloc: Global, value: Value) -> Result<Dependency, ReadFault> {
-        match value {
-            Value::String(s) => Ok(Dependency::Simple(s)),
-            Value::Table(table) => table_dependency(alloc, TableSource::Taken(table)),
-            other => <Dependency as Schema>::from_value(alloc, &other),
+    fn from_source(alloc: Global, source: Source<'_>) -> Result<Dependency, ReadFault> {
+        match source {
+            Source::Lent(value) => <Dependency as Schema>::from_value(alloc, value),
+            Source::Taken(value) => match value {
+                Value::String(s) => Ok(Dependency::Simple(s)),
+                Value::Table(table) => table_dependency(alloc, TableSource::Taken(table)),
+                other => <Dependency as Schema>::from_value(alloc, &other),
+            },
         }
     }
 

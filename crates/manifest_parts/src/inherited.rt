@@ -15,7 +15,7 @@ use crate::error::{Error, read, refusal};
 use manifest_value::fault::here;
 use manifest_value::readers::find;
 use manifest_value::rows::put_row;
-use manifest_value::{Cause, Plain, ReadFault, Schema};
+use manifest_value::{Cause, Plain, ReadFault, Schema, Source};
 use std::alloc::{AllocError, Global};
 use toml::{Table, Value};
 
@@ -146,22 +146,16 @@ impl<T: Plain> Schema for MaybeInherited<T> {
     ghost kind = { inh T.kind };
 
     fn from_value(alloc: Global, value: &Value) -> Result<MaybeInherited<T>, ReadFault> {
-        if says_workspace(value) {
-            return Ok(MaybeInherited::Inherited { workspace: True });
-        }
-        match value {
-            Value::Table(_) => Err(here(alloc, Cause::WrongKind)),
-            _ => Ok(MaybeInherited::Local(T::from_value(alloc, value)?)),
-        }
+        <MaybeInherited<T> as Schema>::from_source(alloc, Source::Lent(value))
     }
 
-    fn take(alloc: Global, value: Value) -> Result<MaybeInherited<T>, ReadFault> {
-        if says_workspace(&value) {
+    fn from_source(alloc: Global, source: Source<'_>) -> Result<MaybeInherited<T>, ReadFault> {
+        if says_workspace(source.value()) {
             return Ok(MaybeInherited::Inherited { workspace: True });
         }
-        match &value {
+        match source.value() {
             Value::Table(_) => Err(here(alloc, Cause::WrongKind)),
-            _ => Ok(MaybeInherited::Local(T::take(alloc, value)?)),
+            _ => Ok(MaybeInherited::Local(T::from_source(alloc, source)?)),
         }
     }
 

@@ -1,4 +1,5 @@
 //! Lints.
+#![tactic(auto, unfolding(manifest_schema::specs::PartForms::lint_rows, manifest_schema::specs::PartForms::lints_rows), using(manifest_value::proofs::Behind::form_refuses))]
 
 ghost use Rattle.std.specs.Prelude.{◌≡◌, ◌↔◌, IsTrue, map, IfOk, IfErr};
 ghost use Rattle.toml.specs.View.{view};
@@ -7,9 +8,8 @@ ghost use Rattle.manifest_schema.specs.Kinds.{map_of, good_entries};
 ghost use Rattle.manifest_schema.specs.Contents;
 ghost use Rattle.manifest_schema.specs.PartForms.{lint_rows, lint, lints_rows};
 ghost use Rattle.manifest_schema.proofs.PartLaws.{lint_config_lawful, lint_lawful, lints_lawful};
-ghost use Rattle.manifest_value.specs.Faults.{FaultIn};
 ghost use Rattle.manifest_value.specs.Entries.{entries_content};
-ghost use Rattle.manifest_value.specs.Reading.{data_of, Reads};
+ghost use Rattle.manifest_value.specs.Reading.{Reads};
 ghost use Rattle.manifest_value.specs.Walks.{spellings_view, names_of};
 ghost use Rattle.manifest_parts.specs.Records.{lint_config_content, lint_content, lints_content};
 ghost use Rattle.manifest_parts.specs.Refusals.{RefusedIn};
@@ -25,7 +25,7 @@ use manifest_value::maps::entries_table;
 use manifest_value::row_slots::{lent_slots, slots_of};
 use manifest_value::rows::{put_optional, put_row};
 use manifest_value::well_formed::none_is_named;
-use manifest_value::{Cause, ReadFault, Schema, Spellings, TableSource, spelled, walk};
+use manifest_value::{Cause, ReadFault, Schema, Source, Spellings, spelled, table, walk};
 use std::alloc::{AllocError, Global};
 use toml::{Table, Value};
 
@@ -127,7 +127,6 @@ impl MaybeInheritedLintsSet {
 }
 
 /// Reads the priority of a lint: each `i8` is in the range of the row.
-#[tactic(auto, unfolding(manifest_schema::specs::PartForms::lint_rows))]
 fn lint_fits(x: &Lint)
     ensures { lint.good (lint_content x.now) }
 {
@@ -158,25 +157,10 @@ pub fn lints_fit(lints: &LintsSet)
 static LINT: &[Spellings] = &spelled! { "level", "priority" };
 
 /// The spellings of the rows.
-#[tactic(auto, unfolding(manifest_schema::specs::PartForms::lint_rows))]
 fn lint_names() -> &'static [Spellings]
     ensures { map spellings_view result.now ≡ names_of lint_rows }
 {
     LINT
-}
-
-/// Reads the rows of a table.
-#[tactic(auto, unfolding(manifest_schema::specs::PartForms::lint_rows))]
-fn lint_config_from(alloc: Global, table: &Table) -> Result<LintConfig, ReadFault>
-    ensures ok { IfOk result (Reads (form lint_rows) lint_config_content (data_of table.now)) }
-    ensures fault { IfErr result (FaultIn ((form lint_rows).faulty (data_of table.now))) }
-{
-    let names = lint_names();
-    let mut rows = rows_of(names, slots_of(alloc, TableSource::Lent(table), names)?);
-    Ok(LintConfig {
-        level: required(alloc, &mut rows)?,
-        priority: or_default(alloc, &mut rows, 0)?,
-    })
 }
 
 impl Schema for LintConfig {
@@ -187,13 +171,15 @@ impl Schema for LintConfig {
     ghost kind = { form lint_rows };
 
     fn from_value(alloc: Global, value: &Value) -> Result<LintConfig, ReadFault> {
-        match value {
-            Value::Table(table) => lint_config_from(alloc, table),
-            _ => Err(here(alloc, Cause::WrongKind)),
-        }
+        let names = lint_names();
+        let table = Source::Lent(value).into_table(alloc)?;
+        let mut rows = rows_of(names, slots_of(alloc, table, names)?);
+        Ok(LintConfig {
+            level: required(alloc, &mut rows)?,
+            priority: or_default(alloc, &mut rows, 0)?,
+        })
     }
 
-    #[tactic(auto, unfolding(manifest_schema::specs::PartForms::lint_rows))]
     fn to_value(&self, alloc: Global) -> Result<Value, AllocError> {
         let mut out = Table::new(alloc);
         put_row(alloc, &mut out, "priority", &self.priority)?;
@@ -214,7 +200,7 @@ impl Schema for Lint {
     fn from_value(alloc: Global, value: &Value) -> Result<Lint, ReadFault> {
         match value {
             Value::String(_) => Ok(Lint::Level(Schema::from_value(alloc, value)?)),
-            Value::Table(table) => Ok(Lint::Config(lint_config_from(alloc, table)?)),
+            Value::Table(_) => Ok(Lint::Config(Schema::from_value(alloc, value)?)),
             Value::Integer(_) => Err(here(alloc, Cause::WrongKind)),
             Value::Float(_) => Err(here(alloc, Cause::WrongKind)),
             Value::Boolean(_) => Err(here(alloc, Cause::WrongKind)),
@@ -236,26 +222,10 @@ impl Schema for Lint {
 static LINTS: &[Spellings] = &spelled! { "workspace" };
 
 /// The spellings of the rows.
-#[tactic(auto, unfolding(manifest_schema::specs::PartForms::lints_rows))]
 fn lints_names() -> &'static [Spellings]
     ensures { map spellings_view result.now ≡ names_of lints_rows }
 {
     LINTS
-}
-
-/// Reads the rows of a table: every key but `workspace` is a tool.
-#[tactic(auto, unfolding(manifest_schema::specs::PartForms::lints_rows))]
-fn lints_from(alloc: Global, table: &Table) -> Result<MaybeInheritedLintsSet, ReadFault>
-    ensures ok { IfOk result (Reads (form lints_rows) lints_content (data_of table.now)) }
-    ensures fault { IfErr result (FaultIn ((form lints_rows).faulty (data_of table.now))) }
-{
-    let names = lints_names();
-    let walk = walk(alloc, table, names)?;
-    let mut rows = rows_of(names, lent_slots(alloc, walk.slots.as_slice())?);
-    Ok(MaybeInheritedLintsSet {
-        workspace: optional(alloc, &mut rows)?,
-        lints: map_of_entries(alloc, walk.rest.as_slice())?,
-    })
 }
 
 impl Schema for MaybeInheritedLintsSet {
@@ -266,13 +236,15 @@ impl Schema for MaybeInheritedLintsSet {
     ghost kind = { form lints_rows };
 
     fn from_value(alloc: Global, value: &Value) -> Result<MaybeInheritedLintsSet, ReadFault> {
-        match value {
-            Value::Table(table) => lints_from(alloc, table),
-            _ => Err(here(alloc, Cause::WrongKind)),
-        }
+        let names = lints_names();
+        let walk = walk(alloc, table(alloc, value)?, names)?;
+        let mut rows = rows_of(names, lent_slots(alloc, walk.slots.as_slice())?);
+        Ok(MaybeInheritedLintsSet {
+            workspace: optional(alloc, &mut rows)?,
+            lints: map_of_entries(alloc, walk.rest.as_slice())?,
+        })
     }
 
-    #[tactic(auto, unfolding(manifest_schema::specs::PartForms::lints_rows))]
     fn to_value(&self, alloc: Global) -> Result<Value, AllocError> {
         let mut out = entries_table(alloc, &self.lints)?;
         put_optional(alloc, &mut out, "workspace", &self.workspace)?;

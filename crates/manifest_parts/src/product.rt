@@ -1,4 +1,5 @@
 //! A target of a package.
+#![tactic(auto, unfolding(manifest_schema::specs::PartForms::product_rows), using(manifest_value::proofs::Behind::form_refuses))]
 
 ghost use Rattle.std.specs.Prelude.{◌≡◌, map, IfOk, IfErr, OnOk};
 ghost use Rattle.toml.specs.View.{view};
@@ -7,21 +8,18 @@ ghost use Rattle.manifest_schema.specs.Contents;
 ghost use Rattle.manifest_schema.specs.Defaults.{default_product};
 ghost use Rattle.manifest_schema.specs.PartForms.{product_rows};
 ghost use Rattle.manifest_schema.proofs.PartLaws.{product_lawful};
-ghost use Rattle.manifest_value.specs.Faults.{FaultIn};
 ghost use Rattle.manifest_value.specs.Reading.{Reads, WritesRows};
-ghost use Rattle.manifest_value.specs.Sources.{table_source};
 ghost use Rattle.manifest_value.specs.Walks.{spellings_view, names_of};
-ghost use Rattle.manifest_value.specs.Cursors.{Filled, Passed, UnfitFrom};
+ghost use Rattle.manifest_value.specs.Cursors.{ReadsRows};
 ghost use Rattle.manifest_parts.specs.Records.{product_content};
 ghost use Rattle.manifest_parts.specs.Refusals.{RefusedIn};
 
 use crate::choices::Edition;
 use crate::error::{Error, read};
 use manifest_value::cursor::{RowCursor, fill, fill_default, rows_of};
-use manifest_value::fault::here;
 use manifest_value::row_slots::slots_of;
 use manifest_value::rows::{put_optional, put_row, put_unless};
-use manifest_value::{Cause, ReadFault, Schema, Spellings, TableSource, spelled};
+use manifest_value::{ReadFault, Schema, Source, Spellings, spelled};
 use std::alloc::{AllocError, Global};
 use toml::{Table, Value};
 
@@ -104,50 +102,20 @@ static PRODUCT: &[Spellings] = &spelled! {
 };
 
 /// The spellings of the rows.
-#[tactic(auto, unfolding(manifest_schema::specs::PartForms::product_rows))]
 fn product_names() -> &'static [Spellings]
     ensures { map spellings_view result.now ≡ names_of product_rows }
 {
     PRODUCT
 }
 
-/// Reads the rows of a table.
-#[tactic(auto, unfolding(manifest_schema::specs::PartForms::product_rows))]
-fn product_from(alloc: Global, table: TableSource<'_>) -> Result<Product, ReadFault>
-    ensures ok { IfOk result
-        (Reads (form product_rows) product_content (table_source table.entry)) }
-    ensures fault { IfErr result (FaultIn ((form product_rows).faulty (table_source table.entry))) }
-{
-    let names = product_names();
-    let mut rows = rows_of(names, slots_of(alloc, table, names)?);
-    let mut x = Product::default(alloc);
-    fill_product(alloc, &mut rows, &mut x).and(Ok(x))
-}
-
 /// Reads all rows.
-#[tactic(auto, unfolding(manifest_schema::specs::PartForms::product_rows))]
 fn fill_product(
     alloc: Global,
     rows: &mut RowCursor<'_, '_>,
     x: &mut Product,
 ) -> Result<(), ReadFault>
-    ensures ok { Filled "path" "crate-type" product_rows rows.old (product_content x.old)
-        (product_content x.new) result }
-    ensures next { Passed "path" "crate-type" product_rows rows.old rows.new result }
-    ensures fault { UnfitFrom "path" product_rows rows.old result }
-{
-    fill_uses(alloc, rows, x)?;
-    fill_build(alloc, rows, x)?;
-    Ok(())
-}
-
-/// Reads `path` to `doc`.
-#[tactic(auto, unfolding(manifest_schema::specs::PartForms::product_rows))]
-fn fill_uses(alloc: Global, rows: &mut RowCursor<'_, '_>, x: &mut Product) -> Result<(), ReadFault>
-    ensures ok { Filled "path" "doc" product_rows rows.old (product_content x.old)
-        (product_content x.new) result }
-    ensures next { Passed "path" "doc" product_rows rows.old rows.new result }
-    ensures fault { UnfitFrom "path" product_rows rows.old result }
+    ensures { ReadsRows "path" "crate-type" product_rows product_content rows.old rows.new x.old
+        x.new result }
 {
     fill(alloc, rows, &mut x.path)?;
     fill(alloc, rows, &mut x.name)?;
@@ -155,16 +123,14 @@ fn fill_uses(alloc: Global, rows: &mut RowCursor<'_, '_>, x: &mut Product) -> Re
     fill_default(alloc, rows, true, &mut x.doctest)?;
     fill_default(alloc, rows, true, &mut x.bench)?;
     fill_default(alloc, rows, true, &mut x.doc)?;
+    fill_build(alloc, rows, x)?;
     Ok(())
 }
 
 /// Reads `plugin` to `crate-type`.
-#[tactic(auto, unfolding(manifest_schema::specs::PartForms::product_rows))]
 fn fill_build(alloc: Global, rows: &mut RowCursor<'_, '_>, x: &mut Product) -> Result<(), ReadFault>
-    ensures ok { Filled "plugin" "crate-type" product_rows rows.old (product_content x.old)
-        (product_content x.new) result }
-    ensures next { Passed "plugin" "crate-type" product_rows rows.old rows.new result }
-    ensures fault { UnfitFrom "plugin" product_rows rows.old result }
+    ensures { ReadsRows "plugin" "crate-type" product_rows product_content rows.old rows.new x.old
+        x.new result }
 {
     fill_default(alloc, rows, false, &mut x.plugin)?;
     fill_default(alloc, rows, false, &mut x.proc_macro)?;
@@ -175,26 +141,10 @@ fn fill_build(alloc: Global, rows: &mut RowCursor<'_, '_>, x: &mut Product) -> R
     Ok(())
 }
 
-/// Writes `path` to `doc`, from the last to the first.
-#[tactic(auto, unfolding(manifest_schema::specs::PartForms::product_rows))]
-fn put_uses(alloc: Global, out: &mut Table, x: &Product) -> Result<(), AllocError>
+/// Writes `path` to `crate-type`, from the last to the first.
+fn put_product(alloc: Global, out: &mut Table, x: &Product) -> Result<(), AllocError>
     ensures { OnOk result
-        (WritesRows "path" "doc" product_rows (product_content x.now) out.old out.new) }
-{
-    put_unless(alloc, out, "doc", x.doc, &x.doc)?;
-    put_unless(alloc, out, "bench", x.bench, &x.bench)?;
-    put_unless(alloc, out, "doctest", x.doctest, &x.doctest)?;
-    put_unless(alloc, out, "test", x.test, &x.test)?;
-    put_optional(alloc, out, "name", &x.name)?;
-    put_optional(alloc, out, "path", &x.path)?;
-    Ok(())
-}
-
-/// Writes `plugin` to `crate-type`, from the last to the first.
-#[tactic(auto, unfolding(manifest_schema::specs::PartForms::product_rows))]
-fn put_build(alloc: Global, out: &mut Table, x: &Product) -> Result<(), AllocError>
-    ensures { OnOk result
-        (WritesRows "plugin" "crate-type" product_rows (product_content x.now) out.old out.new) }
+        (WritesRows "path" "crate-type" product_rows (product_content x.now) out.old out.new) }
 {
     put_optional(alloc, out, "crate-type", &x.crate_type)?;
     put_row(alloc, out, "required-features", &x.required_features)?;
@@ -202,6 +152,12 @@ fn put_build(alloc: Global, out: &mut Table, x: &Product) -> Result<(), AllocErr
     put_unless(alloc, out, "harness", x.harness, &x.harness)?;
     put_unless(alloc, out, "proc-macro", !x.proc_macro, &x.proc_macro)?;
     put_unless(alloc, out, "plugin", !x.plugin, &x.plugin)?;
+    put_unless(alloc, out, "doc", x.doc, &x.doc)?;
+    put_unless(alloc, out, "bench", x.bench, &x.bench)?;
+    put_unless(alloc, out, "doctest", x.doctest, &x.doctest)?;
+    put_unless(alloc, out, "test", x.test, &x.test)?;
+    put_optional(alloc, out, "name", &x.name)?;
+    put_optional(alloc, out, "path", &x.path)?;
     Ok(())
 }
 
@@ -213,24 +169,19 @@ impl Schema for Product {
     ghost kind = { form product_rows };
 
     fn from_value(alloc: Global, value: &Value) -> Result<Product, ReadFault> {
-        match value {
-            Value::Table(table) => product_from(alloc, TableSource::Lent(table)),
-            _ => Err(here(alloc, Cause::WrongKind)),
-        }
+        <Product as Schema>::from_source(alloc, Source::Lent(value))
     }
 
-    fn take(alloc: Global, value: Value) -> Result<Product, ReadFault> {
-        match value {
-            Value::Table(table) => product_from(alloc, TableSource::Taken(table)),
-            _ => Err(here(alloc, Cause::WrongKind)),
-        }
+    fn from_source(alloc: Global, source: Source<'_>) -> Result<Product, ReadFault> {
+        let names = product_names();
+        let mut rows = rows_of(names, slots_of(alloc, source.into_table(alloc)?, names)?);
+        let mut x = Product::default(alloc);
+        fill_product(alloc, &mut rows, &mut x).and(Ok(x))
     }
 
-    #[tactic(auto, unfolding(manifest_schema::specs::PartForms::product_rows))]
     fn to_value(&self, alloc: Global) -> Result<Value, AllocError> {
         let mut out = Table::new(alloc);
-        put_build(alloc, &mut out, self)?;
-        put_uses(alloc, &mut out, self)?;
+        put_product(alloc, &mut out, self)?;
         Ok(Value::Table(out))
     }
 

@@ -1,4 +1,5 @@
 //! A profile.
+#![tactic(auto, unfolding(manifest_schema::specs::PartForms::profile_rows), using(manifest_value::proofs::Behind::form_refuses))]
 
 ghost use Rattle.std.specs.Prelude.{◌≡◌, ◌↔◌, IsTrue, pos, map, option_map, IfOk, IfErr, OnOk};
 ghost use Rattle.toml.specs.View.{view};
@@ -9,21 +10,19 @@ ghost use Rattle.manifest_schema.specs.Contents;
 ghost use Rattle.manifest_schema.specs.PartForms.{profile_rows, codegen};
 ghost use Rattle.manifest_schema.proofs.PartLaws.{profile_lawful};
 ghost use Rattle.manifest_value.specs.Entries.{entries_content};
-ghost use Rattle.manifest_value.specs.Faults.{FaultIn};
-ghost use Rattle.manifest_value.specs.Reading.{data_of, Reads, WritesRows};
+ghost use Rattle.manifest_value.specs.Reading.{Reads, WritesRows};
 ghost use Rattle.manifest_value.specs.Walks.{spellings_view, names_of};
-ghost use Rattle.manifest_value.specs.Cursors.{Filled, Passed, UnfitFrom};
+ghost use Rattle.manifest_value.specs.Cursors.{ReadsRows};
 ghost use Rattle.manifest_parts.specs.Records.{profile_content};
 ghost use Rattle.manifest_parts.specs.Refusals.{RefusedIn};
 
 use crate::error::{Error, read};
 use crate::strip::StripSetting;
 use manifest_value::cursor::{RowCursor, fill, fill_default, rows_of};
-use manifest_value::fault::here;
 use manifest_value::row_slots::slots_of;
 use manifest_value::rows::{put_optional, put_row};
 use manifest_value::well_formed::{optional_is_well_formed, values_are_well_formed};
-use manifest_value::{Cause, ReadFault, Schema, Spellings, TableSource, spelled};
+use manifest_value::{ReadFault, Schema, Source, Spellings, spelled};
 use std::alloc::{AllocError, Global};
 use std::collections::BTreeMap;
 use toml::{Table, Value};
@@ -145,68 +144,20 @@ static PROFILE: &[Spellings] = &spelled! {
 };
 
 /// The spellings of the rows.
-#[tactic(auto, unfolding(manifest_schema::specs::PartForms::profile_rows))]
 fn profile_names() -> &'static [Spellings]
     ensures { map spellings_view result.now ≡ names_of profile_rows }
 {
     PROFILE
 }
 
-/// Reads the rows of a table.
-#[tactic(auto, unfolding(manifest_schema::specs::PartForms::profile_rows))]
-fn profile_from(alloc: Global, table: &Table) -> Result<Profile, ReadFault>
-    ensures ok { IfOk result (Reads (form profile_rows) profile_content (data_of table.now)) }
-    ensures fault { IfErr result (FaultIn ((form profile_rows).faulty (data_of table.now))) }
-{
-    let names = profile_names();
-    let mut rows = rows_of(names, slots_of(alloc, TableSource::Lent(table), names)?);
-    let mut x = Profile {
-        opt_level: None,
-        debug: None,
-        rpath: None,
-        inherits: None,
-        lto: None,
-        debug_assertions: None,
-        codegen_units: None,
-        panic: None,
-        incremental: None,
-        overflow_checks: None,
-        strip: None,
-        package: BTreeMap::new(alloc),
-        split_debuginfo: None,
-        build_override: None,
-    };
-    fill_profile(alloc, &mut rows, &mut x).and(Ok(x))
-}
-
 /// Reads all rows.
-#[tactic(auto, unfolding(manifest_schema::specs::PartForms::profile_rows))]
 fn fill_profile(
     alloc: Global,
     rows: &mut RowCursor<'_, '_>,
     x: &mut Profile,
 ) -> Result<(), ReadFault>
-    ensures ok { Filled "opt-level" "build-override" profile_rows rows.old (profile_content x.old)
-        (profile_content x.new) result }
-    ensures next { Passed "opt-level" "build-override" profile_rows rows.old rows.new result }
-    ensures fault { UnfitFrom "opt-level" profile_rows rows.old result }
-{
-    fill_building(alloc, rows, x)?;
-    fill_output(alloc, rows, x)?;
-    Ok(())
-}
-
-/// Reads `opt-level` to `codegen-units`.
-#[tactic(auto, unfolding(manifest_schema::specs::PartForms::profile_rows))]
-fn fill_building(
-    alloc: Global,
-    rows: &mut RowCursor<'_, '_>,
-    x: &mut Profile,
-) -> Result<(), ReadFault>
-    ensures ok { Filled "opt-level" "codegen-units" profile_rows rows.old (profile_content x.old)
-        (profile_content x.new) result }
-    ensures next { Passed "opt-level" "codegen-units" profile_rows rows.old rows.new result }
-    ensures fault { UnfitFrom "opt-level" profile_rows rows.old result }
+    ensures { ReadsRows "opt-level" "build-override" profile_rows profile_content rows.old rows.new
+        x.old x.new result }
 {
     fill(alloc, rows, &mut x.opt_level)?;
     fill(alloc, rows, &mut x.debug)?;
@@ -215,20 +166,18 @@ fn fill_building(
     fill(alloc, rows, &mut x.lto)?;
     fill(alloc, rows, &mut x.debug_assertions)?;
     fill(alloc, rows, &mut x.codegen_units)?;
+    fill_output(alloc, rows, x)?;
     Ok(())
 }
 
 /// Reads `panic` to `build-override`.
-#[tactic(auto, unfolding(manifest_schema::specs::PartForms::profile_rows))]
 fn fill_output(
     alloc: Global,
     rows: &mut RowCursor<'_, '_>,
     x: &mut Profile,
 ) -> Result<(), ReadFault>
-    ensures ok { Filled "panic" "build-override" profile_rows rows.old (profile_content x.old)
-        (profile_content x.new) result }
-    ensures next { Passed "panic" "build-override" profile_rows rows.old rows.new result }
-    ensures fault { UnfitFrom "panic" profile_rows rows.old result }
+    ensures { ReadsRows "panic" "build-override" profile_rows profile_content rows.old rows.new
+        x.old x.new result }
 {
     fill(alloc, rows, &mut x.panic)?;
     fill(alloc, rows, &mut x.incremental)?;
@@ -241,7 +190,6 @@ fn fill_output(
 }
 
 /// Writes `opt-level` to `codegen-units`, from the last to the first.
-#[tactic(auto, unfolding(manifest_schema::specs::PartForms::profile_rows))]
 fn put_building(alloc: Global, out: &mut Table, x: &Profile) -> Result<(), AllocError>
     ensures { OnOk result
         (WritesRows "opt-level" "codegen-units" profile_rows (profile_content x.now) out.old
@@ -258,7 +206,6 @@ fn put_building(alloc: Global, out: &mut Table, x: &Profile) -> Result<(), Alloc
 }
 
 /// Writes `panic` to `build-override`, from the last to the first.
-#[tactic(auto, unfolding(manifest_schema::specs::PartForms::profile_rows))]
 fn put_output(alloc: Global, out: &mut Table, x: &Profile) -> Result<(), AllocError>
     ensures { OnOk result
         (WritesRows "panic" "build-override" profile_rows (profile_content x.now) out.old out.new) }
@@ -281,13 +228,28 @@ impl Schema for Profile {
     ghost kind = { form profile_rows };
 
     fn from_value(alloc: Global, value: &Value) -> Result<Profile, ReadFault> {
-        match value {
-            Value::Table(table) => profile_from(alloc, table),
-            _ => Err(here(alloc, Cause::WrongKind)),
-        }
+        let names = profile_names();
+        let table = Source::Lent(value).into_table(alloc)?;
+        let mut rows = rows_of(names, slots_of(alloc, table, names)?);
+        let mut x = Profile {
+            opt_level: None,
+            debug: None,
+            rpath: None,
+            inherits: None,
+            lto: None,
+            debug_assertions: None,
+            codegen_units: None,
+            panic: None,
+            incremental: None,
+            overflow_checks: None,
+            strip: None,
+            package: BTreeMap::new(alloc),
+            split_debuginfo: None,
+            build_override: None,
+        };
+        fill_profile(alloc, &mut rows, &mut x).and(Ok(x))
     }
 
-    #[tactic(auto, unfolding(manifest_schema::specs::PartForms::profile_rows))]
     fn to_value(&self, alloc: Global) -> Result<Value, AllocError> {
         let mut out = Table::new(alloc);
         put_output(alloc, &mut out, self)?;

@@ -11,7 +11,7 @@ ghost use Rattle.manifest_parts.specs.Refusals.{RefusedIn};
 
 use crate::error::{Error, read};
 use manifest_value::fault::here;
-use manifest_value::{Cause, Plain, ReadFault, Schema};
+use manifest_value::{Cause, Plain, ReadFault, Schema, Source};
 use std::alloc::{AllocError, Global};
 use toml::Value;
 
@@ -57,11 +57,10 @@ impl Schema for StringOrBool {
         }
     }
 
-    fn take(alloc: Global, value: Value) -> Result<StringOrBool, ReadFault> {
-        match value {
-            Value::Boolean(b) => Ok(StringOrBool::Bool(b)),
-            Value::String(s) => Ok(StringOrBool::String(s)),
-            _ => Err(here(alloc, Cause::WrongKind)),
+    fn from_source(alloc: Global, source: Source<'_>) -> Result<StringOrBool, ReadFault> {
+        match source {
+            Source::Taken(Value::String(s)) => Ok(StringOrBool::String(s)),
+            other => <StringOrBool as Schema>::from_value(alloc, other.value()),
         }
     }
 

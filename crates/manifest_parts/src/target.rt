@@ -1,4 +1,5 @@
 //! What a manifest adds for one platform.
+#![tactic(auto, unfolding(manifest_schema::specs::PartForms::platform_rows), using(manifest_value::proofs::Behind::form_refuses))]
 
 ghost use Rattle.std.specs.Prelude.{◌≡◌, map, IfOk, IfErr};
 ghost use Rattle.toml.specs.View.{view};
@@ -6,9 +7,7 @@ ghost use Rattle.manifest_schema.specs.Forms.{form};
 ghost use Rattle.manifest_schema.specs.Contents;
 ghost use Rattle.manifest_schema.specs.PartForms.{platform_rows};
 ghost use Rattle.manifest_schema.proofs.PartLaws.{platform_lawful};
-ghost use Rattle.manifest_value.specs.Faults.{FaultIn};
 ghost use Rattle.manifest_value.specs.Reading.{Reads};
-ghost use Rattle.manifest_value.specs.Sources.{table_source};
 ghost use Rattle.manifest_value.specs.Walks.{spellings_view, names_of};
 ghost use Rattle.manifest_parts.specs.Records.{platform_content};
 ghost use Rattle.manifest_parts.specs.Refusals.{RefusedIn};
@@ -16,10 +15,9 @@ ghost use Rattle.manifest_parts.specs.Refusals.{RefusedIn};
 use crate::DepsSet;
 use crate::error::{Error, read};
 use manifest_value::cursor::{or_default, rows_of};
-use manifest_value::fault::here;
 use manifest_value::row_slots::slots_of;
 use manifest_value::rows::put_row;
-use manifest_value::{Cause, ReadFault, Schema, Spellings, TableSource, spelled};
+use manifest_value::{ReadFault, Schema, Source, Spellings, spelled};
 use std::alloc::{AllocError, Global};
 use std::collections::BTreeMap;
 use toml::{Table, Value};
@@ -60,28 +58,10 @@ static PLATFORM: &[Spellings] = &spelled! {
 };
 
 /// The spellings of the rows.
-#[tactic(auto, unfolding(manifest_schema::specs::PartForms::platform_rows))]
 fn platform_names() -> &'static [Spellings]
     ensures { map spellings_view result.now ≡ names_of platform_rows }
 {
     PLATFORM
-}
-
-/// Reads the rows of a table.
-#[tactic(auto, unfolding(manifest_schema::specs::PartForms::platform_rows))]
-fn platform_from(alloc: Global, table: TableSource<'_>) -> Result<Target, ReadFault>
-    ensures ok { IfOk result
-        (Reads (form platform_rows) platform_content (table_source table.entry)) }
-    ensures fault { IfErr result
-        (FaultIn ((form platform_rows).faulty (table_source table.entry))) }
-{
-    let names = platform_names();
-    let mut rows = rows_of(names, slots_of(alloc, table, names)?);
-    Ok(Target {
-        dependencies: or_default(alloc, &mut rows, BTreeMap::new(alloc))?,
-        dev_dependencies: or_default(alloc, &mut rows, BTreeMap::new(alloc))?,
-        build_dependencies: or_default(alloc, &mut rows, BTreeMap::new(alloc))?,
-    })
 }
 
 impl Schema for Target {
@@ -92,20 +72,19 @@ impl Schema for Target {
     ghost kind = { form platform_rows };
 
     fn from_value(alloc: Global, value: &Value) -> Result<Target, ReadFault> {
-        match value {
-            Value::Table(table) => platform_from(alloc, TableSource::Lent(table)),
-            _ => Err(here(alloc, Cause::WrongKind)),
-        }
+        <Target as Schema>::from_source(alloc, Source::Lent(value))
     }
 
-    fn take(alloc: Global, value: Value) -> Result<Target, ReadFault> {
-        match value {
-            Value::Table(table) => platform_from(alloc, TableSource::Taken(table)),
-            _ => Err(here(alloc, Cause::WrongKind)),
-        }
+    fn from_source(alloc: Global, source: Source<'_>) -> Result<Target, ReadFault> {
+        let names = platform_names();
+        let mut rows = rows_of(names, slots_of(alloc, source.into_table(alloc)?, names)?);
+        Ok(Target {
+            dependencies: or_default(alloc, &mut rows, BTreeMap::new(alloc))?,
+            dev_dependencies: or_default(alloc, &mut rows, BTreeMap::new(alloc))?,
+            build_dependencies: or_default(alloc, &mut rows, BTreeMap::new(alloc))?,
+        })
     }
 
-    #[tactic(auto, unfolding(manifest_schema::specs::PartForms::platform_rows))]
     fn to_value(&self, alloc: Global) -> Result<Value, AllocError> {
         let mut out = Table::new(alloc);
         put_row(

@@ -1,11 +1,9 @@
 //! A type of metadata: a score.
 
-ghost use Rattle.std.specs.Prelude.{◌≡◌, ℤ, pos, map, IfOk, IfErr, IsTrue, refl};
+ghost use Rattle.std.specs.Prelude.{◌≡◌, ℤ, pos, map};
 ghost use Rattle.manifest_schema.specs.Kinds.{whole};
 ghost use Rattle.manifest_schema.specs.Forms.{form};
 ghost use Rattle.manifest_schema.proofs.KindLaws.{whole_lawful};
-ghost use Rattle.manifest_value.specs.Faults.{FaultIn};
-ghost use Rattle.manifest_value.specs.Reading.{data_of};
 ghost use Rattle.manifest_value.specs.Walks.{spellings_view, names_of};
 ghost use Rattle.manifest_rows.specs.Scores.{score_rows, score_lawful, score_plain, score_by_tree};
 
@@ -13,7 +11,7 @@ use manifest_value::cursor::{required, rows_of};
 use manifest_value::fault::here;
 use manifest_value::row_slots::slots_of;
 use manifest_value::rows::put_row;
-use manifest_value::{Cause, Metadata, ReadFault, Schema, Spellings, TableSource, spelled};
+use manifest_value::{Cause, Metadata, ReadFault, Schema, Source, Spellings, spelled};
 use std::alloc::{AllocError, Global};
 use toml::{Table, Value};
 
@@ -67,20 +65,6 @@ fn score_names() -> &'static [Spellings]
     SCORE
 }
 
-/// The score of a table.
-#[tactic(auto, unfolding(crate::specs::Scores::score_rows))]
-fn score_from(alloc: Global, table: &Table) -> Result<Score, ReadFault>
-    ensures ok { IfOk result
-        (λ x. (form score_rows).reads (data_of table.now) (pos x.level.number)) }
-    ensures fault { IfErr result (FaultIn ((form score_rows).faulty (data_of table.now))) }
-{
-    let names = score_names();
-    let mut rows = rows_of(names, slots_of(alloc, TableSource::Lent(table), names)?);
-    Ok(Score {
-        level: required(alloc, &mut rows)?,
-    })
-}
-
 impl Schema for Score {
     ghost Content = { ℤ };
 
@@ -89,10 +73,16 @@ impl Schema for Score {
     ghost kind = { form score_rows };
 
     fn from_value(alloc: Global, value: &Value) -> Result<Score, ReadFault> {
-        match value {
-            Value::Table(table) => score_from(alloc, table),
-            _ => Err(here(alloc, Cause::WrongKind)),
-        }
+        <Score as Schema>::from_source(alloc, Source::Lent(value))
+    }
+
+    #[tactic(auto, unfolding(crate::specs::Scores::score_rows), using(manifest_value::proofs::Behind::form_refuses))]
+    fn from_source(alloc: Global, source: Source<'_>) -> Result<Score, ReadFault> {
+        let names = score_names();
+        let mut rows = rows_of(names, slots_of(alloc, source.into_table(alloc)?, names)?);
+        Ok(Score {
+            level: required(alloc, &mut rows)?,
+        })
     }
 
     #[tactic(auto, unfolding(crate::specs::Scores::score_rows))]

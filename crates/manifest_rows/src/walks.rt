@@ -7,7 +7,7 @@ use manifest_value::cursor::{
 };
 use manifest_value::entries::map_of_entries;
 use manifest_value::row_slots::{RowSlot, slots_of};
-use manifest_value::{Slot, Source, Spellings, TableSource, spelled, walk};
+use manifest_value::{Schema, Slot, Source, Spellings, TableSource, spelled, walk};
 use std::alloc::Global;
 use std::process::Abort;
 use std::test::Fail;
@@ -83,6 +83,45 @@ fn slots_of_a_table_that_is_taken_or_lent(rt: HostRuntime) -> Result<(), Fail> {
     let taken = slots_of(alloc, TableSource::Taken(table), &ROWS)?;
     let text = slots_text(alloc, taken.as_slice());
     assert_is(&rt, text, "clash;c is a taken 4;absent;", ENTRIES)
+}
+
+#[test]
+fn sources_that_are_taken_or_lent(rt: HostRuntime) -> Result<(), Fail> {
+    let alloc = rt.alloc();
+    let value = Value::string(alloc, "serde")?;
+    assert!(rt; matches!(Source::Lent(&value).value(), Value::String(_)));
+    for name in [
+        String::from_source(alloc, Source::Lent(&value)),
+        String::from_source(alloc, Source::Taken(value.clone()?)),
+    ] {
+        match name {
+            Ok(name) => assert_eq!(rt; name.as_str(), "serde"),
+            Err(_) => assert!(rt; false),
+        }
+    }
+    assert!(rt;
+        matches!(
+            bool::from_source(alloc, Source::Taken(Value::Boolean(true))),
+            Ok(true)
+        )
+    );
+    let told = match Source::Taken(value).into_table(alloc) {
+        Ok(_) => String::from_str(alloc, "accepted")?,
+        Err(fault) => told(alloc, &refusal(fault))?,
+    };
+    assert_is(&rt, Ok(told), "wrong kind at (top)", "a text")?;
+    let table = Value::Table(toml::table_from_str(alloc, ENTRIES)?);
+    match Source::Lent(&table).into_table(alloc) {
+        Ok(found) => assert_eq!(rt; found.table().len(), 4),
+        Err(_) => assert!(rt; false),
+    }
+    assert!(rt;
+        matches!(
+            Source::Taken(table).into_table(alloc),
+            Ok(TableSource::Taken(_))
+        )
+    );
+    Ok(())
 }
 
 /// A row for each reader of a row, and one that is not there.

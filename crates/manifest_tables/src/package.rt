@@ -1,4 +1,5 @@
 //! The package of a manifest.
+#![tactic(auto, unfolding(manifest_schema::specs::ManifestForms::package_rows), using(manifest_value::proofs::Behind::form_refuses))]
 
 ghost use Rattle.std.specs.Prelude.{◌≡◌, ◌↔◌, IsTrue, map, IfOk, IfErr, OnOk, Some, string_bytes};
 ghost use Rattle.toml.specs.Data.{Data};
@@ -14,7 +15,7 @@ ghost use Rattle.manifest_value.specs.Faults.{FaultIn};
 ghost use Rattle.manifest_value.specs.Reading.{data_of, Reads, WritesRows};
 ghost use Rattle.manifest_value.specs.Sources.{table_source};
 ghost use Rattle.manifest_value.specs.Walks.{spellings_view, names_of};
-ghost use Rattle.manifest_value.specs.Cursors.{Filled, Passed, UnfitFrom};
+ghost use Rattle.manifest_value.specs.Cursors.{ReadsRows};
 ghost use Rattle.manifest_parts.specs.Parts.{inh_content};
 ghost use Rattle.manifest_parts.specs.Queries.{version_of};
 ghost use Rattle.manifest_parts.specs.Refusals.{RefusedIn};
@@ -23,12 +24,11 @@ ghost use Rattle.manifest_tables.specs.Tables.{package_content, package_of, pack
 use manifest_parts::error::{Error, read};
 use manifest_parts::{Edition, MaybeInherited, Publish, Resolver, StringOrBool};
 use manifest_value::cursor::{RowCursor, fill, fill_tree, required, rows_of};
-use manifest_value::fault::here;
 use manifest_value::metadata::put_tree;
 use manifest_value::row_slots::slots_of;
 use manifest_value::rows::{put_optional, put_row};
 use manifest_value::well_formed::tree_is_well_formed;
-use manifest_value::{Cause, Metadata, ReadFault, Schema, Spellings, TableSource, spelled};
+use manifest_value::{Metadata, ReadFault, Schema, Source, Spellings, TableSource, spelled};
 use std::alloc::{AllocError, Global};
 use toml::{Table, Value};
 
@@ -165,8 +165,7 @@ impl<M> Package<M> {
 
 /// A package of this name, and nothing else.
 fn named<M>(name: String) -> Package<M>
-    ensures content { (f : M → Data) → package_content f result ≡ named (string_bytes name) }
-    ensures name { result.name ≡ name }
+    ensures { (f : M → Data) → package_content f result ≡ named (string_bytes name) }
 {
     Package {
         name,
@@ -208,7 +207,6 @@ static PACKAGE: &[Spellings] = &spelled! {
 };
 
 /// The spellings of the rows.
-#[tactic(auto, unfolding(manifest_schema::specs::ManifestForms::package_rows))]
 fn package_names<M: Metadata>() -> &'static [Spellings]
     ensures { map spellings_view result.now ≡ names_of (package_rows (tree_of M.kind)) }
 {
@@ -233,7 +231,6 @@ pub fn package_from<M: Metadata>(alloc: Global, table: &Table) -> Result<Package
 }
 
 /// Reads the rows of a table.
-#[tactic(auto, unfolding(manifest_schema::specs::ManifestForms::package_rows))]
 fn package_in<M: Metadata>(alloc: Global, table: TableSource<'_>) -> Result<Package<M>, ReadFault>
     ensures ok { IfOk result
         (Reads (package_form M.kind) (package_of M.kind M.content) (table_source table.entry)) }
@@ -242,22 +239,18 @@ fn package_in<M: Metadata>(alloc: Global, table: TableSource<'_>) -> Result<Pack
 {
     let names = package_names::<M>();
     let mut rows = rows_of(names, slots_of(alloc, table, names)?);
-    let mut x = named(required(alloc, &mut rows)?);
+    let mut x = named(String::new(alloc));
     fill_package(alloc, &mut rows, &mut x).and(Ok(x))
 }
 
-/// Reads all rows but the first, which has been read.
-#[tactic(auto, unfolding(manifest_schema::specs::ManifestForms::package_rows))]
+/// Reads all rows.
 fn fill_package<M: Metadata>(
     alloc: Global,
     rows: &mut RowCursor<'_, '_>,
     x: &mut Package<M>,
 ) -> Result<(), ReadFault>
-    ensures ok { Filled "edition" "resolver" (package_rows (tree_of M.kind)) rows.old
-        (package_of M.kind M.content x.old) (package_of M.kind M.content x.new) result }
-    ensures next { Passed "edition" "resolver" (package_rows (tree_of M.kind)) rows.old rows.new
-        result }
-    ensures fault { UnfitFrom "edition" (package_rows (tree_of M.kind)) rows.old result }
+    ensures { ReadsRows "name" "resolver" (package_rows (tree_of M.kind))
+        (package_of M.kind M.content) rows.old rows.new x.old x.new result }
 {
     fill_identity(alloc, rows, x)?;
     fill_description(alloc, rows, x)?;
@@ -265,19 +258,16 @@ fn fill_package<M: Metadata>(
     Ok(())
 }
 
-/// Reads `edition` to `documentation`.
-#[tactic(auto, unfolding(manifest_schema::specs::ManifestForms::package_rows))]
+/// Reads `name` to `documentation`.
 fn fill_identity<M: Metadata>(
     alloc: Global,
     rows: &mut RowCursor<'_, '_>,
     x: &mut Package<M>,
 ) -> Result<(), ReadFault>
-    ensures ok { Filled "edition" "documentation" (package_rows (tree_of M.kind)) rows.old
-        (package_of M.kind M.content x.old) (package_of M.kind M.content x.new) result }
-    ensures next { Passed "edition" "documentation" (package_rows (tree_of M.kind)) rows.old
-        rows.new result }
-    ensures fault { UnfitFrom "edition" (package_rows (tree_of M.kind)) rows.old result }
+    ensures { ReadsRows "name" "documentation" (package_rows (tree_of M.kind))
+        (package_of M.kind M.content) rows.old rows.new x.old x.new result }
 {
+    x.name = required(alloc, rows)?;
     fill(alloc, rows, &mut x.edition)?;
     fill(alloc, rows, &mut x.version)?;
     fill(alloc, rows, &mut x.build)?;
@@ -291,17 +281,13 @@ fn fill_identity<M: Metadata>(
 }
 
 /// Reads `readme` to `exclude`.
-#[tactic(auto, unfolding(manifest_schema::specs::ManifestForms::package_rows))]
 fn fill_description<M: Metadata>(
     alloc: Global,
     rows: &mut RowCursor<'_, '_>,
     x: &mut Package<M>,
 ) -> Result<(), ReadFault>
-    ensures ok { Filled "readme" "exclude" (package_rows (tree_of M.kind)) rows.old
-        (package_of M.kind M.content x.old) (package_of M.kind M.content x.new) result }
-    ensures next { Passed "readme" "exclude" (package_rows (tree_of M.kind)) rows.old rows.new
-        result }
-    ensures fault { UnfitFrom "readme" (package_rows (tree_of M.kind)) rows.old result }
+    ensures { ReadsRows "readme" "exclude" (package_rows (tree_of M.kind))
+        (package_of M.kind M.content) rows.old rows.new x.old x.new result }
 {
     fill(alloc, rows, &mut x.readme)?;
     fill(alloc, rows, &mut x.keywords)?;
@@ -316,17 +302,13 @@ fn fill_description<M: Metadata>(
 }
 
 /// Reads `include` to `resolver`.
-#[tactic(auto, unfolding(manifest_schema::specs::ManifestForms::package_rows))]
 fn fill_build<M: Metadata>(
     alloc: Global,
     rows: &mut RowCursor<'_, '_>,
     x: &mut Package<M>,
 ) -> Result<(), ReadFault>
-    ensures ok { Filled "include" "resolver" (package_rows (tree_of M.kind)) rows.old
-        (package_of M.kind M.content x.old) (package_of M.kind M.content x.new) result }
-    ensures next { Passed "include" "resolver" (package_rows (tree_of M.kind)) rows.old rows.new
-        result }
-    ensures fault { UnfitFrom "include" (package_rows (tree_of M.kind)) rows.old result }
+    ensures { ReadsRows "include" "resolver" (package_rows (tree_of M.kind))
+        (package_of M.kind M.content) rows.old rows.new x.old x.new result }
 {
     fill(alloc, rows, &mut x.include)?;
     fill(alloc, rows, &mut x.default_run)?;
@@ -341,7 +323,6 @@ fn fill_build<M: Metadata>(
 }
 
 /// Writes `name` to `documentation`, from the last to the first.
-#[tactic(auto, unfolding(manifest_schema::specs::ManifestForms::package_rows))]
 fn put_identity<M: Metadata>(
     alloc: Global,
     out: &mut Table,
@@ -365,7 +346,6 @@ fn put_identity<M: Metadata>(
 }
 
 /// Writes `readme` to `exclude`, from the last to the first.
-#[tactic(auto, unfolding(manifest_schema::specs::ManifestForms::package_rows))]
 fn put_description<M: Metadata>(
     alloc: Global,
     out: &mut Table,
@@ -388,7 +368,6 @@ fn put_description<M: Metadata>(
 }
 
 /// Writes `include` to `resolver`, from the last to the first.
-#[tactic(auto, unfolding(manifest_schema::specs::ManifestForms::package_rows))]
 fn put_build<M: Metadata>(alloc: Global, out: &mut Table, x: &Package<M>) -> Result<(), AllocError>
     ensures { OnOk result
         (WritesRows "include" "resolver" (package_rows (tree_of M.kind))
@@ -414,20 +393,13 @@ impl<M: Metadata> Schema for Package<M> {
     ghost kind = { package_form M.kind };
 
     fn from_value(alloc: Global, value: &Value) -> Result<Package<M>, ReadFault> {
-        match value {
-            Value::Table(table) => package_in(alloc, TableSource::Lent(table)),
-            _ => Err(here(alloc, Cause::WrongKind)),
-        }
+        <Package<M> as Schema>::from_source(alloc, Source::Lent(value))
     }
 
-    fn take(alloc: Global, value: Value) -> Result<Package<M>, ReadFault> {
-        match value {
-            Value::Table(table) => package_in(alloc, TableSource::Taken(table)),
-            _ => Err(here(alloc, Cause::WrongKind)),
-        }
+    fn from_source(alloc: Global, source: Source<'_>) -> Result<Package<M>, ReadFault> {
+        package_in(alloc, source.into_table(alloc)?)
     }
 
-    #[tactic(auto, unfolding(manifest_schema::specs::ManifestForms::package_rows))]
     fn to_value(&self, alloc: Global) -> Result<Value, AllocError> {
         let mut out = Table::new(alloc);
         put_build(alloc, &mut out, self)?;

@@ -1,4 +1,5 @@
 //! The profiles of a manifest.
+#![tactic(auto, unfolding(manifest_schema::specs::PartForms::profiles_rows), using(manifest_value::proofs::Behind::form_refuses))]
 
 ghost use Rattle.std.specs.Prelude.{◌≡◌, ◌↔◌, ◌∷◌, [], codes, IsTrue, map, option_map, IfOk, IfErr, OnOk};
 ghost use Rattle.toml.specs.Data.{Members, table as table_data};
@@ -15,7 +16,7 @@ ghost use Rattle.manifest_value.specs.Faults.{FaultIn};
 ghost use Rattle.manifest_value.specs.Entries.{entries_content};
 ghost use Rattle.manifest_value.specs.Reading.{data_of, Reads};
 ghost use Rattle.manifest_value.specs.Walks.{spellings_view, names_of, all_words, rest_view, Ascend};
-ghost use Rattle.manifest_value.specs.Cursors.{Stands, Filled, Passed, UnfitFrom};
+ghost use Rattle.manifest_value.specs.Cursors.{ReadsRows, Stands};
 ghost use Rattle.manifest_parts.specs.Records.{profile_content};
 ghost use Rattle.manifest_parts.specs.Refusals.{RefusedIn};
 ghost use Rattle.manifest_tables.specs.Tables.{profiles_content, NamedAreGood};
@@ -24,12 +25,11 @@ use manifest_parts::Profile;
 use manifest_parts::error::{Error, read};
 use manifest_value::cursor::{RowCursor, fill, rows_of};
 use manifest_value::entries::map_of_entries;
-use manifest_value::fault::here;
 use manifest_value::maps::entries_table;
 use manifest_value::row_slots::lent_slots;
 use manifest_value::rows::put_optional;
 use manifest_value::well_formed::none_is_named;
-use manifest_value::{Cause, ReadFault, Schema, Spellings, spelled, walk};
+use manifest_value::{ReadFault, Schema, Spellings, spelled, table, walk};
 use std::alloc::{AllocError, Global};
 use std::collections::BTreeMap;
 use toml::{Table, Value};
@@ -150,7 +150,6 @@ fn customs_are_well_formed(custom: &BTreeMap<String, Profile>) -> bool
 static PROFILES: &[Spellings] = &spelled! { "release", "dev", "test", "bench", "doc" };
 
 /// The spellings of the rows.
-#[tactic(auto, unfolding(manifest_schema::specs::PartForms::profiles_rows))]
 fn profiles_names() -> &'static [Spellings]
     ensures { map spellings_view result.now ≡ names_of profiles_rows }
 {
@@ -158,7 +157,6 @@ fn profiles_names() -> &'static [Spellings]
 }
 
 /// Reads the rows of a table.
-#[tactic(auto, unfolding(manifest_schema::specs::PartForms::profiles_rows))]
 fn profiles_from(alloc: Global, table: &Table) -> Result<Profiles, ReadFault>
     ensures ok { IfOk result (Reads (form profiles_rows) profiles_content (data_of table.now)) }
     ensures fault { IfErr result (FaultIn ((form profiles_rows).faulty (data_of table.now))) }
@@ -171,7 +169,6 @@ fn profiles_from(alloc: Global, table: &Table) -> Result<Profiles, ReadFault>
 }
 
 /// Reads the profiles that Cargo names, and of the rest those of all other names.
-#[tactic(auto, unfolding(manifest_schema::specs::PartForms::profiles_rows))]
 fn fill_profiles(
     alloc: Global,
     rows: &mut RowCursor<'_, '_>,
@@ -192,16 +189,13 @@ fn fill_profiles(
 }
 
 /// Reads `release` to `doc`.
-#[tactic(auto, unfolding(manifest_schema::specs::PartForms::profiles_rows))]
 fn fill_named(
     alloc: Global,
     rows: &mut RowCursor<'_, '_>,
     x: &mut Profiles,
 ) -> Result<(), ReadFault>
-    ensures ok { Filled "release" "doc" profiles_rows rows.old
-        (profiles_content x.old) (profiles_content x.new) result }
-    ensures next { Passed "release" "doc" profiles_rows rows.old rows.new result }
-    ensures fault { UnfitFrom "release" profiles_rows rows.old result }
+    ensures { ReadsRows "release" "doc" profiles_rows profiles_content rows.old rows.new x.old x.new
+        result }
 {
     fill(alloc, rows, &mut x.release)?;
     fill(alloc, rows, &mut x.dev)?;
@@ -219,13 +213,9 @@ impl Schema for Profiles {
     ghost kind = { form profiles_rows };
 
     fn from_value(alloc: Global, value: &Value) -> Result<Profiles, ReadFault> {
-        match value {
-            Value::Table(table) => profiles_from(alloc, table),
-            _ => Err(here(alloc, Cause::WrongKind)),
-        }
+        profiles_from(alloc, table(alloc, value)?)
     }
 
-    #[tactic(auto, unfolding(manifest_schema::specs::PartForms::profiles_rows))]
     fn to_value(&self, alloc: Global) -> Result<Value, AllocError> {
         let mut out = entries_table(alloc, &self.custom)?;
         put_optional(alloc, &mut out, "doc", &self.doc)?;

@@ -1,4 +1,5 @@
 //! The workspace of a manifest, and the package fields that members can inherit from it.
+#![tactic(auto, unfolding(manifest_schema::specs::ManifestForms::workspace_package_rows, manifest_schema::specs::ManifestForms::workspace_rows), using(manifest_value::proofs::Behind::form_refuses))]
 
 ghost use Rattle.std.specs.Prelude.{◌≡◌, ◌↔◌, IsTrue, map, option_map, IfOk, IfErr, OnOk};
 ghost use Rattle.toml.specs.Data.{Data};
@@ -12,12 +13,10 @@ ghost use Rattle.manifest_schema.specs.PartForms.{lint};
 ghost use Rattle.manifest_schema.specs.ManifestForms.{workspace_package_rows, workspace_rows};
 ghost use Rattle.manifest_schema.proofs.KindLaws.{tree_lawful};
 ghost use Rattle.manifest_schema.proofs.ManifestLaws.{workspace_package_lawful, workspace_lawful};
-ghost use Rattle.manifest_value.specs.Faults.{FaultIn};
 ghost use Rattle.manifest_value.specs.Entries.{entries_content};
 ghost use Rattle.manifest_value.specs.Reading.{Reads, WritesRows};
-ghost use Rattle.manifest_value.specs.Sources.{table_source};
 ghost use Rattle.manifest_value.specs.Walks.{spellings_view, names_of};
-ghost use Rattle.manifest_value.specs.Cursors.{Filled, Passed, UnfitFrom};
+ghost use Rattle.manifest_value.specs.Cursors.{ReadsRows};
 ghost use Rattle.manifest_parts.specs.Records.{lint_content};
 ghost use Rattle.manifest_parts.specs.Refusals.{RefusedIn};
 ghost use Rattle.manifest_tables.specs.Tables.{workspace_package_content, workspace_content, workspace_of, workspace_form};
@@ -26,12 +25,11 @@ use manifest_parts::error::{Error, read};
 use manifest_parts::lints::lints_fit;
 use manifest_parts::{DepsSet, Edition, LintsSet, Publish, Resolver, StringOrBool};
 use manifest_value::cursor::{RowCursor, fill, fill_default, fill_tree, rows_of};
-use manifest_value::fault::here;
 use manifest_value::metadata::put_tree;
 use manifest_value::row_slots::slots_of;
 use manifest_value::rows::{put_optional, put_row};
 use manifest_value::well_formed::tree_is_well_formed;
-use manifest_value::{Cause, Metadata, ReadFault, Schema, Spellings, TableSource, spelled};
+use manifest_value::{Metadata, ReadFault, Schema, Source, Spellings, spelled};
 use std::alloc::{AllocError, Global};
 use toml::{Table, Value};
 
@@ -100,58 +98,20 @@ static LENT: &[Spellings] = &spelled! {
 };
 
 /// The spellings of the rows.
-#[tactic(auto, unfolding(manifest_schema::specs::ManifestForms::workspace_package_rows))]
 fn workspace_package_names() -> &'static [Spellings]
     ensures { map spellings_view result.now ≡ names_of workspace_package_rows }
 {
     LENT
 }
 
-/// Reads the rows of a table.
-#[tactic(auto, unfolding(manifest_schema::specs::ManifestForms::workspace_package_rows))]
-fn workspace_package_from(
-    alloc: Global,
-    table: TableSource<'_>,
-) -> Result<WorkspacePackage, ReadFault>
-    ensures ok { IfOk result
-        (Reads (form workspace_package_rows) workspace_package_content (table_source table.entry)) }
-    ensures fault { IfErr result
-        (FaultIn ((form workspace_package_rows).faulty (table_source table.entry))) }
-{
-    let names = workspace_package_names();
-    let mut rows = rows_of(names, slots_of(alloc, table, names)?);
-    let mut x = WorkspacePackage::default();
-    fill_workspace_package(alloc, &mut rows, &mut x).and(Ok(x))
-}
-
 /// Reads all rows.
-#[tactic(auto, unfolding(manifest_schema::specs::ManifestForms::workspace_package_rows))]
 fn fill_workspace_package(
     alloc: Global,
     rows: &mut RowCursor<'_, '_>,
     x: &mut WorkspacePackage,
 ) -> Result<(), ReadFault>
-    ensures ok { Filled "edition" "publish" workspace_package_rows rows.old
-        (workspace_package_content x.old) (workspace_package_content x.new) result }
-    ensures next { Passed "edition" "publish" workspace_package_rows rows.old rows.new result }
-    ensures fault { UnfitFrom "edition" workspace_package_rows rows.old result }
-{
-    fill_described(alloc, rows, x)?;
-    fill_licensed(alloc, rows, x)?;
-    Ok(())
-}
-
-/// Reads `edition` to `keywords`.
-#[tactic(auto, unfolding(manifest_schema::specs::ManifestForms::workspace_package_rows))]
-fn fill_described(
-    alloc: Global,
-    rows: &mut RowCursor<'_, '_>,
-    x: &mut WorkspacePackage,
-) -> Result<(), ReadFault>
-    ensures ok { Filled "edition" "keywords" workspace_package_rows rows.old
-        (workspace_package_content x.old) (workspace_package_content x.new) result }
-    ensures next { Passed "edition" "keywords" workspace_package_rows rows.old rows.new result }
-    ensures fault { UnfitFrom "edition" workspace_package_rows rows.old result }
+    ensures { ReadsRows "edition" "publish" workspace_package_rows workspace_package_content
+        rows.old rows.new x.old x.new result }
 {
     fill(alloc, rows, &mut x.edition)?;
     fill(alloc, rows, &mut x.version)?;
@@ -161,20 +121,18 @@ fn fill_described(
     fill(alloc, rows, &mut x.documentation)?;
     fill(alloc, rows, &mut x.readme)?;
     fill(alloc, rows, &mut x.keywords)?;
+    fill_licensed(alloc, rows, x)?;
     Ok(())
 }
 
 /// Reads `categories` to `publish`.
-#[tactic(auto, unfolding(manifest_schema::specs::ManifestForms::workspace_package_rows))]
 fn fill_licensed(
     alloc: Global,
     rows: &mut RowCursor<'_, '_>,
     x: &mut WorkspacePackage,
 ) -> Result<(), ReadFault>
-    ensures ok { Filled "categories" "publish" workspace_package_rows rows.old
-        (workspace_package_content x.old) (workspace_package_content x.new) result }
-    ensures next { Passed "categories" "publish" workspace_package_rows rows.old rows.new result }
-    ensures fault { UnfitFrom "categories" workspace_package_rows rows.old result }
+    ensures { ReadsRows "categories" "publish" workspace_package_rows workspace_package_content
+        rows.old rows.new x.old x.new result }
 {
     fill(alloc, rows, &mut x.categories)?;
     fill(alloc, rows, &mut x.license)?;
@@ -188,7 +146,6 @@ fn fill_licensed(
 }
 
 /// Writes `edition` to `keywords`, from the last to the first.
-#[tactic(auto, unfolding(manifest_schema::specs::ManifestForms::workspace_package_rows))]
 fn put_described(alloc: Global, out: &mut Table, x: &WorkspacePackage) -> Result<(), AllocError>
     ensures { OnOk result
         (WritesRows "edition" "keywords" workspace_package_rows (workspace_package_content x.now)
@@ -206,7 +163,6 @@ fn put_described(alloc: Global, out: &mut Table, x: &WorkspacePackage) -> Result
 }
 
 /// Writes `categories` to `publish`, from the last to the first.
-#[tactic(auto, unfolding(manifest_schema::specs::ManifestForms::workspace_package_rows))]
 fn put_licensed(alloc: Global, out: &mut Table, x: &WorkspacePackage) -> Result<(), AllocError>
     ensures { OnOk result
         (WritesRows "categories" "publish" workspace_package_rows (workspace_package_content x.now)
@@ -231,20 +187,16 @@ impl Schema for WorkspacePackage {
     ghost kind = { form workspace_package_rows };
 
     fn from_value(alloc: Global, value: &Value) -> Result<WorkspacePackage, ReadFault> {
-        match value {
-            Value::Table(table) => workspace_package_from(alloc, TableSource::Lent(table)),
-            _ => Err(here(alloc, Cause::WrongKind)),
-        }
+        <WorkspacePackage as Schema>::from_source(alloc, Source::Lent(value))
     }
 
-    fn take(alloc: Global, value: Value) -> Result<WorkspacePackage, ReadFault> {
-        match value {
-            Value::Table(table) => workspace_package_from(alloc, TableSource::Taken(table)),
-            _ => Err(here(alloc, Cause::WrongKind)),
-        }
+    fn from_source(alloc: Global, source: Source<'_>) -> Result<WorkspacePackage, ReadFault> {
+        let names = workspace_package_names();
+        let mut rows = rows_of(names, slots_of(alloc, source.into_table(alloc)?, names)?);
+        let mut x = WorkspacePackage::default();
+        fill_workspace_package(alloc, &mut rows, &mut x).and(Ok(x))
     }
 
-    #[tactic(auto, unfolding(manifest_schema::specs::ManifestForms::workspace_package_rows))]
     fn to_value(&self, alloc: Global) -> Result<Value, AllocError> {
         let mut out = Table::new(alloc);
         put_licensed(alloc, &mut out, self)?;
@@ -376,42 +328,20 @@ static WORKSPACE: &[Spellings] = &spelled! {
 };
 
 /// The spellings of the rows.
-#[tactic(auto, unfolding(manifest_schema::specs::ManifestForms::workspace_rows))]
 fn workspace_names<M: Metadata>() -> &'static [Spellings]
     ensures { map spellings_view result.now ≡ names_of (workspace_rows (tree_of M.kind)) }
 {
     WORKSPACE
 }
 
-/// Reads the rows of a table.
-#[tactic(auto, unfolding(manifest_schema::specs::ManifestForms::workspace_rows))]
-pub(crate) fn workspace_from<M: Metadata>(
-    alloc: Global,
-    table: TableSource<'_>,
-) -> Result<Workspace<M>, ReadFault>
-    ensures ok { IfOk result
-        (Reads (workspace_form M.kind) (workspace_of M.kind M.content) (table_source table.entry)) }
-    ensures fault { IfErr result
-        (FaultIn ((workspace_form M.kind).faulty (table_source table.entry))) }
-{
-    let names = workspace_names::<M>();
-    let mut rows = rows_of(names, slots_of(alloc, table, names)?);
-    let mut x = Workspace::default(alloc);
-    fill_workspace(alloc, &mut rows, &mut x).and(Ok(x))
-}
-
 /// Reads all rows.
-#[tactic(auto, unfolding(manifest_schema::specs::ManifestForms::workspace_rows))]
 fn fill_workspace<M: Metadata>(
     alloc: Global,
     rows: &mut RowCursor<'_, '_>,
     x: &mut Workspace<M>,
 ) -> Result<(), ReadFault>
-    ensures ok { Filled "members" "lints" (workspace_rows (tree_of M.kind)) rows.old
-        (workspace_of M.kind M.content x.old) (workspace_of M.kind M.content x.new) result }
-    ensures next { Passed "members" "lints" (workspace_rows (tree_of M.kind)) rows.old rows.new
-        result }
-    ensures fault { UnfitFrom "members" (workspace_rows (tree_of M.kind)) rows.old result }
+    ensures { ReadsRows "members" "lints" (workspace_rows (tree_of M.kind))
+        (workspace_of M.kind M.content) rows.old rows.new x.old x.new result }
 {
     fill_default(alloc, rows, Vec::new(alloc), &mut x.members)?;
     fill(alloc, rows, &mut x.default_members)?;
@@ -424,28 +354,6 @@ fn fill_workspace<M: Metadata>(
     Ok(())
 }
 
-/// Writes `members` to `lints`, from the last to the first.
-#[tactic(auto, unfolding(manifest_schema::specs::ManifestForms::workspace_rows))]
-fn put_workspace_rows<M: Metadata>(
-    alloc: Global,
-    out: &mut Table,
-    x: &Workspace<M>,
-) -> Result<(), AllocError>
-    ensures { OnOk result
-        (WritesRows "members" "lints" (workspace_rows (tree_of M.kind))
-        (workspace_of M.kind M.content x.now) out.old out.new) }
-{
-    put_optional(alloc, out, "lints", &x.lints)?;
-    put_tree(alloc, out, "metadata", &x.metadata)?;
-    put_optional(alloc, out, "package", &x.package)?;
-    put_optional(alloc, out, "dependencies", &x.dependencies)?;
-    put_optional(alloc, out, "resolver", &x.resolver)?;
-    put_optional(alloc, out, "exclude", &x.exclude)?;
-    put_optional(alloc, out, "default-members", &x.default_members)?;
-    put_row(alloc, out, "members", &x.members)?;
-    Ok(())
-}
-
 impl<M: Metadata> Schema for Workspace<M> {
     ghost Content = { Contents.Workspace };
 
@@ -454,23 +362,26 @@ impl<M: Metadata> Schema for Workspace<M> {
     ghost kind = { workspace_form M.kind };
 
     fn from_value(alloc: Global, value: &Value) -> Result<Workspace<M>, ReadFault> {
-        match value {
-            Value::Table(table) => workspace_from(alloc, TableSource::Lent(table)),
-            _ => Err(here(alloc, Cause::WrongKind)),
-        }
+        <Workspace<M> as Schema>::from_source(alloc, Source::Lent(value))
     }
 
-    fn take(alloc: Global, value: Value) -> Result<Workspace<M>, ReadFault> {
-        match value {
-            Value::Table(table) => workspace_from(alloc, TableSource::Taken(table)),
-            _ => Err(here(alloc, Cause::WrongKind)),
-        }
+    fn from_source(alloc: Global, source: Source<'_>) -> Result<Workspace<M>, ReadFault> {
+        let names = workspace_names::<M>();
+        let mut rows = rows_of(names, slots_of(alloc, source.into_table(alloc)?, names)?);
+        let mut x = Workspace::default(alloc);
+        fill_workspace(alloc, &mut rows, &mut x).and(Ok(x))
     }
 
-    #[tactic(auto, unfolding(manifest_schema::specs::ManifestForms::workspace_rows))]
     fn to_value(&self, alloc: Global) -> Result<Value, AllocError> {
         let mut out = Table::new(alloc);
-        put_workspace_rows(alloc, &mut out, self)?;
+        put_optional(alloc, &mut out, "lints", &self.lints)?;
+        put_tree(alloc, &mut out, "metadata", &self.metadata)?;
+        put_optional(alloc, &mut out, "package", &self.package)?;
+        put_optional(alloc, &mut out, "dependencies", &self.dependencies)?;
+        put_optional(alloc, &mut out, "resolver", &self.resolver)?;
+        put_optional(alloc, &mut out, "exclude", &self.exclude)?;
+        put_optional(alloc, &mut out, "default-members", &self.default_members)?;
+        put_row(alloc, &mut out, "members", &self.members)?;
         Ok(Value::Table(out))
     }
 

@@ -1,7 +1,9 @@
 -- Faults one step further out.
 use Rattle.std.specs.declared.alloc.AllocError.{AllocError}
 use Rattle.manifest_schema.specs.Paths.{Path, Step, Cause as SchemaCause, behind}
-use Rattle.manifest_value.specs.Faults.{FaultIn, IsBehind, path_of}
+use Rattle.toml.specs.Data.{Data, string, integer, float, boolean, datetime, array, table}
+use Rattle.manifest_schema.specs.Forms.{Rows, faulty_form}
+use Rattle.manifest_value.specs.Faults.{FaultIn, IsBehind, path_of, no_table}
 use Rattle.manifest_value.specs.declared.fault.ReadFault.{ReadFault}
 use Rattle.manifest_value.specs.declared.fault.ReadFault.TheVariants.{Schema, Memory}
 
@@ -20,3 +22,14 @@ fault_behind P s (Schema f) (Schema g) h k = (path_of f.path, k.0, rw k.1 h)
 pub memory_behind : (s : Step) (f : ReadFault) (e : AllocError) → IsBehind s f (Memory e)
 memory_behind s (Schema f) e = tt
 memory_behind s (Memory e') e = tt
+
+-- a value that is no table is refused by each form
+pub form_refuses : {A : Type 0} (rows : Rows A) (d : Data) (f : ReadFault) → FaultIn (no_table d) f → FaultIn (faulty_form rows d) f
+form_refuses rows d (Memory e) h = tt
+form_refuses rows (table ms) (Schema f) h = absurd h
+form_refuses rows (string s) (Schema f) h = h
+form_refuses rows (integer n) (Schema f) h = h
+form_refuses rows (float x) (Schema f) h = h
+form_refuses rows (boolean b) (Schema f) h = h
+form_refuses rows (datetime t) (Schema f) h = h
+form_refuses rows (array ds) (Schema f) h = h

@@ -19,7 +19,7 @@ use Rattle.manifest_schema.specs.Slots.{Spellings, Slot, only, both, absent, slo
 use Rattle.manifest_schema.specs.Forms.{spell, differ}
 use Rattle.manifest_schema.specs.ForProofs.{spellings_of}
 use Rattle.manifest_schema.proofs.TableLaws.{same_key-true, turned, get-member_other, get-member_same}
-use Rattle.manifest_value.specs.Walks.{spellings_view, all_words, distinct_words, slots_at, rest_view, filled, filled_at, is_word_at, blanks}
+use Rattle.manifest_value.specs.Walks.{spellings_view, all_words, distinct_words, slots_at, rest_view, filled, filled_at, is_word_at}
 use Rattle.manifest_value.specs.declared.spellings.Spellings.{Spellings as CodeSpellings}
 
 key_below : {X : Type 0} (first : String Global × X) (es : List (String Global × X)) (e : String Global × X) (more : List (String Global × X))
@@ -172,6 +172,11 @@ slots-last (suc i) (s ∷ ss) k d ms h g none =
 at_none : (s : Spellings) → absent ≡ at s no_members
 at_none (only k) = refl
 at_none (both k l) = refl
+
+-- so many slots of one kind, as those in which nothing is found yet
+abbrev pub blanks : {X : Type 0} → X → ℕ → List X
+blanks x zero = []
+blanks x (suc n) = x ∷ blanks x n
 
 pub blanks-last : {X : Type 0} (x : X) (n : ℕ) → blanks x n ++ x ∷ [] ≡ blanks x (suc n)
 blanks-last x zero = refl

@@ -19,16 +19,20 @@ abbrev pub StandsAt : {A : Type 0} → Key → Rows A → RowCursor → Members 
 StandsAt a rows r ms = Stands r (drop (above a rows) (names_of rows)) ms
 
 -- where the rows from key a on are to come: those from key a to key b fit on success, the record being x before and y after
-abbrev pub Filled : {A E : Type 0} → Key → Key → Rows A → RowCursor → A → A → Result (Unit {0}) E → Type 0
+abbrev pub Filled : {A : Type 0} → Key → Key → Rows A → RowCursor → A → A → Result (Unit {0}) ReadFault → Type 0
 Filled a b rows old x y done = (ms : Members) → StandsAt a rows old ms → OnOk done (first_fit (above a rows) rows ms x → first_fit (down_to b rows) rows ms y)
 
 -- where the rows from key a on are to come: those below key b are left on success
-abbrev pub Passed : {A E : Type 0} → Key → Key → Rows A → RowCursor → RowCursor → Result (Unit {0}) E → Type 0
+abbrev pub Passed : {A : Type 0} → Key → Key → Rows A → RowCursor → RowCursor → Result (Unit {0}) ReadFault → Type 0
 Passed a b rows old new done = (ms : Members) → StandsAt a rows old ms → OnOk done (Stands new (drop (down_to b rows) (names_of rows)) ms)
 
 -- where the rows from key a on are to come: a refusal is a fault of the table
 abbrev pub UnfitFrom : {A : Type 0} → Key → Rows A → RowCursor → Result (Unit {0}) ReadFault → Type 0
 UnfitFrom a rows old done = (ms : Members) → StandsAt a rows old ms → IfErr done (FaultIn ((form rows).faulty (table ms)))
+
+-- what reads the rows from key a to key b into a record gives on success, leaves, and refuses with
+abbrev pub ReadsRows : {X A : Type 0} → Key → Key → Rows A → (X → A) → RowCursor → RowCursor → X → X → Result (Unit {0}) ReadFault → Type 0
+ReadsRows a b rows content old new x y done = Filled a b rows old (content x) (content y) done × Passed a b rows old new done × UnfitFrom a rows old done
 
 -- where a row is to come: this holds of its spellings and of what stands there
 abbrev pub AtRow : RowCursor → (Spellings → Slot → Type 0) → Type 0

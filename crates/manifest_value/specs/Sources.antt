@@ -1,10 +1,11 @@
 -- What is read, and what stands in the rows that are read, as the definitions see it.
 use Rattle.toml.specs.Data.{Data, table, Members}
 use Rattle.toml.specs.View.{view, table_view}
-use Rattle.manifest_schema.specs.Slots.{Slot, absent, one, clash}
+use Rattle.manifest_schema.specs.Slots.{Slot}
 use Rattle.manifest_value.specs.declared.source.Source.{Source}
 use Rattle.manifest_value.specs.declared.source.TableSource.{TableSource}
-use Rattle.manifest_value.specs.declared.row_slots.RowSlot.{RowSlot}
+use Rattle.manifest_value.specs.declared.walked.Found.{Found}
+use Rattle.manifest_value.specs.Walks.{found_view}
 
 -- the value that is read
 abbrev pub source_view : Source → Data
@@ -21,7 +22,5 @@ abbrev pub table_source : TableSource → Data
 table_source t = table (members_of t)
 
 -- what stands in a row, as the definitions have it
-abbrev pub row_view : RowSlot → Slot
-row_view RowSlot.Absent = absent
-row_view (RowSlot.One s v) = one s.now (source_view v)
-row_view RowSlot.Clash = clash
+abbrev pub row_view : Found Source → Slot
+row_view = found_view source_view

@@ -12,7 +12,7 @@ use Rattle.manifest_schema.specs.Slots.{Spellings, Slot, absent, one, clash, at,
 use Rattle.manifest_schema.specs.Forms.{Rows, ◌⨾◌, spell, differ}
 use Rattle.manifest_schema.specs.ForProofs.{spellings_of}
 use Rattle.manifest_value.specs.declared.spellings.Spellings.{Spellings as CodeSpellings}
-use Rattle.manifest_value.specs.declared.walked.Slot.{Slot as CodeSlot}
+use Rattle.manifest_value.specs.declared.walked.Found.{Found}
 
 -- SPELLINGS
 -- the spellings of a row, as the definitions have them
@@ -42,10 +42,14 @@ is_word_at (suc i) (s ∷ ss) k = is_word_at i ss k
 
 -- SLOTS
 -- what stands under the spellings of a row, as the definitions have it
-abbrev pub slot_view : CodeSlot → Slot
-slot_view CodeSlot.Absent = absent
-slot_view (CodeSlot.One s v) = one s.now (view v.now)
-slot_view CodeSlot.Clash = clash
+abbrev pub found_view : {V : Type 0} → (V → Data) → Found V → Slot
+found_view f Found.Absent = absent
+found_view f (Found.One s v) = one s.now (f v)
+found_view f Found.Clash = clash
+
+-- the same, where the value is borrowed
+abbrev pub slot_view : Found (Bor Value) → Slot
+slot_view = found_view (λ v. view v.now)
 
 -- what a table holds for each row
 abbrev pub slots_at : List Spellings → Members → List Slot
@@ -57,11 +61,6 @@ abbrev pub value_in : Slot → Option (Option Data)
 value_in absent = Some None
 value_in (one k d) = Some (Some d)
 value_in clash = None
-
--- so many slots of one kind, as those in which nothing is found yet
-abbrev pub blanks : {X : Type 0} → X → ℕ → List X
-blanks x zero = []
-blanks x (suc n) = x ∷ blanks x n
 
 -- a slot in which one more value is found
 abbrev pub filled : Slot → Text → Data → Slot

@@ -3,7 +3,7 @@
 ghost use Rattle.std.specs.Prelude.{◌≡◌, ◌∷◌, List, Some, None, IfOk, IfErr, OnOk, option_map, map};
 ghost use Rattle.toml.specs.Data.{Members};
 ghost use Rattle.manifest_schema.specs.Paths.{behind, key};
-ghost use Rattle.manifest_schema.specs.Slots.{Spellings as Words, first, one, at};
+ghost use Rattle.manifest_schema.specs.Slots.{Spellings as Words, first, one};
 ghost use Rattle.manifest_schema.specs.Kinds.{tree_of};
 ghost use Rattle.manifest_schema.specs.Needs.{meets_required, meets_optional, meets_default, meets_lenient, faulty_free, faulty_required};
 ghost use Rattle.manifest_value.specs.Faults.{FaultIn};
@@ -17,7 +17,7 @@ use crate::metadata::Metadata;
 use crate::row_slots::{RowSlot, take_slot};
 use crate::rows::at_key;
 use crate::schema::Schema;
-use crate::source::{Source, read_source, source_under};
+use crate::source::{Source, source_under};
 use crate::spellings::Spellings;
 use std::alloc::{AllocError, Global};
 
@@ -253,7 +253,7 @@ pub fn lenient_optional<T: Schema>(
 {
     match next_row(rows) {
         (_, RowSlot::Absent | RowSlot::Clash) => Ok(None),
-        (_, RowSlot::One { value, .. }) => match read_source(alloc, value) {
+        (_, RowSlot::One { value, .. }) => match T::from_source(alloc, value) {
             Ok(x) => Ok(Some(x)),
             Err(ReadFault::Schema(_)) => Ok(None),
             Err(ReadFault::Memory(refused)) => Err(refused),
@@ -278,7 +278,7 @@ pub fn lenient_default<T: Schema>(
 {
     match next_row(rows) {
         (_, RowSlot::Absent | RowSlot::Clash) => Ok(default),
-        (_, RowSlot::One { value, .. }) => match read_source(alloc, value) {
+        (_, RowSlot::One { value, .. }) => match T::from_source(alloc, value) {
             Ok(x) => Ok(x),
             Err(ReadFault::Schema(_)) => Ok(default),
             Err(ReadFault::Memory(memory)) => Err(memory),

@@ -1,33 +1,20 @@
 //! Maps of the entries that a walk left over.
 
-ghost use Rattle.std.specs.Prelude.{◌≡◌, IfOk, IfErr, string_bytes};
+ghost use Rattle.std.specs.Prelude.{◌≡◌, IfOk, IfErr};
 ghost use Rattle.toml.specs.Data.{no_members};
-ghost use Rattle.toml.specs.View.{view};
 ghost use Rattle.manifest_schema.specs.Kinds.{reads_entries, faulty_entry};
-ghost use Rattle.manifest_schema.specs.Paths.{behind, key};
 ghost use Rattle.manifest_value.specs.Faults.{FaultIn};
 ghost use Rattle.manifest_value.specs.Entries.{entries_content, reads_first};
 ghost use Rattle.manifest_value.specs.Walks.{rest_view, Ascend};
 
 use crate::fault::ReadFault;
 use crate::maps::map_of_list;
-use crate::rows::read_under;
 use crate::schema::Schema;
+use crate::source::Source;
+use crate::taken::read_entry;
 use std::alloc::Global;
 use std::collections::BTreeMap;
 use toml::Value;
-
-/// A copy of the key, and what is read of the value, with the key before the path of a fault.
-#[inline(always)]
-fn entry_of<T: Schema>(alloc: Global, word: &str, value: &Value) -> Result<(String, T), ReadFault>
-    ensures ok { IfOk result (λ e. (string_bytes e.0 ≡ word.now)
-        × T.kind.reads (view value.now) (T.content e.1)) }
-    ensures fault { IfErr result
-        (FaultIn (behind (key word.now) (T.kind.faulty (view value.now)))) }
-{
-    let x = read_under(alloc, value, word)?;
-    Ok((String::from_str(alloc, word)?, x))
-}
 
 /// What is read of entries, in their order: the first fault is told where it is met.
 fn list_of_entries<T: Schema>(
@@ -42,7 +29,8 @@ fn list_of_entries<T: Schema>(
     let mut all = Vec::with_capacity(alloc, rest.len())?;
     for i in 0..rest.len() {
         let found = &rest[i];
-        match entry_of(alloc, found.0, found.1) {
+        let name = String::from_str(alloc, found.0)?;
+        match read_entry(alloc, name, Source::Lent(found.1)) {
             Ok(entry) => all.push(entry)?,
             Err(fault) => return Err(fault),
         }

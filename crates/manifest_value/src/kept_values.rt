@@ -8,6 +8,7 @@ ghost use Rattle.manifest_value.specs.Faults.{FaultIn};
 
 use crate::fault::{Cause, ReadFault, Step, here, prefixed, under_key};
 use crate::schema::Schema;
+use crate::source::Source;
 use std::alloc::{AllocError, Global};
 use toml::{Table, Value};
 
@@ -126,9 +127,12 @@ impl Schema for Value {
         kept(alloc, value)
     }
 
-    fn take(alloc: Global, value: Value) -> Result<Value, ReadFault> {
-        refuse_float(alloc, &value)?;
-        Ok(value)
+    fn from_source(alloc: Global, source: Source<'_>) -> Result<Value, ReadFault> {
+        refuse_float(alloc, source.value())?;
+        match source {
+            Source::Lent(value) => Ok(value.clone()?),
+            Source::Taken(value) => Ok(value),
+        }
     }
 
     fn to_value(&self, _alloc: Global) -> Result<Value, AllocError> {

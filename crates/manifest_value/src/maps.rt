@@ -12,6 +12,7 @@ ghost use Rattle.manifest_schema.proofs.KindLaws.{map_lawful};
 use crate::entries::map_of_entries;
 use crate::fault::{Cause, ReadFault, here};
 use crate::schema::Schema;
+use crate::source::Source;
 use crate::taken::taken_map;
 use crate::walking::walk;
 use crate::writers::entries_by;
@@ -73,10 +74,13 @@ impl<T: Schema> Schema for BTreeMap<String, T> {
         }
     }
 
-    fn take(alloc: Global, value: Value) -> Result<BTreeMap<String, T>, ReadFault> {
-        match value {
-            Value::Table(table) => taken_map(alloc, table),
-            _ => Err(here(alloc, Cause::WrongKind)),
+    fn from_source(alloc: Global, source: Source<'_>) -> Result<BTreeMap<String, T>, ReadFault> {
+        match source {
+            Source::Lent(value) => <BTreeMap<String, T> as Schema>::from_value(alloc, value),
+            Source::Taken(value) => match value {
+                Value::Table(table) => taken_map(alloc, table),
+                _ => Err(here(alloc, Cause::WrongKind)),
+            },
         }
     }
 

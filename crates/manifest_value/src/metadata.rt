@@ -1,12 +1,12 @@
 //! Metadata of any type.
-ghost use Rattle.std.specs.Prelude.{◌≡◌, ◌↔◌, IsTrue, IfOk, IfErr, OnOk, option_map, option_copied};
+ghost use Rattle.std.specs.Prelude.{◌≡◌, ◌↔◌, IsTrue, IfOk, IfErr, OnOk, option_map};
 ghost use Rattle.std.proofs.Common.{subst};
 ghost use Rattle.toml.specs.View.{view, table_view};
 ghost use Rattle.manifest_value.specs.Faults.{FaultIn, IsSchema};
-ghost use Rattle.manifest_schema.specs.Slots.{at, put_some};
+ghost use Rattle.manifest_schema.specs.Slots.{put_some};
 ghost use Rattle.manifest_schema.specs.Kinds.{plain, tree_of, nothing};
-ghost use Rattle.manifest_schema.specs.Needs.{meets_optional, faulty_free, written_some};
-ghost use Rattle.manifest_schema.specs.ForProofs.{spellings_of, nothing_laws};
+ghost use Rattle.manifest_schema.specs.Needs.{written_some};
+ghost use Rattle.manifest_schema.specs.ForProofs.{nothing_laws};
 ghost use Rattle.manifest_value.specs.Reading.{written_as};
 
 use crate::fault::{Cause, ReadFault, here};

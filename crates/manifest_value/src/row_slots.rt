@@ -2,32 +2,19 @@
 
 ghost use Rattle.std.specs.Prelude.{◌≡◌, ◌<◌, ◌+◌, ◌∷◌, IsTrue, map, length, drop, IfOk};
 ghost use Rattle.toml.specs.View.{table_view};
-ghost use Rattle.manifest_value.specs.Sources.{source_view, members_of, row_view};
-ghost use Rattle.manifest_value.specs.Walks.{spellings_view, distinct_words, slot_view, slots_at, filled, filled_at, blanks};
+ghost use Rattle.manifest_value.specs.Sources.{members_of, row_view};
+ghost use Rattle.manifest_value.specs.Walks.{spellings_view, distinct_words, slot_view, slots_at};
 
 use crate::source::{Source, TableSource};
 use crate::spellings::Spellings;
-use crate::walked::Slot;
-use crate::walking::{row_of, walk};
+use crate::walked::{Found, Slot};
+use crate::walking::{empty_slots, fill_slot, row_of, walk};
 use std::alloc::{AllocError, Global};
 use std::mem;
 use toml::Table;
 
-/// What a table holds under the spellings of a row.
-#[derive(Drop)]
-pub enum RowSlot<'t> {
-    /// Neither spelling.
-    Absent,
-    /// One spelling, and the value under it.
-    One {
-        /// The spelling that is there.
-        spelling: &'static str,
-        /// The value.
-        value: Source<'t>,
-    },
-    /// Both spellings.
-    Clash,
-}
+/// What a table holds under the spellings of a row: the value as it is read.
+pub type RowSlot<'t> = Found<Source<'t>>;
 
 /// A slot of a walk.
 fn lent_slot<'t>(slot: &Slot<'t>) -> RowSlot<'t>
@@ -86,40 +73,6 @@ pub fn slots_of<'t>(
     }
 }
 
-/// Slots in which nothing is found yet.
-fn empty_slots<'t>(alloc: Global, many: usize) -> Result<Vec<RowSlot<'t>>, AllocError>
-    ensures { IfOk result (λ v. v.items ≡ blanks RowSlot.Absent many) }
-{
-    let mut slots = Vec::with_capacity(alloc, many)?;
-    for _i in 0..many {
-        slots.push(RowSlot::Absent)?;
-    }
-    Ok(slots)
-}
-
-/// A slot in which one more value is found: a second one clashes with the first.
-#[inline(always)]
-fn filled<'t>(slot: &RowSlot<'t>, spelling: &'static str, value: Source<'t>) -> RowSlot<'t>
-    ensures { row_view result ≡ filled (row_view slot.now) spelling.now (source_view value.entry) }
-{
-    match slot {
-        RowSlot::Absent => RowSlot::One { spelling, value },
-        RowSlot::One { .. } => RowSlot::Clash,
-        RowSlot::Clash => RowSlot::Clash,
-    }
-}
-
-/// Finds one more value in a slot of a list.
-#[inline(always)]
-fn fill_slot<'t>(slots: &mut Vec<RowSlot<'t>>, i: usize, spelling: &'static str, value: Source<'t>)
-    requires { i < length slots.now.items }
-    ensures views { map row_view slots.new.items
-        ≡ filled_at i spelling.now (source_view value.entry) (map row_view slots.old.items) }
-    ensures many { length slots.new.items ≡ length slots.old.items }
-{
-    slots[i] = filled(&slots[i], spelling, value);
-}
-
 /// Takes a table apart: what it held under the spellings of each row. Every other key is dropped.
 ///
 /// All spellings of the rows have to differ.
@@ -133,7 +86,7 @@ fn taken_slots<'t>(
         ≡ slots_at (map spellings_view rows.now) (table_view table)) }
 {
     let _ascending = table.len();
-    let mut slots = empty_slots(alloc, rows.len())?;
+    let mut slots = empty_slots(alloc, rows)?;
     for (key, value) in table {
         match row_of(rows, key.as_str()) {
             Some((i, spelling)) => fill_slot(&mut slots, i, spelling, Source::Taken(value)),

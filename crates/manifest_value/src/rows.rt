@@ -1,16 +1,16 @@
 //! A value under a key, and rows that are written.
-ghost use Rattle.std.specs.Prelude.{◌≡◌, Some, map, IfOk, IfErr, OnOk, option_map, option_copied};
+ghost use Rattle.std.specs.Prelude.{◌≡◌, Some, map, IfOk, IfErr, OnOk, option_map};
 ghost use Rattle.manifest_schema.specs.Kinds.{list_of};
 ghost use Rattle.toml.specs.View.{view, table_view};
 ghost use Rattle.manifest_value.specs.Faults.{FaultIn, cause_of};
 ghost use Rattle.manifest_schema.specs.Paths.{itself, behind, key};
-ghost use Rattle.manifest_schema.specs.Slots.{at, put_some};
-ghost use Rattle.manifest_schema.specs.Needs.{meets_required, meets_optional, meets_default, faulty_required, faulty_free, written_some, written_unless, is_empty};
-ghost use Rattle.manifest_schema.specs.ForProofs.{spellings_of};
+ghost use Rattle.manifest_schema.specs.Slots.{put_some};
+ghost use Rattle.manifest_schema.specs.Needs.{written_some, written_unless, is_empty};
 ghost use Rattle.manifest_value.specs.Reading.{Reads};
 
 use crate::fault::{Cause, ReadFault, here, under_key};
 use crate::schema::Schema;
+use crate::source::{Source, source_under};
 use std::alloc::{AllocError, Global};
 use toml::{Table, Value};
 
@@ -39,10 +39,7 @@ pub fn read_under<T: Schema>(alloc: Global, value: &Value, word: &str) -> Result
     ensures fault { IfErr result
         (FaultIn (behind (key word.now) (T.kind.faulty (view value.now)))) }
 {
-    match T::from_value(alloc, value) {
-        Ok(x) => Ok(x),
-        Err(fault) => Err(under_key(alloc, word, fault)),
-    }
+    source_under(alloc, Source::Lent(value), word)
 }
 
 /// Puts a row into the table.

@@ -7,10 +7,12 @@ ghost use Rattle.manifest_schema.specs.Lawful.{IsLawful};
 ghost use Rattle.manifest_schema.proofs.KindLaws.{text_lawful, flag_lawful, list_lawful};
 ghost use Rattle.manifest_value.specs.Faults.{FaultIn, IsSchema};
 ghost use Rattle.manifest_value.specs.Reading.{Reads};
+ghost use Rattle.manifest_value.specs.Sources.{source_view};
 
 use crate::closures::list_of;
-use crate::fault::{Cause, ReadFault, here};
+use crate::fault::ReadFault;
 use crate::readers::{boolean, text};
+use crate::source::Source;
 use crate::taken::taken_items;
 use crate::writers::{write_list, write_text};
 use std::alloc::{AllocError, Global};
@@ -32,12 +34,13 @@ pub trait Schema: Sized + Drop {
         ensures ok { IfOk result (Reads kind content (view value.now)) }
         ensures fault { IfErr result (FaultIn (kind.faulty (view value.now))) };
 
-    /// The same reading of a value that nobody else wants: what it holds is moved where the type can, and copied else.
-    fn take(alloc: Global, value: Value) -> Result<Self, ReadFault>
-        ensures ok { IfOk result (Reads kind content (view value)) }
-        ensures fault { IfErr result (FaultIn (kind.faulty (view value))) }
+    /// The same reading of a value that may be wanted by nobody else: what that holds is moved where the type can, and
+    /// copied else.
+    fn from_source(alloc: Global, source: Source<'_>) -> Result<Self, ReadFault>
+        ensures ok { IfOk result (Reads kind content (source_view source.entry)) }
+        ensures fault { IfErr result (FaultIn (kind.faulty (source_view source.entry))) }
     {
-        Self::from_value(alloc, &value)
+        Self::from_value(alloc, source.value())
     }
 
     /// The value that is written.
@@ -60,10 +63,10 @@ impl Schema for String {
     }
 
     #[inline(always)]
-    fn take(alloc: Global, value: Value) -> Result<String, ReadFault> {
-        match value {
-            Value::String(s) => Ok(s),
-            _ => Err(here(alloc, Cause::WrongKind)),
+    fn from_source(alloc: Global, source: Source<'_>) -> Result<String, ReadFault> {
+        match source {
+            Source::Taken(Value::String(s)) => Ok(s),
+            other => text(alloc, other.value()),
         }
     }
 
@@ -110,10 +113,10 @@ impl<T: Schema> Schema for Vec<T> {
         list_of(alloc, value, |item| T::from_value(alloc, item))
     }
 
-    fn take(alloc: Global, value: Value) -> Result<Vec<T>, ReadFault> {
-        match value {
-            Value::Array(items) => taken_items(alloc, items),
-            _ => Err(here(alloc, Cause::WrongKind)),
+    fn from_source(alloc: Global, source: Source<'_>) -> Result<Vec<T>, ReadFault> {
+        match source {
+            Source::Taken(Value::Array(items)) => taken_items(alloc, items),
+            other => <Vec<T> as Schema>::from_value(alloc, other.value()),
         }
     }
 

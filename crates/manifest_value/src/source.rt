@@ -1,12 +1,13 @@
 //! What is read: a value or a table that stays where it is, or one that is taken apart.
 
 ghost use Rattle.std.specs.Prelude.{◌≡◌, IfOk, IfErr};
+ghost use Rattle.toml.specs.View.{view};
 ghost use Rattle.manifest_schema.specs.Paths.{behind, key};
-ghost use Rattle.manifest_value.specs.Faults.{FaultIn};
+ghost use Rattle.manifest_value.specs.Faults.{FaultIn, no_table};
 ghost use Rattle.manifest_value.specs.Reading.{Reads, data_of};
 ghost use Rattle.manifest_value.specs.Sources.{source_view, table_source};
 
-use crate::fault::{ReadFault, under_key};
+use crate::fault::{Cause, ReadFault, here, under_key};
 use crate::schema::Schema;
 use std::alloc::Global;
 use toml::{Table, Value};
@@ -29,6 +30,38 @@ pub enum TableSource<'t> {
     Taken(Table),
 }
 
+impl<'t> Source<'t> {
+    /// The value itself.
+    #[inline(always)]
+    pub fn value(&self) -> &Value
+        ensures { view result.now ≡ source_view self.now }
+    {
+        match self {
+            Source::Lent(value) => *value,
+            Source::Taken(value) => value,
+        }
+    }
+
+    /// The table that the value is.
+    ///
+    /// A value that is no table is refused at itself with `WrongKind`, and a taken one is dropped.
+    ///
+    /// ```ignore
+    /// let table = Source::Lent(&value).into_table(alloc)?;
+    /// ```
+    #[inline(always)]
+    pub fn into_table(self, alloc: Global) -> Result<TableSource<'t>, ReadFault>
+        ensures ok { IfOk result (λ t. source_view self.entry ≡ table_source t) }
+        ensures fault { IfErr result (FaultIn (no_table (source_view self.entry))) }
+    {
+        match self {
+            Source::Lent(Value::Table(table)) => Ok(TableSource::Lent(table)),
+            Source::Taken(Value::Table(table)) => Ok(TableSource::Taken(table)),
+            _ => Err(here(alloc, Cause::WrongKind)),
+        }
+    }
+}
+
 impl<'t> TableSource<'t> {
     /// The table itself.
     pub fn table(&self) -> &Table
@@ -38,18 +71,6 @@ impl<'t> TableSource<'t> {
             TableSource::Lent(table) => *table,
             TableSource::Taken(table) => table,
         }
-    }
-}
-
-/// The one reading of a source.
-#[inline(always)]
-pub(crate) fn read_source<T: Schema>(alloc: Global, source: Source<'_>) -> Result<T, ReadFault>
-    ensures ok { IfOk result (Reads T.kind T.content (source_view source.entry)) }
-    ensures fault { IfErr result (FaultIn (T.kind.faulty (source_view source.entry))) }
-{
-    match source {
-        Source::Lent(value) => T::from_value(alloc, value),
-        Source::Taken(value) => T::take(alloc, value),
     }
 }
 
@@ -65,7 +86,7 @@ pub(crate) fn source_under<T: Schema>(
     ensures fault { IfErr result
         (FaultIn (behind (key word.now) (T.kind.faulty (source_view source.entry)))) }
 {
-    match read_source(alloc, source) {
+    match T::from_source(alloc, source) {
         Ok(x) => Ok(x),
         Err(fault) => Err(under_key(alloc, word, fault)),
     }

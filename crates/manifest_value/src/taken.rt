@@ -7,11 +7,13 @@ ghost use Rattle.manifest_schema.specs.Kinds.{reads_items, reads_entries, faulty
 ghost use Rattle.manifest_schema.specs.Paths.{behind, index, key};
 ghost use Rattle.manifest_value.specs.Faults.{FaultIn};
 ghost use Rattle.manifest_value.specs.Reading.{Reads};
+ghost use Rattle.manifest_value.specs.Sources.{source_view};
 ghost use Rattle.manifest_value.specs.Entries.{entries_content, reads_first};
 
-use crate::fault::{ReadFault, Step, prefixed, under_key};
+use crate::fault::{ReadFault, Step, prefixed};
 use crate::maps::map_of_list;
 use crate::schema::Schema;
+use crate::source::{Source, source_under};
 use std::alloc::Global;
 use std::collections::BTreeMap;
 use toml::{Table, Value};
@@ -23,7 +25,7 @@ fn taken_item<T: Schema>(alloc: Global, value: Value, i: usize) -> Result<T, Rea
     ensures ok { IfOk result (Reads T.kind T.content (view value)) }
     ensures fault { IfErr result (FaultIn (behind (index i) (T.kind.faulty (view value)))) }
 {
-    match T::take(alloc, value) {
+    match T::from_source(alloc, Source::Taken(value)) {
         Ok(x) => Ok(x),
         Err(fault) => Err(prefixed(Step::Index(i), fault)),
     }
@@ -47,20 +49,18 @@ pub(crate) fn taken_items<T: Schema>(alloc: Global, items: Vec<Value>) -> Result
 
 /// The key, and what is read of the value, with the key before the path of a fault.
 #[inline(always)]
-#[tactic(auto, using(crate::proofs::Behind::fault_behind))]
-fn taken_entry<T: Schema>(
+pub(crate) fn read_entry<T: Schema>(
     alloc: Global,
     name: String,
-    value: Value,
+    source: Source<'_>,
 ) -> Result<(String, T), ReadFault>
-    ensures ok { IfOk result (λ e. (e.0 ≡ name) × T.kind.reads (view value) (T.content e.1)) }
+    ensures ok { IfOk result
+        (λ e. (e.0 ≡ name) × T.kind.reads (source_view source.entry) (T.content e.1)) }
     ensures fault { IfErr result
-        (FaultIn (behind (key (string_bytes name)) (T.kind.faulty (view value)))) }
+        (FaultIn (behind (key (string_bytes name)) (T.kind.faulty (source_view source.entry)))) }
 {
-    match T::take(alloc, value) {
-        Ok(x) => Ok((name, x)),
-        Err(fault) => Err(under_key(alloc, name.as_str(), fault)),
-    }
+    let x = source_under(alloc, source, name.as_str())?;
+    Ok((name, x))
 }
 
 /// What is read of a table's entries, in the order of the keys.
@@ -72,7 +72,7 @@ fn taken_list<T: Schema>(alloc: Global, table: Table) -> Result<Vec<(String, T)>
 {
     let mut all = Vec::with_capacity(alloc, table.len())?;
     for (key, value) in table {
-        match taken_entry(alloc, key, value) {
+        match read_entry(alloc, key, Source::Taken(value)) {
             Ok(entry) => all.push(entry)?,
             Err(fault) => return Err(fault),
         }

@@ -2,21 +2,24 @@
 
 use toml::Value;
 
-/// What a table holds under the spellings of a row.
+/// What a table holds under the spellings of a row, its value as a `V`.
 #[derive(Drop, Clone, Copy)]
-pub enum Slot<'a> {
+pub enum Found<V> {
     /// Neither spelling.
     Absent,
     /// One spelling, and the value under it.
     One {
         /// The spelling that is there.
         spelling: &'static str,
-        /// The value, not a copy.
-        value: &'a Value,
+        /// The value.
+        value: V,
     },
     /// Both spellings.
     Clash,
 }
+
+/// What a table holds under the spellings of a row: the value stays where it is.
+pub type Slot<'a> = Found<&'a Value>;
 
 /// What a walk finds: a slot for each row, and all other keys with their values, in byte order.
 #[derive(Drop)]

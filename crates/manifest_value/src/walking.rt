@@ -1,16 +1,16 @@
 //! One walk over a table.
 
 ghost use Rattle.std.specs.Prelude.{◌≡◌, ◌<◌, true, false, [], IsTrue, map, length, IfOk, MatchOption};
-ghost use Rattle.toml.specs.Data.{no_members};
-ghost use Rattle.toml.specs.View.{view, table_view};
+ghost use Rattle.toml.specs.Data.{Data, no_members};
+ghost use Rattle.toml.specs.View.{table_view};
 ghost use Rattle.manifest_schema.specs.Slots.{is_among, without};
 ghost use Rattle.manifest_schema.specs.Forms.{spell};
-ghost use Rattle.manifest_value.specs.Walks.{spellings_view, all_words, distinct_words, is_word_at, slot_view, slots_at, filled, filled_at, rest_view, Ascend};
+ghost use Rattle.manifest_value.specs.Walks.{spellings_view, all_words, distinct_words, is_word_at, found_view, slot_view, slots_at, filled, filled_at, rest_view, Ascend};
 
 use crate::spellings::Spellings;
-use crate::walked::{Slot, Walk};
+use crate::walked::{Found, Walk};
 use std::alloc::{AllocError, Global};
-use toml::{Table, Value};
+use toml::Table;
 
 /// The spelling that the key is, if it is one of the row.
 #[inline(always)]
@@ -44,36 +44,45 @@ pub(crate) fn row_of(rows: &[Spellings], key: &str) -> Option<(usize, &'static s
 }
 
 /// Slots in which nothing is found yet.
-fn empty_slots<'a>(alloc: Global, rows: &[Spellings]) -> Result<Vec<Slot<'a>>, AllocError>
-    ensures { IfOk result
-        (λ v. (map slot_view v.items ≡ slots_at (map spellings_view rows.now) no_members)
-        × (length v.items ≡ length rows.now)) }
+pub(crate) fn empty_slots<V: Drop>(
+    alloc: Global,
+    rows: &[Spellings],
+) -> Result<Vec<Found<V>>, AllocError>
+    ensures views { IfOk result (λ v. (f : V → Data) → map (found_view f) v.items
+        ≡ slots_at (map spellings_view rows.now) no_members) }
+    ensures many { IfOk result (λ v. length v.items ≡ length rows.now) }
 {
     let mut slots = Vec::with_capacity(alloc, rows.len())?;
     for _row in rows {
-        slots.push(Slot::Absent)?;
+        slots.push(Found::Absent)?;
     }
     Ok(slots)
 }
 
 /// A slot in which one more value is found: a second one clashes with the first.
 #[inline(always)]
-fn filled<'a>(slot: &Slot<'a>, spelling: &'static str, value: &'a Value) -> Slot<'a>
-    ensures { slot_view result ≡ filled (slot_view slot.now) spelling.now (view value.now) }
+fn filled<V: Drop>(slot: &Found<V>, spelling: &'static str, value: V) -> Found<V>
+    ensures { (f : V → Data) → found_view f result
+        ≡ filled (found_view f slot.now) spelling.now (f value) }
 {
     match slot {
-        Slot::Absent => Slot::One { spelling, value },
-        Slot::One { .. } => Slot::Clash,
-        Slot::Clash => Slot::Clash,
+        Found::Absent => Found::One { spelling, value },
+        Found::One { .. } => Found::Clash,
+        Found::Clash => Found::Clash,
     }
 }
 
 /// Finds one more value in a slot of a list.
 #[inline(always)]
-fn fill_slot<'a>(slots: &mut Vec<Slot<'a>>, i: usize, spelling: &'static str, value: &'a Value)
+pub(crate) fn fill_slot<V: Drop>(
+    slots: &mut Vec<Found<V>>,
+    i: usize,
+    spelling: &'static str,
+    value: V,
+)
     requires { i < length slots.now.items }
-    ensures views { map slot_view slots.new.items
-        ≡ filled_at i spelling.now (view value.now) (map slot_view slots.old.items) }
+    ensures views { (f : V → Data) → map (found_view f) slots.new.items
+        ≡ filled_at i spelling.now (f value) (map (found_view f) slots.old.items) }
     ensures many { length slots.new.items ≡ length slots.old.items }
 {
     slots[i] = filled(&slots[i], spelling, value);

@@ -14,7 +14,7 @@ returns-clause-ok g c =
     let named = c.manifest_names-names.ensures in
     let found = c.in_ok-slots_of.ensures ∙ ap (λ ns. slots_at ns ms) named in
     let all = c.rows_of-rows.ensures ss ms named found in
-    on_ok_after c.fill_manifest.result _ _ (c.fill_manifest.ensures.ok ms all) tt
+    on_ok_after c.fill_manifest.result _ _ (c.fill_manifest.ensures.0 ms all) tt
 
 pub returns-clause-fault : goal.returns-clause-fault
 unfolding manifest_rows
@@ -23,4 +23,4 @@ returns-clause-fault g c =
     let ss = names_of (manifest_rows (tree_of g.P.Schema.kind) (tree_of g.W.Schema.kind)) in
     let named = c.manifest_names-names.ensures in
     let found = c.in_ok-slots_of.ensures ∙ ap (λ ns. slots_at ns ms) named in
-    c.fill_manifest.ensures.fault ms (c.rows_of-rows.ensures ss ms named found)
+    c.fill_manifest.ensures.2 ms (c.rows_of-rows.ensures ss ms named found)

@@ -1,4 +1,4 @@
-use Rattle.std.proofs.Common.{◌≡◌, [], ◌∷◌, ◌++◌, map, length, string_bytes, subst, sym, ap, ◌∙◌, append_assoc, true, false, rules, refl}
+use Rattle.std.proofs.Common.{◌≡◌, [], ◌∷◌, ◌++◌, map, length, string_bytes, subst, sym, ap, ◌∙◌, append_assoc, true, false, rules}
 use Rattle.toml.specs.View.{view, members_view}
 use Rattle.toml.proofs.Views.{Entry, members_view-last}
 use Rattle.manifest_schema.specs.Slots.{is_among}
@@ -6,17 +6,15 @@ use Rattle.std.specs.List.Sorted.{IsStrictlySortedBy}
 use Rattle.std.specs.Map.{keys_of}
 use Rattle.std.specs.String.{string_cmp}
 use Rattle.manifest_value.specs.Walks.{spellings_view, all_words, slots_at, filled_at, is_word_at}
-use Rattle.manifest_value.specs.Sources.{row_view}
-use Rattle.manifest_value.specs.declared.row_slots.RowSlot.{RowSlot}
-use Rattle.manifest_value.proofs.WalkLemmas.{slots-last, slots-last_none, not_before, blanks-view, blanks-length}
+use Rattle.manifest_value.specs.Sources.{source_view, row_view}
+use Rattle.manifest_value.proofs.WalkLemmas.{slots-last, slots-last_none, not_before}
 use Rattle.manifest_value.proofs.row_slots.taken_slots.Goals as goal
 use Rattle.manifest_value.proofs.row_slots.taken_slots.Goals.{in-Some-row_of, in-None-row_of}
 
 pub loop-key-init : goal.loop-key-init
 loop-key-init c =
     let begins : c.args.table.entries ≡ c.into_iter-key-iterator.result = search rules in
-    let n = length c.args.rows.now in
-    ([], begins, ap length c.in_ok-slots.ensures ∙ blanks-length RowSlot.Absent n, ap (map row_view) c.in_ok-slots.ensures ∙ blanks-view row_view RowSlot.Absent refl c.args.rows.now)
+    ([], begins, c.in_ok-slots.ensures.many, c.in_ok-slots.ensures.views source_view)
 
 pub loop-key-preserved : goal.loop-key-preserved
 loop-key-preserved c =
@@ -37,7 +35,7 @@ loop-key-preserved c =
             done ++ e ∷ [],
             all ∙ sym (append_assoc done (e ∷ []) left),
             ap (λ v. length v.items) w.slots-is ∙ w.fill_slot.ensures.many ∙ lengths,
-            ap (λ v. map row_view v.items) w.slots-is ∙ w.fill_slot.ensures.views ∙ ap (λ k. filled_at i k d (map row_view c.loop-key.slots.items)) (w.in-Some-row_of.ensures.0 ∙ c.as_str.ensures.value)
+            ap (λ v. map row_view v.items) w.slots-is ∙ w.fill_slot.ensures.views source_view ∙ ap (λ k. filled_at i k d (map row_view c.loop-key.slots.items)) (w.in-Some-row_of.ensures.0 ∙ c.as_str.ensures.value)
                 ∙ ap (filled_at i key d) slots ∙ sym (slots-last i ss key d ms c.requires word none) ∙ ap (slots_at ss) last,
           )
       | in-None-row_of w ↦

@@ -1,4 +1,5 @@
-use Rattle.std.proofs.Common.{◌≡◌, [], ◌∷◌, ◌++◌, map, string_bytes, subst, sym, ap, ◌∙◌, append_assoc, append-nil, true}
+use Rattle.std.proofs.Common.{◌≡◌, [], ◌∷◌, ◌++◌, map, string_bytes, subst, sym, ap, ◌∙◌, append_assoc, append-nil, true, rules}
+use Rattle.toml.specs.Data.{no_members}
 use Rattle.toml.specs.View.{view, table_view, members_view}
 use Rattle.toml.proofs.Views.{Entry, with_last, members_view-last}
 use Rattle.manifest_schema.specs.Slots.{is_among, without}
@@ -9,6 +10,12 @@ use Rattle.manifest_value.proofs.ReadingLemmas.{ascend_view, ascend_without}
 use Rattle.manifest_value.specs.Walks.{Ascend, spellings_view, all_words, slot_view, slots_at, rest_view, filled_at, is_word_at}
 use Rattle.manifest_value.proofs.WalkLemmas.{slots-last, slots-last_none, without-last_named, without-last_other, rest-last, not_before, word_among}
 use Rattle.manifest_value.proofs.walking.walk.Goals as goal
+
+pub loop-key-init : goal.loop-key-init
+loop-key-init c =
+    let begins : c.args.table.now.entries ≡ c.into_iter-key-iterator.result = search rules in
+    let rest : rest_view c.new-rest.result.items ≡ no_members = search rules in
+    ([], begins, c.in_ok-slots.ensures.many, c.in_ok-slots.ensures.views (λ v. view v.now), rest)
 
 pub loop-key-preserved-in-Some-row_of : goal.loop-key-preserved-in-Some-row_of
 loop-key-preserved-in-Some-row_of c =
@@ -27,7 +34,7 @@ loop-key-preserved-in-Some-row_of c =
       done ++ e ∷ [],
       all ∙ sym (append_assoc done (e ∷ []) left),
       c.fill_slot.ensures.many ∙ lengths,
-      c.fill_slot.ensures.views ∙ ap (λ k. filled_at i k d (map slot_view c.loop-key.slots.items)) (c.in-Some-row_of.ensures.0 ∙ c.as_str.ensures.value) ∙ ap (filled_at i key d) slots
+      c.fill_slot.ensures.views (λ v. view v.now) ∙ ap (λ k. filled_at i k d (map slot_view c.loop-key.slots.items)) (c.in-Some-row_of.ensures.0 ∙ c.as_str.ensures.value) ∙ ap (filled_at i key d) slots
           ∙ sym (slots-last i ss key d ms c.requires word none) ∙ ap (slots_at ss) last,
       rest ∙ sym (without-last_named (all_words ss) key d ms (word_among i ss key word)) ∙ ap (without (all_words ss)) last,
     )
