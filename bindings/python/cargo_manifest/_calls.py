@@ -1,0 +1,122 @@
+"""The calls of the package."""
+from __future__ import annotations
+
+from typing import Any, Optional
+
+from ._answer import answered
+from ._library import manifest_canonical, manifest_completed, manifest_resolved
+from ._library import manifest_resolved_completed, manifest_table
+from ._listings import Folders
+from ._reader import utf8
+from ._tagged import decoded
+from ._texts import Text, bytes_of, listings_of
+
+
+def canonical(manifest: Text) -> str:
+    r"""The canonical text of a manifest: only the keys that a manifest has, each by its first spelling, in one order.
+
+    `manifest` is the text, as `bytes`, `bytearray`, `memoryview` or `str`; or the path of a file that is read, as
+    `pathlib.Path`.
+
+    Raises `ManifestError` where the text is no manifest, the `OSError` of a file that cannot be read, and
+    `MemoryError` where no memory is left.
+
+    >>> print(canonical("name = 'a'\nedition = '2021'"), end="")
+    [package]
+    edition = "2021"
+    name = "a"
+    """
+    return utf8(answered(manifest_canonical, bytes_of(manifest, "manifest")))
+
+
+def completed(manifest: Text, folders: Optional[Folders] = None) -> str:
+    """The canonical text of a manifest, completed with the targets and the build script that its folders show.
+
+    `manifest` is as in `canonical`. `folders` says what stands beside it, in one of three ways:
+
+    - the path of the manifest's folder on the disk, a `str` or as `pathlib.Path`;
+    - a mapping from the path of each folder, as `"src"` and `"src/bin"`, and `"."` for the manifest's own, to the names
+      in it, in any order. In the place of the names there may be an `OSError` or a `MemoryError`: that folder's fault.
+      What is not in the mapping is not there;
+    - left out: it is the folder of the manifest's file, so the manifest has to be a path.
+
+    No file is opened but the manifest's. Names on the disk that are not UTF-8 are left out.
+
+    Raises what `canonical` does; `ManifestError` also where `src` or the manifest's folder cannot be listed (the
+    `__cause__` is its fault), where a path or a name of the mapping is not UTF-8, and where a declared library has no
+    file; `MemoryError` also where that is the fault of a folder; and `TypeError` where the folders are wanted.
+
+    >>> folders = {".": ["Cargo.toml", "build.rs", "src"], "src": ["lib.rs"]}
+    >>> print(completed("package = { name = 'a-b', edition = '2021' }", folders), end="")
+    [lib]
+    crate-type = ["lib"]
+    edition = "2021"
+    name = "a_b"
+    path = "src/lib.rs"
+    required-features = []
+    <BLANKLINE>
+    [package]
+    build = "build.rs"
+    edition = "2021"
+    name = "a-b"
+    """
+    given = bytes_of(manifest, "manifest")
+    return utf8(answered(manifest_completed, given, listings=listings_of(manifest, folders)))
+
+
+def resolved(manifest: Text, root: Text) -> str:
+    """The canonical text of a manifest, with what it inherits from its workspace put in.
+
+    `manifest` is as in `canonical`, and so is `root`, the manifest that has the workspace.
+
+    Raises what `canonical` does, for the root too: its errors have the `part` `"root"`. `ManifestError` is raised also
+    where the root has no workspace, or where that does not have what is inherited.
+
+    >>> root = "workspace.package.version = '2.0.0'"
+    >>> print(resolved("package = { name = 'a', version.workspace = true }", root), end="")
+    [package]
+    name = "a"
+    version = "2.0.0"
+    """
+    return utf8(answered(manifest_resolved, bytes_of(manifest, "manifest"), bytes_of(root, "root")))
+
+
+def resolved_completed(manifest: Text, root: Text, folders: Optional[Folders] = None) -> str:
+    """The canonical text of a manifest, first resolved as by `resolved` and then completed as by `completed`.
+
+    Raises what these two do.
+
+    >>> root = "workspace.package.edition = '2021'"
+    >>> folders = {".": ["Cargo.toml", "src"], "src": ["main.rs"]}
+    >>> print(resolved_completed("package = { name = 'a', edition.workspace = true }", root, folders), end="")
+    [[bin]]
+    edition = "2021"
+    name = "a"
+    path = "src/main.rs"
+    required-features = []
+    <BLANKLINE>
+    [package]
+    edition = "2021"
+    name = "a"
+    """
+    given, lent = bytes_of(manifest, "manifest"), bytes_of(root, "root")
+    return utf8(answered(manifest_resolved_completed, given, lent, listings_of(manifest, folders)))
+
+
+def table(manifest: Text) -> dict[str, Any]:
+    r"""What the canonical text of a manifest says, by values, as `tomllib.loads` makes them of a text.
+
+    These are `str`, `int`, `bool`, `list` and `dict`, and `datetime`, `date` and `time` of the module `datetime`. A
+    date-time with an offset is aware, and others are naive. What a second has below its millionth part is cut off.
+    A table may nest some 6,600 deep, which is deeper than Python compares, prints or copies values.
+
+    `manifest` is as in `canonical`.
+
+    Raises what `canonical` does, and `ManifestError` with `Cause.DATE_BEYOND_PYTHON` for a date-time with the second
+    60 or the year 0, which TOML has and `datetime` has not. Its `path` is that in the table.
+
+    >>> table("name = 'a'\nmetadata = { since = 1979-05-27 }")
+    {'package': {'metadata': {'since': datetime.date(1979, 5, 27)}, 'name': 'a'}}
+    """
+    made: dict[str, Any] = decoded(answered(manifest_table, bytes_of(manifest, "manifest")))
+    return made

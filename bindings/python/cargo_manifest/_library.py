@@ -1,0 +1,87 @@
+"""The library, and its declarations: those of `cargo_manifest.h`."""
+from __future__ import annotations
+
+import ctypes
+from pathlib import Path
+from typing import Any, Callable
+
+from ._found import NAME, VARIABLE, is_for_this_machine, library_file
+
+
+class Answer(ctypes.Structure):
+    """`struct manifest_answer`."""
+
+    status: int
+    cause: int
+    length: int
+    start: int
+    end: int
+
+    _fields_ = [
+        ("status", ctypes.c_uint8),
+        ("cause", ctypes.c_uint8),
+        ("length", ctypes.c_size_t),
+        ("start", ctypes.c_size_t),
+        ("end", ctypes.c_size_t),
+    ]
+
+
+class Bytes(ctypes.Structure):
+    """`struct manifest_bytes`."""
+
+    _fields_ = [("at", ctypes.c_char_p), ("length", ctypes.c_size_t)]
+
+
+class Names(ctypes.Structure):
+    """`struct manifest_names`."""
+
+    _fields_ = [("at", ctypes.POINTER(Bytes)), ("length", ctypes.c_size_t)]
+
+
+class Folder(ctypes.Structure):
+    """`struct manifest_folder`."""
+
+    _fields_ = [("path", Bytes), ("names", Names), ("fault", ctypes.c_uint8)]
+
+
+Call = Callable[..., Answer]
+
+_TEXT = (ctypes.c_char_p, ctypes.c_size_t)
+_FOLDERS = (ctypes.POINTER(Folder), ctypes.c_size_t)
+_OUT = (ctypes.POINTER(ctypes.c_char), ctypes.c_size_t)
+
+
+def broken() -> RuntimeError:
+    """What is raised of an answer that the library never gives."""
+    return RuntimeError("the library's answer is none that cargo_manifest knows: the two are of different versions")
+
+
+def _loaded() -> ctypes.CDLL:
+    """The library, or an ImportError that says what to do."""
+    advice = f"name a {NAME} that is built for this machine by the environment variable {VARIABLE}"
+    if not is_for_this_machine():
+        raise ImportError(f"the library that comes with cargo_manifest is for x86-64 Linux alone: {advice}")
+    file = library_file(Path(__file__).resolve().parent)
+    try:
+        return ctypes.CDLL(str(file))
+    except OSError as fault:
+        raise ImportError(f"the library of cargo_manifest cannot be loaded ({fault}): {advice}") from fault
+
+
+def _declared(library: ctypes.CDLL, name: str, *slices: tuple[Any, Any]) -> Call:
+    """A call that takes these slices, each a pointer with its length, and the memory for its text behind them."""
+    try:
+        call = library[name]
+    except AttributeError as fault:
+        raise ImportError(f"the library has no call {name}: name a {NAME} that has it by {VARIABLE}") from fault
+    call.argtypes = [part for pair in (*slices, _OUT) for part in pair]
+    call.restype = Answer
+    return call
+
+
+_LIBRARY = _loaded()
+manifest_canonical = _declared(_LIBRARY, "manifest_canonical", _TEXT)
+manifest_completed = _declared(_LIBRARY, "manifest_completed", _TEXT, _FOLDERS)
+manifest_resolved = _declared(_LIBRARY, "manifest_resolved", _TEXT, _TEXT)
+manifest_resolved_completed = _declared(_LIBRARY, "manifest_resolved_completed", _TEXT, _TEXT, _FOLDERS)
+manifest_table = _declared(_LIBRARY, "manifest_table", _TEXT)

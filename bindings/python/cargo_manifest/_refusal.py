@@ -1,0 +1,90 @@
+"""The exception of an answer that refuses."""
+from __future__ import annotations
+
+from ._error import Cause, ManifestError, Part, Place
+from ._library import Answer, broken
+from ._listings import NOT_FOUND, OUT_OF_MEMORY, Listings
+
+# the root's statuses are the manifest's and so many more
+_OF_ROOT = 16
+
+_NO_TOML, _SCHEMA, _FOLDER, _NOT_UTF8, _MEMORY = 1, 2, 3, 4, 6
+
+_NO_MEMORY = "no memory was left for the manifest"
+
+_SCHEMA_CAUSES = {
+    1: Cause.WRONG_KIND,
+    2: Cause.MISSING,
+    3: Cause.TWO_SPELLINGS,
+    4: Cause.NOT_A_CHOICE,
+    5: Cause.OUT_OF_RANGE,
+    6: Cause.NOT_TRUE,
+    7: Cause.HOLDS_FLOAT,
+    8: Cause.METADATA,
+}
+
+# statuses that the library has words for
+_TOLD = {5: Cause.NO_LIBRARY_FILE, 7: Cause.DATE_WITHOUT_TEXT}
+
+# statuses with a name in the workspace
+_NAMED: dict[int, tuple[Cause, Part]] = {
+    10: (Cause.NOT_IN_WORKSPACE, "manifest"),
+    11: (Cause.INHERITED_IN_WORKSPACE, "root"),
+}
+
+_PLAIN: dict[int, tuple[Cause, Part]] = {
+    8: (Cause.FOLDER_NOT_UTF8, "manifest"),
+    9: (Cause.NO_WORKSPACE, "root"),
+    12: (Cause.MIXED_LINTS, "manifest"),
+    13: (Cause.TOOL_NAMED_WORKSPACE, "root"),
+}
+
+
+def place_of(text: bytes, start: int, end: int) -> Place:
+    """The place that these offsets are in a text."""
+    before = text[:start]
+    line_start = before.rfind(b"\n") + 1
+    column = len(before[line_start:].decode("utf-8", "ignore")) + 1
+    return Place(before.count(b"\n") + 1, column, start, end)
+
+
+def _of_text(answer: Answer, said: str, status: int, part: Part, text: bytes) -> ManifestError:
+    """The error of a text that is not read: the root's are told as the manifest's."""
+    if status == _NOT_UTF8:
+        return ManifestError(Cause.NOT_UTF8, part=part)
+    if status == _NO_TOML:
+        return ManifestError(Cause.NO_TOML, said, part=part, place=place_of(text, answer.start, answer.end))
+    if status == _SCHEMA and answer.cause in _SCHEMA_CAUSES:
+        return ManifestError(_SCHEMA_CAUSES[answer.cause], part=part, path_text=said)
+    raise broken()
+
+
+def _of_folder(answer: Answer, listings: Listings | None) -> Exception:
+    """The exception of a folder, with the fault that it was listed with as its cause."""
+    refused: Exception
+    if answer.cause == OUT_OF_MEMORY:
+        refused = MemoryError(_NO_MEMORY)
+    else:
+        refused = ManifestError(Cause.FOLDER_NOT_FOUND if answer.cause == NOT_FOUND else Cause.FOLDER_FAULT)
+    refused.__cause__ = None if listings is None else listings.fault(answer.cause)
+    return refused
+
+
+def refusal(answer: Answer, said: str, manifest: bytes, root: bytes, listings: Listings | None) -> Exception:
+    """The exception of an answer with this text, to a call with what else is handed in here."""
+    status = answer.status
+    if status > _OF_ROOT:
+        return _of_text(answer, said, status - _OF_ROOT, "root", root)
+    if status == _FOLDER:
+        return _of_folder(answer, listings)
+    if status == _MEMORY:
+        return MemoryError(_NO_MEMORY)
+    if status in _TOLD:
+        return ManifestError(_TOLD[status], said)
+    if status in _NAMED:
+        cause, part = _NAMED[status]
+        return ManifestError(cause, part=part, name=said)
+    if status in _PLAIN:
+        cause, part = _PLAIN[status]
+        return ManifestError(cause, part=part)
+    return _of_text(answer, said, status, "manifest", manifest)

@@ -1,0 +1,82 @@
+"""Values that the library tells as tagged bytes."""
+from __future__ import annotations
+
+from typing import Any, Union
+
+from ._dates import date_time
+from ._error import Cause, ManifestError
+from ._library import broken
+from ._paths import text_of
+from ._reader import Reader
+
+_TEXT, _NUMBER, _BELOW_ZERO, _FALSE, _TRUE, _DATE_TIME, _ARRAY, _TABLE = range(1, 9)
+
+
+class _Open:
+    """An array or a table that is being read: what it has by now, and how many values are still to come."""
+
+    __slots__ = ("values", "left", "step")
+
+    def __init__(self, values: Union[list[Any], dict[str, Any]], left: int) -> None:
+        self.values = values
+        self.left = left
+        self.step: Union[int, str] = 0
+
+    def begin(self, reader: Reader) -> None:
+        """Goes on to the next value, of which a table has the key first."""
+        self.left -= 1
+        self.step = len(self.values) if isinstance(self.values, list) else reader.text()
+
+    def put(self, value: Any) -> None:
+        if isinstance(self.values, list):
+            self.values.append(value)
+        else:
+            self.values[str(self.step)] = value
+
+
+def _simple(reader: Reader, tag: int) -> Any:
+    """What stands behind the tag of a value that holds no other."""
+    if tag == _TEXT:
+        return reader.text()
+    if tag == _NUMBER:
+        return reader.number()
+    if tag == _BELOW_ZERO:
+        return -1 - reader.number()
+    if tag in (_FALSE, _TRUE):
+        return tag == _TRUE
+    if tag == _DATE_TIME:
+        return date_time(reader)
+    raise broken()
+
+
+def _read(reader: Reader, holders: list[_Open]) -> None:
+    """Reads one more value into the innermost holder. One that holds others is put there empty, and is filled next."""
+    holder = holders[-1]
+    holder.begin(reader)
+    tag = reader.byte()
+    if tag in (_ARRAY, _TABLE):
+        inner: Union[list[Any], dict[str, Any]] = [] if tag == _ARRAY else {}
+        holder.put(inner)
+        holders.append(_Open(inner, reader.number()))
+        return
+    try:
+        holder.put(_simple(reader, tag))
+    except ValueError as fault:
+        # only date-times tell one; the outermost holder is none of the value's
+        path = tuple(each.step for each in holders[1:])
+        raise ManifestError(Cause.DATE_BEYOND_PYTHON, path_text=text_of(path)) from fault
+
+
+def decoded(held: bytes) -> Any:
+    """The value that the bytes hold. It is read by a loop, so that no nesting takes stack."""
+    reader = Reader(held)
+    whole: list[Any] = []
+    holders = [_Open(whole, 1)]
+    while holders:
+        if holders[-1].left == 0:
+            holders.pop()
+        else:
+            _read(reader, holders)
+    if not reader.is_at_end():
+        raise broken()
+    return whole[0]

@@ -1,0 +1,299 @@
+"""Each reason to refuse, with all that its error tells."""
+import copy
+import errno
+import pickle
+import sys
+import unittest
+from collections.abc import Callable
+from typing import Any, Optional
+
+from cargo_manifest import Cause, ManifestError, canonical, completed, resolved, resolved_completed, table
+from cargo_manifest._library import Answer
+from cargo_manifest._refusal import refusal
+
+from .places import LIBRARY, python
+
+PACKAGE = "[package]\nname = 'p'\n"
+MEMBER = "package = { name = 'p', version.workspace = true }"
+NO_LIBRARY = "can't find library, rename file to `src/lib.rs` or specify lib.path"
+Call = Callable[[], Any]
+FIELDS = ("cause", "part", "path", "path_text", "name", "line", "column", "start", "end")
+
+# a text with a fault of its schema: its cause, its path by keys and indexes, and as a text
+SCHEMA = [
+    ("[package]\nname = 'p'\nauthors = [true]\n", Cause.WRONG_KIND, ("package", "authors", 0), "package.authors[0]"),
+    ("", Cause.MISSING, ("name",), "name"),
+    (
+        PACKAGE + "[dependencies.a]\ndefault-features = true\ndefault_features = true",
+        Cause.TWO_SPELLINGS,
+        ("dependencies", "a", "default-features"),
+        "dependencies.a.default-features",
+    ),
+    (PACKAGE + "edition = '2020'", Cause.NOT_A_CHOICE, ("package", "edition"), "package.edition"),
+    (
+        PACKAGE + "[profile.release]\ncodegen-units = 65536",
+        Cause.OUT_OF_RANGE,
+        ("profile", "release", "codegen-units"),
+        "profile.release.codegen-units",
+    ),
+    (PACKAGE + "[lints]\nworkspace = false", Cause.NOT_TRUE, ("lints", "workspace"), "lints.workspace"),
+    (
+        PACKAGE + "[package.metadata]\na = [0, [1.5]]",
+        Cause.HOLDS_FLOAT,
+        ("package", "metadata", "a", 1, 0),
+        "package.metadata.a[1][0]",
+    ),
+    (
+        PACKAGE + "[target.'cfg(unix)'.dependencies]\n\"a\\\"\\\\\\u0007é.(top)\" = 1",
+        Cause.WRONG_KIND,
+        ("target", "cfg(unix)", "dependencies", 'a"\\\aé.(top)'),
+        'target."cfg(unix)".dependencies."a\\"\\\\\\u0007é.(top)"',
+    ),
+    (PACKAGE + "[dependencies]\n'' = 1", Cause.WRONG_KIND, ("dependencies", ""), 'dependencies.""'),
+    (PACKAGE + "[dependencies]\n'(top)' = 1", Cause.WRONG_KIND, ("dependencies", "(top)"), 'dependencies."(top)"'),
+]
+
+# a text that is no TOML: where, by line, column and offset
+NO_TOML = [
+    ("[package\nname = 'p'", 1, 9, 8),
+    ("[package]\nname = 'é' é\n", 2, 12, 22),
+    ("a = 1\r\nb = = 2", 2, 5, 11),
+    ("a = 1\rb = 2", 1, 6, 5),
+    ("\n\n\n=", 4, 1, 3),
+    ("a = '日本語' '", 1, 11, 16),
+    ("a", 1, 2, 1),
+]
+
+
+def fields(error: ManifestError) -> dict[str, Any]:
+    """What an error tells, but for what is None."""
+    told = {field: getattr(error, field) for field in FIELDS}
+    return {field: value for field, value in told.items() if value is not None}
+
+
+class Refused(unittest.TestCase):
+    def refused(self, call: Call, text: Optional[str], **wanted: Any) -> ManifestError:
+        """The error of a call, which has this text and these fields; others are None."""
+        with self.assertRaises(ManifestError) as caught:
+            call()
+        self.assertEqual(fields(caught.exception), {"part": "manifest", **wanted})
+        if text is not None:
+            self.assertEqual(str(caught.exception), text)
+        return caught.exception
+
+
+class OfAText(Refused):
+    def test_faults_of_the_schema(self) -> None:
+        for text, cause, path, path_text in SCHEMA:
+            with self.subTest(text=text):
+                line = f"{cause} at {path_text}"
+                wanted = {"cause": cause, "path": path, "path_text": path_text}
+                for call in (canonical, table):
+                    self.refused(lambda: call(text), line, **wanted)
+                self.refused(lambda: completed(text, {}), line, **wanted)
+                self.refused(lambda: resolved(text, ""), line, **wanted)
+                self.refused(lambda: resolved(PACKAGE, text), f"root: {line}", **wanted, part="root")
+
+    def test_no_toml(self) -> None:
+        for text, line, column, start in NO_TOML:
+            with self.subTest(text=text):
+                error = self.no_toml(lambda: canonical(text), line, column, start)
+                self.assertTrue(str(error).startswith(f"line {line}, column {column}: "), str(error))
+                error = self.no_toml(lambda: resolved(PACKAGE, text), line, column, start, part="root")
+                self.assertTrue(str(error).startswith(f"root: line {line}, column {column}: "), str(error))
+
+    def no_toml(self, call: Call, line: int, column: int, start: int, part: str = "manifest") -> ManifestError:
+        with self.assertRaises(ManifestError) as caught:
+            call()
+        told = fields(caught.exception)
+        self.assertGreaterEqual(told.pop("end"), start)
+        wanted = {"cause": Cause.NO_TOML, "part": part, "line": line, "column": column, "start": start}
+        self.assertEqual(told, wanted)
+        self.assertEqual(len(str(caught.exception).splitlines()), 1)
+        return caught.exception
+
+    def test_the_place_of_a_key_that_is_there_twice(self) -> None:
+        text = "a = 'é'\na = 2"
+        error = self.no_toml(lambda: canonical(text), 2, 1, 9)
+        self.assertLessEqual(error.end or 0, len(text.encode("utf-8")))
+
+    def test_not_utf8(self) -> None:
+        as_bytes = [b"\xff", b"name = 'a\xc3'", b"name = '\xed\xa0\x80'"]
+        for text in (*as_bytes, "name = '\ud800'", "\udcff", "\ud83d\ude00"):
+            with self.subTest(text=text):
+                self.refused(lambda: canonical(text), "not UTF-8", cause=Cause.NOT_UTF8)
+                self.refused(lambda: table(text), "not UTF-8", cause=Cause.NOT_UTF8)
+                self.refused(lambda: resolved(MEMBER, text), "root: not UTF-8", cause=Cause.NOT_UTF8, part="root")
+
+
+class OfFolders(Refused):
+    def test_the_folder_of_the_manifest_is_not_there(self) -> None:
+        self.refused(lambda: completed(PACKAGE, {}), "folder not found", cause=Cause.FOLDER_NOT_FOUND)
+        fault = FileNotFoundError("no such folder")
+        given = {"src": FileNotFoundError("nor this one"), ".": fault}
+        error = self.refused(lambda: completed(PACKAGE, given), None, cause=Cause.FOLDER_NOT_FOUND)
+        self.assertIs(error.__cause__, fault)
+
+    def test_a_folder_has_a_fault(self) -> None:
+        for path in ("src", "."):
+            fault = PermissionError(errno.EACCES, "Permission denied")
+            given = {".": [], "tests": NotADirectoryError(), path: fault}
+            calls = (lambda: completed(PACKAGE, given), lambda: resolved_completed(PACKAGE, "workspace={}", given))
+            for call in calls:
+                error = self.refused(call, "folder with a fault", cause=Cause.FOLDER_FAULT)
+                self.assertIs(error.__cause__, fault)
+
+    def test_no_memory_for_a_folder(self) -> None:
+        for fault in (MemoryError(), OSError(errno.ENOMEM, "Cannot allocate memory")):
+            for path in ("src", "src/bin", "tests", "."):
+                with self.subTest(fault=fault, path=path), self.assertRaises(MemoryError) as caught:
+                    completed(PACKAGE, {".": [], path: fault})
+                self.assertIs(caught.exception.__cause__, fault if path in ("src", ".") else None)
+
+    def test_no_fault_is_the_cause_of_what_else_refuses(self) -> None:
+        error = self.refused(
+            lambda: completed("", {}), None, cause=Cause.MISSING, path=("name",), path_text="name"
+        )
+        self.assertIsNone(error.__cause__)
+
+    def test_a_path_or_a_name_that_is_not_utf8(self) -> None:
+        for given in ({".": ["a\ud800"]}, {".": [], "src\udcff": []}, {".": [], "docs": ["a", "\udfff"]}):
+            self.refused(
+                lambda: completed(PACKAGE, given),
+                "folder whose path or names are not UTF-8",
+                cause=Cause.FOLDER_NOT_UTF8,
+            )
+
+    def test_a_declared_library_without_a_file(self) -> None:
+        text = PACKAGE + "edition = '2021'\n[lib]"
+        self.refused(lambda: completed(text, {".": []}), NO_LIBRARY, cause=Cause.NO_LIBRARY_FILE)
+
+
+class OfTheWorkspace(Refused):
+    def test_no_workspace(self) -> None:
+        self.refused(lambda: resolved(MEMBER, PACKAGE), "root: no workspace", cause=Cause.NO_WORKSPACE, part="root")
+
+    def test_what_the_workspace_does_not_have(self) -> None:
+        cause = Cause.NOT_IN_WORKSPACE
+        line = "not in workspace: version"
+        self.refused(lambda: resolved(MEMBER, "workspace = {}"), line, cause=cause, name="version")
+        text = PACKAGE + "[dependencies]\n'a b'.workspace = true"
+        self.refused(lambda: resolved(text, "workspace = {}"), 'not in workspace: "a b"', cause=cause, name="a b")
+        text = PACKAGE + "[lints]\nworkspace = true"
+        self.refused(lambda: resolved(text, "workspace = {}"), "not in workspace: lints", cause=cause, name="lints")
+
+    def test_what_the_workspace_inherits_itself(self) -> None:
+        text = PACKAGE + "[dependencies]\na.workspace = true"
+        root = "workspace.dependencies.a.workspace = true"
+        line, cause = "root: inherited in workspace: a", Cause.INHERITED_IN_WORKSPACE
+        self.refused(lambda: resolved(text, root), line, cause=cause, name="a", part="root")
+
+    def test_mixed_lints(self) -> None:
+        text = PACKAGE + "[lints]\nworkspace = true\nrust.unsafe_code = 'forbid'"
+        root = "workspace.lints.rust.unsafe_code = 'forbid'"
+        self.refused(lambda: resolved(text, root), "mixed lints", cause=Cause.MIXED_LINTS)
+
+    def test_a_tool_named_workspace(self) -> None:
+        text = PACKAGE + "[lints]\nworkspace = true"
+        root = "workspace.lints.workspace.unsafe_code = 'forbid'"
+        line, cause = "root: tool named workspace", Cause.TOOL_NAMED_WORKSPACE
+        self.refused(lambda: resolved(text, root), line, cause=cause, part="root")
+
+
+class Order(Refused):
+    def test_the_first_step_that_refuses_is_told(self) -> None:
+        bad = {".": ["\ud800"]}
+        cause = Cause.FOLDER_NOT_UTF8
+        self.refused(lambda: resolved_completed(b"\xff", b"\xff", bad), None, cause=cause)
+        self.refused(lambda: resolved_completed(b"\xff", b"\xff", {}), None, cause=Cause.NOT_UTF8)
+        self.refused(lambda: resolved_completed(MEMBER, b"\xff", {}), None, cause=Cause.NOT_UTF8, part="root")
+        self.refused(lambda: resolved_completed(MEMBER, PACKAGE, {}), None, cause=Cause.NO_WORKSPACE, part="root")
+        given = {"cause": Cause.NOT_IN_WORKSPACE, "name": "version"}
+        self.refused(lambda: resolved_completed(MEMBER, "workspace = {}", {}), None, **given)
+
+
+class Memory(unittest.TestCase):
+    @unittest.skipUnless(sys.platform == "linux", "the memory of a process is bounded by means of Linux")
+    def test_no_memory_is_left(self) -> None:
+        said, _ = python(
+            "import cargo_manifest, resource\n"
+            "text = b\"[package]\\nname = 'p'\\nauthors = [\" + b\"'x',\" * (1 << 20) + b']'\n"
+            "pages = int(open('/proc/self/statm').read().split()[0])\n"
+            "most = pages * resource.getpagesize() + 3 * len(text)\n"
+            "resource.setrlimit(resource.RLIMIT_AS, (most, most))\n"
+            "try:\n"
+            "    cargo_manifest.canonical(text)\n"
+            "except MemoryError as error:\n"
+            "    print(error)\n",
+            library=LIBRARY,
+        )
+        self.assertEqual(said, "no memory was left for the manifest\n")
+
+
+class NeverTold(unittest.TestCase):
+    """Answers that no call gives, made here."""
+
+    def made(self, status: int, cause: int = 0, said: str = "") -> Exception:
+        return refusal(Answer(status, cause, len(said), 0, 0), said, b"", b"", None)
+
+    def test_what_no_manifest_brings_about(self) -> None:
+        date = self.made(7, said="a date-time cannot be written")
+        self.assertEqual(str(date), "a date-time cannot be written")
+        assert isinstance(date, ManifestError)
+        self.assertEqual(fields(date), {"cause": Cause.DATE_WITHOUT_TEXT, "part": "manifest"})
+        metadata = self.made(18, 8, "(top)")
+        self.assertEqual(str(metadata), "root: metadata at (top)")
+        assert isinstance(metadata, ManifestError)
+        self.assertEqual(metadata.path, ())
+        self.assertIsInstance(self.made(6), MemoryError)
+        self.assertIsInstance(self.made(3, 2), MemoryError)
+
+    def test_answers_that_the_header_does_not_have(self) -> None:
+        for status, cause in ((14, 0), (16, 0), (19, 0), (21, 0), (255, 0), (2, 0), (2, 9), (18, 9)):
+            with self.subTest(status=status, cause=cause), self.assertRaises(RuntimeError):
+                self.made(status, cause)
+        for said in ("", "a..b", 'a."b', "a[x]", "a[0]b", "a b", '"a"b'):
+            with self.subTest(said=said), self.assertRaises(RuntimeError):
+                self.made(2, 1, said)
+
+
+class Copies(unittest.TestCase):
+    def errors(self) -> list[ManifestError]:
+        calls: list[Call] = [
+            *(lambda text=text: canonical(text) for text, *_ in (*SCHEMA, *NO_TOML)),
+            lambda: resolved(MEMBER, b"\xff"),
+            lambda: resolved(MEMBER, "workspace = {}"),
+            lambda: completed(PACKAGE, {}),
+            lambda: table(PACKAGE + "metadata = 23:59:60"),
+        ]
+        errors = []
+        for call in calls:
+            with self.assertRaises(ManifestError) as caught:
+                call()
+            errors.append(caught.exception)
+        return errors
+
+    def test_pickles_and_copies(self) -> None:
+        for error in self.errors():
+            copies = [pickle.loads(pickle.dumps(error, protocol)) for protocol in range(pickle.HIGHEST_PROTOCOL + 1)]
+            for other in (*copies, copy.copy(error), copy.deepcopy(error)):
+                self.assertIs(type(other), ManifestError)
+                self.assertIsNot(other, error)
+                self.assertEqual((str(other), repr(other), other.args), (str(error), repr(error), error.args))
+                self.assertEqual(fields(other), fields(error))
+
+    def test_a_kind_of_ones_own(self) -> None:
+        other = pickle.loads(pickle.dumps(OwnError(Cause.MISSING, path_text="name")))
+        self.assertEqual((type(other), str(other)), (OwnError, "missing at name"))
+
+    def test_is_a_value_error(self) -> None:
+        with self.assertRaisesRegex(ValueError, "^missing at name$"):
+            canonical("")
+
+    def test_causes_in_plain_words(self) -> None:
+        self.assertEqual((str(Cause.WRONG_KIND), Cause("wrong kind")), ("wrong kind", Cause.WRONG_KIND))
+        self.assertEqual(len({cause.value for cause in Cause}), len(Cause))
+
+
+class OwnError(ManifestError):
+    """An error of a caller's own."""
