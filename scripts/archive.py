@@ -1,7 +1,6 @@
-"""What scripts/library, scripts/package_library and scripts/library_speed share: the archive, where its users lie, what
-their examples answer, and counts of what passed and failed."""
+"""What scripts/library, scripts/installed, scripts/pack and scripts/library_speed share: where the built files and their
+users lie, which calls it has, what their examples answer, and counts of what passed and failed."""
 import re
-import shutil
 import subprocess
 import sys
 from pathlib import Path
@@ -9,8 +8,11 @@ from pathlib import Path
 TOP = Path(__file__).resolve().parent.parent
 CRATE = TOP / "crates" / "manifest_ffi"
 BINDINGS = TOP / "bindings"
-NAME = "libmanifest_ffi.a"
-FLAGS = ["-std=c11", "-O2", "-Wall", "-Wextra", "-Werror", "-pedantic"]
+X86 = "x86_64-unknown-linux-gnu"
+ARM = "aarch64-unknown-linux-gnu"
+NAME = "libcargo_manifest.a"
+WARNINGS = ["-O2", "-Wall", "-Wextra", "-Werror", "-pedantic"]
+FLAGS = ["-std=c11", *WARNINGS]
 COUNTS = re.compile(r"^(\d+) passed, (\d+) failed$", re.M)
 RESULT = re.compile(r"^test result: \w+\. (\d+) passed; (\d+) failed", re.M)
 
@@ -53,16 +55,15 @@ def run(words, **more):
     return subprocess.run(words, capture_output=True, text=True, timeout=600, **more)
 
 
-def archive_of(words):
-    """The archive that is named, or else the one that rt lib builds; None where there is none."""
-    if words:
-        archive = Path(words[0])
-    elif shutil.which("rt"):
-        subprocess.run(["rt", "lib"], cwd=CRATE, stdout=sys.stderr, check=False)
-        archive = CRATE / "out" / NAME
-    else:
-        return None
-    return archive.resolve() if archive.is_file() else None
+def built_files(words):
+    """The folder of the built files that is named, or else prebuilt/."""
+    return (Path(words[0]) if words else TOP / "prebuilt").resolve()
+
+
+def declared_calls():
+    """The calls that the header declares."""
+    header = (BINDINGS / "c" / "cargo_manifest.h").read_text(encoding="utf-8")
+    return set(re.findall(r"^struct manifest_answer (\w+)\(", header, re.M))
 
 
 def check_example(name, program):

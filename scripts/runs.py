@@ -1,5 +1,5 @@
-"""What scripts/answers, scripts/folders, scripts/hostile and scripts/library share: what the Rust crate answered, runs of
-manifest_canon and its like, and how they are judged.
+"""What the scripts share that run manifest_canon or its like: what the Rust crate answered on made inputs, the runs, and how
+they are judged.
 
 What is printed is read by Python's tomllib, and tables are compared strictly in the kinds of their values: a boolean is no
 number, a float is no whole number, and each kind of date-times is one of its own.
@@ -23,6 +23,15 @@ def stored(name):
     """The objects of a file of lines in tests/rust-answers."""
     with open(ANSWERS / name, encoding="utf-8") as file:
         return [json.loads(line) for line in file]
+
+
+def make(folder, case):
+    """Makes the folder of a completion, and answers the path of its manifest."""
+    for name in case["files"]:
+        path = folder / name
+        path.parent.mkdir(parents=True, exist_ok=True)
+        path.write_text(case["manifest"] if name == "Cargo.toml" else "", encoding="utf-8", newline="")
+    return folder / "Cargo.toml"
 
 
 def told(value):
@@ -138,7 +147,7 @@ def differs_from_refusal(run_said, wanted, wanted_status=1):
 
 
 def program_to_run(named):
-    """The program that is named, or else the one that scripts/program builds; None where there is none."""
+    """The program that is named, or else the one that scripts/program names; None where there is none."""
     if named:
         program = Path(named[0])
     else:
@@ -154,7 +163,7 @@ def count(script, *tries, first=1):
     """
     program = program_to_run(sys.argv[first:])
     if program is None:
-        print(f"{script}: there is no program to run: it is built where rt ci passes, or by scripts/program")
+        print(f"{script}: there is no program to run: scripts/program says why")
         print("0 passed, 1 failed")
         return 1
     passed = failed = 0

@@ -1,4 +1,4 @@
-/* Calls libmanifest_ffi.a as a program in C does, alone and from four threads, and compares each answer with one that is
+/* Calls the library as a program in C does, alone and from four threads, and compares each answer with the one that is
    written here. With the word `layout` it prints how the declarations of the header lie in memory. */
 #include "cargo_manifest.h"
 
@@ -7,44 +7,226 @@
 #include <stdlib.h>
 #include <string.h>
 
-struct wanted {
+enum which { CANONICAL, COMPLETED, RESOLVED, RESOLVED_COMPLETED, TABLE };
+
+/* A call, and its answer. For bytes, a root or folders that are null it is handed a null pointer and the length 0. */
+struct call {
+    enum which which;
     const char *bytes;
+    const char *root;
+    const struct manifest_folder *folders;
+    size_t folders_length;
     int status;
     int cause;
     size_t start;
     const char *text; /* or null, for `toml`'s words */
 };
 
-static const struct wanted all[] = {
-    {"[package]\nname = \"foo\"\nversion = \"1.0.0\"\n", MANIFEST_ACCEPTED, 0, 0,
-     "[package]\nname = \"foo\"\nversion = \"1.0.0\"\n"},
-    {"", MANIFEST_SCHEMA, MANIFEST_MISSING, 0, "name"},
-    {"\xff", MANIFEST_NOT_UTF8, 0, 0, ""},
-    {"[package]\nname = 'p'\nauthors = [true]\n", MANIFEST_SCHEMA, MANIFEST_WRONG_KIND, 0, "package.authors[0]"},
-    {"[package\nname = 'p'", MANIFEST_NO_TOML, 0, 8, NULL},
+#define COUNT_OF(type, ...) (sizeof((const type[]){__VA_ARGS__}) / sizeof(type))
+#define TEXT(text) {(const uint8_t *)(text), sizeof(text) - 1}
+#define NOTHING {NULL, 0}
+#define NAMES(...) {(const struct manifest_bytes[]){__VA_ARGS__}, COUNT_OF(struct manifest_bytes, __VA_ARGS__)}
+#define FOLDERS(...) \
+    .folders = (const struct manifest_folder[]){__VA_ARGS__}, .folders_length = COUNT_OF(struct manifest_folder, __VA_ARGS__)
+
+#define HERE {TEXT("."), NOTHING, MANIFEST_NO_FAULT}
+#define SOURCES {TEXT("src"), NAMES(TEXT("lib.rs"), TEXT("other.rs")), MANIFEST_NO_FAULT}
+#define FAULTY {TEXT("src"), NOTHING, MANIFEST_OTHER_FAULT}
+#define TOOL {TEXT("src/bin"), NAMES(TEXT("tool")), MANIFEST_NO_FAULT}
+#define ONE_NAME(text) {TEXT("src"), NAMES(TEXT(text)), MANIFEST_NO_FAULT}
+#define TWO_NAMES(one, other) {TEXT("src"), NAMES(one, other), MANIFEST_NO_FAULT}
+
+#define NAME "[package]\nname = 'p-q'\n"
+#define OWN NAME "edition = '2021'\n"
+#define MEMBER OWN "version.workspace = true\n"
+#define ROOT "[workspace.package]\nversion = '2.0.0'\n"
+#define LINTS NAME "[lints]\nworkspace = true\n"
+#define CUT "a\xc3"
+
+#define PACKAGE "[package]\nedition = \"2021\"\nname = \"p-q\"\n"
+#define LIBRARY                                                                                                         \
+    "[lib]\ncrate-type = [\"lib\"]\nedition = \"2021\"\nname = \"p_q\"\npath = \"src/lib.rs\"\nrequired-features = []\n\n"
+#define VERSION "version = \"2.0.0\"\n"
+#define MISSED "can't find library, rename file to `src/lib.rs` or specify lib.path"
+
+static const struct call READINGS[] = {
+    {CANONICAL, .bytes = NAME "version = '1.0.0'", .text = "[package]\nname = \"p-q\"\nversion = \"1.0.0\"\n"},
+    {CANONICAL, .bytes = "", .status = MANIFEST_SCHEMA, .cause = MANIFEST_MISSING, .text = "name"},
+    {CANONICAL, .bytes = "\xff", .status = MANIFEST_NOT_UTF8, .text = ""},
+    {CANONICAL, .bytes = "[package\nname = 'p'", .status = MANIFEST_NO_TOML, .start = 8},
+    {CANONICAL, .bytes = NAME "authors = [true]", .status = MANIFEST_SCHEMA, .cause = MANIFEST_WRONG_KIND,
+     .text = "package.authors[0]"},
+    {CANONICAL, .bytes = NAME "[target.'cfg(unix)'.dependencies]\nb = 1", .status = MANIFEST_SCHEMA,
+     .cause = MANIFEST_WRONG_KIND, .text = "target.\"cfg(unix)\".dependencies.b"},
+    {CANONICAL, .bytes = NAME "[dependencies]\na = {default-features = true, default_features = true}",
+     .status = MANIFEST_SCHEMA, .cause = MANIFEST_TWO_SPELLINGS, .text = "dependencies.a.default-features"},
+    {CANONICAL, .bytes = NAME "edition = '1999'", .status = MANIFEST_SCHEMA, .cause = MANIFEST_NOT_A_CHOICE,
+     .text = "package.edition"},
+    {CANONICAL, .bytes = NAME "[profile.release]\ncodegen-units = 65536", .status = MANIFEST_SCHEMA,
+     .cause = MANIFEST_OUT_OF_RANGE, .text = "profile.release.codegen-units"},
+    {CANONICAL, .bytes = NAME "[lints]\nworkspace = false", .status = MANIFEST_SCHEMA, .cause = MANIFEST_NOT_TRUE,
+     .text = "lints.workspace"},
+    {CANONICAL, .bytes = NAME "[package.metadata]\na = [0, 1.5]", .status = MANIFEST_SCHEMA,
+     .cause = MANIFEST_HOLDS_FLOAT, .text = "package.metadata.a[1]"},
+    {TABLE, .bytes = "[package]\nname = 'a'\nautobins = false",
+     .text = "\x08\x01\x07package\x08\x02\x08" "autobins\x04\x04name\x01\x01" "a"},
+    {TABLE, .bytes = "[package]", .status = MANIFEST_SCHEMA, .cause = MANIFEST_MISSING, .text = "package.name"},
 };
 
-enum { COUNT = sizeof all / sizeof all[0], SET = 0xAA };
+static const struct call COMPLETIONS[] = {
+    {COMPLETED, .bytes = OWN, FOLDERS(SOURCES, HERE), .text = LIBRARY PACKAGE},
+    {COMPLETED, .bytes = OWN, FOLDERS(HERE), .text = PACKAGE},
+    {COMPLETED, .bytes = OWN, FOLDERS({TEXT("."), NAMES(TEXT("build.rs")), 0}),
+     .text = "[package]\nbuild = \"build.rs\"\nedition = \"2021\"\nname = \"p-q\"\n"},
+    {COMPLETED, .bytes = MEMBER, FOLDERS(HERE), .text = PACKAGE "\n[package.version]\nworkspace = true\n"},
+    {COMPLETED, .bytes = OWN, FOLDERS(SOURCES, HERE, {TEXT("not/asked"), NAMES(TEXT("x")), MANIFEST_OUT_OF_MEMORY}),
+     .text = LIBRARY PACKAGE},
+    {COMPLETED, .bytes = OWN, FOLDERS(HERE, TOOL, {TEXT("src/bin/tool"), NOTHING, MANIFEST_OTHER_FAULT}), .text = PACKAGE},
+    {COMPLETED, .bytes = OWN, FOLDERS(HERE, {TEXT("src"), NAMES(TEXT("lib.rs")), MANIFEST_NOT_FOUND}), .text = PACKAGE},
+    {COMPLETED, .bytes = OWN, FOLDERS(SOURCES), .status = MANIFEST_IO, .cause = MANIFEST_NOT_FOUND, .text = ""},
+    {COMPLETED, .bytes = OWN, FOLDERS(HERE, TOOL, {TEXT("src/bin/tool"), NOTHING, MANIFEST_OUT_OF_MEMORY}),
+     .status = MANIFEST_IO, .cause = MANIFEST_OUT_OF_MEMORY, .text = ""},
+    {COMPLETED, .bytes = OWN, FOLDERS(HERE, FAULTY), .status = MANIFEST_IO, .cause = MANIFEST_OTHER_FAULT, .text = ""},
+    {COMPLETED, .bytes = OWN, FOLDERS(HERE, {TEXT("src"), NAMES(TEXT("lib.rs")), 255}), .status = MANIFEST_IO,
+     .cause = MANIFEST_OTHER_FAULT, .text = ""},
+    {COMPLETED, .bytes = OWN "[lib]", FOLDERS(HERE), .status = MANIFEST_OTHER, .text = MISSED},
+    {COMPLETED, .bytes = OWN, FOLDERS(HERE, SOURCES, HERE), .status = MANIFEST_LISTINGS, .text = ""},
+    {COMPLETED, .bytes = OWN, FOLDERS(HERE, TWO_NAMES(TEXT("b"), TEXT("a"))), .status = MANIFEST_LISTINGS, .text = ""},
+    {COMPLETED, .bytes = OWN, FOLDERS(HERE, TWO_NAMES(TEXT("a"), TEXT("a"))), .status = MANIFEST_LISTINGS, .text = ""},
+    {COMPLETED, .bytes = OWN, FOLDERS(HERE, ONE_NAME(CUT)), .status = MANIFEST_LISTINGS, .text = ""},
+    {COMPLETED, .bytes = OWN, FOLDERS(HERE, {TEXT("x"), NAMES(TEXT(CUT)), 1}), .status = MANIFEST_LISTINGS, .text = ""},
+    {COMPLETED, .bytes = OWN, FOLDERS(HERE, {TEXT(CUT), NOTHING, 0}), .status = MANIFEST_LISTINGS, .text = ""},
+};
+
+static const struct call RESOLVINGS[] = {
+    {RESOLVED, .bytes = MEMBER, .root = ROOT, .text = PACKAGE VERSION},
+    {RESOLVED_COMPLETED, .bytes = MEMBER, .root = ROOT, FOLDERS(SOURCES, HERE), .text = LIBRARY PACKAGE VERSION},
+    {RESOLVED, .bytes = OWN, .root = ROOT, .text = PACKAGE},
+    {RESOLVED, .bytes = OWN, .root = OWN, .status = MANIFEST_NO_WORKSPACE, .text = ""},
+    {RESOLVED, .bytes = MEMBER, .root = "[workspace]", .status = MANIFEST_NOT_IN_WORKSPACE, .text = "version"},
+    {RESOLVED, .bytes = NAME "[dependencies]\n'a.b'.workspace = true", .root = ROOT,
+     .status = MANIFEST_NOT_IN_WORKSPACE, .text = "a.b"},
+    {RESOLVED, .bytes = LINTS, .root = ROOT, .status = MANIFEST_NOT_IN_WORKSPACE, .text = "lints"},
+    {RESOLVED, .bytes = NAME "[dependencies]\na.workspace = true",
+     .root = "[workspace.dependencies]\na.workspace = true", .status = MANIFEST_INHERITED_IN_WORKSPACE, .text = "a"},
+    {RESOLVED, .bytes = LINTS "rust.unsafe_code = 'forbid'", .root = "[workspace.lints.rust]\nunsafe_code = 'forbid'",
+     .status = MANIFEST_MIXED_LINTS, .text = ""},
+    {RESOLVED, .bytes = LINTS, .root = "[workspace.lints.workspace]\na = 'warn'",
+     .status = MANIFEST_TOOL_NAMED_WORKSPACE, .text = ""},
+    {RESOLVED, .bytes = MEMBER, .root = "[workspace", .status = MANIFEST_ROOT_NO_TOML, .start = 10},
+    {RESOLVED, .bytes = MEMBER, .root = "", .status = MANIFEST_ROOT_SCHEMA, .cause = MANIFEST_MISSING, .text = "name"},
+    {RESOLVED, .bytes = OWN, .root = "[workspace]\nmembers = 1", .status = MANIFEST_ROOT_SCHEMA,
+     .cause = MANIFEST_WRONG_KIND, .text = "workspace.members"},
+    {RESOLVED, .bytes = OWN, .root = CUT, .status = MANIFEST_ROOT_NOT_UTF8, .text = ""},
+};
+
+/* Of two steps that refuse, the one that goes before the other is told. */
+static const struct call ORDERS[] = {
+    {COMPLETED, .bytes = CUT, FOLDERS(HERE, HERE), .status = MANIFEST_LISTINGS, .text = ""},
+    {RESOLVED_COMPLETED, .bytes = OWN, .root = CUT, FOLDERS(HERE, HERE), .status = MANIFEST_LISTINGS, .text = ""},
+    {RESOLVED, .bytes = CUT, .root = "\xff", .status = MANIFEST_NOT_UTF8, .text = ""},
+    {COMPLETED, .bytes = CUT, FOLDERS(HERE, FAULTY), .status = MANIFEST_NOT_UTF8, .text = ""},
+    {RESOLVED_COMPLETED, .bytes = OWN, .root = CUT, FOLDERS(HERE, FAULTY), .status = MANIFEST_ROOT_NOT_UTF8, .text = ""},
+    {RESOLVED_COMPLETED, .bytes = MEMBER, .root = OWN, FOLDERS(HERE, FAULTY), .status = MANIFEST_NO_WORKSPACE, .text = ""},
+    {RESOLVED_COMPLETED, .bytes = MEMBER, .root = "[workspace]", FOLDERS(HERE, FAULTY),
+     .status = MANIFEST_NOT_IN_WORKSPACE, .text = "version"},
+    {COMPLETED, .bytes = OWN "[lib]", FOLDERS(HERE, FAULTY), .status = MANIFEST_IO, .cause = MANIFEST_OTHER_FAULT,
+     .text = ""},
+    {COMPLETED, .bytes = OWN "[lib]", FOLDERS(SOURCES, {TEXT("."), NOTHING, MANIFEST_OTHER_FAULT}),
+     .status = MANIFEST_IO, .cause = MANIFEST_OTHER_FAULT, .text = ""},
+};
+
+/* Null pointers of length 0, for each slice there is. (Those for `out` are in each call that is tried.) */
+static const struct call NULLS[] = {
+    {CANONICAL, .status = MANIFEST_SCHEMA, .cause = MANIFEST_MISSING, .text = "name"},
+    {TABLE, .status = MANIFEST_SCHEMA, .cause = MANIFEST_MISSING, .text = "name"},
+    {COMPLETED, .status = MANIFEST_SCHEMA, .cause = MANIFEST_MISSING, .text = "name"},
+    {COMPLETED, .bytes = OWN, .status = MANIFEST_IO, .cause = MANIFEST_NOT_FOUND, .text = ""},
+    {COMPLETED, .bytes = "[workspace]", .text = "[workspace]\nmembers = []\n"},
+    {RESOLVED, .status = MANIFEST_SCHEMA, .cause = MANIFEST_MISSING, .text = "name"},
+    {RESOLVED, .bytes = MEMBER, .status = MANIFEST_ROOT_SCHEMA, .cause = MANIFEST_MISSING, .text = "name"},
+    {RESOLVED_COMPLETED, .status = MANIFEST_SCHEMA, .cause = MANIFEST_MISSING, .text = "name"},
+    {RESOLVED_COMPLETED, .bytes = MEMBER, .status = MANIFEST_ROOT_SCHEMA, .cause = MANIFEST_MISSING, .text = "name"},
+    {RESOLVED_COMPLETED, .bytes = MEMBER, .root = ROOT, .status = MANIFEST_IO, .cause = MANIFEST_NOT_FOUND, .text = ""},
+    {COMPLETED, .bytes = OWN, FOLDERS(SOURCES, {NOTHING, NAMES(TEXT("x")), 0}, HERE), .text = LIBRARY PACKAGE},
+    {COMPLETED, .bytes = OWN, FOLDERS(HERE, {NOTHING, NOTHING, 0}, {TEXT(""), NOTHING, 0}),
+     .status = MANIFEST_LISTINGS, .text = ""},
+    {COMPLETED, .bytes = OWN, FOLDERS(HERE, TWO_NAMES(NOTHING, TEXT("lib.rs")), {TEXT("src/bin"), NAMES(NOTHING), 0}),
+     .text = LIBRARY PACKAGE},
+    {COMPLETED, .bytes = OWN,
+     FOLDERS(HERE, {TEXT("src/bin"), NAMES(NOTHING), 0}, {TEXT("src/bin/"), NAMES(TEXT("main.rs")), 0}),
+     .text = "[[bin]]\nedition = \"2021\"\nname = \"\"\npath = \"src/bin//main.rs\"\nrequired-features = []\n\n" PACKAGE},
+    {COMPLETED, .bytes = OWN, FOLDERS(HERE, TWO_NAMES(TEXT("lib.rs"), NOTHING)), .status = MANIFEST_LISTINGS, .text = ""},
+    {COMPLETED, .bytes = OWN, FOLDERS(HERE, TWO_NAMES(NOTHING, NOTHING)), .status = MANIFEST_LISTINGS, .text = ""},
+    {COMPLETED, .bytes = OWN, FOLDERS(HERE, TWO_NAMES(NOTHING, TEXT(""))), .status = MANIFEST_LISTINGS, .text = ""},
+};
+
+#define GROUP(calls) {#calls, calls, sizeof(calls) / sizeof(calls)[0]}
+
+static const struct group {
+    const char *name;
+    const struct call *calls;
+    size_t length;
+} GROUPS[] = {GROUP(READINGS), GROUP(COMPLETIONS), GROUP(RESOLVINGS), GROUP(ORDERS), GROUP(NULLS)};
+
+enum { GROUP_COUNT = sizeof GROUPS / sizeof GROUPS[0], THREADS = 4, TURNS = 20, SET = 0xAA };
+
+static struct manifest_answer made(const struct call *call, uint8_t *out, size_t room)
+{
+    const uint8_t *bytes = (const uint8_t *)call->bytes, *root = (const uint8_t *)call->root;
+    size_t length = bytes ? strlen(call->bytes) : 0, root_length = root ? strlen(call->root) : 0;
+    switch (call->which) {
+    case CANONICAL:
+        return manifest_canonical(bytes, length, out, room);
+    case COMPLETED:
+        return manifest_completed(bytes, length, call->folders, call->folders_length, out, room);
+    case RESOLVED:
+        return manifest_resolved(bytes, length, root, root_length, out, room);
+    case RESOLVED_COMPLETED:
+        return manifest_resolved_completed(bytes, length, root, root_length, call->folders, call->folders_length, out, room);
+    case TABLE:
+        break;
+    }
+    return manifest_table(bytes, length, out, room);
+}
 
 /* Whether an answer has the numbers that are wanted. */
-static int has_numbers(struct manifest_answer answer, const struct wanted *wanted)
+static int has_numbers(struct manifest_answer answer, const struct call *call)
 {
-    return answer.status == wanted->status && answer.cause == wanted->cause && answer.start == wanted->start
-           && (wanted->status == MANIFEST_NO_TOML ? answer.end >= answer.start : answer.end == 0)
-           && (!wanted->text || answer.length == strlen(wanted->text));
+    return answer.status == call->status && answer.cause == call->cause && answer.start == call->start
+           && (call->text ? answer.end == 0 && answer.length == strlen(call->text)
+                          : answer.end >= answer.start && answer.length > 0);
+}
+
+/* The text of a call, in memory that was never set and is as long as the call without memory says; null where an answer is
+   not as wanted. */
+static uint8_t *text_of(const struct call *call, size_t *length)
+{
+    struct manifest_answer answer = made(call, NULL, 0);
+    if (!has_numbers(answer, call))
+        return NULL;
+    *length = answer.length;
+    /* (malloc may answer null for nothing) */
+    uint8_t *out = malloc(*length ? *length : 1);
+    if (!out)
+        return NULL;
+    answer = made(call, out, *length);
+    if (has_numbers(answer, call) && answer.length == *length && (!call->text || !memcmp(out, call->text, *length)))
+        return out;
+    free(out);
+    return NULL;
 }
 
 /* Whether a call with this much room puts the text at the front of `out`, or leaves all of it as it was. */
-static int is_put(const struct wanted *wanted, const uint8_t *text, size_t length, size_t room)
+static int is_put(const struct call *call, const uint8_t *text, size_t length, size_t room)
 {
-    size_t size = room + 8;
+    size_t size = room + 8, put = length <= room ? length : 0;
     uint8_t *out = malloc(size);
     if (!out)
         return 0;
     memset(out, SET, size);
-    struct manifest_answer answer = manifest_canonical((const uint8_t *)wanted->bytes, strlen(wanted->bytes), out, room);
-    size_t put = length <= room ? length : 0;
-    int is_right = has_numbers(answer, wanted) && answer.length == length && !memcmp(out, text, put);
+    struct manifest_answer answer = made(call, out, room);
+    int is_right = has_numbers(answer, call) && answer.length == length && !memcmp(out, text, put);
     for (size_t i = put; i < size; i++)
         is_right = is_right && out[i] == SET;
     free(out);
@@ -52,93 +234,55 @@ static int is_put(const struct wanted *wanted, const uint8_t *text, size_t lengt
 }
 
 /* Whether the call is answered as wanted, with an `out` of each length from 0 to one more than is needed. */
-static int is_answered(const struct wanted *wanted)
+static int is_answered(const struct call *call)
 {
-    uint8_t text[256];
-    struct manifest_answer answer =
-        manifest_canonical((const uint8_t *)wanted->bytes, strlen(wanted->bytes), text, sizeof text);
-    if (!has_numbers(answer, wanted) || answer.length > sizeof text)
-        return 0;
-    int is_right = !wanted->text || !memcmp(text, wanted->text, answer.length);
-    for (size_t room = 0; room <= answer.length + 1; room++)
-        is_right = is_right && is_put(wanted, text, answer.length, room);
+    size_t length;
+    uint8_t *text = text_of(call, &length);
+    int is_right = text != NULL;
+    for (size_t room = 0; is_right && room <= length + 1; room++)
+        is_right = is_put(call, text, length, room);
+    free(text);
     return is_right;
 }
 
-/* How many answers of many turns are not as wanted. */
+/* Counts, at `failed`, the answers of many turns that are not as wanted. */
 static void *turns(void *failed)
 {
-    for (int turn = 0; turn < 50; turn++)
-        for (int i = 0; i < COUNT; i++)
-            *(int *)failed += !is_answered(&all[i]);
+    for (int turn = 0; turn < TURNS; turn++)
+        for (int group = 0; group < GROUP_COUNT; group++)
+            for (size_t i = 0; i < GROUPS[group].length; i++) {
+                size_t length;
+                uint8_t *text = text_of(&GROUPS[group].calls[i], &length);
+                *(int *)failed += !text;
+                free(text);
+            }
     return NULL;
 }
 
-static struct manifest_bytes bytes_of(const char *text)
-{
-    struct manifest_bytes bytes = {(const uint8_t *)text, strlen(text)};
-    return bytes;
-}
-
 /* How many answers are as wanted, and how many are not. */
-struct counts {
-    int passed;
-    int failed;
-};
+static int passed, failed;
 
-/* Counts an answer, which has to have this status and cause, and this text in `out`. */
-static void count(struct counts *counts, struct manifest_answer answer, int status, int cause, const uint8_t *out, const char *text)
+static void count(int is_right, const char *what, size_t number)
 {
-    int is_right = answer.status == status && answer.cause == cause && answer.length == strlen(text)
-                   && !memcmp(out, text, answer.length);
-    counts->passed += is_right;
-    counts->failed += !is_right;
+    passed += is_right;
+    failed += !is_right;
+    if (!is_right)
+        printf("%s %zu: the answer is not as wanted\n", what, number);
 }
 
-/* Counts the calls with folders and with a root, and the one that answers a table. */
-static struct counts others(void)
+/* Counts the threads in which each answer is as wanted; whether there are threads. */
+static int count_threads(void)
 {
-    static const char member[] = "[package]\nname = 'p-q'\nversion.workspace = true\nedition = '2021'\n";
-    static const char root[] = "[workspace.package]\nversion = '2.0.0'\n";
-    static const char completed[] = "[lib]\ncrate-type = [\"lib\"]\nedition = \"2021\"\nname = \"p_q\"\npath = \"src/lib.rs\"\n"
-                                    "required-features = []\n\n[package]\nedition = \"2021\"\nname = \"p-q\"\n"
-                                    "version = \"2.0.0\"\n";
-    static const char flagged[] = "[package]\nname = 'a'\nautobins = false\n";
-    struct manifest_bytes names[] = {bytes_of("lib.rs"), bytes_of("other.rs")};
-    struct manifest_bytes turned[] = {names[1], names[0]}, alike[] = {names[0], names[0]}, cut = bytes_of("a\xc3");
-    struct manifest_folder folders[] = {{bytes_of("src"), {names, 2}, MANIFEST_NO_FAULT},
-                                        {bytes_of("."), {names, 0}, MANIFEST_NO_FAULT},
-                                        {bytes_of("not/asked"), {names, 1}, MANIFEST_OUT_OF_MEMORY}};
-    struct manifest_folder faulty = {bytes_of("src"), {names, 0}, 9};
-    struct manifest_folder no_listings[][2] = {{folders[0], folders[0]},
-                                               {folders[1], {bytes_of("src"), {turned, 2}, MANIFEST_NO_FAULT}},
-                                               {folders[1], {bytes_of("src"), {alike, 2}, MANIFEST_NO_FAULT}},
-                                               {folders[1], {bytes_of("src"), {&cut, 1}, MANIFEST_NO_FAULT}},
-                                               {folders[1], {cut, {names, 2}, MANIFEST_NO_FAULT}}};
-    const uint8_t *bytes = (const uint8_t *)member, *of_root = (const uint8_t *)root;
-    size_t length = sizeof member - 1, root_length = sizeof root - 1, room = 512;
-    uint8_t out[512];
-    struct counts counts = {0, 0};
-
-    count(&counts, manifest_resolved_completed(bytes, length, of_root, root_length, folders, 2, out, room), 0, 0, out, completed);
-    count(&counts, manifest_resolved_completed(bytes, length, of_root, root_length, folders, 3, out, room), 0, 0, out, completed);
-    count(&counts, manifest_resolved(bytes, length, of_root, root_length, out, room), 0, 0, out,
-          "[package]\nedition = \"2021\"\nname = \"p-q\"\nversion = \"2.0.0\"\n");
-    count(&counts, manifest_resolved(bytes, length, bytes, length, out, room), MANIFEST_NO_WORKSPACE, 0, out, "");
-    count(&counts, manifest_resolved(bytes, length, bytes, 0, out, room), MANIFEST_ROOT_SCHEMA, MANIFEST_MISSING, out, "name");
-    count(&counts, manifest_resolved(bytes, length, cut.at, cut.length, out, room), MANIFEST_ROOT_NOT_UTF8, 0, out, "");
-    count(&counts, manifest_completed(bytes, length, folders + 1, 1, out, room), 0, 0, out,
-          "[package]\nedition = \"2021\"\nname = \"p-q\"\n\n[package.version]\nworkspace = true\n");
-    for (size_t i = 0; i < sizeof no_listings / sizeof no_listings[0]; i++)
-        count(&counts, manifest_completed(bytes, length, no_listings[i], 2, out, room), MANIFEST_LISTINGS, 0, out, "");
-    /* the folders are looked at before the bytes, and the bytes before the root */
-    count(&counts, manifest_completed(cut.at, cut.length, no_listings[0], 2, out, room), MANIFEST_LISTINGS, 0, out, "");
-    count(&counts, manifest_resolved(cut.at, cut.length, cut.at, cut.length, out, room), MANIFEST_NOT_UTF8, 0, out, "");
-    count(&counts, manifest_completed(bytes, length, &faulty, 1, out, room), MANIFEST_IO, MANIFEST_OTHER_FAULT, out, "");
-    count(&counts, manifest_completed(bytes, length, folders, 0, out, room), MANIFEST_IO, MANIFEST_NOT_FOUND, out, "");
-    count(&counts, manifest_table((const uint8_t *)flagged, sizeof flagged - 1, out, room), 0, 0, out,
-          "\x08\x01\x07package\x08\x02\x08" "autobins\x04\x04name\x01\x01" "a");
-    return counts;
+    pthread_t threads[THREADS];
+    int failed_there[THREADS] = {0};
+    for (int i = 0; i < THREADS; i++)
+        if (pthread_create(&threads[i], NULL, turns, &failed_there[i]))
+            return 0;
+    for (int i = 0; i < THREADS; i++) {
+        pthread_join(threads[i], NULL);
+        count(!failed_there[i], "thread", i + 1);
+    }
+    return 1;
 }
 
 static void print_layout(void)
@@ -156,35 +300,17 @@ static void print_layout(void)
            offsetof(struct manifest_names, length));
 }
 
-int main(int count, char **words)
+int main(int words_length, char **words)
 {
-    if (count == 2 && !strcmp(words[1], "layout")) {
+    if (words_length == 2 && !strcmp(words[1], "layout")) {
         print_layout();
         return 0;
     }
-    struct counts counts = others();
-    if (counts.failed)
-        printf("%d calls with folders, with a root or for a table are not answered as wanted\n", counts.failed);
-    for (int i = 0; i < COUNT; i++) {
-        int is_right = is_answered(&all[i]);
-        counts.passed += is_right;
-        counts.failed += !is_right;
-        if (!is_right)
-            printf("call %d is not answered as wanted\n", i + 1);
-    }
-
-    pthread_t threads[4];
-    int failed_there[4] = {0};
-    for (int i = 0; i < 4; i++)
-        if (pthread_create(&threads[i], NULL, turns, &failed_there[i]))
-            return 2;
-    for (int i = 0; i < 4; i++) {
-        pthread_join(threads[i], NULL);
-        if (failed_there[i])
-            printf("in thread %d, %d answers are not as wanted\n", i + 1, failed_there[i]);
-        counts.passed += failed_there[i] == 0;
-        counts.failed += failed_there[i] != 0;
-    }
-    printf("%d passed, %d failed\n", counts.passed, counts.failed);
-    return counts.failed != 0;
+    for (int group = 0; group < GROUP_COUNT; group++)
+        for (size_t i = 0; i < GROUPS[group].length; i++)
+            count(is_answered(&GROUPS[group].calls[i]), GROUPS[group].name, i + 1);
+    if (!count_threads())
+        return 2;
+    printf("%d passed, %d failed\n", passed, failed);
+    return failed != 0;
 }

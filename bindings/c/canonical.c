@@ -28,11 +28,12 @@ int main(void)
         answer = manifest_canonical(bytes, length, out, room);
     }
 
+    int is_written = 1;
     if (answer.status == MANIFEST_ACCEPTED)
-        fwrite(out, 1, answer.length, stdout);
+        is_written = fwrite(out, 1, answer.length, stdout) == answer.length && !fflush(stdout);
     else
         fprintf(stderr, "status %d, cause %d, bytes %zu to %zu: %.*s\n", answer.status, answer.cause, answer.start,
                 answer.end, (int)answer.length, (const char *)out);
     free(out);
-    return answer.status != MANIFEST_ACCEPTED;
+    return is_written ? answer.status != MANIFEST_ACCEPTED : 2;
 }

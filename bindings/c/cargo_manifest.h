@@ -1,10 +1,38 @@
-/* Cargo manifests, read and written by the proved library libmanifest_ffi.a. docs/LIBRARY.md says more of each call.
+/* Cargo manifests: a library that reads a Cargo.toml, completes it by what its folders hold, puts in what it inherits from
+   its workspace, and writes it as its one canonical text. Its code is proved to do what its definitions say.
 
-   No call keeps anything between calls, keeps a pointer that it is given, frees what it is given, or gives memory that has
-   to be freed. So each may be made from any thread at any time; from a signal handler it may not.
+   LINKING. Where the library is installed,
 
-   `bytes` and `out` have their lengths behind them. They may be empty, by a pointer that is not null and the length 0, and
-   must not overlap. */
+       cc program.c $(pkg-config --cflags --libs cargo_manifest)
+
+   links libcargo_manifest.so. In CMake, find_package(cargo_manifest) gives the targets cargo_manifest::cargo_manifest and
+   cargo_manifest::cargo_manifest_static. The archive libcargo_manifest.a links by itself: cc program.c libcargo_manifest.a.
+   Both want nothing but the C library. They are for Linux on x86-64; there is an archive for aarch64 too.
+
+   A CALL is handed bytes and memory for its text, and answers at once:
+
+       uint8_t out[4096];
+       struct manifest_answer answer = manifest_canonical(bytes, length, out, sizeof out);
+       if (answer.status == MANIFEST_ACCEPTED && answer.length <= sizeof out)
+           fwrite(out, 1, answer.length, stdout);
+
+   - Each slice that is handed in is a pointer and a length. It may be empty: the length is 0, and the pointer may be null.
+   - `out` is memory for the text. It need not be set before, since it is only written. It overlaps nothing else that is
+     handed in. Without any (null and 0) the call tells how long the text is. As want of memory can end one call and not the
+     next, `length` is looked at after each call.
+   - Another thread may read what is handed in meanwhile, and may not write to it, nor read or write `out`.
+   - The answer depends on what is handed in, and on nothing else but whether there is memory.
+   - The library keeps nothing from one call to the next, keeps no pointer that it is given, frees nothing that it is given,
+     and gives nothing that has to be freed.
+
+   THREADS. Each call may be made from any thread at any time, also while others run. Since it asks for memory, it may not
+   be made from a signal handler, nor from the forked child of a process that has threads.
+
+   STACK. A call takes more stack the deeper the manifest nests, and no status tells that the stack ran out. For an ordinary
+   manifest 128 kB are enough; but 21 kB of text can nest so deep that 3.3 MB are taken. So a thread that is handed the bytes
+   of others gets a stack of 8 MB, which the first thread mostly has, or it bounds their length.
+
+   MEMORY is asked for by three functions over malloc, realloc and free, which a program may replace: see the end. */
 #ifndef CARGO_MANIFEST_H
 #define CARGO_MANIFEST_H
 
@@ -15,63 +43,97 @@
 extern "C" {
 #endif
 
-/* The status of an answer. */
+/* The status of an answer: whether the text is what was asked for, or else why it is not. The steps of a call go in this
+   order, as far as it has them, and the first that refuses is told:
+
+       the folders                8
+       the bytes                  4, 1, 2
+       the root                   20, 17, 18   (it is read also where the manifest inherits nothing)
+       its workspace              9
+       what the workspace lends   10, 11, 12, 13
+       the completion             3, 5
+       the printing               7
+
+   MANIFEST_MEMORY may stand in the place of any of them. There are no other numbers than these. */
 enum manifest_status {
-    MANIFEST_ACCEPTED = 0,               /* the text is what was asked for */
-    MANIFEST_NO_TOML = 1,                /* no TOML: the text says why; `start` and `end` say where in the bytes */
-    MANIFEST_SCHEMA = 2,                 /* no manifest: the text is the key path, and `cause` says why */
-    MANIFEST_IO = 3,                     /* a listing has a fault, whose number is `cause` */
-    MANIFEST_NOT_UTF8 = 4,               /* not UTF-8 */
-    MANIFEST_OTHER = 5,                  /* the text says what: a declared library has no file */
-    MANIFEST_MEMORY = 6,                 /* no memory was left */
-    MANIFEST_DATE = 7,                   /* a kept date-time cannot be printed, as the text says */
-    MANIFEST_LISTINGS = 8,               /* the folders are no listings */
-    MANIFEST_NO_WORKSPACE = 9,           /* the root has no workspace */
-    MANIFEST_NOT_IN_WORKSPACE = 10,      /* the workspace does not have what is inherited: the text is its name */
-    MANIFEST_INHERITED_IN_WORKSPACE = 11, /* the workspace inherits its own dependency of the name that is the text */
-    MANIFEST_MIXED_LINTS = 12,           /* inherited lints have a tool beside them */
-    MANIFEST_TOOL_NAMED_WORKSPACE = 13,  /* the lints of the workspace have a tool named `workspace` */
-    /* the same of the workspace's root: 16 more */
-    MANIFEST_ROOT_NO_TOML = 17,          /* (`start` and `end` say where in the root) */
+    /* the text is what was asked for */
+    MANIFEST_ACCEPTED = 0,
+    /* the bytes are no TOML: the text says why, in words for people, and `start` and `end` where in the bytes */
+    MANIFEST_NO_TOML = 1,
+    /* the bytes are TOML and no manifest: `cause` is one of enum manifest_cause, and the text is the key path of the fault,
+       as `package.authors[0]` or `target."cfg(unix)".dependencies.b`: keys joined by points, in double quotes where they
+       are no bare keys of TOML, and places in arrays, from 0 on */
+    MANIFEST_SCHEMA = 2,
+    /* a folder has a fault that refuses the completion: `cause` is one of enum manifest_fault. MANIFEST_OUT_OF_MEMORY is
+       told also where there was no memory for a copy of its names */
+    MANIFEST_IO = 3,
+    /* the bytes are not UTF-8 */
+    MANIFEST_NOT_UTF8 = 4,
+    /* a declared library has no file, as the text says */
+    MANIFEST_OTHER = 5,
+    /* no memory was left */
+    MANIFEST_MEMORY = 6,
+    /* the manifest keeps a date-time that cannot be written, as the text says. (No text is known that is read as one.) */
+    MANIFEST_DATE = 7,
+    /* the folders are no listings: a path or a name is not UTF-8, the names of a folder do not ascend, or two folders have
+       one path */
+    MANIFEST_LISTINGS = 8,
+    /* the root has no `workspace` */
+    MANIFEST_NO_WORKSPACE = 9,
+    /* the workspace does not have what is inherited: the text is its key, as `version`, or the name of a dependency, or
+       `lints` */
+    MANIFEST_NOT_IN_WORKSPACE = 10,
+    /* the workspace inherits its own dependency: the text is its name */
+    MANIFEST_INHERITED_IN_WORKSPACE = 11,
+    /* the manifest inherits its lints, and has lints of a tool beside them */
+    MANIFEST_MIXED_LINTS = 12,
+    /* the manifest inherits its lints, and the workspace has lints of a tool named `workspace` */
+    MANIFEST_TOOL_NAMED_WORKSPACE = 13,
+    /* 1, 2 and 4 of the root: 16 more. `start` and `end` are places in the root */
+    MANIFEST_ROOT_NO_TOML = 17,
     MANIFEST_ROOT_SCHEMA = 18,
     MANIFEST_ROOT_NOT_UTF8 = 20
 };
 
 /* The cause of MANIFEST_SCHEMA and MANIFEST_ROOT_SCHEMA. */
 enum manifest_cause {
-    MANIFEST_WRONG_KIND = 1,
-    MANIFEST_MISSING = 2,
-    MANIFEST_TWO_SPELLINGS = 3,
-    MANIFEST_NOT_A_CHOICE = 4,
-    MANIFEST_OUT_OF_RANGE = 5,
-    MANIFEST_NOT_TRUE = 6,
-    MANIFEST_HOLDS_FLOAT = 7,
-    MANIFEST_METADATA = 8
+    MANIFEST_WRONG_KIND = 1,    /* the value is of another kind */
+    MANIFEST_MISSING = 2,       /* a key that is needed is absent; the path ends in it */
+    MANIFEST_TWO_SPELLINGS = 3, /* a key stands there in both of its spellings */
+    MANIFEST_NOT_A_CHOICE = 4,  /* the text is none of those that are known here */
+    MANIFEST_OUT_OF_RANGE = 5,  /* the whole number is too large or too small */
+    MANIFEST_NOT_TRUE = 6,      /* the boolean has to be true */
+    MANIFEST_HOLDS_FLOAT = 7,   /* a value that is kept as it is holds a float */
+    MANIFEST_METADATA = 8       /* metadata of a type of its own does not fit; no call here has one */
 };
 
-/* What a call answers. The text stands at the front of `out` if `length` is at most the length of `out`; else `out` is as
-   it was, and a call with an `out` of `length` bytes gets the text. */
+/* What a call answers. */
 struct manifest_answer {
-    uint8_t status;
-    uint8_t cause;
+    uint8_t status; /* one of enum manifest_status */
+    uint8_t cause;  /* more of the status, where it says so; else 0 */
+    /* How many bytes the text takes. They stand at the front of `out` where it has as many or more, and the rest of `out`
+       is as it was. Else all of `out` is as it was, and a call with an `out` of `length` bytes has the text. It is
+       UTF-8, and no zero byte stands behind it. Where a status says nothing of a text, it is empty. */
     size_t length;
+    /* Where the fault of a text that is no TOML begins, and where it ends, within the bytes. Else both are 0. */
     size_t start;
     size_t end;
 };
 
-/* Bytes that are lent. The pointer is not null, also where the length is 0. */
+/* Bytes that are lent: `length` of them from `at` on, which may be null where there are none. */
 struct manifest_bytes {
     const uint8_t *at;
     size_t length;
 };
 
-/* Names that are lent. The pointer is not null, also where the length is 0. */
+/* Names that are lent, in the same way. */
 struct manifest_names {
     const struct manifest_bytes *at;
     size_t length;
 };
 
-/* The fault of a folder, and the cause of MANIFEST_IO. Each other number is MANIFEST_OTHER_FAULT too. */
+/* The fault of a folder, and the cause of MANIFEST_IO. As the fault of a folder, each other number is MANIFEST_OTHER_FAULT
+   too. */
 enum manifest_fault {
     MANIFEST_NO_FAULT = 0,
     MANIFEST_NOT_FOUND = 1,
@@ -79,25 +141,32 @@ enum manifest_fault {
     MANIFEST_OTHER_FAULT = 3
 };
 
-/* A folder and the names in it. The path is that from the folder of the manifest, with `/` between its parts, as `src/bin`;
-   the folder itself is `.`. Names ascend in the order of their bytes, and path and names are UTF-8. Where there is a fault,
-   the names count nothing, but have to be names. */
+/* A folder, and the names in it. The path is that from the folder of the manifest, with `/` between its parts, as `src/bin`;
+   the folder of the manifest itself is `.`. Path and names are UTF-8, and the names ascend strictly in the order of their
+   bytes. Where there is a fault the names count nothing, and have to be such names all the same.
+
+   A completion asks for `src`, `src/bin`, `examples`, `tests` and `benches`, for each entry of the last four, as if it were
+   a folder, and for `.` where the manifest's `build` is absent or true. A folder that is not handed in is not found, which
+   refuses a completion where it is `.`, and nowhere else: so hand in `.` always. What is not asked for makes no difference,
+   so all folders may be handed in. */
 struct manifest_folder {
     struct manifest_bytes path;
     struct manifest_names names;
     uint8_t fault;
 };
 
-/* The canonical text of the manifest that the bytes are. */
+/* The canonical text of the manifest that the bytes are, as TOML: its keys in the order of their bytes, each by its first
+   spelling. Comments, and keys that no manifest has, are left out. */
 struct manifest_answer manifest_canonical(const uint8_t *bytes, size_t bytes_length, uint8_t *out, size_t out_length);
 
-/* The same, completed over folders, of which no two have one path. What is not among them is not there; what is not asked
-   for makes no difference. */
+/* The same, completed over the folders: with the library, binaries, examples, tests, benches and build script that Cargo
+   finds in them. */
 struct manifest_answer manifest_completed(const uint8_t *bytes, size_t bytes_length,
                                           const struct manifest_folder *folders, size_t folders_length, uint8_t *out,
                                           size_t out_length);
 
-/* The same as the first, with what the manifest inherits from the workspace of `root` put in. */
+/* The same as the first, with what the manifest inherits from the workspace of `root` put in. `root` has the bytes of the
+   Cargo.toml in which the workspace stands. */
 struct manifest_answer manifest_resolved(const uint8_t *bytes, size_t bytes_length, const uint8_t *root,
                                          size_t root_length, uint8_t *out, size_t out_length);
 
@@ -120,8 +189,56 @@ struct manifest_answer manifest_resolved_completed(const uint8_t *bytes, size_t 
    A number stands in groups of seven bits, the lowest first, with 128 added to each but the last. A date is a byte for
    the month, one for the day, and the year, a number. A time is a byte for the hour, one for the minute, the second (0
    for none, or 1 and a byte), and the nanosecond (0 for none, or 1 and a number). An offset is 0 for `Z`, 1 and the
-   minutes ahead of UTC, or 2 and the minutes behind UTC less 1. */
+   minutes ahead of UTC, or 2 and the minutes behind UTC less 1. `[package]` with `name = "a"` and `autobins = false` is
+   8 1 7 `package` 8 2 8 `autobins` 4 4 `name` 1 1 `a`. */
 struct manifest_answer manifest_table(const uint8_t *bytes, size_t bytes_length, uint8_t *out, size_t out_length);
+
+/* What a request for memory answers. */
+struct rattle_tried {
+    uint8_t is_there; /* 1, or 0 where there is no memory */
+    void *block;      /* the block; where there is no memory, any pointer that is not null */
+};
+
+/* The memory of the library. A program that links the archive may define these three functions itself, all of them, in an
+   object file: they then stand in the place of those over malloc, realloc and free that the archive has. (A program that
+   links libcargo_manifest.so has those over malloc in any case.) All three are over one allocator, and may be called by each
+   thread that calls the library, at once.
+
+   rattle_alloc    a block of `size` bytes, aligned to `align`, which is a power of two and 16 at most. `size` may be 0: the
+                   block is then one as any other, and is given back.
+   rattle_realloc  a block of `size` bytes that begins with the first `kept` bytes of the old one, aligned in the same way;
+                   the old one is given back. Where there is no memory, the old one stays, as it was.
+   rattle_dealloc  gives a block back. */
+struct rattle_tried rattle_alloc(size_t size, size_t align);
+struct rattle_tried rattle_realloc(void *block, size_t kept, size_t size, size_t align);
+void rattle_dealloc(void *block);
+
+/* The sizes and places that the library was compiled with. */
+#ifdef __LP64__
+#if defined __cplusplus && __cplusplus >= 201103L
+#define MANIFEST_CHECK(name, is_so) static_assert(is_so, #name)
+#elif !defined __cplusplus && defined __STDC_VERSION__ && __STDC_VERSION__ >= 201112L
+#define MANIFEST_CHECK(name, is_so) _Static_assert(is_so, #name)
+#else
+#define MANIFEST_CHECK(name, is_so) typedef char manifest_check_##name[(is_so) ? 1 : -1]
+#endif
+
+MANIFEST_CHECK(answer, sizeof(struct manifest_answer) == 32 && offsetof(struct manifest_answer, status) == 0
+                           && offsetof(struct manifest_answer, cause) == 1
+                           && offsetof(struct manifest_answer, length) == 8
+                           && offsetof(struct manifest_answer, start) == 16
+                           && offsetof(struct manifest_answer, end) == 24);
+MANIFEST_CHECK(bytes, sizeof(struct manifest_bytes) == 16 && offsetof(struct manifest_bytes, at) == 0
+                          && offsetof(struct manifest_bytes, length) == 8);
+MANIFEST_CHECK(names, sizeof(struct manifest_names) == 16 && offsetof(struct manifest_names, at) == 0
+                          && offsetof(struct manifest_names, length) == 8);
+MANIFEST_CHECK(folder, sizeof(struct manifest_folder) == 40 && offsetof(struct manifest_folder, path) == 0
+                           && offsetof(struct manifest_folder, names) == 16
+                           && offsetof(struct manifest_folder, fault) == 32);
+MANIFEST_CHECK(tried, sizeof(struct rattle_tried) == 16 && offsetof(struct rattle_tried, is_there) == 0
+                          && offsetof(struct rattle_tried, block) == 8);
+#undef MANIFEST_CHECK
+#endif
 
 #ifdef __cplusplus
 }

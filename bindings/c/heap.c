@@ -1,24 +1,23 @@
-/* The memory that libmanifest_ffi.a asks for, from malloc. A program may define the three functions by other means: they
-   stand in the place of the toolchain's liblibc_c.a. */
-#include <stdbool.h>
-#include <stddef.h>
-#include <stdlib.h>
+/* The memory that the library asks for, from malloc. The archive has these three functions as weak symbols, so a program
+   may bring its own in their place, by the rules that stand in cargo_manifest.h. Nothing is included: a compiler that has
+   no headers of a C library compiles this too. */
+typedef __SIZE_TYPE__ size_t;
 
-/* What a request answers: whether there is memory, and where. Where there is none, the pointer must not be null. */
+void *malloc(size_t size);
+void *realloc(void *block, size_t size);
+void free(void *block);
+
 struct rattle_tried {
-    bool is_there;
+    _Bool is_there;
     void *block;
 };
 
-struct rattle_tried rattle_alloc(size_t size, size_t align);
-struct rattle_tried rattle_realloc(void *block, size_t kept, size_t size, size_t align);
-void rattle_dealloc(void *block);
-
+/* Where there is no memory, the pointer is the one to this byte, since it must not be null. */
 static char nowhere;
 
 static struct rattle_tried tried(void *block)
 {
-    struct rattle_tried answer = {block != NULL, block ? block : &nowhere};
+    struct rattle_tried answer = {block != 0, block ? block : &nowhere};
     return answer;
 }
 
@@ -28,18 +27,18 @@ static size_t at_least_one(size_t size, size_t align)
     return size ? size : align;
 }
 
-struct rattle_tried rattle_alloc(size_t size, size_t align)
+__attribute__((weak)) struct rattle_tried rattle_alloc(size_t size, size_t align)
 {
     return tried(malloc(at_least_one(size, align)));
 }
 
-struct rattle_tried rattle_realloc(void *block, size_t kept, size_t size, size_t align)
+__attribute__((weak)) struct rattle_tried rattle_realloc(void *block, size_t kept, size_t size, size_t align)
 {
     (void)kept;
     return tried(realloc(block, at_least_one(size, align)));
 }
 
-void rattle_dealloc(void *block)
+__attribute__((weak)) void rattle_dealloc(void *block)
 {
     free(block);
 }

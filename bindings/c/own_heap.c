@@ -1,0 +1,139 @@
+/* Heap functions of a program's own, in the place of those that the archive has. They give no more than cargo_manifest.h
+   asks of them: blocks are aligned to `align` and no further, nothing of a block is set, and what a block held is lost when
+   it is given back. They count, and can refuse each request in turn: a call is then answered as without, or says that there
+   is no memory. */
+#include "cargo_manifest.h"
+
+#include <stdio.h>
+#include <stdlib.h>
+#include <string.h>
+
+/* What stands before each block. */
+struct header {
+    void *base;
+    size_t size;
+};
+
+/* How many blocks there are now; of a call, how many requests it made, and which of them is refused; and how many requests
+   broke the rules. */
+static size_t blocks, requests, refused, broken;
+
+static char nowhere;
+
+/* A block whose address is no multiple of 2 * `align`. */
+static struct rattle_tried given(size_t size, size_t align)
+{
+    struct rattle_tried answer = {0, &nowhere};
+    if (requests++ == refused)
+        return answer;
+    struct header header = {malloc(sizeof header + 2 * align + size), size};
+    if (!header.base)
+        return answer;
+    uint8_t *block = (uint8_t *)header.base + sizeof header;
+    while ((uintptr_t)block % (2 * align) != align)
+        block++;
+    memcpy(block - sizeof header, &header, sizeof header);
+    memset(block, 0x5A, size);
+    blocks++;
+    answer.is_there = 1;
+    answer.block = block;
+    return answer;
+}
+
+static struct header header_of(void *block)
+{
+    struct header header;
+    memcpy(&header, (uint8_t *)block - sizeof header, sizeof header);
+    return header;
+}
+
+struct rattle_tried rattle_alloc(size_t size, size_t align)
+{
+    broken += align == 0 || align > 16 || (align & (align - 1));
+    return given(size, align);
+}
+
+void rattle_dealloc(void *block)
+{
+    struct header header = header_of(block);
+    memset(block, 0xA5, header.size);
+    free(header.base);
+    blocks--;
+}
+
+struct rattle_tried rattle_realloc(void *block, size_t kept, size_t size, size_t align)
+{
+    broken += kept > size || kept > header_of(block).size;
+    struct rattle_tried answer = rattle_alloc(size, align);
+    if (answer.is_there) {
+        memcpy(answer.block, block, kept);
+        rattle_dealloc(block);
+    }
+    return answer;
+}
+
+#define PACKAGE "[package]\nedition = \"2021\"\nname = \"p-q\"\n"
+#define LIBRARY                                                                                                         \
+    "[lib]\ncrate-type = [\"lib\"]\nedition = \"2021\"\nname = \"p_q\"\npath = \"src/lib.rs\"\nrequired-features = []\n\n"
+#define VERSION "version = \"2.0.0\"\n"
+
+static const char OWN[] = "[package]\nname = 'p-q'\nedition = '2021'\n", ROOT[] = "[workspace.package]\nversion = '2.0.0'\n",
+                  MEMBER[] = "[package]\nname = 'p-q'\nedition = '2021'\nversion.workspace = true\n";
+
+static const struct manifest_bytes SOURCES[] = {{(const uint8_t *)"lib.rs", 6}, {(const uint8_t *)"other.rs", 8}};
+static const struct manifest_folder FOLDERS[] = {{{(const uint8_t *)".", 1}, {NULL, 0}, MANIFEST_NO_FAULT},
+                                                 {{(const uint8_t *)"src", 3}, {SOURCES, 2}, MANIFEST_NO_FAULT}};
+
+/* What each of the five calls answers. */
+static const char *const TEXTS[] = {PACKAGE, LIBRARY PACKAGE, PACKAGE VERSION, LIBRARY PACKAGE VERSION,
+                                    "\x08\x01\x07package\x08\x02\x07" "edition\x01\x04" "2021\x04name\x01\x03p-q"};
+
+enum { CALLS = sizeof TEXTS / sizeof TEXTS[0] };
+
+static struct manifest_answer made(int call, uint8_t *out, size_t room)
+{
+    const uint8_t *own = (const uint8_t *)OWN, *member = (const uint8_t *)MEMBER, *root = (const uint8_t *)ROOT;
+    size_t length = sizeof OWN - 1, member_length = sizeof MEMBER - 1, root_length = sizeof ROOT - 1;
+    switch (call) {
+    case 0:
+        return manifest_canonical(own, length, out, room);
+    case 1:
+        return manifest_completed(own, length, FOLDERS, 2, out, room);
+    case 2:
+        return manifest_resolved(member, member_length, root, root_length, out, room);
+    case 3:
+        return manifest_resolved_completed(member, member_length, root, root_length, FOLDERS, 2, out, room);
+    default:
+        return manifest_table(own, length, out, room);
+    }
+}
+
+/* Whether the call with this request refused gives its text, or says that there is no memory where one was refused. All
+   blocks have to be given back, and no rule broken. */
+static int is_answered(int call, size_t which)
+{
+    uint8_t out[256];
+    requests = 0;
+    refused = which;
+    struct manifest_answer answer = made(call, out, sizeof out);
+    int is_text = answer.status == MANIFEST_ACCEPTED && answer.length == strlen(TEXTS[call])
+                  && !memcmp(out, TEXTS[call], answer.length);
+    int is_memory = answer.length == 0 && (answer.status == MANIFEST_MEMORY
+                    || (answer.status == MANIFEST_IO && answer.cause == MANIFEST_OUT_OF_MEMORY));
+    return (is_text || (is_memory && requests > which)) && blocks == 0 && broken == 0;
+}
+
+int main(void)
+{
+    int failed = 0;
+    for (int call = 0; call < CALLS; call++) {
+        int is_right = is_answered(call, SIZE_MAX) && requests > 0;
+        for (size_t i = 0, all = requests; i < all; i++)
+            is_right = is_answered(call, i) && is_right;
+        failed += !is_right;
+        if (!is_right)
+            printf("call %d over a heap of the program's own is not answered as wanted\n", call + 1);
+    }
+    printf("%d passed, %d failed\n", CALLS - failed, failed);
+    return failed != 0;
+}

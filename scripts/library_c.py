@@ -1,0 +1,130 @@
+"""What scripts/library does with C: the header as each standard of C and C++ reads it, and the programs of bindings/c over
+an archive, on this processor and, by an emulator, on aarch64."""
+import os
+import re
+import shutil
+from concurrent.futures import ThreadPoolExecutor
+
+from archive import BINDINGS, COUNTS, FLAGS, WARNINGS, check_example, counted, ended, run, told
+from runs import NO_LIBRARY, stored
+from runs import run as run_on
+from wanted import CAUSES, differs, wanted_of, wanted_of_manifests
+
+C = BINDINGS / "c"
+STANDARDS = {"c": ["c99", "c11", "c17"], "c++": ["c++98", "c++11", "c++17"]}
+COMPILERS = {"c": ["gcc", "clang"], "c++": ["g++", "clang++"]}
+TWICE = '#include "cargo_manifest.h"\n' * 2
+# with other places of the fields than those that the library was compiled with
+PACKED = f"#include <stddef.h>\n#include <stdint.h>\n#pragma pack(1)\n{TWICE}"
+# the line of canonical.c about a fault of the schema
+SCHEMA = re.compile(r"status 2, cause ([1-8]), bytes 0 to 0: (.+)\n", re.S)
+
+
+def check_header():
+    """The header is read without a warning, and where its fields lie otherwise it is not."""
+    for language, standards in STANDARDS.items():
+        there = [name for name in COMPILERS[language] if shutil.which(name)]
+        if not there:
+            print(f"the header is not read as {language}: there is no command {' or '.join(COMPILERS[language])}")
+        for compiler in there:
+            for standard in standards:
+                words = [compiler, f"-std={standard}", *WARNINGS, f"-I{C}", "-fsyntax-only", "-x", language, "-"]
+                ended(f"the header, as {compiler} reads {standard}", run(words, input=TWICE))
+                is_read = run(words, input=PACKED).returncode == 0
+                told(f"the header with other places, as {compiler} reads {standard}", "it is read" if is_read else None)
+
+
+def built(compiler, archive, room, *more):
+    """Compiles the programs of bindings/c over the archive alone, and says whether it could. The heap functions, which are in
+    the archive, are compiled too."""
+    ended(f"heap.c, by {compiler}", run([compiler, *FLAGS, "-c", "-o", os.devnull, C / "heap.c"]))
+    for name in ("calls", "canonical", "listed", "own_heap"):
+        words = [compiler, *FLAGS, *more, "-o", room / name, C / f"{name}.c", archive, "-pthread"]
+        if not ended(f"{name}.c, by {compiler}", run(words)):
+            return False
+    return True
+
+
+def with_line(said):
+    """A run of canonical.c, with the line of manifest_canon where a fault of the schema is told."""
+    status, out, err = said
+    fault = SCHEMA.fullmatch(err.decode("utf-8", "replace"))
+    if fault:
+        err = f"error: schema: {CAUSES[int(fault[1]) - 1]} at {fault[2]}\n".encode("utf-8")
+    return status, out, err
+
+
+def replay(cases):
+    """Runs, side by side: each has a name, the words, the input, and what is wanted of it."""
+    def said(case):
+        _, words, text, _ = case
+        return with_line(run_on(words[0], words[1:], text))
+
+    with ThreadPoolExecutor(os.cpu_count()) as pool:
+        for (name, _, _, wanted), line in zip(cases, pool.map(said, cases)):
+            told(name, differs(line, wanted))
+
+
+def replay_manifests(name, words):
+    """What the stored manifests come to by canonical.c, which is run by these words."""
+    replay([(f"{name}: {manifest}", words, text, wanted) for manifest, text, wanted in wanted_of_manifests()])
+
+
+def replay_folders(name, words, room):
+    """What the stored folders come to by the lists of their files, with no folder made. The words and a manifest's path run
+    a program that completes it by the list on standard input."""
+    cases = []
+    for number, case in enumerate(stored("completions.jsonl"), 1):
+        manifest = room / f"{number}.toml"
+        manifest.write_text(case["manifest"], encoding="utf-8", newline="")
+        files = "".join(f"{file}\n" for file in case["files"])
+        wanted = [f"error: {NO_LIBRARY}"] if "refused" in case else wanted_of(case)
+        cases.append((f"{name}: the list of folder {number}", [*words, manifest], files, wanted))
+    replay(cases)
+
+
+def run_all(name, runner, room):
+    """Runs the programs that were built, by a runner or by themselves."""
+    counted(f"calls from {name}", run([*runner, room / "calls"]), COUNTS)
+    counted(f"calls from {name} over a heap of its own", run([*runner, room / "own_heap"]), COUNTS)
+    replay_manifests(name, [*runner, room / "canonical"])
+    replay_folders(name, [*runner, room / "listed"], room)
+
+
+def check_valgrind(room):
+    """No program of bindings/c reads what is not set, writes beside its memory, or loses any."""
+    if not shutil.which("valgrind"):
+        print("the calls from C are not run under valgrind: it is not there")
+        return
+    checked = ["valgrind", "-q", "--error-exitcode=9", "--leak-check=full"]
+    for name in ("calls", "own_heap"):
+        counted(f"{name}.c under valgrind", run([*checked, room / name]), COUNTS)
+    (room / "Cargo.toml").write_text("[package]\nname = 'a-b'\n[lib]\n", encoding="utf-8")
+    for files, status in (("src/lib.rs\nsrc/bin/x/main.rs\n", 0), ("", 1)):
+        said = run([*checked, room / "listed", room / "Cargo.toml"], input=files)
+        is_right = said.returncode == status
+        told(f"listed.c under valgrind on {files!r}", None if is_right else f"{said.returncode} {said.stderr}")
+
+
+def check_c(archive, room):
+    """The header, and the programs in C over the archive alone; what is told of the layout."""
+    check_header()
+    if not shutil.which("cc"):
+        print("nothing is called from C: there is no command cc")
+        return None
+    if not built("cc", archive, room):
+        return None
+    run_all("C", [], room)
+    check_valgrind(room)
+    check_example("the example in C", room / "canonical")
+    return run([room / "calls", "layout"]).stdout
+
+
+def check_arm(archive, room):
+    """The programs in C over the archive for aarch64."""
+    for command in ("aarch64-linux-gnu-gcc", "qemu-aarch64"):
+        if not shutil.which(command):
+            print(f"the archive for aarch64 is not called: there is no command {command}")
+            return
+    if built("aarch64-linux-gnu-gcc", archive, room, "-static"):
+        run_all("C on aarch64", ["qemu-aarch64"], room)
