@@ -1,17 +1,46 @@
-//! Links the archive: that of the folder MANIFEST_FFI, or the one that is packed with the crate.
+//! Links the archive of the library: the one in the folder that MANIFEST_FFI names; else the one for the target, in the
+//! folder prebuilt/ of the repository, or packed with this crate.
 
 use std::env;
-use std::path::PathBuf;
+use std::path::{Path, PathBuf};
+use std::process;
+
+const ARCHIVE: &str = "libcargo_manifest.a";
+
+/// Ends the build by one sentence.
+fn stop(why: &str) -> ! {
+    eprintln!("{why}");
+    process::exit(1)
+}
+
+/// The folder of the archive for the target.
+fn prebuilt(target: &str) -> PathBuf {
+    let here = PathBuf::from(env!("CARGO_MANIFEST_DIR"));
+    let folders = [here.join("prebuilt").join(target), here.join("../../prebuilt").join(target)];
+    match folders.into_iter().find(|folder| folder.join(ARCHIVE).is_file()) {
+        Some(folder) => folder,
+        None => stop(&format!(
+            "cargo-manifest-proved has no {ARCHIVE} for {target}: the targets are those of its folder prebuilt/; for another \
+             one, name the folder of an archive by the environment variable MANIFEST_FFI"
+        )),
+    }
+}
+
+/// The folder that MANIFEST_FFI names.
+fn named(folder: &Path) -> PathBuf {
+    if !folder.join(ARCHIVE).is_file() {
+        stop(&format!("MANIFEST_FFI names the folder {}, which has no file {ARCHIVE}", folder.display()));
+    }
+    folder.to_path_buf()
+}
 
 fn main() {
-    let packed = PathBuf::from(env!("CARGO_MANIFEST_DIR")).join("lib");
-    let folder = env::var_os("MANIFEST_FFI").map_or(packed, PathBuf::from);
-    let archive = folder.join("libmanifest_ffi.a");
     println!("cargo:rerun-if-env-changed=MANIFEST_FFI");
-    println!("cargo:rerun-if-changed={}", archive.display());
-    if !archive.is_file() {
-        println!("cargo:warning={} is not there: name its folder by MANIFEST_FFI", archive.display());
-    }
+    let folder = match env::var_os("MANIFEST_FFI") {
+        Some(folder) => named(Path::new(&folder)),
+        None => prebuilt(&env::var("TARGET").expect("Cargo names the target")),
+    };
+    println!("cargo:rerun-if-changed={}", folder.join(ARCHIVE).display());
     println!("cargo:rustc-link-search=native={}", folder.display());
-    println!("cargo:rustc-link-lib=static=manifest_ffi");
+    println!("cargo:rustc-link-lib=static=cargo_manifest");
 }

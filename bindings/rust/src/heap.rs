@@ -1,4 +1,5 @@
-//! The memory that the library asks for, from the C library. This stands in the place of the toolchain's `liblibc_c.a`.
+//! The memory that the library asks for while the tests run, which can refuse a request. It stands in the place of the
+//! functions that the archive brings.
 
 use core::ffi::c_void;
 
@@ -16,20 +17,6 @@ struct Tried {
 }
 
 static NOWHERE: u8 = 0;
-
-/// Whether a request finds no memory, whatever the C library has. Only tests refuse any.
-fn is_refused() -> bool {
-    #[cfg(test)]
-    return refusals::next();
-    #[cfg(not(test))]
-    false
-}
-
-/// Tells the tests of this thread how many blocks were taken, less those that were given back.
-fn count_blocks(_more: isize) {
-    #[cfg(test)]
-    refusals::count(_more);
-}
 
 fn tried(block: *mut c_void) -> Tried {
     if block.is_null() {
@@ -50,12 +37,12 @@ fn at_least_one(size: usize, align: usize) -> usize {
 
 #[no_mangle]
 extern "C" fn rattle_alloc(size: usize, align: usize) -> Tried {
-    if is_refused() {
+    if refusals::next() {
         return tried(core::ptr::null_mut());
     }
     // SAFETY: `malloc` may be called with any size; what it answers is aligned to 16, the most that is asked for.
     let answer = tried(unsafe { malloc(at_least_one(size, align)) });
-    count_blocks(answer.is_there.into());
+    refusals::count(answer.is_there.into());
     answer
 }
 
@@ -64,7 +51,7 @@ extern "C" fn rattle_alloc(size: usize, align: usize) -> Tried {
 /// `block` is one that `rattle_alloc` or `rattle_realloc` answered and that was not given back.
 #[no_mangle]
 unsafe extern "C" fn rattle_realloc(block: *mut c_void, _kept: usize, size: usize, align: usize) -> Tried {
-    if is_refused() {
+    if refusals::next() {
         return tried(core::ptr::null_mut());
     }
     // SAFETY: `block` came from `malloc` or `realloc`, as the library hands back only what it was given.
@@ -76,13 +63,12 @@ unsafe extern "C" fn rattle_realloc(block: *mut c_void, _kept: usize, size: usiz
 /// As of `rattle_realloc`.
 #[no_mangle]
 unsafe extern "C" fn rattle_dealloc(block: *mut c_void) {
-    count_blocks(-1);
+    refusals::count(-1);
     // SAFETY: as above.
     unsafe { free(block) }
 }
 
-/// Requests of one thread that are refused, for tests.
-#[cfg(test)]
+/// Requests of one thread that are refused.
 pub(crate) mod refusals {
     use std::cell::Cell;
 

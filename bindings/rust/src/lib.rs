@@ -12,6 +12,7 @@
 mod calls;
 mod error;
 mod folders;
+#[cfg(test)]
 mod heap;
 mod listings;
 #[cfg(test)]
