@@ -20,8 +20,8 @@ fn prebuilt(target: &str) -> PathBuf {
     match folders.into_iter().find(|folder| folder.join(ARCHIVE).is_file()) {
         Some(folder) => folder,
         None => stop(&format!(
-            "cargo-manifest-proved has no {ARCHIVE} for {target}: the targets are those of its folder prebuilt/; for another \
-             one, name the folder of an archive by the environment variable MANIFEST_FFI"
+            "there is no prebuilt/{target}/{ARCHIVE}: cargo-manifest-proved has one for x86_64-unknown-linux-gnu and one \
+             for aarch64-unknown-linux-gnu; for another target name the folder of an archive by MANIFEST_FFI"
         )),
     }
 }
