@@ -11,7 +11,7 @@ from typing import Any, Optional, Union
 from ._library import Bytes, Folder
 
 Fault = Union[OSError, MemoryError]
-Folders = Union[str, "os.PathLike[str]", Mapping[str, Union[Iterable[str], Fault]]]
+Folders = Union[str, os.PathLike[str], Mapping[str, Union[Iterable[str], Fault]]]
 
 Listed = Union[list[bytes], Fault]
 

@@ -1,6 +1,8 @@
 """The exception of an answer that refuses."""
 from __future__ import annotations
 
+from typing import Optional
+
 from ._error import Cause, ManifestError, Part, Place
 from ._library import Answer, broken
 from ._listings import NOT_FOUND, OUT_OF_MEMORY, Listings
@@ -59,7 +61,7 @@ def _of_text(answer: Answer, said: str, status: int, part: Part, text: bytes) ->
     raise broken()
 
 
-def _of_folder(answer: Answer, listings: Listings | None) -> Exception:
+def _of_folder(answer: Answer, listings: Optional[Listings]) -> Exception:
     """The exception of a folder, with the fault that it was listed with as its cause."""
     refused: Exception
     if answer.cause == OUT_OF_MEMORY:
@@ -70,7 +72,7 @@ def _of_folder(answer: Answer, listings: Listings | None) -> Exception:
     return refused
 
 
-def refusal(answer: Answer, said: str, manifest: bytes, root: bytes, listings: Listings | None) -> Exception:
+def refusal(answer: Answer, said: str, manifest: bytes, root: bytes, listings: Optional[Listings]) -> Exception:
     """The exception of an answer with this text, to a call with what else is handed in here."""
     status = answer.status
     if status > _OF_ROOT:

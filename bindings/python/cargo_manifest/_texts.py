@@ -7,7 +7,7 @@ from typing import Optional, Union
 
 from ._listings import Folders, Listings
 
-Text = Union[bytes, bytearray, memoryview, str, "os.PathLike[str]"]
+Text = Union[bytes, bytearray, memoryview, str, os.PathLike[str]]
 
 
 def bytes_of(text: Text, what: str) -> bytes:

@@ -6,6 +6,7 @@ import subprocess
 import sys
 from collections.abc import Iterable
 from pathlib import Path
+from typing import Optional
 
 import cargo_manifest._library as loaded
 
@@ -24,7 +25,7 @@ def make_files(folder: Path, names: Iterable[str]) -> None:
         (folder / name).touch()
 
 
-def python(code: str, *, library: str | None = None, modules: Path = PROJECT) -> tuple[str, str]:
+def python(code: str, *, library: Optional[str] = None, modules: Path = PROJECT) -> tuple[str, str]:
     """What another Python writes: its output, and the last line of its errors. The package is that of `modules`."""
     settings = {key: value for key, value in os.environ.items() if key not in (VARIABLE, "PYTHONPATH")}
     if library is not None:

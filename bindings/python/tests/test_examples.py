@@ -3,6 +3,7 @@ import doctest
 import os
 import re
 import tempfile
+import typing
 import unittest
 from pathlib import Path
 
@@ -10,6 +11,9 @@ import cargo_manifest
 from cargo_manifest import _calls, _error
 
 from .places import PROJECT, make_files
+
+
+CALLS = ("canonical", "completed", "resolved", "resolved_completed", "table")
 
 
 class Readme(unittest.TestCase):
@@ -36,9 +40,15 @@ class Documented(unittest.TestCase):
     def test_each_public_name_has_a_doc_comment(self) -> None:
         for name in cargo_manifest.__all__:
             self.assertTrue(getattr(cargo_manifest, name).__doc__, name)
-        for call in ("canonical", "completed", "resolved", "resolved_completed", "table"):
+        for call in CALLS:
             self.assertIn(">>> ", getattr(cargo_manifest, call).__doc__)
-            self.assertIn("aises ", getattr(cargo_manifest, call).__doc__)
+            self.assertIn("Raises ", getattr(cargo_manifest, call).__doc__)
+
+    def test_types_can_be_told(self) -> None:
+        returned = {call: typing.get_type_hints(getattr(cargo_manifest, call))["return"] for call in CALLS}
+        self.assertEqual(returned, {**dict.fromkeys(CALLS, str), "table": dict[str, typing.Any]})
+        self.assertIn("cause", typing.get_type_hints(cargo_manifest.ManifestError))
+        self.assertTrue((PROJECT / "cargo_manifest" / "py.typed").is_file())
 
 
 def load_tests(loader: unittest.TestLoader, tests: unittest.TestSuite, pattern: str) -> unittest.TestSuite:

@@ -6,6 +6,7 @@ import subprocess
 import tempfile
 import unittest
 from pathlib import Path
+from typing import Optional
 
 from cargo_manifest import _library
 from cargo_manifest._found import NAME, PREBUILT
@@ -23,7 +24,7 @@ class WithoutThisLibrary(unittest.TestCase):
         self.modules = Path(room.name).resolve() / "a" / "b" / "c"
         shutil.copytree(PACKAGE, self.modules / PACKAGE.name, ignore=shutil.ignore_patterns("__pycache__", NAME))
 
-    def fault(self, code: str = SHOWN, library: "str | None" = None) -> str:
+    def fault(self, code: str = SHOWN, library: Optional[str] = None) -> str:
         said, fault = python(code, library=library, modules=self.modules)
         self.assertEqual(said, "")
         self.assertRegex(fault, "^ImportError: ")
