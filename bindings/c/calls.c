@@ -7,7 +7,7 @@
 #include <stdlib.h>
 #include <string.h>
 
-enum which { CANONICAL, COMPLETED, RESOLVED, RESOLVED_COMPLETED, TABLE };
+enum which { CANONICAL, COMPLETED, RESOLVED, RESOLVED_COMPLETED, TABLE, COMPLETED_TABLE, RESOLVED_TABLE, RESOLVED_COMPLETED_TABLE };
 
 /* A call, and its answer. For bytes, a root or folders that are null it is handed a null pointer and the length 0. */
 struct call {
@@ -120,6 +120,27 @@ static const struct call RESOLVINGS[] = {
     {RESOLVED, .bytes = OWN, .root = CUT, .status = MANIFEST_ROOT_NOT_UTF8, .text = ""},
 };
 
+/* The tagged bytes, worked out by hand from their layout in the header. */
+#define PACKAGE_TABLE "\x07package\x08\x02\x07" "edition\x01\x04" "2021\x04name\x01\x03p-q"
+#define BUILT_TABLE                                                                                                     \
+    "\x07package\x08\x03\x05" "build\x01\x08" "build.rs\x07" "edition\x01\x04" "2021\x04name\x01\x03p-q"
+#define VERSIONED_TABLE                                                                                                 \
+    "\x07package\x08\x03\x07" "edition\x01\x04" "2021\x04name\x01\x03p-q\x07version\x01\x05" "2.0.0"
+
+static const struct call TABLES[] = {
+    {COMPLETED_TABLE, .bytes = OWN, FOLDERS(HERE), .text = "\x08\x01" PACKAGE_TABLE},
+    {COMPLETED_TABLE, .bytes = OWN, FOLDERS({TEXT("."), NAMES(TEXT("build.rs")), 0}), .text = "\x08\x01" BUILT_TABLE},
+    {COMPLETED_TABLE, .bytes = OWN, FOLDERS(HERE, HERE), .status = MANIFEST_LISTINGS, .text = ""},
+    {COMPLETED_TABLE, .bytes = OWN "[lib]", FOLDERS(HERE), .status = MANIFEST_OTHER, .text = MISSED},
+    {COMPLETED_TABLE, .status = MANIFEST_SCHEMA, .cause = MANIFEST_MISSING, .text = "name"},
+    {RESOLVED_TABLE, .bytes = MEMBER, .root = ROOT, .text = "\x08\x01" VERSIONED_TABLE},
+    {RESOLVED_TABLE, .bytes = OWN, .root = OWN, .status = MANIFEST_NO_WORKSPACE, .text = ""},
+    {RESOLVED_TABLE, .bytes = MEMBER, .status = MANIFEST_ROOT_SCHEMA, .cause = MANIFEST_MISSING, .text = "name"},
+    {RESOLVED_COMPLETED_TABLE, .bytes = MEMBER, .root = ROOT, FOLDERS(HERE), .text = "\x08\x01" VERSIONED_TABLE},
+    {RESOLVED_COMPLETED_TABLE, .bytes = MEMBER, .root = ROOT, .status = MANIFEST_IO, .cause = MANIFEST_NOT_FOUND,
+     .text = ""},
+};
+
 /* Of two steps that refuse, the one that goes before the other is told. */
 static const struct call ORDERS[] = {
     {COMPLETED, .bytes = CUT, FOLDERS(HERE, HERE), .status = MANIFEST_LISTINGS, .text = ""},
@@ -167,7 +188,7 @@ static const struct group {
     const char *name;
     const struct call *calls;
     size_t length;
-} GROUPS[] = {GROUP(READINGS), GROUP(COMPLETIONS), GROUP(RESOLVINGS), GROUP(ORDERS), GROUP(NULLS)};
+} GROUPS[] = {GROUP(READINGS), GROUP(COMPLETIONS), GROUP(RESOLVINGS), GROUP(TABLES), GROUP(ORDERS), GROUP(NULLS)};
 
 enum { GROUP_COUNT = sizeof GROUPS / sizeof GROUPS[0], THREADS = 4, TURNS = 20, SET = 0xAA };
 
@@ -185,9 +206,15 @@ static struct manifest_answer made(const struct call *call, uint8_t *out, size_t
     case RESOLVED_COMPLETED:
         return manifest_resolved_completed(bytes, length, root, root_length, call->folders, call->folders_length, out, room);
     case TABLE:
+        return manifest_table(bytes, length, out, room);
+    case COMPLETED_TABLE:
+        return manifest_completed_table(bytes, length, call->folders, call->folders_length, out, room);
+    case RESOLVED_TABLE:
+        return manifest_resolved_table(bytes, length, root, root_length, out, room);
+    case RESOLVED_COMPLETED_TABLE:
         break;
     }
-    return manifest_table(bytes, length, out, room);
+    return manifest_resolved_completed_table(bytes, length, root, root_length, call->folders, call->folders_length, out, room);
 }
 
 /* Whether an answer has the numbers that are wanted. */

@@ -194,6 +194,18 @@ struct manifest_answer manifest_resolved_completed(const uint8_t *bytes, size_t 
    8 1 7 `package` 8 2 8 `autobins` 4 4 `name` 1 1 `a`. */
 struct manifest_answer manifest_table(const uint8_t *bytes, size_t bytes_length, uint8_t *out, size_t out_length);
 
+/* The tables that the texts of the other three calls say, in the same way. */
+struct manifest_answer manifest_completed_table(const uint8_t *bytes, size_t bytes_length,
+                                                const struct manifest_folder *folders, size_t folders_length,
+                                                uint8_t *out, size_t out_length);
+
+struct manifest_answer manifest_resolved_table(const uint8_t *bytes, size_t bytes_length, const uint8_t *root,
+                                               size_t root_length, uint8_t *out, size_t out_length);
+
+struct manifest_answer manifest_resolved_completed_table(const uint8_t *bytes, size_t bytes_length, const uint8_t *root,
+                                                         size_t root_length, const struct manifest_folder *folders,
+                                                         size_t folders_length, uint8_t *out, size_t out_length);
+
 /* What a request for memory answers. */
 struct rattle_tried {
     uint8_t is_there; /* 1, or 0 where there is no memory */

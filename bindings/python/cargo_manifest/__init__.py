@@ -12,7 +12,19 @@ which takes 21 kB. The main thread and those of `threading` have 8 MB on Linux w
 `threading.stack_size` says otherwise. A thread that runs out of stack ends the whole process, so a thread that reads
 what others wrote has to have 8 MB.
 """
-from ._calls import canonical, completed, resolved, resolved_completed, table
+from ._calls import canonical, completed, completed_table, resolved, resolved_completed
+from ._calls import resolved_completed_table, resolved_table, table
 from ._error import Cause, ManifestError
 
-__all__ = ["Cause", "ManifestError", "canonical", "completed", "resolved", "resolved_completed", "table"]
+__all__ = [
+    "Cause",
+    "ManifestError",
+    "canonical",
+    "completed",
+    "completed_table",
+    "resolved",
+    "resolved_completed",
+    "resolved_completed_table",
+    "resolved_table",
+    "table",
+]

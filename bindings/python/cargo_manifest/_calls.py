@@ -5,7 +5,8 @@ from typing import Any, Optional
 
 from ._answer import answered
 from ._library import manifest_canonical, manifest_completed, manifest_resolved
-from ._library import manifest_resolved_completed, manifest_table
+from ._library import manifest_resolved_completed, manifest_table, manifest_completed_table
+from ._library import manifest_resolved_table, manifest_resolved_completed_table
 from ._listings import Folders
 from ._reader import utf8
 from ._tagged import decoded
@@ -118,5 +119,47 @@ def table(manifest: Text) -> dict[str, Any]:
     >>> table("name = 'a'\nmetadata = { since = 1979-05-27 }")
     {'package': {'metadata': {'since': datetime.date(1979, 5, 27)}, 'name': 'a'}}
     """
-    made: dict[str, Any] = decoded(answered(manifest_table, bytes_of(manifest, "manifest")))
+    return _table_of(answered(manifest_table, bytes_of(manifest, "manifest")))
+
+
+def completed_table(manifest: Text, folders: Optional[Folders] = None) -> dict[str, Any]:
+    """What the text of `completed` says, by values as in `table`.
+
+    Takes what `completed` takes, and raises what `completed` and `table` do.
+
+    >>> completed_table("name = 'a'", {".": ["build.rs"]})
+    {'package': {'build': 'build.rs', 'name': 'a'}}
+    """
+    given = bytes_of(manifest, "manifest")
+    return _table_of(answered(manifest_completed_table, given, listings=listings_of(manifest, folders)))
+
+
+def resolved_table(manifest: Text, root: Text) -> dict[str, Any]:
+    """What the text of `resolved` says, by values as in `table`.
+
+    Takes what `resolved` takes, and raises what `resolved` and `table` do.
+
+    >>> root = "workspace.package.version = '2.0.0'"
+    >>> resolved_table("package = { name = 'a', version.workspace = true }", root)
+    {'package': {'name': 'a', 'version': '2.0.0'}}
+    """
+    return _table_of(answered(manifest_resolved_table, bytes_of(manifest, "manifest"), bytes_of(root, "root")))
+
+
+def resolved_completed_table(manifest: Text, root: Text, folders: Optional[Folders] = None) -> dict[str, Any]:
+    """What the text of `resolved_completed` says, by values as in `table`.
+
+    Takes what `resolved_completed` takes, and raises what `resolved_completed` and `table` do.
+
+    >>> root = "workspace.package.version = '2.0.0'"
+    >>> resolved_completed_table("package = { name = 'a', version.workspace = true }", root, {".": ["build.rs"]})
+    {'package': {'build': 'build.rs', 'name': 'a', 'version': '2.0.0'}}
+    """
+    given, lent = bytes_of(manifest, "manifest"), bytes_of(root, "root")
+    return _table_of(answered(manifest_resolved_completed_table, given, lent, listings_of(manifest, folders)))
+
+
+def _table_of(held: bytes) -> dict[str, Any]:
+    """The table that tagged bytes hold."""
+    made: dict[str, Any] = decoded(held)
     return made

@@ -1,10 +1,11 @@
-"""The five calls, on manifests of all types that they take."""
+"""The calls, on manifests of all types that they take."""
 import array
 import tempfile
 import unittest
 from pathlib import Path
 
 from cargo_manifest import Cause, ManifestError, canonical, completed, resolved, resolved_completed, table
+from cargo_manifest import completed_table, resolved_completed_table, resolved_table
 
 MEMBER = "[package]\nname = 'p-q'\nversion.workspace = true\nedition = '2021'\n"
 ROOT = "[workspace.package]\nversion = '2.0.0'\n"
@@ -45,6 +46,14 @@ class EachCall(unittest.TestCase):
     def test_table(self) -> None:
         wanted = {"package": {"name": "p", "autobins": False}}
         self.assertEqual(table("[package]\nname = 'p'\nautobins = false"), wanted)
+
+    def test_the_other_tables(self) -> None:
+        package = {"name": "p-q", "version": "2.0.0", "edition": "2021"}
+        library = {"name": "p_q", "path": "src/lib.rs", "crate-type": ["lib"], "edition": "2021", "required-features": []}
+        self.assertEqual(resolved_table(MEMBER, ROOT), {"package": package})
+        self.assertEqual(resolved_completed_table(MEMBER, ROOT, FOLDERS), {"lib": library, "package": package})
+        inherits = {**package, "version": {"workspace": True}}
+        self.assertEqual(completed_table(MEMBER, FOLDERS), {"lib": library, "package": inherits})
 
     def test_a_text_that_takes_a_second_call(self) -> None:
         package = '[package]\nname = "a"\n'

@@ -11,7 +11,7 @@ from pathlib import Path
 from typing import Any
 from unittest import mock
 
-from cargo_manifest import Cause, ManifestError, canonical, completed, table
+from cargo_manifest import Cause, ManifestError, canonical, completed, completed_table, table
 
 from .places import TOP
 
@@ -49,18 +49,23 @@ def said_by(call: Any, *words: Any) -> tuple[int, bytes, bytes]:
         return 1, b"", f"error: {kind}: {error}\n".encode("utf-8")
 
 
+def said_by_both(text: Any, values: Any, *words: Any) -> tuple[int, bytes, bytes]:
+    """What the call for a text says. The call for its table has to say the same by values, or to refuse alike."""
+    said = said_by(text, *words)
+    if said[0] == 0:
+        assert runs.told(values(*words)) == runs.told(tomllib.loads(said[1].decode("utf-8")))
+    else:
+        assert said_by(values, *words) == said
+    return said
+
+
 def run(program: None, words: list[Any], text: str = "", folder: None = None) -> tuple[int, bytes, bytes]:
     """What is called in the place of the program with these words."""
     if words[0] == "complete":
-        return said_by(completed, words[1])
+        return said_by_both(completed, completed_table, words[1])
     assert words == ["canon", "-"]
-    said = said_by(canonical, text)
+    said = said_by_both(canonical, table, text)
     assert said_by(canonical, text.encode("utf-8")) == said
-    # the table of values is that of the text, or refused as the text is
-    if said[0] == 0:
-        assert runs.told(table(text)) == runs.told(tomllib.loads(said[1].decode("utf-8")))
-    else:
-        assert said_by(table, text) == said
     return said
 
 
@@ -96,7 +101,7 @@ class StoredAnswers(unittest.TestCase):
 
     def test_lists_of_files(self) -> None:
         for number, case in enumerate(runs.stored("completions.jsonl"), 1):
-            said = said_by(completed, case["manifest"], listings_of(case["files"]))
+            said = said_by_both(completed, completed_table, case["manifest"], listings_of(case["files"]))
             with self.subTest(f"the list of folder {number}"):
                 self.assertIsNone(answers.differs(said, answers.wanted_of(case)))
 

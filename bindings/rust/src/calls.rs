@@ -1,7 +1,8 @@
 //! The declarations of the library, and its calls with memory for their text.
 
 use crate::error::{Cause, Error, Fault, Part};
-use crate::folders::Folder;
+use crate::folders::{with_folders, Folder};
+use crate::listings::Listings;
 
 /// What a call answers: `struct manifest_answer` of `bindings/c/cargo_manifest.h`.
 #[repr(C)]
@@ -17,34 +18,41 @@ pub(crate) struct Answer {
 // The signatures of `bindings/c/cargo_manifest.h`. No tool compares them: `scripts/library` compares the
 // sizes and offsets of the two, and runs both.
 extern "C" {
-    pub(crate) fn manifest_canonical(bytes: *const u8, bytes_length: usize, out: *mut u8, out_length: usize) -> Answer;
-    pub(crate) fn manifest_table(bytes: *const u8, bytes_length: usize, out: *mut u8, out_length: usize) -> Answer;
-    pub(crate) fn manifest_completed(
-        bytes: *const u8,
-        bytes_length: usize,
-        folders: *const Folder,
-        folders_length: usize,
-        out: *mut u8,
-        out_length: usize,
-    ) -> Answer;
-    pub(crate) fn manifest_resolved(
-        bytes: *const u8,
-        bytes_length: usize,
-        root: *const u8,
-        root_length: usize,
-        out: *mut u8,
-        out_length: usize,
-    ) -> Answer;
-    pub(crate) fn manifest_resolved_completed(
-        bytes: *const u8,
-        bytes_length: usize,
-        root: *const u8,
-        root_length: usize,
-        folders: *const Folder,
-        folders_length: usize,
-        out: *mut u8,
-        out_length: usize,
-    ) -> Answer;
+    fn manifest_canonical(bytes: *const u8, bytes_length: usize, out: *mut u8, out_length: usize) -> Answer;
+    fn manifest_table(bytes: *const u8, bytes_length: usize, out: *mut u8, out_length: usize) -> Answer;
+}
+
+/// Declares calls that take a root, folders or both, in this order, between the bytes and `out`.
+macro_rules! declared {
+    ($($name:ident($($slice:ident: $item:ty, $length:ident),+);)+) => {
+        extern "C" {
+            $(fn $name(
+                bytes: *const u8,
+                bytes_length: usize,
+                $($slice: *const $item, $length: usize,)+
+                out: *mut u8,
+                out_length: usize,
+            ) -> Answer;)+
+        }
+    };
+}
+
+declared! {
+    manifest_completed(folders: Folder, folders_length);
+    manifest_completed_table(folders: Folder, folders_length);
+    manifest_resolved(root: u8, root_length);
+    manifest_resolved_table(root: u8, root_length);
+    manifest_resolved_completed(root: u8, root_length, folders: Folder, folders_length);
+    manifest_resolved_completed_table(root: u8, root_length, folders: Folder, folders_length);
+}
+
+/// What is asked for of a manifest.
+#[derive(Clone, Copy)]
+pub(crate) enum Output {
+    /// Its canonical text.
+    Text,
+    /// The tagged bytes of its table.
+    Table,
 }
 
 /// What is wrong with a text of the library, which no contract allows: this crate and the archive are of two versions.
@@ -53,7 +61,7 @@ pub(crate) fn is_broken() -> ! {
 }
 
 /// The text of an answer, which is UTF-8 as each text of a manifest is.
-fn text_of(bytes: Vec<u8>) -> String {
+pub(crate) fn text_of(bytes: Vec<u8>) -> String {
     String::from_utf8(bytes).unwrap_or_else(|_| is_broken())
 }
 
@@ -86,7 +94,7 @@ fn refused(answer: Answer, text: Vec<u8>) -> Error {
 
 /// Calls with memory for this many bytes, and once more where the text takes more. `run` is handed a pointer to so many
 /// bytes that are set.
-pub(crate) fn bytes_of(room: usize, run: impl Fn(*mut u8, usize) -> Answer) -> Result<Vec<u8>, Error> {
+fn bytes_of(room: usize, run: impl Fn(*mut u8, usize) -> Answer) -> Result<Vec<u8>, Error> {
     let mut out = Vec::new();
     let mut room = room;
     loop {
@@ -107,7 +115,65 @@ pub(crate) fn bytes_of(room: usize, run: impl Fn(*mut u8, usize) -> Answer) -> R
     }
 }
 
-/// The same, for a text.
-pub(crate) fn text_by(room: usize, run: impl Fn(*mut u8, usize) -> Answer) -> Result<String, Error> {
-    bytes_of(room, run).map(text_of)
+/// How many bytes most outputs fit into, that are made of so many.
+fn room_for(bytes: usize) -> usize {
+    2 * bytes + 256
+}
+
+/// What is asked for of the manifest that the bytes are.
+pub(crate) fn read(output: Output, bytes: &[u8]) -> Result<Vec<u8>, Error> {
+    let call = match output {
+        Output::Text => manifest_canonical,
+        Output::Table => manifest_table,
+    };
+    bytes_of(room_for(bytes.len()), |out, room| {
+        // SAFETY: both pointers are of slices that live through the call and do not overlap, with their lengths.
+        unsafe { call(bytes.as_ptr(), bytes.len(), out, room) }
+    })
+}
+
+/// The same, completed over listings.
+pub(crate) fn complete(output: Output, bytes: &[u8], listings: &Listings) -> Result<Vec<u8>, Error> {
+    let call = match output {
+        Output::Text => manifest_completed,
+        Output::Table => manifest_completed_table,
+    };
+    with_folders(listings, |folders| {
+        bytes_of(room_for(bytes.len() + 64 * listings.len()), |out, room| {
+            // SAFETY: as in `read`; so do the slices that the folders hold.
+            unsafe { call(bytes.as_ptr(), bytes.len(), folders.as_ptr(), folders.len(), out, room) }
+        })
+    })
+}
+
+/// The same, with what it inherits from the workspace of the root put in.
+pub(crate) fn resolve(output: Output, bytes: &[u8], root: &[u8]) -> Result<Vec<u8>, Error> {
+    let call = match output {
+        Output::Text => manifest_resolved,
+        Output::Table => manifest_resolved_table,
+    };
+    bytes_of(room_for(bytes.len() + root.len()), |out, room| {
+        // SAFETY: as in `read`.
+        unsafe { call(bytes.as_ptr(), bytes.len(), root.as_ptr(), root.len(), out, room) }
+    })
+}
+
+/// The same, resolved and then completed.
+pub(crate) fn resolve_and_complete(
+    output: Output,
+    bytes: &[u8],
+    root: &[u8],
+    listings: &Listings,
+) -> Result<Vec<u8>, Error> {
+    let call = match output {
+        Output::Text => manifest_resolved_completed,
+        Output::Table => manifest_resolved_completed_table,
+    };
+    with_folders(listings, |folders| {
+        bytes_of(room_for(bytes.len() + root.len() + 64 * listings.len()), |out, room| {
+            let (at, count) = (folders.as_ptr(), folders.len());
+            // SAFETY: as in `complete`.
+            unsafe { call(bytes.as_ptr(), bytes.len(), root.as_ptr(), root.len(), at, count, out, room) }
+        })
+    })
 }

@@ -19,68 +19,34 @@ mod listings;
 mod tests;
 mod value;
 
-use calls::{bytes_of, is_broken, text_by};
-use calls::{
-    manifest_canonical, manifest_completed, manifest_resolved, manifest_resolved_completed, manifest_table,
-};
+use calls::{complete, is_broken, read, resolve, resolve_and_complete, text_of, Output};
 pub use error::{Cause, Error, Fault, Part};
-use folders::with_folders;
 pub use listings::Listings;
 pub use value::{Date, Datetime, Offset, Time, Value};
 
-/// How many bytes most texts fit into, that are made of so many.
-fn room_for(bytes: usize) -> usize {
-    2 * bytes + 256
-}
-
 /// The canonical text of the manifest that the bytes are.
 pub fn canonical(bytes: &[u8]) -> Result<String, Error> {
-    text_by(room_for(bytes.len()), |out, room| {
-        // SAFETY: both pointers are of slices that live through the call and do not overlap, with their lengths.
-        unsafe { manifest_canonical(bytes.as_ptr(), bytes.len(), out, room) }
-    })
+    read(Output::Text, bytes).map(text_of)
 }
 
 /// The canonical text of the manifest that the bytes are, completed over listings.
 pub fn completed(bytes: &[u8], listings: &Listings) -> Result<String, Error> {
-    with_folders(listings, |folders| {
-        text_by(room_for(bytes.len() + 64 * listings.len()), |out, room| {
-            // SAFETY: as in `canonical`; so do the slices that the folders hold.
-            unsafe {
-                manifest_completed(bytes.as_ptr(), bytes.len(), folders.as_ptr(), folders.len(), out, room)
-            }
-        })
-    })
+    complete(Output::Text, bytes, listings).map(text_of)
 }
 
 /// The canonical text of the manifest that the bytes are, with what it inherits from the workspace of the root put in.
 pub fn resolved(bytes: &[u8], root: &[u8]) -> Result<String, Error> {
-    text_by(room_for(bytes.len() + root.len()), |out, room| {
-        // SAFETY: as in `canonical`.
-        unsafe { manifest_resolved(bytes.as_ptr(), bytes.len(), root.as_ptr(), root.len(), out, room) }
-    })
+    resolve(Output::Text, bytes, root).map(text_of)
 }
 
 /// The same, resolved and then completed.
 pub fn resolved_completed(bytes: &[u8], root: &[u8], listings: &Listings) -> Result<String, Error> {
-    with_folders(listings, |folders| {
-        text_by(room_for(bytes.len() + root.len() + 64 * listings.len()), |out, room| {
-            let (count, folders) = (folders.len(), folders.as_ptr());
-            // SAFETY: as in `completed`.
-            unsafe {
-                manifest_resolved_completed(
-                    bytes.as_ptr(),
-                    bytes.len(),
-                    root.as_ptr(),
-                    root.len(),
-                    folders,
-                    count,
-                    out,
-                    room,
-                )
-            }
-        })
-    })
+    resolve_and_complete(Output::Text, bytes, root, listings).map(text_of)
+}
+
+/// The value of tagged bytes.
+fn value_of(table: Vec<u8>) -> Value {
+    value::decoded(&table).unwrap_or_else(|| is_broken())
 }
 
 /// The one table of the manifest that the bytes are: what its canonical text says, by values.
@@ -94,9 +60,20 @@ pub fn resolved_completed(bytes: &[u8], root: &[u8], listings: &Listings) -> Res
 /// # Ok::<(), cargo_manifest_proved::Error>(())
 /// ```
 pub fn table(bytes: &[u8]) -> Result<Value, Error> {
-    let table = bytes_of(room_for(bytes.len()), |out, room| {
-        // SAFETY: as in `canonical`.
-        unsafe { manifest_table(bytes.as_ptr(), bytes.len(), out, room) }
-    })?;
-    Ok(value::decoded(&table).unwrap_or_else(|| is_broken()))
+    read(Output::Table, bytes).map(value_of)
+}
+
+/// The table of the completed manifest: what [`completed`] says, by values.
+pub fn completed_table(bytes: &[u8], listings: &Listings) -> Result<Value, Error> {
+    complete(Output::Table, bytes, listings).map(value_of)
+}
+
+/// The table of the resolved manifest: what [`resolved`] says, by values.
+pub fn resolved_table(bytes: &[u8], root: &[u8]) -> Result<Value, Error> {
+    resolve(Output::Table, bytes, root).map(value_of)
+}
+
+/// The table of the resolved and completed manifest: what [`resolved_completed`] says, by values.
+pub fn resolved_completed_table(bytes: &[u8], root: &[u8], listings: &Listings) -> Result<Value, Error> {
+    resolve_and_complete(Output::Table, bytes, root, listings).map(value_of)
 }

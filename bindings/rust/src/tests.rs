@@ -4,7 +4,7 @@ use crate::calls::{manifest_canonical, Answer};
 use crate::folders::{Folder, Slice};
 use crate::heap::refusals::{blocks, with_refused};
 use crate::value::decoded;
-use crate::{canonical, resolved_completed, table, Error, Fault, Listings, Value};
+use crate::{canonical, resolved_completed, resolved_completed_table, table, Error, Fault, Listings, Value};
 use std::fmt::Debug;
 use std::mem::{offset_of, size_of};
 use std::thread;
@@ -80,10 +80,12 @@ fn each_growth_of_a_completion_is_refused() {
     listings.put(".", ["build.rs"]);
     let member = b"[package]\nname = 'p'\nversion.workspace = true\n[dependencies]\na.workspace = true\n";
     let root = b"[workspace.package]\nversion = '1.0.0'\n[workspace.dependencies]\na = '1'\n";
-    let run = || resolved_completed(member, root, &listings);
-    let wanted = run();
-    assert!(wanted.is_ok(), "{wanted:?}");
-    are_refused(run, &wanted);
+    let text = || resolved_completed(member, root, &listings);
+    assert!(text().is_ok(), "{:?}", text());
+    are_refused(text, &text());
+    let table = || resolved_completed_table(member, root, &listings);
+    assert!(table().is_ok(), "{:?}", table());
+    are_refused(table, &table());
 }
 
 /// A hundred thousand tables in one another, around an array.

@@ -1,6 +1,7 @@
 //! The crate as its users call it.
 
 use cargo_manifest_proved::{canonical, completed, resolved, resolved_completed, table};
+use cargo_manifest_proved::{completed_table, resolved_completed_table, resolved_table};
 use cargo_manifest_proved::{Cause, Date, Datetime, Error, Fault, Listings, Offset, Part, Time, Value};
 use std::fs;
 use std::io::{Error as IoError, ErrorKind};
@@ -215,4 +216,43 @@ fn the_table_by_values() {
     ]);
     assert_eq!(table(text.as_bytes()), Ok(table_of([("package", package)])));
     assert_eq!(table(b""), Err(schema(Cause::Missing, "name")));
+}
+
+#[test]
+fn the_tables_of_the_other_calls() {
+    let member = b"[package]\nname = 'p-q'\nedition.workspace = true\n";
+    let root = b"[workspace.package]\nedition = '2021'\n";
+    let mut listings = Listings::new();
+    listings.put("src", ["lib.rs"]);
+    listings.put(".", ["build.rs"]);
+    let text = |text: &str| Value::String(text.into());
+    let inherits = || table_of([("workspace", Value::Boolean(true))]);
+    let library = |more: &[(&str, Value)]| {
+        let all = [
+            ("crate-type", Value::Array(vec![text("lib")])),
+            ("name", text("p_q")),
+            ("path", text("src/lib.rs")),
+            ("required-features", Value::Array(Vec::new())),
+        ];
+        Value::Table(all.iter().chain(more).map(|(key, value)| (key.to_string(), value.clone())).collect())
+    };
+    let package = |edition, build| {
+        let all = [("name", text("p-q")), ("edition", edition)];
+        Value::Table(all.into_iter().chain(build).map(|(key, value)| (key.to_string(), value)).collect())
+    };
+    let build = || Some(("build", text("build.rs")));
+    let edition = || text("2021");
+    assert_eq!(resolved_table(member, root), Ok(table_of([("package", package(edition(), None))])));
+    assert_eq!(
+        completed_table(member, &listings),
+        Ok(table_of([("lib", library(&[])), ("package", package(inherits(), build()))]))
+    );
+    assert_eq!(
+        resolved_completed_table(member, root, &listings),
+        Ok(table_of([("lib", library(&[("edition", edition())])), ("package", package(edition(), build()))]))
+    );
+    assert_eq!(completed_table(b"", &listings), Err(schema(Cause::Missing, "name")));
+    assert_eq!(resolved_table(member, member), Err(Error::NoWorkspace));
+    let missed = Err(Error::Io(Fault::NotFound));
+    assert_eq!(resolved_completed_table(member, root, &Listings::new()), missed);
 }

@@ -1,17 +1,9 @@
--- What each call makes, and its refusals, in the order of its steps.
+-- What each call makes before the last step, and the refusals of these steps, in their order.
 use Rattle.std.specs.Prelude.{◌⊎◌, ℕ, List}
 use Rattle.cargo_manifest.specs.Canonical.{Means}
 use Rattle.manifest_ffi.specs.declared.folders.Folder.{Folder}
 use Rattle.manifest_ffi.specs.Given.{given, AreListings}
-use Rattle.manifest_ffi.specs.Made.{Makes, Completed, Resolved, Refusals, IsWantOfMemory, RefusesUnless, RefusesBytes, RefusesToLend, RefusesToComplete, RefusesText, Then}
-
--- THE CANONICAL TEXT: that of the manifest that the bytes mean
-abbrev pub RefusesCanonical : List ℕ → Refusals
-RefusesCanonical bytes r = RefusesBytes bytes r ⊎ Then (Means bytes) RefusesText r
-
--- THE TAGGED BYTES of its table: the bytes are refused, or no memory was left
-abbrev pub RefusesTable : List ℕ → Refusals
-RefusesTable bytes r = RefusesBytes bytes r ⊎ IsWantOfMemory r
+use Rattle.manifest_ffi.specs.Made.{Makes, Completed, Resolved, Refusals, RefusesUnless, RefusesBytes, RefusesToLend, RefusesToComplete, Then}
 
 -- COMPLETED over the folders, which are listings
 abbrev pub MakesCompleted : List ℕ → List Folder → Makes
@@ -23,17 +15,13 @@ RefusesCompleted bytes folders r =
     RefusesUnless (AreListings folders) r
     ⊎ RefusesBytes bytes r
     ⊎ Then (Means bytes) (RefusesToComplete (given folders)) r
-    ⊎ Then (MakesCompleted bytes folders) RefusesText r
 
 -- RESOLVED over the root
 abbrev pub MakesResolved : List ℕ → List ℕ → Makes
 MakesResolved bytes root = Resolved root (Means bytes)
 
 abbrev pub RefusesResolved : List ℕ → List ℕ → Refusals
-RefusesResolved bytes root r =
-    RefusesBytes bytes r
-    ⊎ Then (Means bytes) (RefusesToLend root) r
-    ⊎ Then (MakesResolved bytes root) RefusesText r
+RefusesResolved bytes root r = RefusesBytes bytes r ⊎ Then (Means bytes) (RefusesToLend root) r
 
 -- RESOLVED over the root, and then COMPLETED over the folders, which are listings
 abbrev pub MakesResolvedCompleted : List ℕ → List ℕ → List Folder → Makes
@@ -46,4 +34,3 @@ RefusesResolvedCompleted bytes root folders r =
     ⊎ RefusesBytes bytes r
     ⊎ Then (Means bytes) (RefusesToLend root) r
     ⊎ Then (MakesResolved bytes root) (RefusesToComplete (given folders)) r
-    ⊎ Then (MakesResolvedCompleted bytes root folders) RefusesText r

@@ -1,5 +1,5 @@
 -- What is made of the bytes, step by step, and why it is not.
-use Rattle.std.specs.Prelude.{◌≡◌, ℕ, List, Some, None, Vec, Result, Ok, Err}
+use Rattle.std.specs.Prelude.{◌≡◌, ◌⊎◌, ℕ, List, Some, None, Vec, Result, Ok, Err}
 use Rattle.std.specs.declared.alloc.Global.{Global}
 use Rattle.manifest_schema.specs.Paths.{Text}
 use Rattle.manifest_schema.specs.Contents.{Workspace, Manifest}
@@ -14,6 +14,8 @@ use Rattle.manifest_inherit.specs.Refused.{refuses}
 use Rattle.toml.specs.Data.{table}
 use Rattle.manifest_bytes.specs.Encoded.{encoded}
 use Rattle.manifest_bytes.specs.Decoded.{decoded}
+use Rattle.manifest_ffi.specs.declared.making.Output.{Output}
+use Rattle.manifest_ffi.specs.declared.making.Output.TheVariants.{CanonicalText, TaggedTable}
 use Rattle.manifest_ffi.specs.declared.refusal.Refusal.{Refusal}
 use Rattle.manifest_ffi.specs.declared.refusal.Refusal.TheVariants.{Bytes, Root, NoWorkspace, Resolving, Listings, Completion, Printing, Memory}
 
@@ -36,15 +38,19 @@ pub record IsLent (root : List ℕ) (m n : Manifest) : Type 0 where
 abbrev pub Resolved : List ℕ → Makes → Makes
 Resolved root makes n = (m : Manifest) × makes m × IsLent root m n
 
--- the text is that of one of the manifests
-abbrev pub Gives : Makes → Text → Type 0
-Gives makes text = (m : Manifest) × makes m × IsTextOf m text
+-- WHAT IS ASKED FOR of a manifest: its canonical text, or the tagged bytes of its table
+abbrev pub Writes : Output → Manifest → Text → Type 0
+Writes CanonicalText m text = IsTextOf m text
+Writes TaggedTable m text = text ≡ encoded (table (rewritten m))
 
--- these are the bytes of the table of what the bytes mean, and hold it
-abbrev pub GivesTable : List ℕ → Text → Type 0
-GivesTable bytes t =
-    (m : Manifest) × Means bytes m
-    × (t ≡ encoded (table (rewritten m))) × (decoded t ≡ Some (table (rewritten m)))
+-- such bytes hold the table
+abbrev pub Holds : Output → Manifest → Text → Type 0
+Holds CanonicalText m text = Unit {0}
+Holds TaggedTable m text = decoded text ≡ Some (table (rewritten m))
+
+-- the text is what is asked for of one of the manifests
+abbrev pub Gives : Output → Makes → Text → Type 0
+Gives output makes text = (m : Manifest) × makes m × Writes output m text × Holds output m text
 
 -- REFUSALS of each step
 abbrev pub Refusals : Type 1
@@ -79,14 +85,22 @@ abbrev pub RefusesToComplete : (Text → Answer) → Manifest → Refusals
 RefusesToComplete stored m (Completion e) = IsRefusalOf (completed m (stored_map stored)) e
 RefusesToComplete stored m _ = ⊥
 
--- the table of the manifest is not printed
+-- what is asked for of the manifest is not had: its table is not printed, or there is no memory for the bytes
 abbrev pub RefusesText : Manifest → Refusals
 RefusesText m (Printing e) = RefusesToPrint (rewritten m) e
 RefusesText m _ = ⊥
 
+abbrev pub RefusesOutput : Output → Manifest → Refusals
+RefusesOutput CanonicalText m = RefusesText m
+RefusesOutput TaggedTable m = IsWantOfMemory
+
 -- one of the manifests is refused at the next step
 abbrev pub Then : Makes → (Manifest → Refusals) → Refusals
 Then makes next r = (m : Manifest) × makes m × next m r
+
+-- a refusal of the steps that make the manifests, or of what is asked for of one of them
+abbrev pub OrOutput : Output → Makes → Refusals → Refusals
+OrOutput output makes refuses r = refuses r ⊎ Then makes (RefusesOutput output) r
 
 -- THE OUTCOME of the steps is one of these texts, or one of these refusals
 abbrev pub IsMade : (Text → Type 0) → Refusals → Result (Vec ℕ Global) Refusal → Type 0

@@ -1,16 +1,16 @@
-//! The texts that are asked for.
+//! The manifests that are asked for, step by step, and what is written of them.
 
-ghost use Rattle.std.specs.Prelude.{◌≡◌, IfOk, IfErr, OnOk};
+ghost use Rattle.std.specs.Prelude.{◌≡◌, Err, IfOk, IfErr, OnOk};
 ghost use Rattle.toml.specs.Data.{table};
 ghost use Rattle.toml.specs.View.{view};
 ghost use Rattle.manifest_bytes.specs.Encoded.{encoded};
 ghost use Rattle.manifest_completion.specs.Completed.{completed, completed_to};
 ghost use Rattle.manifest_completion.specs.Stored.{stored_map};
 ghost use Rattle.cargo_manifest.specs.Whole.{manifest_content};
-ghost use Rattle.cargo_manifest.specs.Canonical.{rewritten, Means, IsTextOf, IsCanonicalOf};
+ghost use Rattle.cargo_manifest.specs.Canonical.{rewritten, Means, IsTextOf};
 ghost use Rattle.manifest_ffi.specs.Given.{given_by};
-ghost use Rattle.manifest_ffi.specs.Made.{IsLent, Gives, GivesTable, IsWantOfMemory, RefusesBytes, RefusesToLend, RefusesToComplete, RefusesText, IsMade};
-ghost use Rattle.manifest_ffi.specs.Calls.{RefusesCanonical, RefusesTable, MakesCompleted, RefusesCompleted, MakesResolved, RefusesResolved, MakesResolvedCompleted, RefusesResolvedCompleted};
+ghost use Rattle.manifest_ffi.specs.Made.{IsLent, Writes, IsWantOfMemory, RefusesBytes, RefusesToLend, RefusesToComplete, RefusesText, RefusesOutput, IsMade};
+ghost use Rattle.manifest_ffi.specs.Calls.{MakesCompleted, RefusesCompleted, MakesResolved, RefusesResolved, MakesResolvedCompleted, RefusesResolvedCompleted};
 
 use crate::folders::{Folder, GivenFolders};
 use crate::refusal::Refusal;
@@ -20,8 +20,17 @@ use manifest_bytes::value_bytes;
 use manifest_inherit::resolve;
 use std::alloc::Global;
 
+/// What is asked for of a manifest.
+#[derive(Debug, Clone, Copy)]
+pub(crate) enum Output {
+    /// Its canonical text.
+    CanonicalText,
+    /// The tagged bytes of its table.
+    TaggedTable,
+}
+
 /// The manifest that the bytes mean.
-fn read(alloc: Global, bytes: &[u8]) -> Result<Manifest, Refusal>
+pub(crate) fn read(alloc: Global, bytes: &[u8]) -> Result<Manifest, Refusal>
     ensures ok { IfOk result (λ m. Means bytes.now (manifest_content view view m)) }
     ensures refused { IfErr result (RefusesBytes bytes.now) }
 {
@@ -72,38 +81,15 @@ fn complete(
     }
 }
 
-/// The canonical text of a manifest.
-fn text_of(alloc: Global, manifest: &Manifest) -> Result<Vec<u8>, Refusal>
-    ensures { let m = manifest_content view view manifest.now in
-        IsMade (IsTextOf m) (RefusesText m) result }
-{
-    match manifest.to_toml_string(alloc) {
-        Ok(text) => Ok(text.into_bytes()),
-        Err(error) => Err(Refusal::Printing(error)),
-    }
-}
-
-/// The canonical text of the manifest that the bytes mean.
-pub(crate) fn canonical(alloc: Global, bytes: &[u8]) -> Result<Vec<u8>, Refusal>
-    ensures { IsMade (IsCanonicalOf bytes.now) (RefusesCanonical bytes.now) result }
-{
-    let manifest = match read(alloc, bytes) {
-        Ok(manifest) => manifest,
-        Err(refusal) => return Err(refusal),
-    };
-    let text = text_of(alloc, &manifest);
-    drop(manifest);
-    text
-}
-
-/// The same, completed over the folders.
+/// The manifest that the bytes mean, completed over the folders.
 pub(crate) fn completed(
     alloc: Global,
     bytes: &[u8],
     folders: &[Folder<'_>],
-) -> Result<Vec<u8>, Refusal>
-    ensures { IsMade (Gives (MakesCompleted bytes.now folders.now))
-        (RefusesCompleted bytes.now folders.now) result }
+) -> Result<Manifest, Refusal>
+    ensures ok { IfOk result
+        (λ m. MakesCompleted bytes.now folders.now (manifest_content view view m)) }
+    ensures refused { IfErr result (RefusesCompleted bytes.now folders.now) }
 {
     let given = match GivenFolders::new(alloc, folders) {
         Ok(given) => given,
@@ -114,11 +100,7 @@ pub(crate) fn completed(
         Err(refusal) => return Err(refusal),
     };
     match complete(alloc, &given, &mut manifest) {
-        Ok(()) => {
-            let text = text_of(alloc, &manifest);
-            drop(manifest);
-            text
-        }
+        Ok(()) => Ok(manifest),
         Err(refusal) => {
             drop(manifest);
             Err(refusal)
@@ -126,21 +108,18 @@ pub(crate) fn completed(
     }
 }
 
-/// The same, resolved over the workspace of the root.
-pub(crate) fn resolved(alloc: Global, bytes: &[u8], root: &[u8]) -> Result<Vec<u8>, Refusal>
-    ensures { IsMade (Gives (MakesResolved bytes.now root.now))
-        (RefusesResolved bytes.now root.now) result }
+/// The manifest that the bytes mean, resolved over the workspace of the root.
+pub(crate) fn resolved(alloc: Global, bytes: &[u8], root: &[u8]) -> Result<Manifest, Refusal>
+    ensures ok { IfOk result
+        (λ m. MakesResolved bytes.now root.now (manifest_content view view m)) }
+    ensures refused { IfErr result (RefusesResolved bytes.now root.now) }
 {
     let mut manifest = match read(alloc, bytes) {
         Ok(manifest) => manifest,
         Err(refusal) => return Err(refusal),
     };
     match lend(alloc, root, &mut manifest) {
-        Ok(()) => {
-            let text = text_of(alloc, &manifest);
-            drop(manifest);
-            text
-        }
+        Ok(()) => Ok(manifest),
         Err(refusal) => {
             drop(manifest);
             Err(refusal)
@@ -154,9 +133,10 @@ pub(crate) fn resolved_completed(
     bytes: &[u8],
     root: &[u8],
     folders: &[Folder<'_>],
-) -> Result<Vec<u8>, Refusal>
-    ensures { IsMade (Gives (MakesResolvedCompleted bytes.now root.now folders.now))
-        (RefusesResolvedCompleted bytes.now root.now folders.now) result }
+) -> Result<Manifest, Refusal>
+    ensures ok { IfOk result (λ m. MakesResolvedCompleted bytes.now root.now folders.now
+        (manifest_content view view m)) }
+    ensures refused { IfErr result (RefusesResolvedCompleted bytes.now root.now folders.now) }
 {
     let given = match GivenFolders::new(alloc, folders) {
         Ok(given) => given,
@@ -171,15 +151,22 @@ pub(crate) fn resolved_completed(
         return Err(refusal);
     }
     match complete(alloc, &given, &mut manifest) {
-        Ok(()) => {
-            let text = text_of(alloc, &manifest);
-            drop(manifest);
-            text
-        }
+        Ok(()) => Ok(manifest),
         Err(refusal) => {
             drop(manifest);
             Err(refusal)
         }
+    }
+}
+
+/// The canonical text of a manifest.
+fn text_of(alloc: Global, manifest: &Manifest) -> Result<Vec<u8>, Refusal>
+    ensures { let m = manifest_content view view manifest.now in
+        IsMade (IsTextOf m) (RefusesText m) result }
+{
+    match manifest.to_toml_string(alloc) {
+        Ok(text) => Ok(text.into_bytes()),
+        Err(error) => Err(Refusal::Printing(error)),
     }
 }
 
@@ -193,15 +180,35 @@ fn table_of(alloc: Global, manifest: &Manifest) -> Result<Vec<u8>, Refusal>
     Ok(value_bytes(alloc, &value)?)
 }
 
-/// The tagged bytes of the table of the manifest that the bytes mean.
-pub(crate) fn table(alloc: Global, bytes: &[u8]) -> Result<Vec<u8>, Refusal>
-    ensures { IsMade (GivesTable bytes.now) (RefusesTable bytes.now) result }
+/// What is asked for of a manifest.
+fn output_of(alloc: Global, output: Output, manifest: &Manifest) -> Result<Vec<u8>, Refusal>
+    ensures { let m = manifest_content view view manifest.now in
+        IsMade (Writes output m) (RefusesOutput output m) result }
 {
-    let manifest = match read(alloc, bytes) {
+    match output {
+        Output::CanonicalText => text_of(alloc, manifest),
+        Output::TaggedTable => match table_of(alloc, manifest) {
+            Ok(bytes) => Ok(bytes),
+            Err(refusal) => Err(refusal),
+        },
+    }
+}
+
+/// What is asked for of a manifest that was made, or why none was.
+pub(crate) fn finished(
+    alloc: Global,
+    output: Output,
+    made: Result<Manifest, Refusal>,
+) -> Result<Vec<u8>, Refusal>
+    ensures made { IfOk made (λ m. let m = manifest_content view view m in
+        IsMade (Writes output m) (RefusesOutput output m) result) }
+    ensures refused { IfErr made (λ refusal. result ≡ Err refusal) }
+{
+    let manifest = match made {
         Ok(manifest) => manifest,
         Err(refusal) => return Err(refusal),
     };
-    let out = table_of(alloc, &manifest);
+    let text = output_of(alloc, output, &manifest);
     drop(manifest);
-    out
+    text
 }
