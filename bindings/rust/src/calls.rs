@@ -18,7 +18,7 @@ pub(crate) struct Answer {
 // The signatures of `bindings/c/cargo_manifest.h`. No tool compares them: `scripts/library` compares the
 // sizes and offsets of the two, and runs both.
 extern "C" {
-    fn manifest_canonical(bytes: *const u8, bytes_length: usize, out: *mut u8, out_length: usize) -> Answer;
+    pub(crate) fn manifest_canonical(bytes: *const u8, bytes_length: usize, out: *mut u8, out_length: usize) -> Answer;
     fn manifest_table(bytes: *const u8, bytes_length: usize, out: *mut u8, out_length: usize) -> Answer;
 }
 
