@@ -84,7 +84,7 @@ static const struct manifest_bytes SOURCES[] = {{(const uint8_t *)"lib.rs", 6}, 
 static const struct manifest_folder FOLDERS[] = {{{(const uint8_t *)".", 1}, {NULL, 0}, MANIFEST_NO_FAULT},
                                                  {{(const uint8_t *)"src", 3}, {SOURCES, 2}, MANIFEST_NO_FAULT}};
 
-/* What each of the five calls answers. */
+/* What each kind of call answers. */
 static const char *const TEXTS[] = {PACKAGE, LIBRARY PACKAGE, PACKAGE VERSION, LIBRARY PACKAGE VERSION,
                                     "\x08\x01\x07package\x08\x02\x07" "edition\x01\x04" "2021\x04name\x01\x03p-q"};
 
