@@ -68,6 +68,24 @@ def _loaded() -> ctypes.CDLL:
         raise ImportError(f"the library of cargo_manifest cannot be loaded ({fault}): {advice}") from fault
 
 
+# the version of the calls that this package is written for: MANIFEST_VERSION of `cargo_manifest.h`
+_VERSION = 1
+
+
+def _of_this_version(library: ctypes.CDLL) -> ctypes.CDLL:
+    """The library, or an ImportError where it is of another version."""
+    try:
+        version = library["manifest_version"]
+    except AttributeError as fault:
+        raise ImportError(f"the library does not say its version: name a {NAME} that does by {VARIABLE}") from fault
+    version.argtypes = []
+    version.restype = ctypes.c_uint32
+    if version() != _VERSION:
+        raise ImportError(f"the library has version {version()} of its calls, and cargo_manifest wants {_VERSION}: "
+                          f"name a {NAME} of that version by {VARIABLE}")
+    return library
+
+
 def _declared(library: ctypes.CDLL, name: str, *slices: tuple[Any, Any]) -> Call:
     """A call that takes these slices, each a pointer with its length, and the memory for its text behind them."""
     try:
@@ -79,7 +97,7 @@ def _declared(library: ctypes.CDLL, name: str, *slices: tuple[Any, Any]) -> Call
     return call
 
 
-_LIBRARY = _loaded()
+_LIBRARY = _of_this_version(_loaded())
 manifest_canonical = _declared(_LIBRARY, "manifest_canonical", _TEXT)
 manifest_completed = _declared(_LIBRARY, "manifest_completed", _TEXT, _FOLDERS)
 manifest_resolved = _declared(_LIBRARY, "manifest_resolved", _TEXT, _TEXT)
