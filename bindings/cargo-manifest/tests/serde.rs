@@ -133,5 +133,5 @@ fn values_of_toml() {
     assert_eq!(format!("{value:?}"), format!("{of_toml:?}"));
     assert_eq!(toml::Value::from(value.clone()), of_toml);
     assert_eq!(toml::from_str::<Value>(&value.to_string()).unwrap(), value);
-    assert_eq!(toml::Value::try_from(&value).unwrap(), of_toml);
+    assert_eq!(toml::from_str::<toml::Value>(&toml::to_string(&value).unwrap()).unwrap(), of_toml);
 }
