@@ -27,6 +27,8 @@ mod words;
 mod workspace;
 mod writing;
 
+#[cfg(feature = "serde")]
+pub use self::serde::ValueError;
 pub use badge::{Badge, Badges, Maintenance, MaintenanceStatus};
 pub use calls::Cause;
 pub use dependency::{Dependency, DependencyDetail, InheritedDependencyDetail, Target};
@@ -39,8 +41,6 @@ pub use metadata::{Metadata, WrittenMetadata};
 pub use package::{Package, Publish, StringOrBool};
 pub use product::Product;
 pub use profile::{Profile, Profiles, StripSetting};
-#[cfg(feature = "serde")]
-pub use self::serde::ValueError;
 use std::collections::BTreeMap;
 pub use value::{Date, Datetime, DatetimeParseError, Index, Map, Offset, Time, Value};
 pub use words::{Edition, Resolver};

@@ -81,9 +81,7 @@ fn completed(text: &str, folders: &Folders) -> (Vec<String>, Result<Manifest, Er
 #[test]
 fn what_is_asked_in_which_order() {
     let files = ["src/lib.rs", "src/bin/b.rs", "src/bin/a/main.rs", "tests/t.rs", "build.rs", "other/x.rs"];
-    let all = [
-        "src", "src/bin", "src/bin/a", "src/bin/b.rs", "examples", "tests", "tests/t.rs", "benches",
-    ];
+    let all = ["src", "src/bin", "src/bin/a", "src/bin/b.rs", "examples", "tests", "tests/t.rs", "benches"];
     let (asked, answer) = completed(OWN_LIBRARY, &Folders::of(&files));
     assert_eq!(asked, [&all[..], &["."]].concat());
     let manifest = answer.unwrap();
@@ -189,7 +187,10 @@ fn the_flags() {
     assert_eq!(flags("[package]\nname = 'a'\n[[bin]]\nname = 'b'\n"), [false, true, true, true]);
     assert_eq!(flags("[package]\nname = 'a'\nedition = '2018'\n[[bin]]\nname = 'b'\n"), [true; 4]);
     assert_eq!(flags("[package]\nname = 'a'\nedition.workspace = true\n[[test]]\nname = 'b'\n"), [true; 4]);
-    assert_eq!(flags("[package]\nname = 'a'\nautotests = false\nautobenches = true\n[[bench]]\n"), [true, true, false, true]);
+    assert_eq!(
+        flags("[package]\nname = 'a'\nautotests = false\nautobenches = true\n[[bench]]\n"),
+        [true, true, false, true]
+    );
 }
 
 /// What a member comes to over the workspace of a root. A refusal leaves the member as it was.
@@ -209,7 +210,8 @@ fn resolved(member: &str, root: &str) -> Result<Manifest, String> {
 
 #[test]
 fn resolving() {
-    let member = "[package]\nname = 'a'\nversion.workspace = true\n[package.metadata]\nkept = 1\n[dependencies]\nb.workspace = true\n";
+    let member = "[package]\nname = 'a'\nversion.workspace = true\n[package.metadata]\nkept = 1\n[dependencies]\n\
+                  b.workspace = true\n";
     let root = "[workspace]\nmetadata = 1\n[workspace.package]\nversion = '2.0.0'\n[workspace.dependencies]\nb = '1'\n";
     let manifest = resolved(member, root).unwrap();
     let package = manifest.package.unwrap();
@@ -220,7 +222,8 @@ fn resolving() {
     assert_eq!(said(member, "[workspace]"), "`version` is inherited, and the workspace does not have it");
     let inherits = "[workspace.package]\nversion = '1'\n[workspace.dependencies]\nb.workspace = true\n";
     assert!(said(member, inherits).contains("`b`"));
-    assert!(said("[package]\nname = 'a'\n[lints]\nworkspace = true\nrust.a = 'warn'\n", "[workspace.lints]\n").contains("beside"));
+    assert!(said("[package]\nname = 'a'\n[lints]\nworkspace = true\nrust.a = 'warn'\n", "[workspace.lints]\n")
+        .contains("beside"));
     let tool = "[workspace.lints.workspace]\na = 'warn'\n";
     assert!(said("[package]\nname = 'a'\n[lints]\nworkspace = true\n", tool).contains("named `workspace`"));
 }

@@ -84,7 +84,7 @@ fn publishing() {
         (Publish::Registry(vec![]), false),
         (Publish::Registry(vec!["a".into()]), true),
     ] {
-        assert!(publish == is_to_any && is_to_any == publish && publish != !is_to_any, "{publish:?}");
+        assert_eq!((publish == is_to_any, is_to_any == publish, publish == !is_to_any), (true, true, false));
     }
 }
 
@@ -126,12 +126,19 @@ fn defaults() {
     let product = Product::default();
     assert_eq!([product.test, product.doctest, product.bench, product.doc, product.harness], [true; 5]);
     assert_eq!(([product.plugin, product.proc_macro], product.edition), ([false; 2], Some(Edition::E2015)));
-    assert_eq!((product.path, product.name, product.crate_type, product.required_features.len()), (None, None, None, 0));
+    assert_eq!(
+        (product.path, product.name, product.crate_type, product.required_features.len()),
+        (None, None, None, 0)
+    );
     let workspace: Workspace<()> = Workspace::default();
     assert_eq!((workspace.members.len(), workspace.resolver), (0, None));
     let manifest: Manifest = Manifest::default();
     assert!(manifest.package.is_none() && manifest.workspace.is_none() && manifest.lib.is_none());
     let target: Manifest = "[package]\nname = 'p'\n[target.x]\n".parse().unwrap();
-    let empty = Target { dependencies: BTreeMap::new(), dev_dependencies: BTreeMap::new(), build_dependencies: BTreeMap::new() };
+    let empty = Target {
+        dependencies: BTreeMap::new(),
+        dev_dependencies: BTreeMap::new(),
+        build_dependencies: BTreeMap::new(),
+    };
     assert_eq!(target.target.unwrap()["x"], empty);
 }

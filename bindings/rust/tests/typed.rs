@@ -3,8 +3,12 @@
 mod stored;
 
 use cargo_manifest::{canonical, Badges, Cause, Date, Datetime, Dependency, DependencyDetail, Edition, Error};
-use cargo_manifest::{InheritedDependencyDetail, Lint, LintConfig, LintLevel, Maintenance, MaintenanceStatus, Manifest};
-use cargo_manifest::{MaybeInherited, MaybeInheritedLintsSet, Package, ParseError, Product, Profile, Profiles, Publish};
+use cargo_manifest::{
+    InheritedDependencyDetail, Lint, LintConfig, LintLevel, Maintenance, MaintenanceStatus, Manifest,
+};
+use cargo_manifest::{
+    MaybeInherited, MaybeInheritedLintsSet, Package, ParseError, Product, Profile, Profiles, Publish,
+};
 use cargo_manifest::{Resolver, StringOrBool, StripSetting, Target, True, Value, Workspace, WorkspacePackage};
 use std::collections::BTreeMap;
 use std::io;
@@ -39,11 +43,10 @@ fn a_document_as_a_value_is_the_same_manifest() {
     let texts = |text: &str| Value::from(text);
     let value = table(&[
         ("name", texts("a")),
-        ("dev_dependencies", table(&[("b", table(&[
-            ("version", texts("1")),
-            ("default_features", false.into()),
-            ("free", 1.into()),
-        ]))])),
+        (
+            "dev_dependencies",
+            table(&[("b", table(&[("version", texts("1")), ("default_features", false.into()), ("free", 1.into())]))]),
+        ),
         ("profile", table(&[("own", table(&[("opt_level", texts("s")), ("strip", texts("symbols"))]))])),
         ("badges", table(&[("codecov", 1.into()), ("maintenance", table(&[]))])),
         ("lints", table(&[("clippy", table(&[("all", table(&[("level", texts("deny"))]))]))])),
@@ -81,7 +84,11 @@ impl Numbers {
                 default_features: Some(true),
                 ..Default::default()
             }),
-            _ => Dependency::Detailed(DependencyDetail { git: Some(self.text()), features: Some(features), ..Default::default() }),
+            _ => Dependency::Detailed(DependencyDetail {
+                git: Some(self.text()),
+                features: Some(features),
+                ..Default::default()
+            }),
         }
     }
 
@@ -102,7 +109,8 @@ impl Numbers {
         let mut profile = text.profile.unwrap().dev.unwrap();
         profile.debug = Some(self.value());
         profile.codegen_units = Some(65_535);
-        profile.strip = Some([StripSetting::None, StripSetting::Debuginfo, StripSetting::Symbols][self.below(3)].clone());
+        profile.strip =
+            Some([StripSetting::None, StripSetting::Debuginfo, StripSetting::Symbols][self.below(3)].clone());
         profile.package.insert(self.text(), self.value());
         profile
     }
@@ -197,9 +205,11 @@ fn what_no_table_holds_is_not_written() {
         });
         assert!(text.contains(&format!("`{name}`")), "{text}");
     }
-    let tool = unwritten(|manifest| drop(manifest.lints.as_mut().unwrap().lints.insert("workspace".into(), BTreeMap::new())));
+    let tool =
+        unwritten(|manifest| drop(manifest.lints.as_mut().unwrap().lints.insert("workspace".into(), BTreeMap::new())));
     assert!(tool.contains("`workspace`"), "{tool}");
-    let debug = |manifest: &mut Manifest, value| manifest.profile.as_mut().unwrap().dev.as_mut().unwrap().debug = Some(value);
+    let debug =
+        |manifest: &mut Manifest, value| manifest.profile.as_mut().unwrap().dev.as_mut().unwrap().debug = Some(value);
     assert!(unwritten(|manifest| debug(manifest, vec![1.5].into())).contains("float"));
     let thirteenth = Datetime { date: Some(Date { year: 1979, month: 13, day: 1 }), time: None, offset: None };
     assert!(unwritten(|manifest| debug(manifest, thirteenth.into())).contains("date-time"));
@@ -229,12 +239,30 @@ fn errors_say_what_is_wrong_where_and_what_is_wanted() {
         ("", "`name` is missing: a string is wanted"),
         ("[project]\nname = 1", "`project.name` is of the wrong kind: a string is wanted"),
         ("[package]\n", "`package.name` is missing: a string is wanted"),
-        ("[package]\nname = 'a'\nedition = '2022'", "`package.edition` is not a choice: one of the strings \"2015\", \"2018\", \"2021\", \"2024\" is wanted"),
-        ("[package]\nname = 'a'\n[profile.x]\ncodegen-units = 65536", "`profile.x.codegen-units` is out of range: an integer from 0 to 65535 is wanted"),
-        ("[package]\nname = 'a'\n[profile.x]\ndebug = [1.5]", "`profile.x.debug[0]` is a float, and no float is kept there"),
-        ("[package]\nname = 'a'\n[lints]\nworkspace = false", "`lints.workspace` is not true: the boolean true is wanted"),
-        ("[package]\nname = 'a'\n[target.'cfg(unix)'.dependencies]\n'b c' = 1", "`target.\"cfg(unix)\".dependencies.\"b c\"` is of the wrong kind: a string or a table is wanted"),
-        ("[package]\nname = 'a'\n[lib]\nproc-macro = true\nproc_macro = true", "`lib.proc-macro` is there in both of its spellings"),
+        (
+            "[package]\nname = 'a'\nedition = '2022'",
+            "`package.edition` is not a choice: one of the strings \"2015\", \"2018\", \"2021\", \"2024\" is wanted",
+        ),
+        (
+            "[package]\nname = 'a'\n[profile.x]\ncodegen-units = 65536",
+            "`profile.x.codegen-units` is out of range: an integer from 0 to 65535 is wanted",
+        ),
+        (
+            "[package]\nname = 'a'\n[profile.x]\ndebug = [1.5]",
+            "`profile.x.debug[0]` is a float, and no float is kept there",
+        ),
+        (
+            "[package]\nname = 'a'\n[lints]\nworkspace = false",
+            "`lints.workspace` is not true: the boolean true is wanted",
+        ),
+        (
+            "[package]\nname = 'a'\n[target.'cfg(unix)'.dependencies]\n'b c' = 1",
+            "`target.\"cfg(unix)\".dependencies.\"b c\"` is of the wrong kind: a string or a table is wanted",
+        ),
+        (
+            "[package]\nname = 'a'\n[lib]\nproc-macro = true\nproc_macro = true",
+            "`lib.proc-macro` is there in both of its spellings",
+        ),
         ("[package]\nname = 'a'\nreadme = 1", "`package.readme` is of the wrong kind: a string or a boolean is wanted"),
         ("[package]\nname = 'a'\npublish = [1]", "`package.publish[0]` is of the wrong kind: a string is wanted"),
     ] {
@@ -253,7 +281,9 @@ fn errors_of_other_kinds() {
     assert_eq!((error.line_column(text), error.key_path(), error.cause()), (Some((2, 12)), None, None));
     assert!(error.message().ends_with(" at line 2 column 12"), "{error}");
     assert!(matches!(Manifest::from_slice(b"a\xff"), Err(Error::Utf8(error)) if error.valid_up_to() == 1));
-    assert!(matches!(Manifest::from_path("/no/such/Cargo.toml"), Err(Error::Io(error)) if error.kind() == io::ErrorKind::NotFound));
+    assert!(
+        matches!(Manifest::from_path("/no/such/Cargo.toml"), Err(Error::Io(error)) if error.kind() == io::ErrorKind::NotFound)
+    );
     let copy = Error::Io(io::Error::new(io::ErrorKind::TimedOut, "late")).clone();
     assert!(matches!(&copy, Error::Io(error) if error.kind() == io::ErrorKind::TimedOut));
     assert_eq!(copy.to_string(), "late");

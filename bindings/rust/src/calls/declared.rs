@@ -1,8 +1,8 @@
 //! The declarations of the library, and its calls with memory for their text.
 
-use super::refusal::{Cause, Fault, Part, Refusal};
 use super::folders::{with_folders, Folder};
 use super::listings::Listings;
+use super::refusal::{Cause, Fault, Part, Refusal};
 
 /// What a call answers: `struct manifest_answer` of `bindings/c/cargo_manifest.h`.
 #[repr(C)]

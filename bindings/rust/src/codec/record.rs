@@ -191,7 +191,9 @@ pub(crate) use row;
 
 /// What is done with a key that no row has.
 macro_rules! others_of {
-    (wanted $path:ident) => { None };
+    (wanted $path:ident) => {
+        None
+    };
     (wanted $path:ident $other:ty) => {
         <$other as $crate::codec::Form>::wanted_at($path)
     };

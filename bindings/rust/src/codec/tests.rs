@@ -60,7 +60,11 @@ fn any_bytes_are_read_or_refused() {
                 random ^= random >> 7;
                 random ^= random << 17;
                 // (small bytes are tags and lengths)
-                if random % 3 > 0 { (random >> 8) as u8 % 10 } else { (random >> 8) as u8 }
+                if random % 3 > 0 {
+                    (random >> 8) as u8 % 10
+                } else {
+                    (random >> 8) as u8
+                }
             })
             .collect();
         random = random.wrapping_add(1);
