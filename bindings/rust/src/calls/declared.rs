@@ -112,7 +112,7 @@ fn refused(answer: Answer, text: Vec<u8>) -> Refusal {
         11 => Refusal::InheritedInWorkspace(text_of(text)),
         12 => Refusal::MixedLints,
         13 => Refusal::ToolNamedWorkspace,
-        14 | 30 => Refusal::NoTable(part),
+        14 | 30 => Refusal::Untagged(part),
         _ => is_broken(),
     }
 }

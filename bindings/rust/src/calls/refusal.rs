@@ -136,7 +136,7 @@ pub enum Refusal {
     /// The manifest inherits its lints, and the workspace has lints of a tool named `workspace`.
     ToolNamedWorkspace,
     /// The bytes are not the tagged bytes of a table.
-    NoTable(Part),
+    Untagged(Part),
 }
 
 impl fmt::Display for Refusal {
@@ -153,7 +153,7 @@ impl fmt::Display for Refusal {
             Refusal::InheritedInWorkspace(name) => write!(f, "inherited in workspace: {name}"),
             Refusal::MixedLints => f.write_str("mixed lints"),
             Refusal::ToolNamedWorkspace => f.write_str("tool named workspace"),
-            Refusal::NoTable(part) => write!(f, "{part}no table"),
+            Refusal::Untagged(part) => write!(f, "{part}untagged"),
         }
     }
 }
