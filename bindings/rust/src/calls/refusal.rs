@@ -112,9 +112,23 @@ impl fmt::Display for Fault {
 #[non_exhaustive]
 pub enum Refusal {
     /// The text is no TOML, for this reason, at this range of its bytes.
-    Toml { part: Part, message: String, range: Range<usize> },
+    Toml {
+        /// Which manifest it is.
+        part: Part,
+        /// Why, in words for people.
+        message: String,
+        /// Where in its bytes.
+        range: Range<usize>,
+    },
     /// The text is TOML and no manifest: why, and the key path at which that stands, as `package.authors[0]`.
-    Schema { part: Part, cause: Cause, path: String },
+    Schema {
+        /// Which manifest it is.
+        part: Part,
+        /// Why.
+        cause: Cause,
+        /// The key path.
+        path: String,
+    },
     /// The bytes are not UTF-8.
     Utf8(Part),
     /// A listing has a fault that refuses the completion.
