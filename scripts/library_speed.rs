@@ -20,11 +20,18 @@ fn printed(manifest: &Manifest) -> String {
     })
 }
 
-const STEPS: [Step; 4] = [
-    ("library: canonical", |bytes| cargo_manifest_proved::canonical(bytes).expect("a text").len()),
+const STEPS: [Step; 6] = [
+    ("library: canonical", |bytes| proved::canonical(bytes).expect("a text").len()),
     ("library: table, as a value", |bytes| {
-        black_box(cargo_manifest_proved::table(bytes).expect("a table"));
+        black_box(proved::calls::table(bytes).expect("a table"));
         0
+    }),
+    ("library: from_slice", |bytes| {
+        black_box(proved::Manifest::from_slice(bytes).expect("a manifest"));
+        0
+    }),
+    ("library: from_slice and to_toml_string", |bytes| {
+        proved::Manifest::from_slice(bytes).and_then(|manifest| manifest.to_toml_string()).expect("a text").len()
     }),
     ("Rust crate: from_slice", |bytes| {
         black_box(Manifest::from_slice(bytes).expect("a manifest"));
@@ -72,9 +79,14 @@ fn measure(path: &str) {
         };
         println!("  {name:38} {least:10.2} us least, {middle:10.2} in the middle{written}");
     }
-    let [ours, _, _, theirs] = &times;
-    let (least, middle) = (ours[0] / theirs[0], ours[BATCHES / 2] / theirs[BATCHES / 2]);
-    println!("  {:38} {least:10.2}    least, {middle:10.2} in the middle", "canonical / from_slice and to_string");
+    let [canonical, _, ours, _, theirs, printed] = &times;
+    for (name, one, other) in [
+        ("from_slice / the Rust crate's", ours, theirs),
+        ("canonical / from_slice and to_string", canonical, printed),
+    ] {
+        let (least, middle) = (one[0] / other[0], one[BATCHES / 2] / other[BATCHES / 2]);
+        println!("  {name:38} {least:10.2}    least, {middle:10.2} in the middle");
+    }
 }
 
 fn main() {

@@ -1,79 +1,193 @@
-//! Cargo manifests, read and written by the proved library `manifest_ffi`.
+//! Reads a `Cargo.toml` as typed values, completes it by what its folders hold, puts in what it inherits from its
+//! workspace, and writes it. The reading, completing, resolving and writing is done by a library whose code is proved to do
+//! what its definitions say; this crate gives it the types of the crate `cargo-manifest` 0.20.0, field by field.
+//!
+//! **If you come from `cargo-manifest`,** [`from_cargo_manifest`] says how to change over, and what differs.
+//!
+//! # A registry checks an upload
+//!
+//! What is wrong is said in one line, with the key path, and with the line and the column of what is no TOML.
 //!
 //! ```
-//! let text = cargo_manifest_proved::canonical(b"name = 'a'\nedition = '2021'")?; // an old header
-//! assert_eq!(text, "[package]\nedition = \"2021\"\nname = \"a\"\n");
-//! # Ok::<(), cargo_manifest_proved::Error>(())
+//! use cargo_manifest::{Error, Manifest, MaybeInherited};
+//!
+//! /// The name and the version of a package, or why it cannot be uploaded.
+//! fn checked(upload: &[u8]) -> Result<(String, String), String> {
+//!     let manifest = Manifest::from_slice(upload).map_err(|error| match &error {
+//!         Error::Parse(parse) => match parse.line_column(upload) {
+//!             Some((line, _)) => format!("line {line}: {error}"),
+//!             None => error.to_string(),
+//!         },
+//!         _ => error.to_string(),
+//!     })?;
+//!     let package = manifest.package.ok_or("there is no package")?;
+//!     let MaybeInherited::Local(version) = package.version() else {
+//!         return Err("the version is inherited".into());
+//!     };
+//!     if package.license.is_none() && package.license_file.is_none() {
+//!         return Err("there is no license".into());
+//!     }
+//!     Ok((package.name.clone(), version.into()))
+//! }
+//!
+//! let text = "[package]\nname = 'a'\nversion = '1.0.0'\nlicense = 'MIT'\n";
+//! assert_eq!(checked(text.as_bytes()), Ok(("a".into(), "1.0.0".into())));
+//! let wrong = checked(b"[package]\nname = 'a'\nversion = 1\n").unwrap_err();
+//! assert_eq!(wrong, "`package.version` is of the wrong kind: a string is wanted");
+//! assert!(checked(b"[package\nname = 'a'\n").unwrap_err().starts_with("line 1: "));
 //! ```
 //!
-//! Nothing is kept between calls, so each may be made from any thread at any time. A call takes the more stack the deeper
-//! its text nests tables: `LIBRARY.md` says how much that may be.
+//! # A planner makes a skeleton
+//!
+//! Of a manifest and a list of files it takes what is built, and writes the smallest manifest that builds it: so a layer of
+//! an image with all dependencies can be made before the sources are there.
+//!
+//! ```
+//! use cargo_manifest::{AbstractFilesystem, Manifest};
+//! use std::collections::BTreeSet;
+//! use std::io;
+//! use std::path::Path;
+//!
+//! /// Files by their paths.
+//! struct Files(Vec<&'static str>);
+//!
+//! impl AbstractFilesystem for Files {
+//!     fn file_names_in<T: AsRef<Path>>(&self, folder: T) -> io::Result<BTreeSet<Box<str>>> {
+//!         let folder = if folder.as_ref() == Path::new(".") { Path::new("") } else { folder.as_ref() };
+//!         let below = self.0.iter().filter_map(|file| Path::new(file).strip_prefix(folder).ok());
+//!         let names = below.filter_map(|path| path.iter().next()?.to_str().map(Into::into));
+//!         Ok(names.collect())
+//!     }
+//! }
+//!
+//! let text = "[package]\nname = 'shop'\nversion = '0.1.0'\nedition = '2021'\ndescription = 'x'\n[dependencies]\nlog = '0.4'\n";
+//! let mut manifest: Manifest = text.parse()?;
+//! manifest.complete_from_abstract_filesystem(&Files(vec!["src/lib.rs", "src/bin/till.rs", "tests/sells.rs"]))?;
+//! let bins: Vec<_> = manifest.bin.iter().filter_map(|bin| bin.path.as_deref()).collect();
+//! assert_eq!(bins, ["src/bin/till.rs"]);
+//!
+//! manifest.test.clear();
+//! manifest.package.as_mut().expect("a package").description = None;
+//! let skeleton = manifest.to_toml_string()?;
+//! assert!(skeleton.starts_with("[[bin]]\nedition = \"2021\"\nname = \"till\"\npath = \"src/bin/till.rs\"\n"));
+//! assert!(skeleton.contains("[dependencies]\nlog = \"0.4\"\n") && !skeleton.contains("description"));
+//! # Ok::<(), cargo_manifest::Error>(())
+//! ```
+//!
+//! # A linter makes a list
+//!
+//! ```
+//! use cargo_manifest::{Dependency, Manifest};
+//!
+//! /// What a reviewer would say of the dependencies.
+//! fn remarks(manifest: &Manifest) -> Vec<String> {
+//!     let all = manifest.dependencies.iter().flatten();
+//!     all.filter_map(|(name, dependency)| match dependency {
+//!         Dependency::Inherited(_) => None,
+//!         other if other.req() == "*" && other.is_crates_io() => Some(format!("{name}: any version will do")),
+//!         other => other.git().map(|address| format!("{name}: it comes from {address}")),
+//!     })
+//!     .collect()
+//! }
+//!
+//! let text = "[package]\nname = 'a'\n[dependencies]\nb = '1'\nc = '*'\nd = { git = 'https://e.org/d' }\ne.workspace = true\n";
+//! let manifest: Manifest = text.parse()?;
+//! assert_eq!(remarks(&manifest), ["c: any version will do", "d: it comes from https://e.org/d"]);
+//! # Ok::<(), cargo_manifest::Error>(())
+//! ```
+//!
+//! # What is proved
+//!
+//! The library takes the bytes of a `Cargo.toml`, and what it answers is the table of the manifest that these bytes mean, as
+//! the definitions have it; or the table of the completed or the resolved manifest; or a manifest's canonical text. That is
+//! proved, and `LIBRARY.md` of the repository has the contracts. Where a manifest is refused, the library says why and at
+//! which key path.
+//!
+//! What this crate does with these bytes is plain Rust, which is tested: a [`Manifest`] is decoded from the bytes of its
+//! table, and encoded to them before it is completed, resolved or written; one list of rows for each type does both. In a
+//! debug build each manifest that is decoded is encoded again, and compared. Bytes that are no such table, as an archive of
+//! another version might give them, end in a panic with one sentence. Also in plain Rust are the folders that are asked for
+//! a completion, [`Manifest::from_value`], what is read and written by serde, floats in metadata (which the library hands
+//! over as it read them), and the texts of errors.
+//!
+//! # Threads, memory, stack
+//!
+//! Nothing is kept between calls, so each may be made from any thread at any time. Where no memory is left for the library,
+//! the error is [`Error::Io`] of the kind `OutOfMemory`.
+//!
+//! A call takes the more stack the deeper its text nests tables: 128 kB are enough for a usual manifest, but a text of 21 kB
+//! can nest so deep that 3.3 MB are needed, and a thread that has less is ended by the system. So a thread that reads the
+//! manifests of others should have 8 MB (`std::thread::Builder::stack_size`), or bound their length.
+//!
+//! # Features
+//!
+//! The package `cargo-manifest-proved` has no dependency and no features. The package `cargo-manifest` of the same repository
+//! is made of the same sources, and has two, which are both on unless `default-features = false`:
+//!
+//! - `serde`: `Serialize` and `Deserialize` for every type, and metadata of any type that serde reads and writes;
+//! - `toml`: [`Value`] from and to the `Value` of the crate `toml`, of the versions 0.5.11 to 0.9.
 
-mod calls;
+// (a variant in a box would be another type than the crate cargo-manifest has)
+#![allow(clippy::large_enum_variant)]
+#![warn(missing_docs)]
+
+mod badge;
+pub mod calls;
+mod codec;
+mod completing;
+mod dependency;
 mod error;
-mod folders;
-#[cfg(test)]
-mod heap;
-mod listings;
-#[cfg(test)]
-mod tests;
+mod filesystem;
+mod inherited;
+mod lint;
+mod manifest;
+mod metadata;
+mod package;
+mod product;
+mod profile;
+mod reading;
+mod resolving;
+#[cfg(feature = "serde")]
+mod serde;
+#[cfg(feature = "toml")]
+mod toml;
 mod value;
+mod words;
+mod workspace;
+mod writing;
 
-use calls::{complete, is_broken, read, resolve, resolve_and_complete, text_of, Output};
-pub use error::{Cause, Error, Fault, Part};
-pub use listings::Listings;
-pub use value::{Date, Datetime, Offset, Time, Value};
+#[cfg(feature = "serde")]
+pub use self::serde::ValueError;
+#[doc = include_str!("from_cargo_manifest.md")]
+pub mod from_cargo_manifest {}
 
-/// The canonical text of the manifest that the bytes are.
-pub fn canonical(bytes: &[u8]) -> Result<String, Error> {
-    read(Output::Text, bytes).map(text_of)
-}
+pub use badge::{Badge, Badges, Maintenance, MaintenanceStatus};
+pub use calls::Cause;
+pub use dependency::{Dependency, DependencyDetail, InheritedDependencyDetail, Target};
+pub use error::{Error, ParseError};
+pub use filesystem::{AbstractFilesystem, Filesystem};
+pub use inherited::{MaybeInherited, True};
+pub use lint::{Lint, LintConfig, LintLevel, MaybeInheritedLintsSet};
+pub use manifest::Manifest;
+pub use metadata::{Metadata, WrittenMetadata};
+pub use package::{Package, Publish, StringOrBool};
+pub use product::Product;
+pub use profile::{Profile, Profiles, StripSetting};
+use std::collections::BTreeMap;
+pub use value::{Date, Datetime, DatetimeParseError, Index, Map, Offset, Time, Value};
+pub use words::{Edition, Resolver};
+pub use workspace::{Workspace, WorkspacePackage};
+pub use writing::canonical;
 
-/// The canonical text of the manifest that the bytes are, completed over listings.
-pub fn completed(bytes: &[u8], listings: &Listings) -> Result<String, Error> {
-    complete(Output::Text, bytes, listings).map(text_of)
-}
-
-/// The canonical text of the manifest that the bytes are, with what it inherits from the workspace of the root put in.
-pub fn resolved(bytes: &[u8], root: &[u8]) -> Result<String, Error> {
-    resolve(Output::Text, bytes, root).map(text_of)
-}
-
-/// The same, resolved and then completed.
-pub fn resolved_completed(bytes: &[u8], root: &[u8], listings: &Listings) -> Result<String, Error> {
-    resolve_and_complete(Output::Text, bytes, root, listings).map(text_of)
-}
-
-/// The value of tagged bytes.
-fn value_of(table: Vec<u8>) -> Value {
-    value::decoded(&table).unwrap_or_else(|| is_broken())
-}
-
-/// The one table of the manifest that the bytes are: what its canonical text says, by values.
-///
-/// ```
-/// use cargo_manifest_proved::{table, Value};
-///
-/// let Value::Table(all) = table(b"[package]\nname = 'a'")? else { panic!() };
-/// let Value::Table(package) = &all["package"] else { panic!() };
-/// assert_eq!(package["name"], Value::String("a".into()));
-/// # Ok::<(), cargo_manifest_proved::Error>(())
-/// ```
-pub fn table(bytes: &[u8]) -> Result<Value, Error> {
-    read(Output::Table, bytes).map(value_of)
-}
-
-/// The table of the completed manifest: what [`completed`] says, by values.
-pub fn completed_table(bytes: &[u8], listings: &Listings) -> Result<Value, Error> {
-    complete(Output::Table, bytes, listings).map(value_of)
-}
-
-/// The table of the resolved manifest: what [`resolved`] says, by values.
-pub fn resolved_table(bytes: &[u8], root: &[u8]) -> Result<Value, Error> {
-    resolve(Output::Table, bytes, root).map(value_of)
-}
-
-/// The table of the resolved and completed manifest: what [`resolved_completed`] says, by values.
-pub fn resolved_completed_table(bytes: &[u8], root: &[u8], listings: &Listings) -> Result<Value, Error> {
-    resolve_and_complete(Output::Table, bytes, root, listings).map(value_of)
-}
+/// Dependencies by their names.
+pub type DepsSet = BTreeMap<String, Dependency>;
+/// The dependencies of platforms, by the name or the `cfg(..)` of the platform.
+pub type TargetDepsSet = BTreeMap<String, Target>;
+/// What each feature switches on.
+pub type FeatureSet = BTreeMap<String, Vec<String>>;
+/// The dependencies that are replaced, by the source that they are from.
+pub type PatchSet = BTreeMap<String, DepsSet>;
+/// The lints of a tool by their names.
+pub type ToolLintsSet = BTreeMap<String, Lint>;
+/// The lints of each tool.
+pub type LintsSet = BTreeMap<String, ToolLintsSet>;

@@ -1,8 +1,8 @@
 //! The declarations of the library, and its calls with memory for their text.
 
-use crate::error::{Cause, Error, Fault, Part};
-use crate::folders::{with_folders, Folder};
-use crate::listings::Listings;
+use super::folders::{with_folders, Folder};
+use super::listings::Listings;
+use super::refusal::{Cause, Fault, Part, Refusal};
 
 /// What a call answers: `struct manifest_answer` of `bindings/c/cargo_manifest.h`.
 #[repr(C)]
@@ -19,7 +19,25 @@ pub(crate) struct Answer {
 // sizes and offsets of the two, and runs both.
 extern "C" {
     pub(crate) fn manifest_canonical(bytes: *const u8, bytes_length: usize, out: *mut u8, out_length: usize) -> Answer;
-    fn manifest_table(bytes: *const u8, bytes_length: usize, out: *mut u8, out_length: usize) -> Answer;
+    pub(crate) fn manifest_table(bytes: *const u8, bytes_length: usize, out: *mut u8, out_length: usize) -> Answer;
+}
+
+#[cfg(calls_on_tables)]
+extern "C" {
+    fn manifest_version() -> u32;
+    pub(crate) fn manifest_table_without_metadata(
+        bytes: *const u8,
+        bytes_length: usize,
+        out: *mut u8,
+        out_length: usize,
+    ) -> Answer;
+    pub(crate) fn manifest_document(bytes: *const u8, bytes_length: usize, out: *mut u8, out_length: usize) -> Answer;
+    pub(crate) fn manifest_canonical_of_table(
+        table: *const u8,
+        table_length: usize,
+        out: *mut u8,
+        out_length: usize,
+    ) -> Answer;
 }
 
 /// Declares calls that take a root, folders or both, in this order, between the bytes and `out`.
@@ -46,6 +64,12 @@ declared! {
     manifest_resolved_completed_table(root: u8, root_length, folders: Folder, folders_length);
 }
 
+#[cfg(calls_on_tables)]
+declared! {
+    manifest_completed_of_table(folders: Folder, folders_length);
+    manifest_resolved_of_tables(root: u8, root_length);
+}
+
 /// What is asked for of a manifest.
 #[derive(Clone, Copy)]
 pub(crate) enum Output {
@@ -66,39 +90,40 @@ pub(crate) fn text_of(bytes: Vec<u8>) -> String {
 }
 
 /// The error of an answer that gives no text.
-fn refused(answer: Answer, text: Vec<u8>) -> Error {
+fn refused(answer: Answer, text: Vec<u8>) -> Refusal {
     let part = if answer.status >= 16 { Part::Root } else { Part::Manifest };
     match answer.status {
-        1 | 17 => Error::Toml { part, message: text_of(text), range: answer.start..answer.end },
+        1 | 17 => Refusal::Toml { part, message: text_of(text), range: answer.start..answer.end },
         2 | 18 => match Cause::of_number(answer.cause) {
-            Some(cause) => Error::Schema { part, cause, path: text_of(text) },
+            Some(cause) => Refusal::Schema { part, cause, path: text_of(text) },
             None => is_broken(),
         },
-        3 => Error::Io(match answer.cause {
+        3 => Refusal::Io(match answer.cause {
             1 => Fault::NotFound,
             2 => Fault::OutOfMemory,
             _ => Fault::Other,
         }),
-        4 | 20 => Error::Utf8(part),
-        5 => Error::Other(text_of(text)),
-        6 => Error::Memory,
-        7 => Error::Date(text_of(text)),
-        9 => Error::NoWorkspace,
-        10 => Error::NotInWorkspace(text_of(text)),
-        11 => Error::InheritedInWorkspace(text_of(text)),
-        12 => Error::MixedLints,
-        13 => Error::ToolNamedWorkspace,
+        4 | 20 => Refusal::Utf8(part),
+        5 => Refusal::Other(text_of(text)),
+        6 => Refusal::Memory,
+        7 => Refusal::Date(text_of(text)),
+        9 => Refusal::NoWorkspace,
+        10 => Refusal::NotInWorkspace(text_of(text)),
+        11 => Refusal::InheritedInWorkspace(text_of(text)),
+        12 => Refusal::MixedLints,
+        13 => Refusal::ToolNamedWorkspace,
+        14 | 30 => Refusal::Untagged(part),
         _ => is_broken(),
     }
 }
 
 /// Calls with memory for this many bytes, and once more where the text takes more. `run` is handed a pointer to so many
 /// bytes that are set.
-fn bytes_of(room: usize, run: impl Fn(*mut u8, usize) -> Answer) -> Result<Vec<u8>, Error> {
+fn bytes_of(room: usize, run: impl Fn(*mut u8, usize) -> Answer) -> Result<Vec<u8>, Refusal> {
     let mut out = Vec::new();
     let mut room = room;
     loop {
-        out.try_reserve_exact(room).map_err(|_| Error::Memory)?;
+        out.try_reserve_exact(room).map_err(|_| Refusal::Memory)?;
         // the library takes a slice that it may read, so its bytes are set before
         out.resize(room, 0);
         let answer = run(out.as_mut_ptr(), out.len());
@@ -121,19 +146,24 @@ fn room_for(bytes: usize) -> usize {
 }
 
 /// What is asked for of the manifest that the bytes are.
-pub(crate) fn read(output: Output, bytes: &[u8]) -> Result<Vec<u8>, Error> {
+pub(crate) fn read(output: Output, bytes: &[u8]) -> Result<Vec<u8>, Refusal> {
     let call = match output {
         Output::Text => manifest_canonical,
         Output::Table => manifest_table,
     };
-    bytes_of(room_for(bytes.len()), |out, room| {
+    let room = match output {
+        Output::Text => room_for(bytes.len()),
+        // (a table has no spaces, and each of its numbers is short)
+        Output::Table => bytes.len() + bytes.len() / 8 + 256,
+    };
+    bytes_of(room, |out, room| {
         // SAFETY: both pointers are of slices that live through the call and do not overlap, with their lengths.
         unsafe { call(bytes.as_ptr(), bytes.len(), out, room) }
     })
 }
 
 /// The same, completed over listings.
-pub(crate) fn complete(output: Output, bytes: &[u8], listings: &Listings) -> Result<Vec<u8>, Error> {
+pub(crate) fn complete(output: Output, bytes: &[u8], listings: &Listings) -> Result<Vec<u8>, Refusal> {
     let call = match output {
         Output::Text => manifest_completed,
         Output::Table => manifest_completed_table,
@@ -147,7 +177,7 @@ pub(crate) fn complete(output: Output, bytes: &[u8], listings: &Listings) -> Res
 }
 
 /// The same, with what it inherits from the workspace of the root put in.
-pub(crate) fn resolve(output: Output, bytes: &[u8], root: &[u8]) -> Result<Vec<u8>, Error> {
+pub(crate) fn resolve(output: Output, bytes: &[u8], root: &[u8]) -> Result<Vec<u8>, Refusal> {
     let call = match output {
         Output::Text => manifest_resolved,
         Output::Table => manifest_resolved_table,
@@ -164,7 +194,7 @@ pub(crate) fn resolve_and_complete(
     bytes: &[u8],
     root: &[u8],
     listings: &Listings,
-) -> Result<Vec<u8>, Error> {
+) -> Result<Vec<u8>, Refusal> {
     let call = match output {
         Output::Text => manifest_resolved_completed,
         Output::Table => manifest_resolved_completed_table,
@@ -175,5 +205,43 @@ pub(crate) fn resolve_and_complete(
             // SAFETY: as in `complete`.
             unsafe { call(bytes.as_ptr(), bytes.len(), root.as_ptr(), root.len(), at, count, out, room) }
         })
+    })
+}
+
+/// The version of the archive's calls.
+#[cfg(calls_on_tables)]
+pub(crate) fn version() -> u32 {
+    // SAFETY: the call takes nothing.
+    unsafe { manifest_version() }
+}
+
+/// A call that takes one slice.
+#[cfg(calls_on_tables)]
+type OnSlice = unsafe extern "C" fn(*const u8, usize, *mut u8, usize) -> Answer;
+
+/// What a call answers that takes one slice.
+#[cfg(calls_on_tables)]
+pub(crate) fn of_text(call: OnSlice, bytes: &[u8]) -> Result<Vec<u8>, Refusal> {
+    bytes_of(room_for(bytes.len()), |out, room| {
+        // SAFETY: as in `read`.
+        unsafe { call(bytes.as_ptr(), bytes.len(), out, room) }
+    })
+}
+
+/// A table, completed over folders that have so many names.
+#[cfg(calls_on_tables)]
+pub(crate) fn of_table(table: &[u8], folders: &[Folder], names: usize) -> Result<Vec<u8>, Refusal> {
+    bytes_of(room_for(table.len() + 64 * names), |out, room| {
+        // SAFETY: as in `complete`.
+        unsafe { manifest_completed_of_table(table.as_ptr(), table.len(), folders.as_ptr(), folders.len(), out, room) }
+    })
+}
+
+/// A table, with what it inherits from the workspace of the root's put in.
+#[cfg(calls_on_tables)]
+pub(crate) fn of_tables(member: &[u8], root: &[u8]) -> Result<Vec<u8>, Refusal> {
+    bytes_of(room_for(member.len() + root.len()), |out, room| {
+        // SAFETY: as in `read`.
+        unsafe { manifest_resolved_of_tables(member.as_ptr(), member.len(), root.as_ptr(), root.len(), out, room) }
     })
 }

@@ -1,0 +1,201 @@
+//! Strings, numbers, lists and maps.
+
+use super::reader::{ARRAY, BELOW_ZERO, FALSE, FROM_ZERO, STRING, TABLE, TRUE};
+use super::{read, Aside, Encode, Form, Misfit, Reader, Step, Writer};
+use crate::calls::Cause;
+use crate::value::Value;
+use std::borrow::Cow;
+use std::collections::BTreeMap;
+
+impl Form for String {
+    fn decode(reader: &mut Reader<'_>) -> Option<String> {
+        reader.tag(STRING)?;
+        reader.str().map(str::to_owned)
+    }
+
+    fn read(value: Value, _: &mut Aside) -> Result<String, Misfit> {
+        match value {
+            Value::String(text) => Ok(text),
+            _ => Err(Misfit::wrong_kind::<String>()),
+        }
+    }
+
+    fn wanted() -> Cow<'static, str> {
+        "a string".into()
+    }
+}
+
+impl Encode for String {
+    fn encode(&self, writer: &mut Writer) {
+        writer.string(self);
+    }
+}
+
+impl Form for bool {
+    fn decode(reader: &mut Reader<'_>) -> Option<bool> {
+        match reader.byte()? {
+            FALSE => Some(false),
+            TRUE => Some(true),
+            _ => None,
+        }
+    }
+
+    fn read(value: Value, _: &mut Aside) -> Result<bool, Misfit> {
+        value.as_bool().ok_or_else(Misfit::wrong_kind::<bool>)
+    }
+
+    fn wanted() -> Cow<'static, str> {
+        "a boolean".into()
+    }
+}
+
+impl Encode for bool {
+    fn encode(&self, writer: &mut Writer) {
+        writer.boolean(*self);
+    }
+}
+
+/// An integer.
+pub(crate) fn integer(reader: &mut Reader<'_>) -> Option<i64> {
+    match reader.byte()? {
+        FROM_ZERO => i64::try_from(reader.number()?).ok(),
+        BELOW_ZERO => i64::try_from(reader.number()?).ok().map(|number| !number),
+        _ => None,
+    }
+}
+
+impl Encode for i64 {
+    fn encode(&self, writer: &mut Writer) {
+        let (tag, number) = if *self < 0 { (BELOW_ZERO, !*self) } else { (FROM_ZERO, *self) };
+        writer.byte(tag);
+        writer.number(number.unsigned_abs());
+    }
+}
+
+macro_rules! small_integer {
+    ($($integer:ident)+) => {
+        $(
+            impl Form for $integer {
+                fn decode(reader: &mut Reader<'_>) -> Option<$integer> {
+                    integer(reader)?.try_into().ok()
+                }
+
+                fn read(value: Value, _: &mut Aside) -> Result<$integer, Misfit> {
+                    let number = value.as_integer().ok_or_else(Misfit::wrong_kind::<$integer>)?;
+                    number.try_into().map_err(|_| Misfit::new::<$integer>(Cause::OutOfRange))
+                }
+
+                fn wanted() -> Cow<'static, str> {
+                    format!("an integer from {} to {}", $integer::MIN, $integer::MAX).into()
+                }
+            }
+
+            impl Encode for $integer {
+                fn encode(&self, writer: &mut Writer) {
+                    i64::from(*self).encode(writer);
+                }
+            }
+        )+
+    };
+}
+
+small_integer! { i8 u16 }
+
+impl<T: Form> Form for Vec<T> {
+    fn decode(reader: &mut Reader<'_>) -> Option<Vec<T>> {
+        reader.tag(ARRAY)?;
+        let count = reader.number()?;
+        let mut items = Vec::with_capacity(reader.at_most(count, 1));
+        for _ in 0..count {
+            items.push(T::decode(reader)?);
+        }
+        Some(items)
+    }
+
+    fn read(value: Value, aside: &mut Aside) -> Result<Vec<T>, Misfit> {
+        match value {
+            Value::Array(items) => read::items(items, aside),
+            _ => Err(Misfit::wrong_kind::<Vec<T>>()),
+        }
+    }
+
+    fn wanted() -> Cow<'static, str> {
+        "an array".into()
+    }
+
+    fn wanted_at(path: &[Step]) -> Option<Cow<'static, str>> {
+        match path {
+            [] => Some(Self::wanted()),
+            [Step::Place(_), path @ ..] => T::wanted_at(path),
+            [Step::Key(_), ..] => None,
+        }
+    }
+}
+
+impl<T: Encode> Encode for Vec<T> {
+    fn encode(&self, writer: &mut Writer) {
+        writer.byte(ARRAY);
+        writer.length(self.len());
+        for item in self {
+            item.encode(writer);
+        }
+    }
+}
+
+impl<T: Form> Form for BTreeMap<String, T> {
+    fn decode(reader: &mut Reader<'_>) -> Option<BTreeMap<String, T>> {
+        let mut keys = reader.table()?;
+        let mut members = Vec::with_capacity(reader.at_most(keys.left(), 2));
+        while let Some(key) = keys.next(reader)? {
+            members.push((key.to_owned(), T::decode(reader)?));
+        }
+        // (the keys ascend, so this sorts nothing)
+        Some(members.into_iter().collect())
+    }
+
+    fn read(value: Value, aside: &mut Aside) -> Result<BTreeMap<String, T>, Misfit> {
+        read::others(read::members::<Self>(value)?, aside)
+    }
+
+    fn wanted() -> Cow<'static, str> {
+        "a table".into()
+    }
+
+    fn wanted_at(path: &[Step]) -> Option<Cow<'static, str>> {
+        match path {
+            [] => Some(Self::wanted()),
+            [Step::Key(_), path @ ..] => T::wanted_at(path),
+            [Step::Place(_), ..] => None,
+        }
+    }
+}
+
+impl<T: Encode> Encode for BTreeMap<String, T> {
+    fn encode(&self, writer: &mut Writer) {
+        writer.byte(TABLE);
+        writer.length(self.len());
+        for (key, value) in self {
+            writer.str(key);
+            value.encode(writer);
+        }
+    }
+}
+
+/// A value that is there. (Whether a key is absent its row says.)
+impl<T: Form> Form for Option<T> {
+    fn decode(reader: &mut Reader<'_>) -> Option<Option<T>> {
+        T::decode(reader).map(Some)
+    }
+
+    fn read(value: Value, aside: &mut Aside) -> Result<Option<T>, Misfit> {
+        T::read(value, aside).map(Some)
+    }
+
+    fn wanted() -> Cow<'static, str> {
+        T::wanted()
+    }
+
+    fn wanted_at(path: &[Step]) -> Option<Cow<'static, str>> {
+        T::wanted_at(path)
+    }
+}
