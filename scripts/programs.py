@@ -1,0 +1,112 @@
+"""What scripts/typed and scripts/rust_crate share: the programs of tests/programs, built over one crate or the other, what
+they are handed, and which stored answers of tests/rust-answers are theirs."""
+import os
+import shutil
+import subprocess
+import tempfile
+from pathlib import Path
+
+from archive import BINDINGS, TOP
+from runs import ANSWERS, make, stored
+
+PROGRAMS = TOP / "tests" / "programs"
+# the programs that a user of either crate could have written
+BOTH = ("debug", "registry", "planner")
+
+
+def cases(pairs):
+    """Texts with the files beside them, as the programs read them (cases.rs)."""
+    parts = []
+    for text, files in pairs:
+        data = text.encode("utf-8")
+        parts += [f"{len(data)} {len(files)}\n".encode(), data, *(f"{file}\n".encode("utf-8") for file in files)]
+    return b"".join(parts)
+
+
+def manifests():
+    """The stored texts."""
+    return [(case["input"], []) for case in stored("manifests.jsonl")]
+
+
+def folders(name="completions.jsonl"):
+    """The stored texts with files."""
+    return [(case["manifest"], case["files"]) for case in stored(name)]
+
+
+def uses():
+    """What the registry and the planner look at: all stored texts but those that this project refuses and the crate reads."""
+    refused = {case["manifest"] for case in stored("otherwise.jsonl") if "refused" in case}
+    kept = [pair for number, pair in enumerate(manifests(), 1) if number not in refused]
+    return folders("usual.jsonl") + folders() + kept
+
+
+def built(room, dependency, names, cwd, settings=None, release=False):
+    """Builds programs over a crate, which is the right side of a line of Cargo.toml, in a folder where cargo finds what it
+    needs: the run, and the folder of what it built."""
+    lines = ["[package]", 'name = "programs"', 'version = "0.1.0"', 'edition = "2021"', "autobins = false", "", "[workspace]"]
+    lines += ["", "[dependencies]", f"cargo-manifest = {dependency}"]
+    for name in names:
+        lines += ["", "[[bin]]", f'name = "{name}"', f'path = "{PROGRAMS / name}.rs"']
+    room.mkdir(exist_ok=True)
+    (room / "Cargo.toml").write_text("\n".join(lines) + "\n", encoding="utf-8")
+    target = Path((settings or {}).get("CARGO_TARGET_DIR", room / "target"))
+    words = ["cargo", "build", "--offline", "--quiet", "--manifest-path", room / "Cargo.toml"]
+    settings = {**os.environ, **(settings or {}), "CARGO_TARGET_DIR": str(target)}
+    run = subprocess.run(words + ["--release"] * release, cwd=cwd, env=settings, capture_output=True, text=True)
+    return run, target / ("release" if release else "debug")
+
+
+def over_ours(archive):
+    """The line of our crate, and what is set for its build over an archive, which stands in a folder of its own."""
+    dependency = f'{{ package = "cargo-manifest-proved", path = "{BINDINGS / "rust"}" }}'
+    return dependency, {"MANIFEST_FFI": str(archive.parent)}
+
+
+def over_the_crate(crate):
+    """The line of the Rust crate in a folder."""
+    return f'{{ path = "{crate}" }}'
+
+
+def answer(program, words, pairs=()):
+    """What a program prints of cases."""
+    run = subprocess.run([program, *words], input=cases(pairs), capture_output=True, timeout=600)
+    if run.returncode != 0:
+        raise ValueError(f"{program} {words}: status {run.returncode}\n{run.stderr.decode('utf-8', 'replace')}")
+    return run.stdout.decode("utf-8")
+
+
+def on_disk(program):
+    """What `debug` says of the stored folders where they are made on the disk."""
+    with tempfile.TemporaryDirectory() as folder:
+        paths = []
+        for number, case in enumerate(stored("completions.jsonl")):
+            place = Path(folder) / str(number)
+            place.mkdir()
+            paths.append((str(make(place, case)), []))
+        return answer(program, ["paths"], paths)
+
+
+def answers(built_in):
+    """What the programs of BOTH answer, each with the name of the stored file and a function that runs one."""
+    debug = built_in / "debug"
+    return {
+        "debug-manifests.txt": lambda: answer(debug, ["texts"], manifests()),
+        "debug-completions.txt": lambda: answer(debug, ["lists"], folders()),
+        "debug-usual.txt": lambda: answer(debug, ["lists"], folders("usual.jsonl")),
+        "debug-defaults.txt": lambda: answer(debug, ["defaults"]),
+        "registry.txt": lambda: answer(built_in / "registry", [], uses()),
+        "planner.txt": lambda: answer(built_in / "planner", [], uses()),
+    }
+
+
+def stored_text(name):
+    """A stored answer."""
+    return (ANSWERS / name).read_text(encoding="utf-8")
+
+
+def have_cargo(what):
+    """Whether cargo is there, and a sentence where it is not."""
+    if shutil.which("cargo"):
+        return True
+    print(f"{what}: there is no command cargo")
+    return False
