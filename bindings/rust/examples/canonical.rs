@@ -6,7 +6,7 @@ use std::process::ExitCode;
 fn main() -> io::Result<ExitCode> {
     let mut bytes = Vec::new();
     io::stdin().read_to_end(&mut bytes)?;
-    match cargo_manifest_proved::canonical(&bytes) {
+    match cargo_manifest::calls::canonical(&bytes) {
         Ok(text) => {
             print!("{text}");
             Ok(ExitCode::SUCCESS)

@@ -1,6 +1,6 @@
 //! What the program `manifest_canon` does, through the library: the same words, the same output, the same lines.
 
-use cargo_manifest_proved::{canonical, completed, resolved_completed, Error, Listings, Part};
+use cargo_manifest::calls::{canonical, completed, resolved_completed, Refusal, Listings, Part};
 use std::env;
 use std::ffi::OsString;
 use std::fs;
@@ -29,15 +29,15 @@ fn key(name: &str) -> String {
 }
 
 /// The line of a refusal.
-fn line(error: &Error) -> String {
+fn line(error: &Refusal) -> String {
     let said = match error {
-        Error::Toml { .. } => "toml".into(),
-        Error::Schema { cause, path, .. } => format!("schema: {cause} at {path}"),
-        Error::Utf8(Part::Manifest | Part::Root) => "utf8".into(),
-        Error::Io(_) => "io".into(),
-        Error::Other(text) | Error::Date(text) => format!("other: {text}"),
-        Error::NotInWorkspace(name) => format!("not in workspace: {}", key(name)),
-        Error::InheritedInWorkspace(name) => format!("inherited in workspace: {}", key(name)),
+        Refusal::Toml { .. } => "toml".into(),
+        Refusal::Schema { cause, path, .. } => format!("schema: {cause} at {path}"),
+        Refusal::Utf8(Part::Manifest | Part::Root) => "utf8".into(),
+        Refusal::Io(_) => "io".into(),
+        Refusal::Other(text) | Refusal::Date(text) => format!("other: {text}"),
+        Refusal::NotInWorkspace(name) => format!("not in workspace: {}", key(name)),
+        Refusal::InheritedInWorkspace(name) => format!("inherited in workspace: {}", key(name)),
         other => other.to_string(),
     };
     format!("error: {said}")

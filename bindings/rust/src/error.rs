@@ -1,158 +1,145 @@
-//! Why a call refuses.
+//! Why a manifest is refused.
 
+use crate::calls::{Cause, Fault, Part, Refusal};
+use std::error;
 use std::fmt;
 use std::io;
 use std::ops::Range;
+use std::str::Utf8Error;
 
-/// Why a value, or its absence, does not fit.
-#[derive(Clone, Copy, Debug, PartialEq, Eq, Hash)]
-#[non_exhaustive]
-pub enum Cause {
-    /// The value is of another kind.
-    WrongKind,
-    /// A required key is absent.
-    Missing,
-    /// A table has a key by both of its spellings.
-    TwoSpellings,
-    /// The text is none of the choice.
-    NotAChoice,
-    /// The whole number is out of range.
-    OutOfRange,
-    /// The boolean is not true.
-    NotTrue,
-    /// A float stands there.
-    HoldsFloat,
-    /// The metadata type refuses the value.
-    Metadata,
-}
-
-impl Cause {
-    /// The cause of a number, as the library tells it.
-    pub(crate) fn of_number(number: u8) -> Option<Cause> {
-        Some(match number {
-            1 => Cause::WrongKind,
-            2 => Cause::Missing,
-            3 => Cause::TwoSpellings,
-            4 => Cause::NotAChoice,
-            5 => Cause::OutOfRange,
-            6 => Cause::NotTrue,
-            7 => Cause::HoldsFloat,
-            8 => Cause::Metadata,
-            _ => return None,
-        })
-    }
-}
-
-impl fmt::Display for Cause {
-    fn fmt(&self, f: &mut fmt::Formatter<'_>) -> fmt::Result {
-        f.write_str(match self {
-            Cause::WrongKind => "wrong kind",
-            Cause::Missing => "missing",
-            Cause::TwoSpellings => "two spellings",
-            Cause::NotAChoice => "not a choice",
-            Cause::OutOfRange => "out of range",
-            Cause::NotTrue => "not true",
-            Cause::HoldsFloat => "holds a float",
-            Cause::Metadata => "metadata",
-        })
-    }
-}
-
-/// Which of the manifests of a call is refused.
-#[derive(Clone, Copy, Debug, PartialEq, Eq, Hash)]
-pub enum Part {
-    /// The manifest that the call is about.
-    Manifest,
-    /// The manifest of the workspace's root.
-    Root,
-}
-
-impl fmt::Display for Part {
-    fn fmt(&self, f: &mut fmt::Formatter<'_>) -> fmt::Result {
-        match self {
-            Part::Manifest => Ok(()),
-            Part::Root => f.write_str("root: "),
-        }
-    }
-}
-
-/// The fault of a listing.
-#[derive(Clone, Copy, Debug, PartialEq, Eq, Hash)]
-pub enum Fault {
-    /// The folder is not there.
-    NotFound,
-    /// No memory was left for its names.
-    OutOfMemory,
-    /// Anything else.
-    Other,
-}
-
-impl From<io::ErrorKind> for Fault {
-    fn from(kind: io::ErrorKind) -> Fault {
-        match kind {
-            io::ErrorKind::NotFound => Fault::NotFound,
-            io::ErrorKind::OutOfMemory => Fault::OutOfMemory,
-            _ => Fault::Other,
-        }
-    }
-}
-
-impl fmt::Display for Fault {
-    fn fmt(&self, f: &mut fmt::Formatter<'_>) -> fmt::Result {
-        f.write_str(match self {
-            Fault::NotFound => "not found",
-            Fault::OutOfMemory => "out of memory",
-            Fault::Other => "a fault",
-        })
-    }
-}
-
-/// What a call refuses with.
-#[derive(Clone, Debug, PartialEq, Eq)]
-#[non_exhaustive]
+/// Why a manifest is not read, completed, resolved or written.
+#[derive(Debug)]
 pub enum Error {
-    /// The text is no TOML, for this reason, at this range of its bytes.
-    Toml { part: Part, message: String, range: Range<usize> },
-    /// The text is TOML and no manifest: why, and the key path at which that stands, as `package.authors[0]`.
-    Schema { part: Part, cause: Cause, path: String },
+    /// The text is no TOML, or no manifest.
+    Parse(ParseError),
+    /// A file or a folder cannot be read; or there is no memory left.
+    Io(io::Error),
     /// The bytes are not UTF-8.
-    Utf8(Part),
-    /// A listing has a fault that refuses the completion.
-    Io(Fault),
-    /// Anything else that refuses the completion, by its text: a declared library has no file.
+    Utf8(Utf8Error),
+    /// Anything else, in a sentence.
     Other(String),
-    /// No memory was left.
-    Memory,
-    /// The manifest keeps a date-time that no text can have.
-    Date(String),
-    /// The root has no workspace.
-    NoWorkspace,
-    /// The manifest inherits this, and the workspace has none.
-    NotInWorkspace(String),
-    /// The workspace inherits its own dependency of this name.
-    InheritedInWorkspace(String),
-    /// The manifest inherits its lints, and has lints of a tool beside.
-    MixedLints,
-    /// The manifest inherits its lints, and the workspace has lints of a tool named `workspace`.
-    ToolNamedWorkspace,
+}
+
+/// Of an error of a file or a folder, the copy has the kind and the text.
+impl Clone for Error {
+    fn clone(&self) -> Error {
+        match self {
+            Error::Parse(error) => Error::Parse(error.clone()),
+            Error::Io(error) => Error::Io(io::Error::new(error.kind(), error.to_string())),
+            Error::Utf8(error) => Error::Utf8(*error),
+            Error::Other(text) => Error::Other(text.clone()),
+        }
+    }
 }
 
 impl fmt::Display for Error {
     fn fmt(&self, f: &mut fmt::Formatter<'_>) -> fmt::Result {
         match self {
-            Error::Toml { part, message, range } => write!(f, "{part}toml: {message} at byte {}", range.start),
-            Error::Schema { part, cause, path } => write!(f, "{part}schema: {cause} at {path}"),
-            Error::Utf8(part) => write!(f, "{part}utf8"),
-            Error::Io(fault) => write!(f, "io: {fault}"),
-            Error::Other(text) | Error::Date(text) => f.write_str(text),
-            Error::Memory => f.write_str("memory"),
-            Error::NoWorkspace => f.write_str("no workspace"),
-            Error::NotInWorkspace(key) => write!(f, "not in workspace: {key}"),
-            Error::InheritedInWorkspace(name) => write!(f, "inherited in workspace: {name}"),
-            Error::MixedLints => f.write_str("mixed lints"),
-            Error::ToolNamedWorkspace => f.write_str("tool named workspace"),
+            Error::Parse(error) => error.fmt(f),
+            Error::Io(error) => error.fmt(f),
+            Error::Utf8(error) => error.fmt(f),
+            Error::Other(text) => f.write_str(text),
         }
     }
 }
 
-impl std::error::Error for Error {}
+impl error::Error for Error {
+    fn source(&self) -> Option<&(dyn error::Error + 'static)> {
+        match self {
+            Error::Parse(error) => error.source(),
+            Error::Io(error) => error.source(),
+            Error::Utf8(error) => error.source(),
+            Error::Other(_) => None,
+        }
+    }
+}
+
+impl From<ParseError> for Error {
+    fn from(error: ParseError) -> Error {
+        Error::Parse(error)
+    }
+}
+
+impl From<io::Error> for Error {
+    fn from(error: io::Error) -> Error {
+        Error::Io(error)
+    }
+}
+
+impl From<Utf8Error> for Error {
+    fn from(error: Utf8Error) -> Error {
+        Error::Utf8(error)
+    }
+}
+
+/// What is wrong with a text that is no TOML, or no manifest.
+#[derive(Clone, Debug, PartialEq, Eq)]
+pub struct ParseError {
+    message: String,
+    at: At,
+}
+
+#[derive(Clone, Debug, PartialEq, Eq)]
+enum At {
+    Bytes(Range<usize>),
+    Key(Cause, String),
+}
+
+impl ParseError {
+    /// What is wrong, where, and what was wanted, in one line.
+    pub fn message(&self) -> &str {
+        &self.message
+    }
+
+    /// Where in the bytes the text is no TOML.
+    pub fn span(&self) -> Option<Range<usize>> {
+        match &self.at {
+            At::Bytes(range) => Some(range.clone()),
+            At::Key(..) => None,
+        }
+    }
+
+    /// The key path of what is wrong in a text that is TOML, as `package.authors[0]`.
+    pub fn key_path(&self) -> Option<&str> {
+        match &self.at {
+            At::Bytes(_) => None,
+            At::Key(_, path) => Some(path),
+        }
+    }
+
+    /// Why the value at the key path does not fit.
+    pub fn cause(&self) -> Option<Cause> {
+        match &self.at {
+            At::Bytes(_) => None,
+            At::Key(cause, _) => Some(*cause),
+        }
+    }
+}
+
+impl fmt::Display for ParseError {
+    fn fmt(&self, f: &mut fmt::Formatter<'_>) -> fmt::Result {
+        f.write_str(&self.message)
+    }
+}
+
+impl error::Error for ParseError {}
+
+/// The error of a refusal, of a call on these bytes.
+pub(crate) fn refused(refusal: Refusal, bytes: &[u8]) -> Error {
+    match refusal {
+        Refusal::Toml { message, range, .. } => Error::Parse(ParseError { message, at: At::Bytes(range) }),
+        Refusal::Schema { cause, path, .. } => {
+            let message = format!("`{path}`: {cause}");
+            Error::Parse(ParseError { message, at: At::Key(cause, path) })
+        }
+        Refusal::Utf8(Part::Manifest | Part::Root) => match std::str::from_utf8(bytes) {
+            Err(error) => Error::Utf8(error),
+            Ok(_) => crate::calls::is_broken(),
+        },
+        Refusal::Io(Fault::NotFound) => Error::Io(io::ErrorKind::NotFound.into()),
+        Refusal::Io(Fault::OutOfMemory) | Refusal::Memory => Error::Io(io::ErrorKind::OutOfMemory.into()),
+        Refusal::Io(Fault::Other) => Error::Io(io::ErrorKind::Other.into()),
+        Refusal::Other(text) | Refusal::Date(text) => Error::Other(text),
+        other => Error::Other(other.to_string()),
+    }
+}

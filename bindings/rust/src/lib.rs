@@ -1,79 +1,52 @@
-//! Cargo manifests, read and written by the proved library `manifest_ffi`.
-//!
-//! ```
-//! let text = cargo_manifest_proved::canonical(b"name = 'a'\nedition = '2021'")?; // an old header
-//! assert_eq!(text, "[package]\nedition = \"2021\"\nname = \"a\"\n");
-//! # Ok::<(), cargo_manifest_proved::Error>(())
-//! ```
-//!
-//! Nothing is kept between calls, so each may be made from any thread at any time. A call takes the more stack the deeper
-//! its text nests tables: `LIBRARY.md` says how much that may be.
+//! Cargo manifests, read, completed, resolved and written by a library that is proved.
 
-mod calls;
+#![allow(clippy::large_enum_variant)]
+
+mod badge;
+pub mod calls;
+mod codec;
+mod dependency;
 mod error;
-mod folders;
-#[cfg(test)]
-mod heap;
-mod listings;
-#[cfg(test)]
-mod tests;
+mod filesystem;
+mod inherited;
+mod lint;
+mod manifest;
+mod metadata;
+mod package;
+mod product;
+mod profile;
+mod reading;
 mod value;
+mod words;
+mod workspace;
 
-use calls::{complete, is_broken, read, resolve, resolve_and_complete, text_of, Output};
-pub use error::{Cause, Error, Fault, Part};
-pub use listings::Listings;
-pub use value::{Date, Datetime, Offset, Time, Value};
+pub use badge::{Badge, Badges, Maintenance, MaintenanceStatus};
+pub use calls::Cause;
+pub use dependency::{Dependency, DependencyDetail, InheritedDependencyDetail, Target};
+pub use error::{Error, ParseError};
+pub use filesystem::{AbstractFilesystem, Filesystem};
+pub use inherited::{MaybeInherited, True};
+pub use lint::{Lint, LintConfig, LintLevel, MaybeInheritedLintsSet};
+pub use manifest::Manifest;
+pub use metadata::Metadata;
+pub use package::{Package, Publish, StringOrBool};
+pub use product::Product;
+pub use profile::{Profile, Profiles, StripSetting};
+pub use reading::canonical;
+use std::collections::BTreeMap;
+pub use value::{Date, Datetime, DatetimeParseError, Index, Map, Offset, Time, Value};
+pub use words::{Edition, Resolver};
+pub use workspace::{Workspace, WorkspacePackage};
 
-/// The canonical text of the manifest that the bytes are.
-pub fn canonical(bytes: &[u8]) -> Result<String, Error> {
-    read(Output::Text, bytes).map(text_of)
-}
-
-/// The canonical text of the manifest that the bytes are, completed over listings.
-pub fn completed(bytes: &[u8], listings: &Listings) -> Result<String, Error> {
-    complete(Output::Text, bytes, listings).map(text_of)
-}
-
-/// The canonical text of the manifest that the bytes are, with what it inherits from the workspace of the root put in.
-pub fn resolved(bytes: &[u8], root: &[u8]) -> Result<String, Error> {
-    resolve(Output::Text, bytes, root).map(text_of)
-}
-
-/// The same, resolved and then completed.
-pub fn resolved_completed(bytes: &[u8], root: &[u8], listings: &Listings) -> Result<String, Error> {
-    resolve_and_complete(Output::Text, bytes, root, listings).map(text_of)
-}
-
-/// The value of tagged bytes.
-fn value_of(table: Vec<u8>) -> Value {
-    value::decoded(&table).unwrap_or_else(|| is_broken())
-}
-
-/// The one table of the manifest that the bytes are: what its canonical text says, by values.
-///
-/// ```
-/// use cargo_manifest_proved::{table, Value};
-///
-/// let Value::Table(all) = table(b"[package]\nname = 'a'")? else { panic!() };
-/// let Value::Table(package) = &all["package"] else { panic!() };
-/// assert_eq!(package["name"], Value::String("a".into()));
-/// # Ok::<(), cargo_manifest_proved::Error>(())
-/// ```
-pub fn table(bytes: &[u8]) -> Result<Value, Error> {
-    read(Output::Table, bytes).map(value_of)
-}
-
-/// The table of the completed manifest: what [`completed`] says, by values.
-pub fn completed_table(bytes: &[u8], listings: &Listings) -> Result<Value, Error> {
-    complete(Output::Table, bytes, listings).map(value_of)
-}
-
-/// The table of the resolved manifest: what [`resolved`] says, by values.
-pub fn resolved_table(bytes: &[u8], root: &[u8]) -> Result<Value, Error> {
-    resolve(Output::Table, bytes, root).map(value_of)
-}
-
-/// The table of the resolved and completed manifest: what [`resolved_completed`] says, by values.
-pub fn resolved_completed_table(bytes: &[u8], root: &[u8], listings: &Listings) -> Result<Value, Error> {
-    resolve_and_complete(Output::Table, bytes, root, listings).map(value_of)
-}
+/// Dependencies by their names.
+pub type DepsSet = BTreeMap<String, Dependency>;
+/// The dependencies of platforms, by the name or the `cfg(..)` of the platform.
+pub type TargetDepsSet = BTreeMap<String, Target>;
+/// What each feature switches on.
+pub type FeatureSet = BTreeMap<String, Vec<String>>;
+/// The dependencies that are replaced, by the source that they are from.
+pub type PatchSet = BTreeMap<String, DepsSet>;
+/// The lints of a tool by their names.
+pub type ToolLintsSet = BTreeMap<String, Lint>;
+/// The lints of each tool.
+pub type LintsSet = BTreeMap<String, ToolLintsSet>;

@@ -1,8 +1,9 @@
 //! The crate as its users call it.
 
-use cargo_manifest_proved::{canonical, completed, resolved, resolved_completed, table};
-use cargo_manifest_proved::{completed_table, resolved_completed_table, resolved_table};
-use cargo_manifest_proved::{Cause, Date, Datetime, Error, Fault, Listings, Offset, Part, Time, Value};
+use cargo_manifest::calls::{canonical, completed, resolved, resolved_completed, table};
+use cargo_manifest::calls::{completed_table, resolved_completed_table, resolved_table};
+use cargo_manifest::calls::{Cause, Fault, Listings, Part, Refusal};
+use cargo_manifest::{Date, Datetime, Offset, Time, Value};
 use std::fs;
 use std::io::{Error as IoError, ErrorKind};
 use std::path::PathBuf;
@@ -14,19 +15,19 @@ const RESOLVED: &str = "[package]\nedition = \"2021\"\nname = \"p-q\"\nversion =
 const LIBRARY: &str = "[lib]\ncrate-type = [\"lib\"]\nedition = \"2021\"\nname = \"p_q\"\npath = \"src/lib.rs\"\n\
                        required-features = []\n\n";
 
-fn schema(cause: Cause, path: &str) -> Error {
-    Error::Schema { part: Part::Manifest, cause, path: path.into() }
+fn schema(cause: Cause, path: &str) -> Refusal {
+    Refusal::Schema { part: Part::Manifest, cause, path: path.into() }
 }
 
 fn five_answers() {
     let text = "[package]\nname = \"foo\"\nversion = \"1.0.0\"\n";
     assert_eq!(canonical(text.as_bytes()).as_deref(), Ok(text));
     assert_eq!(canonical(b""), Err(schema(Cause::Missing, "name")));
-    assert_eq!(canonical(b"\xff"), Err(Error::Utf8(Part::Manifest)));
+    assert_eq!(canonical(b"\xff"), Err(Refusal::Utf8(Part::Manifest)));
     let wrong = canonical(b"[package]\nname = 'p'\nauthors = [true]\n");
     assert_eq!(wrong, Err(schema(Cause::WrongKind, "package.authors[0]")));
     match canonical(b"[package\nname = 'p'") {
-        Err(Error::Toml { part: Part::Manifest, range, .. }) => assert_eq!(range.start, 8),
+        Err(Refusal::Toml { part: Part::Manifest, range, .. }) => assert_eq!(range.start, 8),
         other => panic!("{other:?}"),
     }
 }
@@ -43,7 +44,7 @@ fn the_place_of_no_toml_lies_within_the_bytes() {
     for end in 0..=text.len() {
         for tail in ["", "[", "\"\n", "= =", "\n\u{0}"] {
             let bytes = [&text.as_bytes()[..end], tail.as_bytes()].concat();
-            if let Err(Error::Toml { range, .. }) = canonical(&bytes) {
+            if let Err(Refusal::Toml { range, .. }) = canonical(&bytes) {
                 assert!(range.start <= range.end && range.end <= bytes.len(), "{range:?} of {bytes:?}");
                 refused += 1;
             }
@@ -58,7 +59,7 @@ fn what_is_answered_may_go_to_other_threads() {
     fn is_told<E: std::error::Error + Send + Sync + 'static>() {}
     goes::<Value>();
     goes::<Listings>();
-    is_told::<Error>();
+    is_told::<Refusal>();
 }
 
 #[test]
@@ -85,7 +86,7 @@ fn a_key_path_of_100_kilobytes() {
 }
 
 /// The answer of a small stack to metadata that nests so deep.
-fn nested(depth: usize) -> Result<String, Error> {
+fn nested(depth: usize) -> Result<String, Refusal> {
     let (open, close) = ("[".repeat(depth), "]".repeat(depth));
     let text = format!("[package]\nname = 'p'\n[package.metadata]\na = {open}{close}\n");
     let run = move || canonical(text.as_bytes());
@@ -96,7 +97,7 @@ fn nested(depth: usize) -> Result<String, Error> {
 fn nesting_on_a_small_stack() {
     assert!(nested(20).unwrap().contains(&format!("a = {}{}", "[".repeat(20), "]".repeat(20))));
     for depth in [1_000, 1_000_000] {
-        assert!(matches!(nested(depth), Err(Error::Toml { .. })), "{depth}");
+        assert!(matches!(nested(depth), Err(Refusal::Toml { .. })), "{depth}");
     }
 }
 
@@ -118,14 +119,14 @@ fn resolved_and_completed() {
 
 #[test]
 fn what_the_root_refuses() {
-    assert_eq!(resolved(MEMBER, MEMBER), Err(Error::NoWorkspace));
-    let missing = Error::Schema { part: Part::Root, cause: Cause::Missing, path: "name".into() };
+    assert_eq!(resolved(MEMBER, MEMBER), Err(Refusal::NoWorkspace));
+    let missing = Refusal::Schema { part: Part::Root, cause: Cause::Missing, path: "name".into() };
     assert_eq!(resolved(MEMBER, b""), Err(missing));
-    assert_eq!(resolved(MEMBER, b"\xff"), Err(Error::Utf8(Part::Root)));
+    assert_eq!(resolved(MEMBER, b"\xff"), Err(Refusal::Utf8(Part::Root)));
     let empty = resolved(MEMBER, b"[workspace]\n");
-    assert!(matches!(empty, Err(Error::NotInWorkspace(_))), "{empty:?}");
+    assert!(matches!(empty, Err(Refusal::NotInWorkspace(_))), "{empty:?}");
     match resolved(MEMBER, b"[workspace") {
-        Err(Error::Toml { part: Part::Root, range, .. }) => assert_eq!(range.start, 10),
+        Err(Refusal::Toml { part: Part::Root, range, .. }) => assert_eq!(range.start, 10),
         other => panic!("{other:?}"),
     }
 }
@@ -135,13 +136,13 @@ fn what_listings_refuse() {
     for fault in [Fault::OutOfMemory, Fault::Other] {
         let mut listings = with_library();
         listings.put_fault("src", fault);
-        assert_eq!(completed(b"[package]\nname = 'p'\n", &listings), Err(Error::Io(fault)));
+        assert_eq!(completed(b"[package]\nname = 'p'\n", &listings), Err(Refusal::Io(fault)));
     }
     // `.` is asked, and is not there
-    assert_eq!(completed(b"[package]\nname = 'p'\n", &Listings::new()), Err(Error::Io(Fault::NotFound)));
+    assert_eq!(completed(b"[package]\nname = 'p'\n", &Listings::new()), Err(Refusal::Io(Fault::NotFound)));
     let none = completed(b"[package]\nname = 'p'\nedition = '2021'\n[lib]\n", &Listings::new());
     let text = "can't find library, rename file to `src/lib.rs` or specify lib.path";
-    assert_eq!(none, Err(Error::Other(text.into())));
+    assert_eq!(none, Err(Refusal::Other(text.into())));
 }
 
 #[test]
@@ -252,7 +253,7 @@ fn the_tables_of_the_other_calls() {
         Ok(table_of([("lib", library(&[("edition", edition())])), ("package", package(edition(), build()))]))
     );
     assert_eq!(completed_table(b"", &listings), Err(schema(Cause::Missing, "name")));
-    assert_eq!(resolved_table(member, member), Err(Error::NoWorkspace));
-    let missed = Err(Error::Io(Fault::NotFound));
+    assert_eq!(resolved_table(member, member), Err(Refusal::NoWorkspace));
+    let missed = Err(Refusal::Io(Fault::NotFound));
     assert_eq!(resolved_completed_table(member, root, &Listings::new()), missed);
 }

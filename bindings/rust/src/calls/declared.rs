@@ -1,8 +1,8 @@
 //! The declarations of the library, and its calls with memory for their text.
 
-use crate::error::{Cause, Error, Fault, Part};
-use crate::folders::{with_folders, Folder};
-use crate::listings::Listings;
+use super::refusal::{Cause, Fault, Part, Refusal};
+use super::folders::{with_folders, Folder};
+use super::listings::Listings;
 
 /// What a call answers: `struct manifest_answer` of `bindings/c/cargo_manifest.h`.
 #[repr(C)]
@@ -66,39 +66,39 @@ pub(crate) fn text_of(bytes: Vec<u8>) -> String {
 }
 
 /// The error of an answer that gives no text.
-fn refused(answer: Answer, text: Vec<u8>) -> Error {
+fn refused(answer: Answer, text: Vec<u8>) -> Refusal {
     let part = if answer.status >= 16 { Part::Root } else { Part::Manifest };
     match answer.status {
-        1 | 17 => Error::Toml { part, message: text_of(text), range: answer.start..answer.end },
+        1 | 17 => Refusal::Toml { part, message: text_of(text), range: answer.start..answer.end },
         2 | 18 => match Cause::of_number(answer.cause) {
-            Some(cause) => Error::Schema { part, cause, path: text_of(text) },
+            Some(cause) => Refusal::Schema { part, cause, path: text_of(text) },
             None => is_broken(),
         },
-        3 => Error::Io(match answer.cause {
+        3 => Refusal::Io(match answer.cause {
             1 => Fault::NotFound,
             2 => Fault::OutOfMemory,
             _ => Fault::Other,
         }),
-        4 | 20 => Error::Utf8(part),
-        5 => Error::Other(text_of(text)),
-        6 => Error::Memory,
-        7 => Error::Date(text_of(text)),
-        9 => Error::NoWorkspace,
-        10 => Error::NotInWorkspace(text_of(text)),
-        11 => Error::InheritedInWorkspace(text_of(text)),
-        12 => Error::MixedLints,
-        13 => Error::ToolNamedWorkspace,
+        4 | 20 => Refusal::Utf8(part),
+        5 => Refusal::Other(text_of(text)),
+        6 => Refusal::Memory,
+        7 => Refusal::Date(text_of(text)),
+        9 => Refusal::NoWorkspace,
+        10 => Refusal::NotInWorkspace(text_of(text)),
+        11 => Refusal::InheritedInWorkspace(text_of(text)),
+        12 => Refusal::MixedLints,
+        13 => Refusal::ToolNamedWorkspace,
         _ => is_broken(),
     }
 }
 
 /// Calls with memory for this many bytes, and once more where the text takes more. `run` is handed a pointer to so many
 /// bytes that are set.
-fn bytes_of(room: usize, run: impl Fn(*mut u8, usize) -> Answer) -> Result<Vec<u8>, Error> {
+fn bytes_of(room: usize, run: impl Fn(*mut u8, usize) -> Answer) -> Result<Vec<u8>, Refusal> {
     let mut out = Vec::new();
     let mut room = room;
     loop {
-        out.try_reserve_exact(room).map_err(|_| Error::Memory)?;
+        out.try_reserve_exact(room).map_err(|_| Refusal::Memory)?;
         // the library takes a slice that it may read, so its bytes are set before
         out.resize(room, 0);
         let answer = run(out.as_mut_ptr(), out.len());
@@ -121,7 +121,7 @@ fn room_for(bytes: usize) -> usize {
 }
 
 /// What is asked for of the manifest that the bytes are.
-pub(crate) fn read(output: Output, bytes: &[u8]) -> Result<Vec<u8>, Error> {
+pub(crate) fn read(output: Output, bytes: &[u8]) -> Result<Vec<u8>, Refusal> {
     let call = match output {
         Output::Text => manifest_canonical,
         Output::Table => manifest_table,
@@ -133,7 +133,7 @@ pub(crate) fn read(output: Output, bytes: &[u8]) -> Result<Vec<u8>, Error> {
 }
 
 /// The same, completed over listings.
-pub(crate) fn complete(output: Output, bytes: &[u8], listings: &Listings) -> Result<Vec<u8>, Error> {
+pub(crate) fn complete(output: Output, bytes: &[u8], listings: &Listings) -> Result<Vec<u8>, Refusal> {
     let call = match output {
         Output::Text => manifest_completed,
         Output::Table => manifest_completed_table,
@@ -147,7 +147,7 @@ pub(crate) fn complete(output: Output, bytes: &[u8], listings: &Listings) -> Res
 }
 
 /// The same, with what it inherits from the workspace of the root put in.
-pub(crate) fn resolve(output: Output, bytes: &[u8], root: &[u8]) -> Result<Vec<u8>, Error> {
+pub(crate) fn resolve(output: Output, bytes: &[u8], root: &[u8]) -> Result<Vec<u8>, Refusal> {
     let call = match output {
         Output::Text => manifest_resolved,
         Output::Table => manifest_resolved_table,
@@ -164,7 +164,7 @@ pub(crate) fn resolve_and_complete(
     bytes: &[u8],
     root: &[u8],
     listings: &Listings,
-) -> Result<Vec<u8>, Error> {
+) -> Result<Vec<u8>, Refusal> {
     let call = match output {
         Output::Text => manifest_resolved_completed,
         Output::Table => manifest_resolved_completed_table,

@@ -1,7 +1,7 @@
 //! Listings, as the library takes them.
 
-use crate::error::Fault;
-use crate::listings::Listings;
+use super::refusal::Fault;
+use super::listings::Listings;
 
 /// A slice that is lent: `struct manifest_bytes` and `struct manifest_names` of `bindings/c/cargo_manifest.h`.
 #[repr(C)]

@@ -1,6 +1,6 @@
 //! Listings of folders, gathered before the call.
 
-use crate::error::Fault;
+use super::refusal::Fault;
 use std::collections::{BTreeMap, BTreeSet};
 use std::fs;
 use std::io;
@@ -13,14 +13,14 @@ type Listed = Result<BTreeSet<String>, Fault>;
 /// `src/bin`; that folder itself is `.`. A path that is not among them is not there.
 ///
 /// ```
-/// use cargo_manifest_proved::{completed, Listings};
+/// use cargo_manifest::calls::{completed, Listings};
 ///
 /// let mut listings = Listings::new();
 /// listings.put("src", ["lib.rs"]);
 /// listings.put(".", ["Cargo.toml", "src"]);
 /// let text = completed(b"[package]\nname = 'a-b'\nedition = '2021'", &listings)?;
 /// assert!(text.contains("name = \"a_b\"\npath = \"src/lib.rs\""));
-/// # Ok::<(), cargo_manifest_proved::Error>(())
+/// # Ok::<(), cargo_manifest::calls::Refusal>(())
 /// ```
 #[derive(Clone, Debug, Default, PartialEq, Eq)]
 pub struct Listings {

@@ -1,10 +1,10 @@
 //! What only this crate sees: memory that is lent, memory that is refused, and how the declarations lie in memory.
 
-use crate::calls::{manifest_canonical, Answer};
-use crate::folders::{Folder, Slice};
-use crate::heap::refusals::{blocks, with_refused};
-use crate::value::decoded;
-use crate::{canonical, resolved_completed, resolved_completed_table, table, Error, Fault, Listings, Value};
+use super::declared::{manifest_canonical, Answer};
+use super::folders::{Folder, Slice};
+use super::heap::refusals::{blocks, with_refused};
+use crate::value::{decoded, Value};
+use super::{canonical, resolved_completed, resolved_completed_table, table, Fault, Listings, Refusal};
 use std::fmt::Debug;
 use std::mem::{offset_of, size_of};
 use std::thread;
@@ -42,7 +42,7 @@ fn the_text_is_put_whole_or_not_at_all() {
 
 /// Refuses each request for memory of a call in turn: it answers want of memory, or the answer that is wanted, and gives all
 /// blocks back.
-fn are_refused<T: Debug + PartialEq>(run: impl Fn() -> Result<T, Error>, wanted: &Result<T, Error>) {
+fn are_refused<T: Debug + PartialEq>(run: impl Fn() -> Result<T, Refusal>, wanted: &Result<T, Refusal>) {
     let held = blocks();
     let mut granted = 0;
     loop {
@@ -52,7 +52,7 @@ fn are_refused<T: Debug + PartialEq>(run: impl Fn() -> Result<T, Error>, wanted:
             assert_eq!(answer, *wanted);
             break;
         }
-        let is_memory = matches!(answer, Err(Error::Memory | Error::Io(Fault::OutOfMemory)));
+        let is_memory = matches!(answer, Err(Refusal::Memory | Refusal::Io(Fault::OutOfMemory)));
         assert!(answer == *wanted || is_memory, "{granted}: {answer:?}");
         granted += 1;
     }

@@ -1,0 +1,82 @@
+//! The library's calls, whose answers are texts and untyped values: what the types of this crate stand on.
+//!
+//! ```
+//! use cargo_manifest::calls;
+//!
+//! let text = calls::canonical(b"name = 'a'\nedition = '2021'")?; // an old header
+//! assert_eq!(text, "[package]\nedition = \"2021\"\nname = \"a\"\n");
+//! # Ok::<(), calls::Refusal>(())
+//! ```
+//!
+//! Nothing is kept between calls, so each may be made from any thread at any time. A call takes the more stack the deeper
+//! its text nests tables: `LIBRARY.md` says how much that may be.
+
+mod declared;
+mod folders;
+#[cfg(test)]
+mod heap;
+mod listings;
+mod refusal;
+pub(crate) mod tables;
+#[cfg(test)]
+mod tests;
+
+use crate::value::{decoded, Value};
+use declared::{complete, read, resolve, resolve_and_complete, text_of, Output};
+pub(crate) use declared::is_broken;
+pub use listings::Listings;
+pub use refusal::{Cause, Fault, Part, Refusal};
+
+/// The canonical text of the manifest that the bytes are.
+pub fn canonical(bytes: &[u8]) -> Result<String, Refusal> {
+    read(Output::Text, bytes).map(text_of)
+}
+
+/// The canonical text of the manifest that the bytes are, completed over listings.
+pub fn completed(bytes: &[u8], listings: &Listings) -> Result<String, Refusal> {
+    complete(Output::Text, bytes, listings).map(text_of)
+}
+
+/// The canonical text of the manifest that the bytes are, with what it inherits from the workspace of the root put in.
+pub fn resolved(bytes: &[u8], root: &[u8]) -> Result<String, Refusal> {
+    resolve(Output::Text, bytes, root).map(text_of)
+}
+
+/// The same, resolved and then completed.
+pub fn resolved_completed(bytes: &[u8], root: &[u8], listings: &Listings) -> Result<String, Refusal> {
+    resolve_and_complete(Output::Text, bytes, root, listings).map(text_of)
+}
+
+/// The value of tagged bytes.
+fn value_of(table: Vec<u8>) -> Value {
+    decoded(&table).unwrap_or_else(|| is_broken())
+}
+
+/// The one table of the manifest that the bytes are: what its canonical text says, by values.
+///
+/// ```
+/// use cargo_manifest::{calls::table, Value};
+///
+/// let Value::Table(all) = table(b"[package]\nname = 'a'")? else { panic!() };
+/// let Value::Table(package) = &all["package"] else { panic!() };
+/// assert_eq!(package["name"], Value::String("a".into()));
+/// # Ok::<(), cargo_manifest::calls::Refusal>(())
+/// ```
+pub fn table(bytes: &[u8]) -> Result<Value, Refusal> {
+    read(Output::Table, bytes).map(value_of)
+}
+
+/// The table of the completed manifest: what [`completed`] says, by values.
+pub fn completed_table(bytes: &[u8], listings: &Listings) -> Result<Value, Refusal> {
+    complete(Output::Table, bytes, listings).map(value_of)
+}
+
+/// The table of the resolved manifest: what [`resolved`] says, by values.
+pub fn resolved_table(bytes: &[u8], root: &[u8]) -> Result<Value, Refusal> {
+    resolve(Output::Table, bytes, root).map(value_of)
+}
+
+/// The table of the resolved and completed manifest: what [`resolved_completed`] says, by values.
+pub fn resolved_completed_table(bytes: &[u8], root: &[u8], listings: &Listings) -> Result<Value, Refusal> {
+    resolve_and_complete(Output::Table, bytes, root, listings).map(value_of)
+}

@@ -1,0 +1,35 @@
+//! The one table of a manifest as tagged bytes, and the types that stand in it.
+//!
+//! A type is given by its rows, once: [`record`] makes of them the struct, what reads it and what writes it.
+
+mod containers;
+mod reader;
+mod record;
+mod words;
+mod writer;
+
+pub(crate) use reader::{Keys, Reader, ARRAY, DATETIME, FALSE, FLOAT, STRING, TABLE, TRUE};
+pub(crate) use record::{others_of, record, row};
+pub(crate) use words::words;
+pub(crate) use writer::{AsideOf, Members, Writer};
+
+use crate::value::Value;
+
+/// What stands in the table of a manifest as one value.
+pub(crate) trait Form: Sized {
+    /// The value that the bytes hold next. There is none where they are not what the library writes of this type.
+    fn decode(reader: &mut Reader<'_>) -> Option<Self>;
+}
+
+/// What can be written as one value of the table of a manifest.
+pub(crate) trait Encode {
+    /// Puts the value behind what is written.
+    fn encode(&self, writer: &mut Writer);
+}
+
+/// The metadata of a manifest, which is kept beside it while it is read or written: its types are the user's.
+#[derive(Clone, Debug, Default)]
+pub(crate) struct Aside {
+    pub(crate) package: Option<Value>,
+    pub(crate) workspace: Option<Value>,
+}

@@ -1,0 +1,121 @@
+//! The macro that makes a type of its rows.
+
+/// A struct that stands in a manifest as a table, with what reads and writes it. A row says the key, its second spelling
+/// where it has one, the field, its type, and how the key is needed:
+///
+/// | word | without the key | written |
+/// |---|---|---|
+/// | `needed` | no such table | always |
+/// | `optional` | `None` | where it is there |
+/// | `default(x)` | `x` | always |
+/// | `unless(x)` | `x` | unless it is `x` |
+/// | `lenient` | `None`, also where the value does not fit | where it is there |
+/// | `lenient_default(x)` | `x`, also where the value does not fit | always |
+/// | `metadata(place)` | `None` | where it is there: it is kept aside, and the field is `None` |
+///
+/// `others` is the field of all other keys.
+macro_rules! record {
+    (
+        $(#[$about:meta])*
+        pub struct $name:ident $(<$($param:ident),+>)? {
+            $(
+                $(#[$doc:meta])*
+                $key:literal $(also $second:literal)? => $field:ident: $type:ty, $how:ident $(($($with:tt)+))?;
+            )+
+        }
+        $(others { $(#[$others_doc:meta])* $others:ident: BTreeMap<String, $other:ty> })?
+    ) => {
+        $(#[$about])*
+        pub struct $name $(<$($param = $crate::Value),+>)? {
+            $($(#[$doc])* pub $field: $type,)+
+            $($(#[$others_doc])* pub $others: std::collections::BTreeMap<String, $other>,)?
+        }
+
+        impl $(<$($param),+>)? $crate::codec::Form for $name $(<$($param),+>)? {
+            fn decode(reader: &mut $crate::codec::Reader<'_>) -> Option<Self> {
+                $(#[allow(unused_mut, unused_assignments)] let mut $field = None;)+
+                $(let mut $others = Vec::new();)?
+                let mut keys = reader.table()?;
+                while let Some(key) = keys.next(reader)? {
+                    match key {
+                        $($key => $crate::codec::row!(decode reader $field $how $(($($with)+))?),)+
+                        other => $crate::codec::others_of!(reader other $($others)?),
+                    }
+                }
+                Some($name {
+                    $($field: $crate::codec::row!(done $field $how $(($($with)+))?),)+
+                    $($others: $others.into_iter().collect(),)?
+                })
+            }
+        }
+
+        impl $(<$($param),+>)? $crate::codec::Encode for $name $(<$($param),+>)? {
+            fn encode(&self, writer: &mut $crate::codec::Writer) {
+                const KEYS: &[&str] = &[$($key),+];
+                let mut members = $crate::codec::Members::with_room(KEYS.len());
+                $($crate::codec::row!(encode writer members $key (&self.$field) $how $(($($with)+))?);)+
+                $(
+                    for (key, value) in &self.$others {
+                        if KEYS.contains(&key.as_str()) {
+                            writer.refuse(format!("no {} can be named `{key}`", stringify!($others)));
+                        }
+                        members.push(key, value);
+                    }
+                )?
+                members.encode(writer);
+            }
+        }
+    };
+}
+pub(crate) use record;
+
+/// What a row does with its field, by how it is needed.
+macro_rules! row {
+    (decode $reader:ident $field:ident metadata($place:ident)) => {
+        $reader.aside.$place = Some($crate::codec::Form::decode($reader)?)
+    };
+    (decode $reader:ident $field:ident $how:ident $(($($with:tt)+))?) => {
+        $field = Some($crate::codec::Form::decode($reader)?)
+    };
+    (done $field:ident needed) => { $field? };
+    (done $field:ident default($with:expr)) => { $field? };
+    (done $field:ident lenient_default($with:expr)) => { $field? };
+    (done $field:ident unless($with:expr)) => { $field.unwrap_or_else(|| $with) };
+    (done $field:ident $how:ident $(($($with:tt)+))?) => { $field };
+    (encode $writer:ident $members:ident $key:literal ($value:expr) metadata($place:ident)) => {
+        if $writer.aside.$place.is_some() {
+            $members.push($key, &$crate::codec::AsideOf::$place);
+        }
+    };
+    (encode $writer:ident $members:ident $key:literal ($value:expr) optional) => {
+        if let Some(value) = $value {
+            $members.push($key, value);
+        }
+    };
+    (encode $writer:ident $members:ident $key:literal ($value:expr) lenient) => {
+        if let Some(value) = $value {
+            $members.push($key, value);
+        }
+    };
+    (encode $writer:ident $members:ident $key:literal ($value:expr) unless($with:expr)) => {
+        if *$value != $with {
+            $members.push($key, $value);
+        }
+    };
+    (encode $writer:ident $members:ident $key:literal ($value:expr) $how:ident $(($($with:tt)+))?) => {
+        $members.push($key, $value)
+    };
+}
+pub(crate) use row;
+
+/// What is done with a key that no row has.
+macro_rules! others_of {
+    ($reader:ident $key:ident) => {{
+        let _ = $key;
+        return None;
+    }};
+    ($reader:ident $key:ident $others:ident) => {
+        $others.push(($key.to_owned(), $crate::codec::Form::decode($reader)?))
+    };
+}
+pub(crate) use others_of;

@@ -1,0 +1,45 @@
+//! The macro that makes a choice of its words.
+
+/// An enum that stands in a manifest as one of these words.
+macro_rules! words {
+    (
+        $(#[$about:meta])*
+        pub enum $name:ident { $($(#[$doc:meta])* $variant:ident = $word:literal,)+ }
+    ) => {
+        $(#[$about])*
+        pub enum $name {
+            $($(#[$doc])* $variant,)+
+        }
+
+        impl $name {
+            /// The word as it stands in a manifest.
+            pub fn as_str(&self) -> &'static str {
+                match self {
+                    $($name::$variant => $word,)+
+                }
+            }
+
+            /// The choice of a word.
+            fn of_word(word: &str) -> Option<$name> {
+                match word {
+                    $($word => Some($name::$variant),)+
+                    _ => None,
+                }
+            }
+        }
+
+        impl $crate::codec::Form for $name {
+            fn decode(reader: &mut $crate::codec::Reader<'_>) -> Option<$name> {
+                reader.tag($crate::codec::STRING)?;
+                reader.str().and_then($name::of_word)
+            }
+        }
+
+        impl $crate::codec::Encode for $name {
+            fn encode(&self, writer: &mut $crate::codec::Writer) {
+                writer.string(self.as_str());
+            }
+        }
+    };
+}
+pub(crate) use words;

@@ -1,0 +1,80 @@
+//! What is inherited from the workspace.
+
+use crate::codec::{Encode, Form, Members, Reader, Writer, TRUE};
+
+/// A property of a package that may be inherited from its workspace, as by `version.workspace = true`.
+#[derive(Debug, Clone, PartialEq, Eq)]
+pub enum MaybeInherited<T> {
+    /// It is inherited.
+    Inherited {
+        /// Always true.
+        workspace: True,
+    },
+    /// It is the package's own.
+    Local(T),
+}
+
+impl<T> MaybeInherited<T> {
+    /// What is inherited.
+    pub fn inherited() -> Self {
+        MaybeInherited::Inherited { workspace: True }
+    }
+
+    /// The package's own, if it is not inherited.
+    pub fn as_local(self) -> Option<T> {
+        match self {
+            MaybeInherited::Local(own) => Some(own),
+            MaybeInherited::Inherited { .. } => None,
+        }
+    }
+
+    /// The same, by reference.
+    pub const fn as_ref(&self) -> MaybeInherited<&T> {
+        match self {
+            MaybeInherited::Local(own) => MaybeInherited::Local(own),
+            MaybeInherited::Inherited { .. } => MaybeInherited::Inherited { workspace: True },
+        }
+    }
+}
+
+impl<T: Form> Form for MaybeInherited<T> {
+    fn decode(reader: &mut Reader<'_>) -> Option<Self> {
+        if !reader.is_inherited()? {
+            return T::decode(reader).map(MaybeInherited::Local);
+        }
+        let mut keys = reader.table()?;
+        keys.next(reader)?;
+        let workspace = True::decode(reader)?;
+        keys.next(reader)?.is_none().then_some(MaybeInherited::Inherited { workspace })
+    }
+}
+
+impl<T: Encode> Encode for MaybeInherited<T> {
+    fn encode(&self, writer: &mut Writer) {
+        match self {
+            MaybeInherited::Local(own) => own.encode(writer),
+            MaybeInherited::Inherited { workspace } => {
+                let mut members = Members::default();
+                members.push("workspace", workspace);
+                members.encode(writer);
+            }
+        }
+    }
+}
+
+/// The boolean true.
+#[derive(Debug, Default, Clone, PartialEq, Eq)]
+#[doc(hidden)]
+pub struct True;
+
+impl Form for True {
+    fn decode(reader: &mut Reader<'_>) -> Option<True> {
+        reader.tag(TRUE).map(|()| True)
+    }
+}
+
+impl Encode for True {
+    fn encode(&self, writer: &mut Writer) {
+        writer.boolean(true);
+    }
+}

@@ -1,0 +1,95 @@
+//! Lints.
+
+use crate::codec::{record, words, Encode, Form, Reader, Writer, STRING};
+use crate::{ToolLintsSet, True};
+
+record! {
+    /// `[lints]` of a package: inherited from the workspace, or the lints of each tool.
+    #[derive(Debug, Clone, PartialEq, Eq)]
+    pub struct MaybeInheritedLintsSet {
+        /// Whether the lints are inherited.
+        "workspace" => workspace: Option<True>, optional;
+    }
+    others {
+        /// The lints of each tool, as `rust` and `clippy`. No tool can be named `workspace`.
+        lints: BTreeMap<String, ToolLintsSet>
+    }
+}
+
+impl MaybeInheritedLintsSet {
+    /// Whether the lints are inherited from the workspace.
+    pub fn is_inherited(&self) -> bool {
+        self.workspace.is_some()
+    }
+}
+
+/// A lint: its level, or a table.
+#[derive(Debug, Clone, PartialEq, Eq)]
+pub enum Lint {
+    /// The level alone: `unsafe_code = "forbid"`.
+    Level(LintLevel),
+    /// A table: `unsafe_code = { level = "warn", priority = 1 }`.
+    Config(LintConfig),
+}
+
+impl Lint {
+    /// The level.
+    pub fn level(&self) -> LintLevel {
+        match self {
+            Lint::Level(level) => *level,
+            Lint::Config(config) => config.level,
+        }
+    }
+
+    /// The priority: 0 where none is said.
+    pub fn priority(&self) -> i8 {
+        match self {
+            Lint::Level(_) => 0,
+            Lint::Config(config) => config.priority,
+        }
+    }
+}
+
+impl Form for Lint {
+    fn decode(reader: &mut Reader<'_>) -> Option<Lint> {
+        match reader.peek()? {
+            STRING => LintLevel::decode(reader).map(Lint::Level),
+            _ => LintConfig::decode(reader).map(Lint::Config),
+        }
+    }
+}
+
+impl Encode for Lint {
+    fn encode(&self, writer: &mut Writer) {
+        match self {
+            Lint::Level(level) => level.encode(writer),
+            Lint::Config(config) => config.encode(writer),
+        }
+    }
+}
+
+record! {
+    /// A lint as a table.
+    #[derive(Debug, Clone, PartialEq, Eq)]
+    pub struct LintConfig {
+        /// The level.
+        "level" => level: LintLevel, needed;
+        /// Which of two lints counts that are about the same: that of the higher priority.
+        "priority" => priority: i8, default(0);
+    }
+}
+
+words! {
+    /// What comes of a lint.
+    #[derive(Debug, Clone, Copy, PartialEq, Eq, Hash)]
+    pub enum LintLevel {
+        /// An error that no attribute takes back.
+        Forbid = "forbid",
+        /// An error.
+        Deny = "deny",
+        /// A warning.
+        Warn = "warn",
+        /// Nothing.
+        Allow = "allow",
+    }
+}

@@ -1,0 +1,124 @@
+//! Profiles.
+
+use crate::codec::{record, Encode, Form, Reader, Writer, STRING};
+use crate::{Error, Value};
+use std::collections::BTreeMap;
+
+record! {
+    /// `[profile]`.
+    #[derive(Debug, Clone, PartialEq, Default)]
+    pub struct Profiles {
+        /// `[profile.release]`, of `cargo build --release`.
+        "release" => release: Option<Profile>, optional;
+        /// `[profile.dev]`, of `cargo build`.
+        "dev" => dev: Option<Profile>, optional;
+        /// `[profile.test]`, of `cargo test`.
+        "test" => test: Option<Profile>, optional;
+        /// `[profile.bench]`, of `cargo bench`.
+        "bench" => bench: Option<Profile>, optional;
+        /// `[profile.doc]`, of `cargo doc`.
+        "doc" => doc: Option<Profile>, optional;
+    }
+    others {
+        /// Profiles of other names. None can have one of the names above.
+        custom: BTreeMap<String, Profile>
+    }
+}
+
+record! {
+    /// How the compiler is called.
+    #[derive(Debug, Clone, PartialEq)]
+    pub struct Profile {
+        /// How much is optimised: a number, `"s"` or `"z"`.
+        "opt-level" also "opt_level" => opt_level: Option<Value>, optional;
+        /// How much is said for a debugger: a number, a boolean or a word.
+        "debug" => debug: Option<Value>, optional;
+        /// Whether the path of shared libraries is put into what is built.
+        "rpath" => rpath: Option<bool>, optional;
+        /// The profile that this one is made of.
+        "inherits" => inherits: Option<String>, optional;
+        /// How much is optimised at linking: a boolean or a word.
+        "lto" => lto: Option<Value>, optional;
+        /// Whether `debug_assert!` is compiled.
+        "debug-assertions" also "debug_assertions" => debug_assertions: Option<bool>, optional;
+        /// Into how many parts a crate is split.
+        "codegen-units" also "codegen_units" => codegen_units: Option<u16>, optional;
+        /// What a panic does: `"unwind"` or `"abort"`.
+        "panic" => panic: Option<String>, optional;
+        /// Whether what was compiled is kept for the next time.
+        "incremental" => incremental: Option<bool>, optional;
+        /// Whether arithmetic that overflows panics.
+        "overflow-checks" also "overflow_checks" => overflow_checks: Option<bool>, optional;
+        /// What is left out of what is built.
+        "strip" => strip: Option<StripSetting>, optional;
+        /// Settings of single packages.
+        "package" => package: BTreeMap<String, Value>, default(BTreeMap::new());
+        /// Where what is said for a debugger goes.
+        "split-debuginfo" => split_debuginfo: Option<String>, optional;
+        /// Settings of build scripts and procedural macros.
+        "build-override" => build_override: Option<Value>, optional;
+    }
+}
+
+/// What is left out of what is built.
+#[derive(Debug, Clone, PartialEq, Eq, PartialOrd, Ord)]
+pub enum StripSetting {
+    /// Nothing: `false` or `"none"`.
+    None,
+    /// What is said for a debugger: `"debuginfo"`.
+    Debuginfo,
+    /// That, and the names of symbols: `true` or `"symbols"`.
+    Symbols,
+}
+
+impl StripSetting {
+    fn of_word(word: &str) -> Option<StripSetting> {
+        match word {
+            "none" => Some(StripSetting::None),
+            "debuginfo" => Some(StripSetting::Debuginfo),
+            "symbols" => Some(StripSetting::Symbols),
+            _ => None,
+        }
+    }
+
+    fn of_flag(flag: bool) -> StripSetting {
+        if flag {
+            StripSetting::Symbols
+        } else {
+            StripSetting::None
+        }
+    }
+}
+
+impl TryFrom<Value> for StripSetting {
+    type Error = Error;
+
+    fn try_from(value: Value) -> Result<StripSetting, Error> {
+        match &value {
+            Value::Boolean(flag) => Ok(StripSetting::of_flag(*flag)),
+            Value::String(word) => StripSetting::of_word(word)
+                .ok_or_else(|| Error::Other(format!("`{word}` is no choice of `strip`"))),
+            other => Err(Error::Other(format!("`strip` is a {}: a boolean or a string is wanted", other.type_str()))),
+        }
+    }
+}
+
+impl Form for StripSetting {
+    fn decode(reader: &mut Reader<'_>) -> Option<StripSetting> {
+        if reader.peek()? == STRING {
+            reader.tag(STRING)?;
+            return reader.str().and_then(StripSetting::of_word);
+        }
+        bool::decode(reader).map(StripSetting::of_flag)
+    }
+}
+
+impl Encode for StripSetting {
+    fn encode(&self, writer: &mut Writer) {
+        match self {
+            StripSetting::None => writer.boolean(false),
+            StripSetting::Debuginfo => writer.string("debuginfo"),
+            StripSetting::Symbols => writer.boolean(true),
+        }
+    }
+}
