@@ -1,17 +1,30 @@
 """What scripts/typed and scripts/rust_crate share: the programs of tests/programs, built over one crate or the other, what
 they are handed, and which stored answers of tests/rust-answers are theirs."""
 import os
+import re
 import shutil
 import subprocess
 import tempfile
 from pathlib import Path
 
 from archive import BINDINGS, TOP
+from documents import LIMIT
 from runs import ANSWERS, make, stored
 
 PROGRAMS = TOP / "tests" / "programs"
 # the programs that a user of either crate could have written
 BOTH = ("debug", "registry", "planner")
+# those that ask for more than the original has
+OURS = ("changes", "threads", "stack")
+# of the changes that are made at random
+SEED = "1"
+
+STRING = r'"(?:[^"\\]|\\.)*"'
+# a string, which may hold anything; or what {:?} prints of an inherited dependency, up to the field that is taken out, and it
+INHERITED = re.compile(
+    rf"{STRING}|(InheritedDependencyDetail \{{ workspace: True, features: (?:None|Some\(\[(?:{STRING}(?:, )?)*\]\)), "
+    r"optional: (?:None|Some\((?:true|false)\)))(, default_features: (None|Some\((true|false)\)))(?= \})"
+)
 
 
 def cases(pairs):
@@ -110,3 +123,36 @@ def have_cargo(what):
         return True
     print(f"{what}: there is no command cargo")
     return False
+
+
+def every():
+    """All stored texts."""
+    return folders("usual.jsonl") + manifests() + folders()
+
+
+def without_field(line):
+    """A line without the field that the original does not have, and the values that it had."""
+    values = []
+
+    def shorter(found):
+        if found[1] is None:
+            return found[0]
+        values.append({None: None, "true": True, "false": False}[found[4]])
+        return found[1]
+
+    return INHERITED.sub(shorter, line), values
+
+
+def deepest():
+    """The document of a package whose metadata nest as deep as `toml` reads: 78 tables by a header, whose keys have 80 parts,
+    and then so many inline tables in one another, each under a key of so many parts."""
+    header, key = ".".join(["a"] * (LIMIT - 2)), ".".join(["a"] * LIMIT)
+    return f'[package]\nname = "p"\n[package.metadata.{header}]\n' + f"{key} = {{" * LIMIT + f"{key} = 1" + "}" * LIMIT + "\n"
+
+
+def stack_fault(program, step, stack, text):
+    """What is wrong where `stack` does a step with a text in a thread with so much stack, or None."""
+    run = subprocess.run([program, step, str(stack)], input=cases([(text, [])]), capture_output=True, timeout=600)
+    if (run.returncode, run.stdout) == (0, b"1\n"):
+        return None
+    return f"status {run.returncode}, {run.stdout}, {run.stderr.decode('utf-8', 'replace')}"

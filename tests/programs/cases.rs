@@ -8,6 +8,7 @@ use std::io::{self, Read};
 /// A text, and the files beside it.
 pub struct Case {
     pub text: Vec<u8>,
+    #[allow(dead_code)] // (not every program asks for them)
     pub files: Vec<String>,
 }
 
