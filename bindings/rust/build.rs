@@ -1,11 +1,35 @@
 //! Links the archive of the library: the one in the folder that MANIFEST_FFI names; else the one for the target, in the
-//! folder prebuilt/ of the repository, or packed with this crate.
+//! folder prebuilt/ of the repository, or packed with this crate. (`bindings/cargo-manifest` has this build script too.)
 
+use std::collections::HashSet;
 use std::env;
+use std::fs;
 use std::path::{Path, PathBuf};
 use std::process;
 
 const ARCHIVE: &str = "libcargo_manifest.a";
+
+/// The calls on texts, which each archive has.
+const ON_TEXTS: [&str; 8] = [
+    "manifest_canonical",
+    "manifest_completed",
+    "manifest_completed_table",
+    "manifest_resolved",
+    "manifest_resolved_completed",
+    "manifest_resolved_completed_table",
+    "manifest_resolved_table",
+    "manifest_table",
+];
+
+/// The calls on tables. Without all of them a table is handed over as a text.
+const ON_TABLES: [&str; 6] = [
+    "manifest_canonical_of_table",
+    "manifest_completed_of_table",
+    "manifest_document",
+    "manifest_resolved_of_tables",
+    "manifest_table_without_metadata",
+    "manifest_version",
+];
 
 /// Ends the build by one sentence.
 fn stop(why: &str) -> ! {
@@ -16,7 +40,7 @@ fn stop(why: &str) -> ! {
 /// The folder of the archive for the target.
 fn prebuilt(target: &str) -> PathBuf {
     let here = PathBuf::from(env!("CARGO_MANIFEST_DIR"));
-    let folders = [here.join("prebuilt").join(target), here.join("../../prebuilt").join(target)];
+    let folders = ["prebuilt", "../rust/prebuilt", "../../prebuilt"].map(|folder| here.join(folder).join(target));
     match folders.into_iter().find(|folder| folder.join(ARCHIVE).is_file()) {
         Some(folder) => folder,
         None => stop(&format!(
@@ -34,13 +58,30 @@ fn named(folder: &Path) -> PathBuf {
     folder.to_path_buf()
 }
 
+/// The names in the archive, and whatever else stands there between bytes that no name has.
+fn names(archive: &[u8]) -> HashSet<&[u8]> {
+    archive.split(|byte| !byte.is_ascii_alphanumeric() && *byte != b'_').collect()
+}
+
 fn main() {
     println!("cargo:rerun-if-env-changed=MANIFEST_FFI");
+    println!("cargo:rustc-check-cfg=cfg(calls_on_tables)");
+    // (the features are those of the package beside this one, which has the same sources)
+    println!("cargo:rustc-check-cfg=cfg(feature, values(\"serde\", \"toml\"))");
     let folder = match env::var_os("MANIFEST_FFI") {
         Some(folder) => named(Path::new(&folder)),
         None => prebuilt(&env::var("TARGET").expect("Cargo names the target")),
     };
-    println!("cargo:rerun-if-changed={}", folder.join(ARCHIVE).display());
+    let file = folder.join(ARCHIVE);
+    let archive = fs::read(&file).unwrap_or_else(|fault| stop(&format!("{} cannot be read: {fault}", file.display())));
+    let names = names(&archive);
+    if let Some(call) = ON_TEXTS.iter().find(|call| !names.contains(call.as_bytes())) {
+        stop(&format!("the archive {} is of another version: it has no call {call}", file.display()));
+    }
+    if ON_TABLES.iter().all(|call| names.contains(call.as_bytes())) {
+        println!("cargo:rustc-cfg=calls_on_tables");
+    }
+    println!("cargo:rerun-if-changed={}", file.display());
     println!("cargo:rustc-link-search=native={}", folder.display());
     println!("cargo:rustc-link-lib=static=cargo_manifest");
 }

@@ -1,7 +1,8 @@
 //! Dependencies.
 
-use crate::codec::{record, Encode, Form, Reader, Writer, STRING};
-use crate::{DepsSet, True};
+use crate::codec::{read, record, Aside, Encode, Form, Misfit, Reader, Step, Writer, STRING};
+use crate::{DepsSet, True, Value};
+use std::borrow::Cow;
 
 /// A dependency, as one of `[dependencies]`.
 #[derive(Debug, Clone, PartialEq, Eq)]
@@ -23,6 +24,26 @@ impl Form for Dependency {
             return Form::decode(reader).map(Dependency::Inherited);
         }
         Form::decode(reader).map(Dependency::Detailed)
+    }
+
+    fn read(value: Value, aside: &mut Aside) -> Result<Dependency, Misfit> {
+        match value {
+            Value::String(version) => Ok(Dependency::Simple(version)),
+            table if read::is_inherited(&table) => Form::read(table, aside).map(Dependency::Inherited),
+            table @ Value::Table(_) => Form::read(table, aside).map(Dependency::Detailed),
+            _ => Err(Misfit::wrong_kind::<Dependency>()),
+        }
+    }
+
+    fn wanted() -> Cow<'static, str> {
+        "a string or a table".into()
+    }
+
+    fn wanted_at(path: &[Step]) -> Option<Cow<'static, str>> {
+        match path {
+            [] => Some(Self::wanted()),
+            below => DependencyDetail::wanted_at(below).or_else(|| InheritedDependencyDetail::wanted_at(below)),
+        }
     }
 }
 

@@ -1,6 +1,9 @@
 //! Why a manifest is refused.
 
-use crate::calls::{Cause, Fault, Part, Refusal};
+use crate::calls::{is_broken, Cause, Fault, Refusal};
+use crate::codec::{steps, Form, Misfit, Step};
+use crate::{Manifest, Package, Value};
+use std::borrow::Cow;
 use std::error;
 use std::fmt;
 use std::io;
@@ -10,17 +13,19 @@ use std::str::Utf8Error;
 /// Why a manifest is not read, completed, resolved or written.
 #[derive(Debug)]
 pub enum Error {
-    /// The text is no TOML, or no manifest.
+    /// The text is no TOML, or it is TOML and no manifest.
     Parse(ParseError),
-    /// A file or a folder cannot be read; or there is no memory left.
+    /// A file or a folder cannot be read, or no memory is left.
+    ///
+    /// What refuses a completion is the error that the filesystem returned itself.
     Io(io::Error),
     /// The bytes are not UTF-8.
     Utf8(Utf8Error),
-    /// Anything else, in a sentence.
+    /// Anything else, in one sentence.
     Other(String),
 }
 
-/// Of an error of a file or a folder, the copy has the kind and the text.
+/// The copy of [`Error::Io`] has its kind and its text.
 impl Clone for Error {
     fn clone(&self) -> Error {
         match self {
@@ -43,6 +48,7 @@ impl fmt::Display for Error {
     }
 }
 
+/// The text of an error is that of the error inside, so its source is what stands behind that one.
 impl error::Error for Error {
     fn source(&self) -> Option<&(dyn error::Error + 'static)> {
         match self {
@@ -73,6 +79,19 @@ impl From<Utf8Error> for Error {
 }
 
 /// What is wrong with a text that is no TOML, or no manifest.
+///
+/// ```
+/// use cargo_manifest::{Cause, Error, Manifest};
+///
+/// let text = b"[package]\nname = 'a'\nauthors = [true]\n";
+/// let Err(Error::Parse(error)) = Manifest::from_slice(text) else { panic!() };
+/// assert_eq!(error.to_string(), "`package.authors[0]` is of the wrong kind: a string is wanted");
+/// assert_eq!((error.cause(), error.key_path()), (Some(Cause::WrongKind), Some("package.authors[0]")));
+///
+/// let text = b"[package]\nname = \n";
+/// let Err(Error::Parse(error)) = Manifest::from_slice(text) else { panic!() };
+/// assert_eq!((error.span(), error.line_column(text)), (Some(17..17), Some((2, 8))));
+/// ```
 #[derive(Clone, Debug, PartialEq, Eq)]
 pub struct ParseError {
     message: String,
@@ -91,12 +110,18 @@ impl ParseError {
         &self.message
     }
 
-    /// Where in the bytes the text is no TOML.
+    /// Where in the bytes the text is no TOML. What is TOML and no manifest has a key path instead.
     pub fn span(&self) -> Option<Range<usize>> {
         match &self.at {
             At::Bytes(range) => Some(range.clone()),
             At::Key(..) => None,
         }
+    }
+
+    /// The line and the column, both from 1 on, at which these bytes are no TOML: the bytes are those that were read. A
+    /// column is a character.
+    pub fn line_column(&self, bytes: &[u8]) -> Option<(usize, usize)> {
+        self.span().map(|span| line_column(bytes, span.start))
     }
 
     /// The key path of what is wrong in a text that is TOML, as `package.authors[0]`.
@@ -114,6 +139,33 @@ impl ParseError {
             At::Key(cause, _) => Some(*cause),
         }
     }
+
+    fn of_key(cause: Cause, path: String, wanted: Option<Cow<'static, str>>) -> ParseError {
+        let what = match cause {
+            Cause::WrongKind => "is of the wrong kind",
+            Cause::Missing => "is missing",
+            Cause::TwoSpellings => return ParseError::said(cause, path, "is there in both of its spellings"),
+            Cause::NotAChoice => "is not a choice",
+            Cause::OutOfRange => "is out of range",
+            Cause::NotTrue => "is not true",
+            Cause::HoldsFloat => return ParseError::said(cause, path, "is a float, and no float is kept there"),
+            Cause::Metadata => return ParseError::said(cause, path, "does not fit"),
+        };
+        match wanted {
+            Some(wanted) => ParseError::said(cause, path, &format!("{what}: {wanted} is wanted")),
+            None => ParseError::said(cause, path, what),
+        }
+    }
+
+    fn said(cause: Cause, path: String, what: &str) -> ParseError {
+        ParseError { message: format!("`{path}` {what}"), at: At::Key(cause, path) }
+    }
+
+    /// Metadata that its own type refuses.
+    #[cfg(feature = "serde")]
+    pub(crate) fn of_metadata(path: &str, why: &str) -> ParseError {
+        ParseError::said(Cause::Metadata, path.to_owned(), &format!("does not fit: {why}"))
+    }
 }
 
 impl fmt::Display for ParseError {
@@ -124,22 +176,69 @@ impl fmt::Display for ParseError {
 
 impl error::Error for ParseError {}
 
-/// The error of a refusal, of a call on these bytes.
+impl From<Misfit> for ParseError {
+    fn from(misfit: Misfit) -> ParseError {
+        let (cause, wanted) = (misfit.cause, misfit.wanted.clone());
+        ParseError::of_key(cause, misfit.path(), Some(wanted))
+    }
+}
+
+/// The line and the column of a place, both from 1 on.
+fn line_column(bytes: &[u8], place: usize) -> (usize, usize) {
+    let before = bytes.get(..place).unwrap_or(bytes);
+    let line = before.iter().filter(|byte| **byte == b'\n').count() + 1;
+    let start = before.iter().rposition(|byte| *byte == b'\n').map_or(0, |end| end + 1);
+    let column = String::from_utf8_lossy(&before[start..]).chars().count() + 1;
+    (line, column)
+}
+
+/// What is wanted at a key path of a manifest. Under an old header the path is one of a package.
+fn wanted_at(path: &str) -> Option<Cow<'static, str>> {
+    let steps = steps(path);
+    let package = match steps.as_slice() {
+        [Step::Key(key), below @ ..] if key == "project" => below,
+        whole => whole,
+    };
+    let of_manifest = Manifest::<Value, Value>::wanted_at(&steps);
+    of_manifest.or_else(|| Package::<Value>::wanted_at(package))
+}
+
+/// The error of a refusal of these bytes, and of those of the workspace's root.
 pub(crate) fn refused(refusal: Refusal, bytes: &[u8]) -> Error {
     match refusal {
-        Refusal::Toml { message, range, .. } => Error::Parse(ParseError { message, at: At::Bytes(range) }),
-        Refusal::Schema { cause, path, .. } => {
-            let message = format!("`{path}`: {cause}");
-            Error::Parse(ParseError { message, at: At::Key(cause, path) })
+        Refusal::Toml { message, range, .. } => {
+            let (line, column) = line_column(bytes, range.start);
+            let message = format!("{message} at line {line} column {column}");
+            Error::Parse(ParseError { message, at: At::Bytes(range) })
         }
-        Refusal::Utf8(Part::Manifest | Part::Root) => match std::str::from_utf8(bytes) {
+        Refusal::Schema { cause, path, .. } => {
+            let wanted = wanted_at(&path);
+            Error::Parse(ParseError::of_key(cause, path, wanted))
+        }
+        Refusal::Utf8(_) => match std::str::from_utf8(bytes) {
             Err(error) => Error::Utf8(error),
-            Ok(_) => crate::calls::is_broken(),
+            Ok(_) => is_broken(),
         },
         Refusal::Io(Fault::NotFound) => Error::Io(io::ErrorKind::NotFound.into()),
-        Refusal::Io(Fault::OutOfMemory) | Refusal::Memory => Error::Io(io::ErrorKind::OutOfMemory.into()),
         Refusal::Io(Fault::Other) => Error::Io(io::ErrorKind::Other.into()),
+        Refusal::Io(Fault::OutOfMemory) | Refusal::Memory => Error::Io(io::ErrorKind::OutOfMemory.into()),
         Refusal::Other(text) | Refusal::Date(text) => Error::Other(text),
-        other => Error::Other(other.to_string()),
+        other => Error::Other(sentence(&other)),
+    }
+}
+
+/// Why a manifest cannot inherit from its workspace.
+fn sentence(refusal: &Refusal) -> String {
+    match refusal {
+        Refusal::NoWorkspace => "the manifest of the root has no `[workspace]`".into(),
+        Refusal::NotInWorkspace(key) => format!("`{key}` is inherited, and the workspace does not have it"),
+        Refusal::InheritedInWorkspace(name) => {
+            format!("the dependency `{name}` is inherited, and the workspace inherits it itself")
+        }
+        Refusal::MixedLints => "the lints are inherited, and there are lints of a tool beside them".into(),
+        Refusal::ToolNamedWorkspace => {
+            "the lints are inherited, and the workspace has lints of a tool named `workspace`".into()
+        }
+        other => other.to_string(),
     }
 }

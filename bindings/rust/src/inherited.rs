@@ -1,6 +1,9 @@
 //! What is inherited from the workspace.
 
-use crate::codec::{Encode, Form, Members, Reader, Writer, TRUE};
+use crate::calls::Cause;
+use crate::codec::{read, Aside, Encode, Form, Members, Misfit, Reader, Step, Writer, TRUE};
+use crate::Value;
+use std::borrow::Cow;
 
 /// A property of a package that may be inherited from its workspace, as by `version.workspace = true`.
 #[derive(Debug, Clone, PartialEq, Eq)]
@@ -47,6 +50,21 @@ impl<T: Form> Form for MaybeInherited<T> {
         let workspace = True::decode(reader)?;
         keys.next(reader)?.is_none().then_some(MaybeInherited::Inherited { workspace })
     }
+
+    fn read(value: Value, aside: &mut Aside) -> Result<Self, Misfit> {
+        if read::is_inherited(&value) {
+            return Ok(MaybeInherited::inherited());
+        }
+        T::read(value, aside).map(MaybeInherited::Local)
+    }
+
+    fn wanted() -> Cow<'static, str> {
+        T::wanted()
+    }
+
+    fn wanted_at(path: &[Step]) -> Option<Cow<'static, str>> {
+        T::wanted_at(path)
+    }
 }
 
 impl<T: Encode> Encode for MaybeInherited<T> {
@@ -70,6 +88,18 @@ pub struct True;
 impl Form for True {
     fn decode(reader: &mut Reader<'_>) -> Option<True> {
         reader.tag(TRUE).map(|()| True)
+    }
+
+    fn read(value: Value, _: &mut Aside) -> Result<True, Misfit> {
+        match value {
+            Value::Boolean(true) => Ok(True),
+            Value::Boolean(false) => Err(Misfit::new::<True>(Cause::NotTrue)),
+            _ => Err(Misfit::wrong_kind::<True>()),
+        }
+    }
+
+    fn wanted() -> Cow<'static, str> {
+        "the boolean true".into()
     }
 }
 

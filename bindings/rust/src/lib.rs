@@ -5,6 +5,7 @@
 mod badge;
 pub mod calls;
 mod codec;
+mod completing;
 mod dependency;
 mod error;
 mod filesystem;
@@ -16,9 +17,11 @@ mod package;
 mod product;
 mod profile;
 mod reading;
+mod resolving;
 mod value;
 mod words;
 mod workspace;
+mod writing;
 
 pub use badge::{Badge, Badges, Maintenance, MaintenanceStatus};
 pub use calls::Cause;
@@ -28,15 +31,15 @@ pub use filesystem::{AbstractFilesystem, Filesystem};
 pub use inherited::{MaybeInherited, True};
 pub use lint::{Lint, LintConfig, LintLevel, MaybeInheritedLintsSet};
 pub use manifest::Manifest;
-pub use metadata::Metadata;
+pub use metadata::{Metadata, WrittenMetadata};
 pub use package::{Package, Publish, StringOrBool};
 pub use product::Product;
 pub use profile::{Profile, Profiles, StripSetting};
-pub use reading::canonical;
 use std::collections::BTreeMap;
 pub use value::{Date, Datetime, DatetimeParseError, Index, Map, Offset, Time, Value};
 pub use words::{Edition, Resolver};
 pub use workspace::{Workspace, WorkspacePackage};
+pub use writing::canonical;
 
 /// Dependencies by their names.
 pub type DepsSet = BTreeMap<String, Dependency>;

@@ -1,7 +1,8 @@
 //! Lints.
 
-use crate::codec::{record, words, Encode, Form, Reader, Writer, STRING};
-use crate::{ToolLintsSet, True};
+use crate::codec::{record, words, Aside, Encode, Form, Misfit, Reader, Step, Writer, STRING};
+use crate::{ToolLintsSet, True, Value};
+use std::borrow::Cow;
 
 record! {
     /// `[lints]` of a package: inherited from the workspace, or the lints of each tool.
@@ -55,6 +56,25 @@ impl Form for Lint {
         match reader.peek()? {
             STRING => LintLevel::decode(reader).map(Lint::Level),
             _ => LintConfig::decode(reader).map(Lint::Config),
+        }
+    }
+
+    fn read(value: Value, aside: &mut Aside) -> Result<Lint, Misfit> {
+        match value {
+            level @ Value::String(_) => Form::read(level, aside).map(Lint::Level),
+            table @ Value::Table(_) => Form::read(table, aside).map(Lint::Config),
+            _ => Err(Misfit::wrong_kind::<Lint>()),
+        }
+    }
+
+    fn wanted() -> Cow<'static, str> {
+        format!("{}, or a table", LintLevel::wanted()).into()
+    }
+
+    fn wanted_at(path: &[Step]) -> Option<Cow<'static, str>> {
+        match path {
+            [] => Some(Self::wanted()),
+            below => LintConfig::wanted_at(below),
         }
     }
 }

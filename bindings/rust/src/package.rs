@@ -1,7 +1,8 @@
 //! The package.
 
-use crate::codec::{record, Encode, Form, Reader, Writer, STRING};
-use crate::{Edition, MaybeInherited, Resolver};
+use crate::codec::{record, Aside, Encode, Form, Misfit, Reader, Step, Writer, ARRAY, STRING};
+use crate::{Edition, MaybeInherited, Resolver, Value};
+use std::borrow::Cow;
 
 record! {
     /// `[package]`.
@@ -137,6 +138,18 @@ impl Form for StringOrBool {
             _ => bool::decode(reader).map(StringOrBool::Bool),
         }
     }
+
+    fn read(value: Value, _: &mut Aside) -> Result<StringOrBool, Misfit> {
+        match value {
+            Value::String(text) => Ok(StringOrBool::String(text)),
+            Value::Boolean(flag) => Ok(StringOrBool::Bool(flag)),
+            _ => Err(Misfit::wrong_kind::<StringOrBool>()),
+        }
+    }
+
+    fn wanted() -> Cow<'static, str> {
+        "a string or a boolean".into()
+    }
 }
 
 impl Encode for StringOrBool {
@@ -191,8 +204,27 @@ impl PartialEq<Publish> for bool {
 impl Form for Publish {
     fn decode(reader: &mut Reader<'_>) -> Option<Publish> {
         match reader.peek()? {
-            crate::codec::ARRAY => Vec::decode(reader).map(Publish::Registry),
+            ARRAY => Vec::decode(reader).map(Publish::Registry),
             _ => bool::decode(reader).map(Publish::Flag),
+        }
+    }
+
+    fn read(value: Value, aside: &mut Aside) -> Result<Publish, Misfit> {
+        match value {
+            Value::Boolean(flag) => Ok(Publish::Flag(flag)),
+            names @ Value::Array(_) => Form::read(names, aside).map(Publish::Registry),
+            _ => Err(Misfit::wrong_kind::<Publish>()),
+        }
+    }
+
+    fn wanted() -> Cow<'static, str> {
+        "a boolean or an array of strings".into()
+    }
+
+    fn wanted_at(path: &[Step]) -> Option<Cow<'static, str>> {
+        match path {
+            [] => Some(Self::wanted()),
+            below => Vec::<String>::wanted_at(below),
         }
     }
 }

@@ -1,7 +1,8 @@
 //! Profiles.
 
-use crate::codec::{record, Encode, Form, Reader, Writer, STRING};
-use crate::{Error, Value};
+use crate::codec::{record, Aside, Encode, Form, Misfit, Reader, Writer, STRING};
+use crate::{Cause, Error, Value};
+use std::borrow::Cow;
 use std::collections::BTreeMap;
 
 record! {
@@ -110,6 +111,20 @@ impl Form for StripSetting {
             return reader.str().and_then(StripSetting::of_word);
         }
         bool::decode(reader).map(StripSetting::of_flag)
+    }
+
+    fn read(value: Value, _: &mut Aside) -> Result<StripSetting, Misfit> {
+        match value {
+            Value::Boolean(flag) => Ok(StripSetting::of_flag(flag)),
+            Value::String(word) => {
+                StripSetting::of_word(&word).ok_or_else(|| Misfit::new::<StripSetting>(Cause::NotAChoice))
+            }
+            _ => Err(Misfit::wrong_kind::<StripSetting>()),
+        }
+    }
+
+    fn wanted() -> Cow<'static, str> {
+        "a boolean, or one of the strings \"none\", \"symbols\", \"debuginfo\",".into()
     }
 }
 

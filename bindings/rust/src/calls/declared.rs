@@ -19,7 +19,25 @@ pub(crate) struct Answer {
 // sizes and offsets of the two, and runs both.
 extern "C" {
     pub(crate) fn manifest_canonical(bytes: *const u8, bytes_length: usize, out: *mut u8, out_length: usize) -> Answer;
-    fn manifest_table(bytes: *const u8, bytes_length: usize, out: *mut u8, out_length: usize) -> Answer;
+    pub(crate) fn manifest_table(bytes: *const u8, bytes_length: usize, out: *mut u8, out_length: usize) -> Answer;
+}
+
+#[cfg(calls_on_tables)]
+extern "C" {
+    fn manifest_version() -> u32;
+    pub(crate) fn manifest_table_without_metadata(
+        bytes: *const u8,
+        bytes_length: usize,
+        out: *mut u8,
+        out_length: usize,
+    ) -> Answer;
+    pub(crate) fn manifest_document(bytes: *const u8, bytes_length: usize, out: *mut u8, out_length: usize) -> Answer;
+    pub(crate) fn manifest_canonical_of_table(
+        table: *const u8,
+        table_length: usize,
+        out: *mut u8,
+        out_length: usize,
+    ) -> Answer;
 }
 
 /// Declares calls that take a root, folders or both, in this order, between the bytes and `out`.
@@ -44,6 +62,12 @@ declared! {
     manifest_resolved_table(root: u8, root_length);
     manifest_resolved_completed(root: u8, root_length, folders: Folder, folders_length);
     manifest_resolved_completed_table(root: u8, root_length, folders: Folder, folders_length);
+}
+
+#[cfg(calls_on_tables)]
+declared! {
+    manifest_completed_of_table(folders: Folder, folders_length);
+    manifest_resolved_of_tables(root: u8, root_length);
 }
 
 /// What is asked for of a manifest.
@@ -88,6 +112,7 @@ fn refused(answer: Answer, text: Vec<u8>) -> Refusal {
         11 => Refusal::InheritedInWorkspace(text_of(text)),
         12 => Refusal::MixedLints,
         13 => Refusal::ToolNamedWorkspace,
+        14 | 30 => Refusal::NoTable(part),
         _ => is_broken(),
     }
 }
@@ -175,5 +200,43 @@ pub(crate) fn resolve_and_complete(
             // SAFETY: as in `complete`.
             unsafe { call(bytes.as_ptr(), bytes.len(), root.as_ptr(), root.len(), at, count, out, room) }
         })
+    })
+}
+
+/// The version of the archive's calls.
+#[cfg(calls_on_tables)]
+pub(crate) fn version() -> u32 {
+    // SAFETY: the call takes nothing.
+    unsafe { manifest_version() }
+}
+
+/// A call that takes one slice.
+#[cfg(calls_on_tables)]
+type OnSlice = unsafe extern "C" fn(*const u8, usize, *mut u8, usize) -> Answer;
+
+/// What a call answers that takes one slice.
+#[cfg(calls_on_tables)]
+pub(crate) fn of_text(call: OnSlice, bytes: &[u8]) -> Result<Vec<u8>, Refusal> {
+    bytes_of(room_for(bytes.len()), |out, room| {
+        // SAFETY: as in `read`.
+        unsafe { call(bytes.as_ptr(), bytes.len(), out, room) }
+    })
+}
+
+/// A table, completed over folders that have so many names.
+#[cfg(calls_on_tables)]
+pub(crate) fn of_table(table: &[u8], folders: &[Folder], names: usize) -> Result<Vec<u8>, Refusal> {
+    bytes_of(room_for(table.len() + 64 * names), |out, room| {
+        // SAFETY: as in `complete`.
+        unsafe { manifest_completed_of_table(table.as_ptr(), table.len(), folders.as_ptr(), folders.len(), out, room) }
+    })
+}
+
+/// A table, with what it inherits from the workspace of the root's put in.
+#[cfg(calls_on_tables)]
+pub(crate) fn of_tables(member: &[u8], root: &[u8]) -> Result<Vec<u8>, Refusal> {
+    bytes_of(room_for(member.len() + root.len()), |out, room| {
+        // SAFETY: as in `read`.
+        unsafe { manifest_resolved_of_tables(member.as_ptr(), member.len(), root.as_ptr(), root.len(), out, room) }
     })
 }

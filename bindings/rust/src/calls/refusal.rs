@@ -135,6 +135,8 @@ pub enum Refusal {
     MixedLints,
     /// The manifest inherits its lints, and the workspace has lints of a tool named `workspace`.
     ToolNamedWorkspace,
+    /// The bytes are not the tagged bytes of a table.
+    NoTable(Part),
 }
 
 impl fmt::Display for Refusal {
@@ -151,6 +153,7 @@ impl fmt::Display for Refusal {
             Refusal::InheritedInWorkspace(name) => write!(f, "inherited in workspace: {name}"),
             Refusal::MixedLints => f.write_str("mixed lints"),
             Refusal::ToolNamedWorkspace => f.write_str("tool named workspace"),
+            Refusal::NoTable(part) => write!(f, "{part}no table"),
         }
     }
 }

@@ -1,13 +1,27 @@
 //! Strings, numbers, lists and maps.
 
 use super::reader::{ARRAY, BELOW_ZERO, FALSE, FROM_ZERO, STRING, TABLE, TRUE};
-use super::{Encode, Form, Reader, Writer};
+use super::{read, Aside, Encode, Form, Misfit, Reader, Step, Writer};
+use crate::calls::Cause;
+use crate::value::Value;
+use std::borrow::Cow;
 use std::collections::BTreeMap;
 
 impl Form for String {
     fn decode(reader: &mut Reader<'_>) -> Option<String> {
         reader.tag(STRING)?;
         reader.str().map(str::to_owned)
+    }
+
+    fn read(value: Value, _: &mut Aside) -> Result<String, Misfit> {
+        match value {
+            Value::String(text) => Ok(text),
+            _ => Err(Misfit::wrong_kind::<String>()),
+        }
+    }
+
+    fn wanted() -> Cow<'static, str> {
+        "a string".into()
     }
 }
 
@@ -25,6 +39,14 @@ impl Form for bool {
             _ => None,
         }
     }
+
+    fn read(value: Value, _: &mut Aside) -> Result<bool, Misfit> {
+        value.as_bool().ok_or_else(Misfit::wrong_kind::<bool>)
+    }
+
+    fn wanted() -> Cow<'static, str> {
+        "a boolean".into()
+    }
 }
 
 impl Encode for bool {
@@ -33,13 +55,12 @@ impl Encode for bool {
     }
 }
 
-impl Form for i64 {
-    fn decode(reader: &mut Reader<'_>) -> Option<i64> {
-        match reader.byte()? {
-            FROM_ZERO => i64::try_from(reader.number()?).ok(),
-            BELOW_ZERO => i64::try_from(reader.number()?).ok().map(|number| !number),
-            _ => None,
-        }
+/// An integer.
+pub(crate) fn integer(reader: &mut Reader<'_>) -> Option<i64> {
+    match reader.byte()? {
+        FROM_ZERO => i64::try_from(reader.number()?).ok(),
+        BELOW_ZERO => i64::try_from(reader.number()?).ok().map(|number| !number),
+        _ => None,
     }
 }
 
@@ -56,7 +77,16 @@ macro_rules! small_integer {
         $(
             impl Form for $integer {
                 fn decode(reader: &mut Reader<'_>) -> Option<$integer> {
-                    i64::decode(reader)?.try_into().ok()
+                    integer(reader)?.try_into().ok()
+                }
+
+                fn read(value: Value, _: &mut Aside) -> Result<$integer, Misfit> {
+                    let number = value.as_integer().ok_or_else(Misfit::wrong_kind::<$integer>)?;
+                    number.try_into().map_err(|_| Misfit::new::<$integer>(Cause::OutOfRange))
+                }
+
+                fn wanted() -> Cow<'static, str> {
+                    format!("an integer from {} to {}", $integer::MIN, $integer::MAX).into()
                 }
             }
 
@@ -81,6 +111,25 @@ impl<T: Form> Form for Vec<T> {
         }
         Some(items)
     }
+
+    fn read(value: Value, aside: &mut Aside) -> Result<Vec<T>, Misfit> {
+        match value {
+            Value::Array(items) => read::items(items, aside),
+            _ => Err(Misfit::wrong_kind::<Vec<T>>()),
+        }
+    }
+
+    fn wanted() -> Cow<'static, str> {
+        "an array".into()
+    }
+
+    fn wanted_at(path: &[Step]) -> Option<Cow<'static, str>> {
+        match path {
+            [] => Some(Self::wanted()),
+            [Step::Place(_), path @ ..] => T::wanted_at(path),
+            [Step::Key(_), ..] => None,
+        }
+    }
 }
 
 impl<T: Encode> Encode for Vec<T> {
@@ -103,6 +152,22 @@ impl<T: Form> Form for BTreeMap<String, T> {
         // (the keys ascend, so this sorts nothing)
         Some(members.into_iter().collect())
     }
+
+    fn read(value: Value, aside: &mut Aside) -> Result<BTreeMap<String, T>, Misfit> {
+        read::others(read::members::<Self>(value)?, aside)
+    }
+
+    fn wanted() -> Cow<'static, str> {
+        "a table".into()
+    }
+
+    fn wanted_at(path: &[Step]) -> Option<Cow<'static, str>> {
+        match path {
+            [] => Some(Self::wanted()),
+            [Step::Key(_), path @ ..] => T::wanted_at(path),
+            [Step::Place(_), ..] => None,
+        }
+    }
 }
 
 impl<T: Encode> Encode for BTreeMap<String, T> {
@@ -113,5 +178,24 @@ impl<T: Encode> Encode for BTreeMap<String, T> {
             writer.str(key);
             value.encode(writer);
         }
+    }
+}
+
+/// A value that is there. (Whether a key is absent its row says.)
+impl<T: Form> Form for Option<T> {
+    fn decode(reader: &mut Reader<'_>) -> Option<Option<T>> {
+        T::decode(reader).map(Some)
+    }
+
+    fn read(value: Value, aside: &mut Aside) -> Result<Option<T>, Misfit> {
+        T::read(value, aside).map(Some)
+    }
+
+    fn wanted() -> Cow<'static, str> {
+        T::wanted()
+    }
+
+    fn wanted_at(path: &[Step]) -> Option<Cow<'static, str>> {
+        T::wanted_at(path)
     }
 }

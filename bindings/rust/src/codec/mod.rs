@@ -3,22 +3,39 @@
 //! A type is given by its rows, once: [`record`] makes of them the struct, what reads it and what writes it.
 
 mod containers;
+mod path;
+pub(crate) mod read;
 mod reader;
 mod record;
 mod words;
 mod writer;
 
+pub(crate) use containers::integer;
 pub(crate) use reader::{Keys, Reader, ARRAY, DATETIME, FALSE, FLOAT, STRING, TABLE, TRUE};
 pub(crate) use record::{others_of, record, row};
 pub(crate) use words::words;
 pub(crate) use writer::{AsideOf, Members, Writer};
 
 use crate::value::Value;
+pub(crate) use path::{steps, Step};
+pub(crate) use read::Misfit;
+use std::borrow::Cow;
 
 /// What stands in the table of a manifest as one value.
 pub(crate) trait Form: Sized {
     /// The value that the bytes hold next. There is none where they are not what the library writes of this type.
     fn decode(reader: &mut Reader<'_>) -> Option<Self>;
+
+    /// The value, read as the definitions say: by each spelling of a key, with defaults for what is absent.
+    fn read(value: Value, aside: &mut Aside) -> Result<Self, Misfit>;
+
+    /// What is wanted, as `a string`.
+    fn wanted() -> Cow<'static, str>;
+
+    /// What is wanted at a path below, if that is known.
+    fn wanted_at(path: &[Step]) -> Option<Cow<'static, str>> {
+        path.is_empty().then(Self::wanted)
+    }
 }
 
 /// What can be written as one value of the table of a manifest.

@@ -47,6 +47,28 @@ macro_rules! record {
                     $($others: $others.into_iter().collect(),)?
                 })
             }
+
+            fn read(value: $crate::Value, aside: &mut $crate::codec::Aside) -> Result<Self, $crate::codec::Misfit> {
+                let mut members = $crate::codec::read::members::<Self>(value)?;
+                Ok($name {
+                    $($field: $crate::codec::row!(read members aside $key ($($second)?) $how $(($($with)+))?),)+
+                    $($others: $crate::codec::read::others::<$other>(members, aside)?,)?
+                })
+            }
+
+            fn wanted() -> std::borrow::Cow<'static, str> {
+                "a table".into()
+            }
+
+            fn wanted_at(path: &[$crate::codec::Step]) -> Option<std::borrow::Cow<'static, str>> {
+                let [$crate::codec::Step::Key(key), path @ ..] = path else {
+                    return path.is_empty().then(Self::wanted);
+                };
+                match key.as_str() {
+                    $($key $(| $second)? => $crate::codec::row!(wanted path ($type) $how $(($($with)+))?),)+
+                    _ => $crate::codec::others_of!(wanted path $($other)?),
+                }
+            }
         }
 
         impl $(<$($param),+>)? $crate::codec::Encode for $name $(<$($param),+>)? {
@@ -82,6 +104,32 @@ macro_rules! row {
     (done $field:ident lenient_default($with:expr)) => { $field? };
     (done $field:ident unless($with:expr)) => { $field.unwrap_or_else(|| $with) };
     (done $field:ident $how:ident $(($($with:tt)+))?) => { $field };
+    (read $members:ident $aside:ident $key:literal ($($second:literal)?) metadata($place:ident)) => {{
+        $aside.$place = $members.remove($key);
+        None
+    }};
+    (read $members:ident $aside:ident $key:literal ($($second:literal)?) needed) => {
+        $crate::codec::read::needed(&mut $members, $key, $crate::codec::row!(second $($second)?), $aside)?
+    };
+    (read $members:ident $aside:ident $key:literal ($($second:literal)?) optional) => {
+        $crate::codec::read::optional(&mut $members, $key, $crate::codec::row!(second $($second)?), $aside)?
+    };
+    (read $members:ident $aside:ident $key:literal ($($second:literal)?) lenient) => {
+        $crate::codec::read::optional(&mut $members, $key, None, $aside).unwrap_or_default()
+    };
+    (read $members:ident $aside:ident $key:literal ($($second:literal)?) lenient_default($with:expr)) => {
+        $crate::codec::read::optional(&mut $members, $key, None, $aside).unwrap_or_default().unwrap_or_else(|| $with)
+    };
+    (read $members:ident $aside:ident $key:literal ($($second:literal)?) $how:ident($with:expr)) => {
+        $crate::codec::read::optional(&mut $members, $key, $crate::codec::row!(second $($second)?), $aside)?
+            .unwrap_or_else(|| $with)
+    };
+    (second) => { None };
+    (second $second:literal) => { Some($second) };
+    (wanted $path:ident ($type:ty) metadata($place:ident)) => { None };
+    (wanted $path:ident ($type:ty) $how:ident $(($with:expr))?) => {
+        <$type as $crate::codec::Form>::wanted_at($path)
+    };
     (encode $writer:ident $members:ident $key:literal ($value:expr) metadata($place:ident)) => {
         if $writer.aside.$place.is_some() {
             $members.push($key, &$crate::codec::AsideOf::$place);
@@ -110,6 +158,10 @@ pub(crate) use row;
 
 /// What is done with a key that no row has.
 macro_rules! others_of {
+    (wanted $path:ident) => { None };
+    (wanted $path:ident $other:ty) => {
+        <std::collections::BTreeMap<String, $other> as $crate::codec::Form>::wanted_at($path)
+    };
     ($reader:ident $key:ident) => {{
         let _ = $key;
         return None;

@@ -33,6 +33,16 @@ macro_rules! words {
                 reader.tag($crate::codec::STRING)?;
                 reader.str().and_then($name::of_word)
             }
+
+            fn read(value: $crate::Value, _: &mut $crate::codec::Aside) -> Result<$name, $crate::codec::Misfit> {
+                let word = value.as_str().ok_or_else($crate::codec::Misfit::wrong_kind::<$name>)?;
+                $name::of_word(word).ok_or_else(|| $crate::codec::Misfit::new::<$name>($crate::Cause::NotAChoice))
+            }
+
+            fn wanted() -> std::borrow::Cow<'static, str> {
+                let words = [$($word),+].map(|word| format!("{word:?}"));
+                format!("one of the strings {}", words.join(", ")).into()
+            }
         }
 
         impl $crate::codec::Encode for $name {

@@ -1,7 +1,10 @@
 //! Values as tagged bytes. Both ways go by a loop, so that no nesting takes stack.
 
 use super::{Date, Datetime, Offset, Time, Value};
-use crate::codec::{Encode, Form, Reader, Writer, ARRAY, DATETIME, FLOAT, TABLE};
+use crate::calls::Cause;
+use crate::codec::{integer, Aside, Encode, Form, Keys, Misfit, Reader, Step, Writer};
+use crate::codec::{ARRAY, DATETIME, FALSE, FLOAT, STRING, TABLE, TRUE};
+use std::borrow::Cow;
 use std::collections::btree_map;
 use std::slice;
 
@@ -54,16 +57,16 @@ fn simple(reader: &mut Reader<'_>) -> Option<Value> {
             reader.tag(FLOAT)?;
             Value::Float(f64::from_bits(reader.number()?))
         }
-        crate::codec::STRING => Value::String(Form::decode(reader)?),
-        crate::codec::FALSE | crate::codec::TRUE => Value::Boolean(Form::decode(reader)?),
-        _ => Value::Integer(Form::decode(reader)?),
+        STRING => Value::String(Form::decode(reader)?),
+        FALSE | TRUE => Value::Boolean(Form::decode(reader)?),
+        _ => Value::Integer(integer(reader)?),
     })
 }
 
 /// An array or a table that is being read: what was read, and in a table the key of the next value.
 enum Open<'a> {
     Array(u64, Vec<Value>),
-    Table(crate::codec::Keys<'a>, Vec<(String, Value)>, &'a str),
+    Table(Keys<'a>, Vec<(String, Value)>, &'a str),
 }
 
 impl<'a> Open<'a> {
@@ -118,10 +121,28 @@ impl Form for Value {
             }
         }
     }
+
+    fn read(value: Value, _: &mut Aside) -> Result<Value, Misfit> {
+        if value.holds_float() {
+            return Err(Misfit::new::<Value>(Cause::HoldsFloat));
+        }
+        Ok(value)
+    }
+
+    fn wanted() -> Cow<'static, str> {
+        "a value without a float".into()
+    }
+
+    fn wanted_at(_: &[Step]) -> Option<Cow<'static, str>> {
+        Some(Self::wanted())
+    }
 }
 
 impl Encode for Datetime {
     fn encode(&self, writer: &mut Writer) {
+        if !self.is_one() {
+            writer.refuse("a date-time has parts that no date-time of TOML has".into());
+        }
         writer.byte(DATETIME);
         writer.byte(self.date.is_some().into());
         if let Some(date) = &self.date {
@@ -211,4 +232,20 @@ pub(crate) fn decoded(bytes: &[u8]) -> Option<Value> {
     let mut reader = Reader::new(bytes);
     let value = Value::decode(&mut reader)?;
     reader.is_at_end().then_some(value)
+}
+
+impl Value {
+    /// Whether there is a float in the value.
+    pub(crate) fn holds_float(&self) -> bool {
+        let mut left = vec![self];
+        while let Some(value) = left.pop() {
+            match value {
+                Value::Float(_) => return true,
+                Value::Array(items) => left.extend(items),
+                Value::Table(members) => left.extend(members.values()),
+                _ => {}
+            }
+        }
+        false
+    }
 }

@@ -60,6 +60,18 @@ pub enum Offset {
     Minutes(i16),
 }
 
+impl Datetime {
+    /// Whether the parts are those of a date-time of TOML, which is read back from its text.
+    pub(crate) fn is_one(&self) -> bool {
+        let mut printed = *self;
+        if let Some(time) = &mut printed.time {
+            // (a fraction of 0 is not printed)
+            time.nanosecond = time.nanosecond.filter(|nanosecond| *nanosecond > 0);
+        }
+        read(&self.to_string()) == Some(printed)
+    }
+}
+
 impl fmt::Debug for Datetime {
     fn fmt(&self, f: &mut fmt::Formatter<'_>) -> fmt::Result {
         fmt::Display::fmt(self, f)

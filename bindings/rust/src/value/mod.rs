@@ -7,6 +7,7 @@ mod text;
 
 pub use access::Index;
 pub(crate) use codec::decoded;
+pub(crate) use text::{inline, key};
 pub use datetime::{Date, Datetime, DatetimeParseError, Offset, Time};
 use std::collections::BTreeMap;
 
