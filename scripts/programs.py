@@ -80,12 +80,17 @@ def over_the_crate(crate):
     return f'{{ path = "{crate}" }}'
 
 
-def answer(program, words, pairs=()):
-    """What a program prints of cases."""
-    run = subprocess.run([program, *words], input=cases(pairs), capture_output=True, timeout=600)
+def told_of(program, words, data):
+    """What a program prints of these bytes."""
+    run = subprocess.run([program, *words], input=data, capture_output=True, timeout=600)
     if run.returncode != 0:
         raise ValueError(f"{program} {words}: status {run.returncode}\n{run.stderr.decode('utf-8', 'replace')}")
-    return run.stdout.decode("utf-8")
+    return run.stdout
+
+
+def answer(program, words, pairs=()):
+    """What a program prints of cases."""
+    return told_of(program, words, cases(pairs)).decode("utf-8")
 
 
 def on_disk(program):
@@ -106,6 +111,7 @@ def answers(built_in):
         "debug-manifests.txt": lambda: answer(debug, ["texts"], manifests()),
         "debug-completions.txt": lambda: answer(debug, ["lists"], folders()),
         "debug-usual.txt": lambda: answer(debug, ["lists"], folders("usual.jsonl")),
+        "debug-queries.txt": lambda: answer(debug, ["queries"], manifests()),
         "debug-defaults.txt": lambda: answer(debug, ["defaults"]),
         "registry.txt": lambda: answer(built_in / "registry", [], uses()),
         "planner.txt": lambda: answer(built_in / "planner", [], uses()),

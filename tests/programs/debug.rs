@@ -3,6 +3,7 @@
 //! - `debug texts < CASES`: each text, read;
 //! - `debug lists < CASES`: each text, read and completed over its files, which are listed in memory;
 //! - `debug paths < CASES`: each text is the path of a file, which is read and completed over its folder;
+//! - `debug queries < CASES`: what the types answer of themselves in each text, read;
 //! - `debug defaults`: the values that the types have by themselves.
 //!
 //! A refusal is the line `refused: ` with the kind of the error and, where the crate's own words are no reader's, these words.
@@ -44,6 +45,77 @@ fn found(case: &Case) -> Result<Manifest, Error> {
     Manifest::from_path(std::str::from_utf8(&case.text).expect("UTF-8"))
 }
 
+/// What a dependency answers of itself.
+fn of_dependency(name: &str, dependency: &Dependency) -> String {
+    format!(
+        "{name:?}: {:?} {:?} {} {:?} {:?} {} {} {}",
+        dependency.req(),
+        dependency.req_features(),
+        dependency.optional(),
+        dependency.package(),
+        dependency.git(),
+        dependency.is_crates_io(),
+        dependency.detail().is_some(),
+        dependency.clone().simplify() == *dependency,
+    )
+}
+
+fn of_lints(lints: &LintsSet) -> impl Iterator<Item = String> + '_ {
+    let all = lints.iter().flat_map(|(tool, set)| set.iter().map(move |(name, lint)| (tool, name, lint)));
+    all.map(|(tool, name, lint)| format!("{tool:?}.{name:?}: {} {}", lint.level().as_str(), lint.priority()))
+}
+
+fn of_package(package: &Package) -> String {
+    let edition = match &package.edition {
+        Some(MaybeInherited::Local(edition)) => edition.as_str(),
+        Some(MaybeInherited::Inherited { .. }) => "inherited",
+        None => "none",
+    };
+    let publish = package.publish.clone().and_then(MaybeInherited::as_local).unwrap_or_default();
+    let build = package.build.as_ref().map(|build| *build == StringOrBool::Bool(true));
+    format!("{:?} {edition} {} {} {build:?}", package.version(), publish == true, false == publish)
+}
+
+/// What the parts of a manifest answer of themselves.
+fn of_manifest(manifest: &Manifest) -> String {
+    let mut said = vec![format!(
+        "{} {} {} {}",
+        manifest.autobins(),
+        manifest.autoexamples(),
+        manifest.autotests(),
+        manifest.autobenches()
+    )];
+    said.extend(manifest.package.as_ref().map(of_package));
+    let mut sets: Vec<&DepsSet> = Vec::new();
+    sets.extend(&manifest.dependencies);
+    sets.extend(&manifest.dev_dependencies);
+    sets.extend(&manifest.build_dependencies);
+    sets.extend(manifest.workspace.as_ref().and_then(|workspace| workspace.dependencies.as_ref()));
+    sets.extend(manifest.patch.iter().flat_map(|patch| patch.values()));
+    for target in manifest.target.iter().flat_map(|targets| targets.values()) {
+        sets.extend([&target.dependencies, &target.dev_dependencies, &target.build_dependencies]);
+    }
+    said.extend(sets.into_iter().flatten().map(|(name, dependency)| of_dependency(name, dependency)));
+    if let Some(lints) = &manifest.lints {
+        said.push(format!("inherited lints: {}", lints.is_inherited()));
+        said.extend(of_lints(&lints.lints));
+    }
+    said.extend(manifest.workspace.iter().filter_map(|workspace| workspace.lints.as_ref()).flat_map(of_lints));
+    said.join("; ")
+}
+
+fn asked(case: &Case) -> String {
+    match read(case) {
+        Ok(manifest) => of_manifest(&manifest),
+        refused => said(refused),
+    }
+}
+
+/// What `strip` is of a value.
+fn strip(value: Value) -> String {
+    format!("{:?}", StripSetting::try_from(value).map_err(|_| "refused"))
+}
+
 /// What the types have by themselves.
 fn defaults() -> Vec<String> {
     let manifest: Manifest = Manifest::default();
@@ -63,6 +135,8 @@ fn defaults() -> Vec<String> {
         format!("{:?} {:?} {:?}", Edition::default(), Resolver::default(), Publish::default()),
         format!("{:?}", MaybeInherited::<String>::inherited()),
         format!("{:?} {:?}", Lint::Level(LintLevel::Warn), StripSetting::Debuginfo),
+        ["none", "debuginfo", "symbols", "", "None"].map(|word| strip(Value::String(word.to_string()))).join(" "),
+        [Value::Boolean(true), Value::Boolean(false), Value::Integer(1), Value::Array(vec![])].map(strip).join(" "),
     ]
 }
 
@@ -72,8 +146,9 @@ fn main() -> io::Result<()> {
         "texts" => cases::read().iter().map(|case| said(read(case))).collect(),
         "lists" => cases::read().iter().map(|case| said(listed(case))).collect(),
         "paths" => cases::read().iter().map(|case| said(found(case))).collect(),
+        "queries" => cases::read().iter().map(asked).collect(),
         "defaults" => defaults(),
-        _ => panic!("usage: debug texts | lists | paths | defaults"),
+        _ => panic!("usage: debug texts | lists | paths | queries | defaults"),
     };
     let mut out = BufWriter::new(io::stdout());
     lines.iter().try_for_each(|line| writeln!(out, "{line}"))?;
