@@ -18,6 +18,10 @@ mod product;
 mod profile;
 mod reading;
 mod resolving;
+#[cfg(feature = "serde")]
+mod serde;
+#[cfg(feature = "toml")]
+mod toml;
 mod value;
 mod words;
 mod workspace;
@@ -35,6 +39,8 @@ pub use metadata::{Metadata, WrittenMetadata};
 pub use package::{Package, Publish, StringOrBool};
 pub use product::Product;
 pub use profile::{Profile, Profiles, StripSetting};
+#[cfg(feature = "serde")]
+pub use self::serde::ValueError;
 use std::collections::BTreeMap;
 pub use value::{Date, Datetime, DatetimeParseError, Index, Map, Offset, Time, Value};
 pub use words::{Edition, Resolver};

@@ -32,7 +32,7 @@ impl WrittenMetadata for Value {
 }
 
 #[cfg(feature = "serde")]
-impl<T: serde::de::DeserializeOwned> Metadata for T {
+impl<T: ::serde::de::DeserializeOwned> Metadata for T {
     fn read(value: Value, path: &str) -> Result<T, Error> {
         let read = T::deserialize(value);
         read.map_err(|error| crate::ParseError::of_metadata(path, &error.to_string()).into())
@@ -40,7 +40,7 @@ impl<T: serde::de::DeserializeOwned> Metadata for T {
 }
 
 #[cfg(feature = "serde")]
-impl<T: serde::Serialize> WrittenMetadata for T {
+impl<T: ::serde::Serialize> WrittenMetadata for T {
     fn written(&self, path: &str) -> Result<Value, Error> {
         let written = Value::try_from(self);
         written.map_err(|error| Error::Other(format!("`{path}` cannot be written: {error}")))

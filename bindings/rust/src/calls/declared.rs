@@ -151,7 +151,12 @@ pub(crate) fn read(output: Output, bytes: &[u8]) -> Result<Vec<u8>, Refusal> {
         Output::Text => manifest_canonical,
         Output::Table => manifest_table,
     };
-    bytes_of(room_for(bytes.len()), |out, room| {
+    let room = match output {
+        Output::Text => room_for(bytes.len()),
+        // (a table has no spaces, and each of its numbers is short)
+        Output::Table => bytes.len() + bytes.len() / 8 + 256,
+    };
+    bytes_of(room, |out, room| {
         // SAFETY: both pointers are of slices that live through the call and do not overlap, with their lengths.
         unsafe { call(bytes.as_ptr(), bytes.len(), out, room) }
     })

@@ -104,8 +104,8 @@ small_integer! { i8 u16 }
 impl<T: Form> Form for Vec<T> {
     fn decode(reader: &mut Reader<'_>) -> Option<Vec<T>> {
         reader.tag(ARRAY)?;
-        let (count, most) = reader.count()?;
-        let mut items = Vec::with_capacity(most.min(64));
+        let count = reader.number()?;
+        let mut items = Vec::with_capacity(reader.at_most(count, 1));
         for _ in 0..count {
             items.push(T::decode(reader)?);
         }
@@ -145,7 +145,7 @@ impl<T: Encode> Encode for Vec<T> {
 impl<T: Form> Form for BTreeMap<String, T> {
     fn decode(reader: &mut Reader<'_>) -> Option<BTreeMap<String, T>> {
         let mut keys = reader.table()?;
-        let mut members = Vec::new();
+        let mut members = Vec::with_capacity(reader.at_most(keys.left(), 2));
         while let Some(key) = keys.next(reader)? {
             members.push((key.to_owned(), T::decode(reader)?));
         }

@@ -17,6 +17,8 @@ pub(crate) use words::words;
 pub(crate) use writer::{AsideOf, Members, Writer};
 
 use crate::value::Value;
+#[cfg(feature = "serde")]
+pub(crate) use path::text as path_text;
 pub(crate) use path::{steps, Step};
 pub(crate) use read::Misfit;
 use std::borrow::Cow;

@@ -1,6 +1,7 @@
 //! Tagged bytes, read from the front. `docs/LIBRARY.md` has their layout.
 
 use super::{Aside, Form};
+use crate::value::Value;
 
 pub(crate) const STRING: u8 = 1;
 pub(crate) const FROM_ZERO: u8 = 2;
@@ -45,7 +46,17 @@ impl<'a> Reader<'a> {
     }
 
     /// Groups of seven bits, the lowest first, with 128 added to each but the last.
+    #[inline]
     pub(crate) fn number(&mut self) -> Option<u64> {
+        // most numbers are lengths below 128
+        if let Some((&byte @ ..128, left)) = self.left.split_first() {
+            self.left = left;
+            return Some(byte.into());
+        }
+        self.long_number()
+    }
+
+    fn long_number(&mut self) -> Option<u64> {
         let mut number = 0;
         for group in 0..10 {
             let byte = self.byte()?;
@@ -61,20 +72,23 @@ impl<'a> Reader<'a> {
         None
     }
 
-    /// A string without its tag.
-    pub(crate) fn str(&mut self) -> Option<&'a str> {
+    /// The bytes of a string without its tag.
+    fn bytes(&mut self) -> Option<&'a [u8]> {
         let length = usize::try_from(self.number()?).ok()?;
-        let (text, left) = self.left.split_at_checked(length)?;
+        let (bytes, left) = self.left.split_at_checked(length)?;
         self.left = left;
-        std::str::from_utf8(text).ok()
+        Some(bytes)
     }
 
-    /// How many values an array or a table has, and at most how many of them can be in the bytes that are left: what is
-    /// reserved for them is no larger than the bytes, whatever these say.
-    pub(crate) fn count(&mut self) -> Option<(u64, usize)> {
-        let count = self.number()?;
-        let most = usize::try_from(count).unwrap_or(usize::MAX).min(self.left.len());
-        Some((count, most))
+    /// A string without its tag.
+    pub(crate) fn str(&mut self) -> Option<&'a str> {
+        std::str::from_utf8(self.bytes()?).ok()
+    }
+
+    /// The count, but no more than are in the bytes that are left, of which each takes so many at least: for so many there
+    /// may be room made, whatever the bytes say.
+    pub(crate) fn at_most(&self, count: u64, size: usize) -> usize {
+        usize::try_from(count).unwrap_or(usize::MAX).min(self.left.len() / size)
     }
 
     /// The keys of a table, whose tag is next.
@@ -85,10 +99,10 @@ impl<'a> Reader<'a> {
 
     /// Whether a table is next whose `workspace` is true.
     pub(crate) fn is_inherited(&self) -> Option<bool> {
-        let mut ahead = Reader::new(self.left);
-        if ahead.peek()? != TABLE {
+        if self.peek()? != TABLE {
             return Some(false);
         }
+        let mut ahead = Reader::new(self.left);
         let mut keys = ahead.table()?;
         while let Some(key) = keys.next(&mut ahead)? {
             if key == "workspace" {
@@ -99,9 +113,17 @@ impl<'a> Reader<'a> {
         Some(false)
     }
 
-    /// Steps over a value, by a loop.
+    /// Steps over a value.
     fn skip(&mut self) -> Option<()> {
-        crate::value::Value::decode(self).map(drop)
+        match self.peek()? {
+            STRING => {
+                self.byte()?;
+                self.bytes().map(drop)
+            }
+            FALSE | TRUE => self.byte().map(drop),
+            // (what else may stand beside a key `workspace` is rare)
+            _ => Value::decode(self).map(drop),
+        }
     }
 }
 
@@ -112,6 +134,11 @@ pub(crate) struct Keys<'a> {
 }
 
 impl<'a> Keys<'a> {
+    /// How many keys are still to come.
+    pub(crate) fn left(&self) -> u64 {
+        self.left
+    }
+
     /// The next key, whose value stands behind it; or none, where there are no more.
     pub(crate) fn next(&mut self, reader: &mut Reader<'a>) -> Option<Option<&'a str>> {
         if self.left == 0 {

@@ -87,6 +87,20 @@ macro_rules! record {
                 members.encode(writer);
             }
         }
+
+        #[cfg(feature = "serde")]
+        impl $(<$($param: ::serde::Serialize),+>)? ::serde::Serialize for $name $(<$($param),+>)? {
+            fn serialize<S: ::serde::Serializer>(&self, serializer: S) -> Result<S::Ok, S::Error> {
+                let mut members = serializer.serialize_map(None)?;
+                $($crate::codec::row!(serialize members $key (&self.$field) $how $(($($with)+))?);)+
+                $(
+                    for (key, value) in &self.$others {
+                        ::serde::ser::SerializeMap::serialize_entry(&mut members, key, value)?;
+                    }
+                )?
+                ::serde::ser::SerializeMap::end(members)
+            }
+        }
     };
 }
 pub(crate) use record;
@@ -152,6 +166,25 @@ macro_rules! row {
     };
     (encode $writer:ident $members:ident $key:literal ($value:expr) $how:ident $(($($with:tt)+))?) => {
         $members.push($key, $value)
+    };
+    (serialize $members:ident $key:literal ($value:expr) metadata($place:ident)) => {
+        $crate::codec::row!(serialize $members $key ($value) optional)
+    };
+    (serialize $members:ident $key:literal ($value:expr) lenient) => {
+        $crate::codec::row!(serialize $members $key ($value) optional)
+    };
+    (serialize $members:ident $key:literal ($value:expr) optional) => {
+        if let Some(value) = $value {
+            ::serde::ser::SerializeMap::serialize_entry(&mut $members, $key, value)?;
+        }
+    };
+    (serialize $members:ident $key:literal ($value:expr) unless($with:expr)) => {
+        if *$value != $with {
+            ::serde::ser::SerializeMap::serialize_entry(&mut $members, $key, $value)?;
+        }
+    };
+    (serialize $members:ident $key:literal ($value:expr) $how:ident $(($with:expr))?) => {
+        ::serde::ser::SerializeMap::serialize_entry(&mut $members, $key, $value)?
     };
 }
 pub(crate) use row;
