@@ -7,7 +7,7 @@ import subprocess
 import tempfile
 from pathlib import Path
 
-from archive import BINDINGS, TOP
+from archive import BINDINGS, TOP, counts, told
 from documents import LIMIT
 from runs import ANSWERS, make, stored
 
@@ -18,6 +18,8 @@ BOTH = ("debug", "registry", "planner")
 OURS = ("changes", "threads", "stack")
 # of the changes that are made at random
 SEED = "1"
+# how many faults of a file are told
+TOLD = 5
 
 STRING = r'"(?:[^"\\]|\\.)*"'
 # a string, which may hold anything; or what {:?} prints of an inherited dependency, up to the field that is taken out, and it
@@ -162,3 +164,43 @@ def stack_fault(program, step, stack, text):
     if (run.returncode, run.stdout) == (0, b"1\n"):
         return None
     return f"status {run.returncode}, {run.stdout}, {run.stderr.decode('utf-8', 'replace')}"
+
+
+def asked(name, ask):
+    """What a program prints; a program that does not come to its end has failed, and is told."""
+    try:
+        return ask()
+    except (ValueError, subprocess.TimeoutExpired) as fault:
+        told(name, fault)
+        return None
+
+
+def lines_of(text):
+    """The lines of what is printed: no other sign than a line feed ends one."""
+    return text.split("\n")[:-1]
+
+
+def count_lines(name, said, due, fault_of):
+    """Counts each line that a program has printed and that is due; `fault_of` a line number, a line and what is due is what
+    is wrong, or None. The first faults are told."""
+    said, due = lines_of(said), lines_of(due)
+    told(f"{name}: how many lines", None if len(said) == len(due) else f"{len(said)} where {len(due)} are due")
+    failed = 0
+    for number, (line, wanted) in enumerate(zip(said, due), 1):
+        fault = fault_of(number, line, wanted)
+        failed += fault is not None
+        if failed <= TOLD or fault is None:
+            told(f"{name}: line {number}", fault)
+        else:
+            counts[1] += 1
+    if failed > TOLD:
+        print(f"{name}: and {failed - TOLD} lines more")
+
+
+def first_difference(said, due):
+    """Where two lines differ first, or None."""
+    if said == due:
+        return None
+    at = next((at for at, (one, other) in enumerate(zip(said, due)) if one != other), min(len(said), len(due)))
+    before = max(0, at - 100)
+    return f"it says ..{said[before:at + 100]}.. where ..{due[before:at + 100]}.. is due"
