@@ -11,10 +11,13 @@ use std::str::FromStr;
 
 /// The manifest of a table that the library wrote, with the metadata beside it.
 pub(crate) fn decode<P, W>(table: &[u8]) -> (Manifest<P, W>, Aside) {
-    let Some((manifest, aside)) = decoded(table) else { is_broken() };
+    let Some((manifest, mut aside)) = decoded(table) else { is_broken() };
     if cfg!(debug_assertions) {
-        let again = encode(&manifest, aside.clone());
-        assert!(again.is_ok_and(|again| again == table), "a manifest is not written as it was read");
+        // (the metadata is lent to the writer: a copy would take stack by its depth)
+        let mut writer = Writer::new(aside);
+        manifest.encode(&mut writer);
+        aside = std::mem::take(&mut writer.aside);
+        assert!(writer.finish().is_ok_and(|again| again == table), "a manifest is not written as it was read");
     }
     (manifest, aside)
 }

@@ -105,6 +105,7 @@ impl Encode for AsideOf {
         // (a row is written only where there is metadata)
         if let Some(value) = (self.0)(&mut writer.aside).take() {
             value.encode(writer);
+            *(self.0)(&mut writer.aside) = Some(value);
         }
     }
 }

@@ -1,0 +1,206 @@
+"""What scripts/typed and scripts/rust_crate share: the programs of tests/programs, built over one crate or the other, what
+they are handed, and which stored answers of tests/rust-answers are theirs."""
+import os
+import re
+import shutil
+import subprocess
+import tempfile
+from pathlib import Path
+
+from archive import BINDINGS, TOP, counts, told
+from documents import LIMIT
+from runs import ANSWERS, make, stored
+
+PROGRAMS = TOP / "tests" / "programs"
+# the programs that a user of either crate could have written
+BOTH = ("debug", "registry", "planner")
+# those that ask for more than the original has
+OURS = ("changes", "threads", "stack")
+# of the changes that are made at random
+SEED = "1"
+# how many faults of a file are told
+TOLD = 5
+
+STRING = r'"(?:[^"\\]|\\.)*"'
+# a string, which may hold anything; or what {:?} prints of an inherited dependency, up to the field that is taken out, and it
+INHERITED = re.compile(
+    rf"{STRING}|(InheritedDependencyDetail \{{ workspace: True, features: (?:None|Some\(\[(?:{STRING}(?:, )?)*\]\)), "
+    r"optional: (?:None|Some\((?:true|false)\)))(, default_features: (None|Some\((true|false)\)))(?= \})"
+)
+
+
+def cases(pairs):
+    """Texts with the files beside them, as the programs read them (cases.rs)."""
+    parts = []
+    for text, files in pairs:
+        data = text.encode("utf-8")
+        parts += [f"{len(data)} {len(files)}\n".encode(), data, *(f"{file}\n".encode("utf-8") for file in files)]
+    return b"".join(parts)
+
+
+def manifests():
+    """The stored texts."""
+    return [(case["input"], []) for case in stored("manifests.jsonl")]
+
+
+def folders(name="completions.jsonl"):
+    """The stored texts with files."""
+    return [(case["manifest"], case["files"]) for case in stored(name)]
+
+
+def uses():
+    """What the registry and the planner look at: all stored texts but those that this project refuses and the crate reads."""
+    refused = {case["manifest"] for case in stored("otherwise.jsonl") if "refused" in case}
+    kept = [pair for number, pair in enumerate(manifests(), 1) if number not in refused]
+    return folders("usual.jsonl") + folders() + kept
+
+
+def built(room, dependency, names, cwd, settings=None, release=False):
+    """Builds programs over a crate, which is the right side of a line of Cargo.toml, in a folder where cargo finds what it
+    needs: the run, and the folder of what it built."""
+    lines = ["[package]", 'name = "programs"', 'version = "0.1.0"', 'edition = "2021"', "autobins = false", "", "[workspace]"]
+    lines += ["", "[dependencies]", f"cargo-manifest = {dependency}"]
+    for name in names:
+        lines += ["", "[[bin]]", f'name = "{name}"', f'path = "{PROGRAMS / name}.rs"']
+    room.mkdir(exist_ok=True)
+    (room / "Cargo.toml").write_text("\n".join(lines) + "\n", encoding="utf-8")
+    target = Path((settings or {}).get("CARGO_TARGET_DIR", room / "target"))
+    words = ["cargo", "build", "--offline", "--quiet", "--manifest-path", room / "Cargo.toml"]
+    settings = {**os.environ, **(settings or {}), "CARGO_TARGET_DIR": str(target)}
+    run = subprocess.run(words + ["--release"] * release, cwd=cwd, env=settings, capture_output=True, text=True)
+    return run, target / ("release" if release else "debug")
+
+
+def over_ours(archive):
+    """The line of our crate, and what is set for its build over an archive, which stands in a folder of its own."""
+    dependency = f'{{ package = "cargo-manifest-proved", path = "{BINDINGS / "rust"}" }}'
+    return dependency, {"MANIFEST_FFI": str(archive.parent)}
+
+
+def over_the_crate(crate):
+    """The line of the Rust crate in a folder."""
+    return f'{{ path = "{crate}" }}'
+
+
+def told_of(program, words, data):
+    """What a program prints of these bytes."""
+    run = subprocess.run([program, *words], input=data, capture_output=True, timeout=600)
+    if run.returncode != 0:
+        raise ValueError(f"{program} {words}: status {run.returncode}\n{run.stderr.decode('utf-8', 'replace')}")
+    return run.stdout
+
+
+def answer(program, words, pairs=()):
+    """What a program prints of cases."""
+    return told_of(program, words, cases(pairs)).decode("utf-8")
+
+
+def on_disk(program):
+    """What `debug` says of the stored folders where they are made on the disk."""
+    with tempfile.TemporaryDirectory() as folder:
+        paths = []
+        for number, case in enumerate(stored("completions.jsonl")):
+            place = Path(folder) / str(number)
+            place.mkdir()
+            paths.append((str(make(place, case)), []))
+        return answer(program, ["paths"], paths)
+
+
+def answers(built_in):
+    """What the programs of BOTH answer, each with the name of the stored file and a function that runs one."""
+    debug = built_in / "debug"
+    return {
+        "debug-manifests.txt": lambda: answer(debug, ["texts"], manifests()),
+        "debug-completions.txt": lambda: answer(debug, ["lists"], folders()),
+        "debug-usual.txt": lambda: answer(debug, ["lists"], folders("usual.jsonl")),
+        "debug-queries.txt": lambda: answer(debug, ["queries"], manifests()),
+        "debug-defaults.txt": lambda: answer(debug, ["defaults"]),
+        "registry.txt": lambda: answer(built_in / "registry", [], uses()),
+        "planner.txt": lambda: answer(built_in / "planner", [], uses()),
+    }
+
+
+def stored_text(name):
+    """A stored answer."""
+    return (ANSWERS / name).read_text(encoding="utf-8")
+
+
+def have_cargo(what):
+    """Whether cargo is there, and a sentence where it is not."""
+    if shutil.which("cargo"):
+        return True
+    print(f"{what}: there is no command cargo")
+    return False
+
+
+def every():
+    """All stored texts."""
+    return folders("usual.jsonl") + manifests() + folders()
+
+
+def without_field(line):
+    """A line without the field that the original does not have, and the values that it had."""
+    values = []
+
+    def shorter(found):
+        if found[1] is None:
+            return found[0]
+        values.append({None: None, "true": True, "false": False}[found[4]])
+        return found[1]
+
+    return INHERITED.sub(shorter, line), values
+
+
+def deepest():
+    """The document of a package whose metadata nest as deep as `toml` reads: 78 tables by a header, whose keys have 80 parts,
+    and then so many inline tables in one another, each under a key of so many parts."""
+    header, key = ".".join(["a"] * (LIMIT - 2)), ".".join(["a"] * LIMIT)
+    return f'[package]\nname = "p"\n[package.metadata.{header}]\n' + f"{key} = {{" * LIMIT + f"{key} = 1" + "}" * LIMIT + "\n"
+
+
+def stack_fault(program, step, stack, text):
+    """What is wrong where `stack` does a step with a text in a thread with so much stack, or None."""
+    run = subprocess.run([program, step, str(stack)], input=cases([(text, [])]), capture_output=True, timeout=600)
+    if (run.returncode, run.stdout) == (0, b"1\n"):
+        return None
+    return f"status {run.returncode}, {run.stdout}, {run.stderr.decode('utf-8', 'replace')}"
+
+
+def asked(name, ask):
+    """What a program prints; a program that does not come to its end has failed, and is told."""
+    try:
+        return ask()
+    except (ValueError, subprocess.TimeoutExpired) as fault:
+        told(name, fault)
+        return None
+
+
+def lines_of(text):
+    """The lines of what is printed: no other sign than a line feed ends one."""
+    return text.split("\n")[:-1]
+
+
+def count_lines(name, said, due, fault_of):
+    """Counts each line that a program has printed and that is due; `fault_of` a line number, a line and what is due is what
+    is wrong, or None. The first faults are told."""
+    said, due = lines_of(said), lines_of(due)
+    told(f"{name}: how many lines", None if len(said) == len(due) else f"{len(said)} where {len(due)} are due")
+    failed = 0
+    for number, (line, wanted) in enumerate(zip(said, due), 1):
+        fault = fault_of(number, line, wanted)
+        failed += fault is not None
+        if failed <= TOLD or fault is None:
+            told(f"{name}: line {number}", fault)
+        else:
+            counts[1] += 1
+    if failed > TOLD:
+        print(f"{name}: and {failed - TOLD} lines more")
+
+
+def first_difference(said, due):
+    """Where two lines differ first, or None."""
+    if said == due:
+        return None
+    at = next((at for at, (one, other) in enumerate(zip(said, due)) if one != other), min(len(said), len(due)))
+    before = max(0, at - 100)
+    return f"it says ..{said[before:at + 100]}.. where ..{due[before:at + 100]}.. is due"
