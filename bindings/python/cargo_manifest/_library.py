@@ -72,18 +72,17 @@ def _loaded() -> ctypes.CDLL:
 _VERSION = 1
 
 
-def _of_this_version(library: ctypes.CDLL) -> ctypes.CDLL:
-    """The library, or an ImportError where it is of another version."""
+def compare_versions(library: ctypes.CDLL) -> None:
+    """Raises an ImportError where the library has another version of the calls than this package is written for."""
     try:
         version = library["manifest_version"]
     except AttributeError as fault:
-        raise ImportError(f"the library does not say its version: name a {NAME} that does by {VARIABLE}") from fault
+        raise ImportError(f"the library has no call manifest_version: name a {NAME} that has it by {VARIABLE}") from fault
     version.argtypes = []
     version.restype = ctypes.c_uint32
     if version() != _VERSION:
-        raise ImportError(f"the library has version {version()} of its calls, and cargo_manifest wants {_VERSION}: "
-                          f"name a {NAME} of that version by {VARIABLE}")
-    return library
+        raise ImportError(f"the library has version {version()} of its calls, and cargo_manifest is written for version "
+                          f"{_VERSION}: name a {NAME} of that version by {VARIABLE}")
 
 
 def _declared(library: ctypes.CDLL, name: str, *slices: tuple[Any, Any]) -> Call:
@@ -97,7 +96,7 @@ def _declared(library: ctypes.CDLL, name: str, *slices: tuple[Any, Any]) -> Call
     return call
 
 
-_LIBRARY = _of_this_version(_loaded())
+_LIBRARY = _loaded()
 manifest_canonical = _declared(_LIBRARY, "manifest_canonical", _TEXT)
 manifest_completed = _declared(_LIBRARY, "manifest_completed", _TEXT, _FOLDERS)
 manifest_resolved = _declared(_LIBRARY, "manifest_resolved", _TEXT, _TEXT)
@@ -106,3 +105,4 @@ manifest_table = _declared(_LIBRARY, "manifest_table", _TEXT)
 manifest_completed_table = _declared(_LIBRARY, "manifest_completed_table", _TEXT, _FOLDERS)
 manifest_resolved_table = _declared(_LIBRARY, "manifest_resolved_table", _TEXT, _TEXT)
 manifest_resolved_completed_table = _declared(_LIBRARY, "manifest_resolved_completed_table", _TEXT, _TEXT, _FOLDERS)
+compare_versions(_LIBRARY)
