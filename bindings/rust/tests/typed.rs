@@ -306,3 +306,22 @@ fn what_is_shared_between_threads() {
         }
     });
 }
+
+/// Tables in one another, as deep as the reader of TOML takes a short text.
+#[test]
+fn deep_metadata_on_8_megabytes_of_stack() {
+    let key = vec!["a"; 80].join(".");
+    let (open, close) = (format!("{{{key} = ").repeat(79), "}".repeat(79));
+    let text = format!("[package]\nname = 'p'\n[package.metadata]\na = {open}1{close}\n");
+    let run = move || {
+        let manifest: Manifest = text.parse().unwrap();
+        let mut depth = 0;
+        let mut value = manifest.package.as_ref().and_then(|package| package.metadata.as_ref());
+        while let Some(inner) = value.and_then(|value| value.get("a")) {
+            value = Some(inner);
+            depth += 1;
+        }
+        assert_eq!((depth, value.and_then(Value::as_integer)), (79 * 80 + 1, Some(1)));
+    };
+    std::thread::Builder::new().stack_size(8 << 20).spawn(run).unwrap().join().unwrap();
+}
