@@ -11,7 +11,10 @@ use std::fs;
 fn inputs() -> Vec<String> {
     let path = concat!(env!("CARGO_MANIFEST_DIR"), "/../../tests/rust-answers/manifests.jsonl");
     let lines = fs::read_to_string(path).unwrap();
-    lines.lines().map(|line| serde_json::from_str::<serde_json::Value>(line).unwrap()["input"].as_str().unwrap().into()).collect()
+    lines
+        .lines()
+        .map(|line| serde_json::from_str::<serde_json::Value>(line).unwrap()["input"].as_str().unwrap().into())
+        .collect()
 }
 
 #[test]

@@ -1,6 +1,6 @@
 //! What the program `manifest_canon` does, through the library: the same words, the same output, the same lines.
 
-use cargo_manifest::calls::{canonical, completed, resolved_completed, Refusal, Listings, Part};
+use cargo_manifest::calls::{canonical, completed, resolved_completed, Listings, Part, Refusal};
 use std::env;
 use std::ffi::OsString;
 use std::fs;

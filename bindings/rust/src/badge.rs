@@ -8,7 +8,7 @@ record! {
     pub struct Badge {
         /// The repository.
         "repository" => repository: String, needed;
-        /// The branch.
+        /// The branch. Default: `master`.
         "branch" => branch: String, default("master".into());
         /// Where the repository is: `github`, `bitbucket` or `gitlab`.
         "service" => service: Option<String>, optional;
@@ -48,7 +48,7 @@ record! {
         "is-it-maintained-issue-resolution" => is_it_maintained_issue_resolution: Option<Badge>, lenient;
         /// How many issues are open.
         "is-it-maintained-open-issues" => is_it_maintained_open_issues: Option<Badge>, lenient;
-        /// How the package is maintained.
+        /// How the package is maintained. Default: nothing is said.
         "maintenance" => maintenance: Maintenance, lenient_default(Maintenance::default());
     }
 }

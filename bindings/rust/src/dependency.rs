@@ -139,29 +139,53 @@ record! {
     /// A dependency as a table of its own.
     #[derive(Debug, Clone, PartialEq, Eq, Default)]
     pub struct DependencyDetail {
-        /// The versions that fit.
+        /// The versions that fit. Without it, any.
+        ///
+        /// [Cargo reference](https://doc.rust-lang.org/cargo/reference/specifying-dependencies.html#version-requirement-syntax).
         "version" => version: Option<String>, optional;
         /// The name of the registry that it comes from.
+        ///
+        /// [Cargo reference](https://doc.rust-lang.org/cargo/reference/specifying-dependencies.html#specifying-dependencies-from-other-registries).
         "registry" => registry: Option<String>, optional;
         /// The address of the index of the registry.
+        ///
+        /// [Cargo reference](https://doc.rust-lang.org/cargo/reference/specifying-dependencies.html#specifying-dependencies-from-other-registries).
         "registry-index" also "registry_index" => registry_index: Option<String>, optional;
         /// The folder that it stands in, from that of the manifest.
+        ///
+        /// [Cargo reference](https://doc.rust-lang.org/cargo/reference/specifying-dependencies.html#specifying-path-dependencies).
         "path" => path: Option<String>, optional;
         /// The address of its git repository.
+        ///
+        /// [Cargo reference](https://doc.rust-lang.org/cargo/reference/specifying-dependencies.html#specifying-dependencies-from-git-repositories).
         "git" => git: Option<String>, optional;
         /// The branch of the git repository.
+        ///
+        /// [Cargo reference](https://doc.rust-lang.org/cargo/reference/specifying-dependencies.html#choice-of-commit).
         "branch" => branch: Option<String>, optional;
         /// The tag in the git repository.
+        ///
+        /// [Cargo reference](https://doc.rust-lang.org/cargo/reference/specifying-dependencies.html#choice-of-commit).
         "tag" => tag: Option<String>, optional;
         /// The revision of the git repository.
+        ///
+        /// [Cargo reference](https://doc.rust-lang.org/cargo/reference/specifying-dependencies.html#choice-of-commit).
         "rev" => rev: Option<String>, optional;
         /// The features that are wanted.
+        ///
+        /// [Cargo reference](https://doc.rust-lang.org/cargo/reference/features.html#dependency-features).
         "features" => features: Option<Vec<String>>, optional;
-        /// Whether it is left out unless a feature wants it.
+        /// Whether it is left out unless a feature wants it. Without it, it is not.
+        ///
+        /// [Cargo reference](https://doc.rust-lang.org/cargo/reference/features.html#optional-dependencies).
         "optional" => optional: Option<bool>, optional;
-        /// Whether its default features are wanted, which they are where nothing is said.
+        /// Whether its default features are wanted. Without it, they are.
+        ///
+        /// [Cargo reference](https://doc.rust-lang.org/cargo/reference/features.html#dependency-features).
         "default-features" also "default_features" => default_features: Option<bool>, optional;
         /// The name of its package, where that is another than its key.
+        ///
+        /// [Cargo reference](https://doc.rust-lang.org/cargo/reference/specifying-dependencies.html#renaming-dependencies-in-cargotoml).
         "package" => package: Option<String>, optional;
     }
 }
@@ -181,12 +205,20 @@ record! {
     #[derive(Debug, Clone, PartialEq, Eq, Default)]
     pub struct InheritedDependencyDetail {
         /// Always true.
+        ///
+        /// [Cargo reference](https://doc.rust-lang.org/cargo/reference/specifying-dependencies.html#inheriting-a-dependency-from-a-workspace).
         "workspace" => workspace: True, needed;
         /// The features that are wanted beside those of the workspace.
+        ///
+        /// [Cargo reference](https://doc.rust-lang.org/cargo/reference/specifying-dependencies.html#inheriting-a-dependency-from-a-workspace).
         "features" => features: Option<Vec<String>>, optional;
-        /// Whether it is left out unless a feature wants it.
+        /// Whether it is left out unless a feature wants it. Without it, it is not.
+        ///
+        /// [Cargo reference](https://doc.rust-lang.org/cargo/reference/specifying-dependencies.html#inheriting-a-dependency-from-a-workspace).
         "optional" => optional: Option<bool>, optional;
         /// Whether its default features are wanted. (The crate `cargo-manifest` does not have this field.)
+        ///
+        /// [Cargo reference](https://doc.rust-lang.org/cargo/reference/specifying-dependencies.html#inheriting-a-dependency-from-a-workspace).
         "default-features" also "default_features" => default_features: Option<bool>, optional;
     }
 }

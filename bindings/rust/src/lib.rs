@@ -1,6 +1,135 @@
-//! Cargo manifests, read, completed, resolved and written by a library that is proved.
+//! Reads a `Cargo.toml` as typed values, completes it by what its folders hold, puts in what it inherits from its
+//! workspace, and writes it. The reading, completing, resolving and writing is done by a library whose code is proved to do
+//! what its definitions say; this crate gives it the types of the crate `cargo-manifest` 0.20.0, field by field.
+//!
+//! **If you come from `cargo-manifest`,** [`from_cargo_manifest`] says how to change over, and what differs.
+//!
+//! # A registry checks an upload
+//!
+//! What is wrong is said in one line, with the key path, and with the line and the column of what is no TOML.
+//!
+//! ```
+//! use cargo_manifest::{Error, Manifest, MaybeInherited};
+//!
+//! /// The name and the version of a package, or why it cannot be uploaded.
+//! fn checked(upload: &[u8]) -> Result<(String, String), String> {
+//!     let manifest = Manifest::from_slice(upload).map_err(|error| match &error {
+//!         Error::Parse(parse) => match parse.line_column(upload) {
+//!             Some((line, _)) => format!("line {line}: {error}"),
+//!             None => error.to_string(),
+//!         },
+//!         _ => error.to_string(),
+//!     })?;
+//!     let package = manifest.package.ok_or("there is no package")?;
+//!     let MaybeInherited::Local(version) = package.version() else {
+//!         return Err("the version is inherited".into());
+//!     };
+//!     if package.license.is_none() && package.license_file.is_none() {
+//!         return Err("there is no license".into());
+//!     }
+//!     Ok((package.name.clone(), version.into()))
+//! }
+//!
+//! let text = "[package]\nname = 'a'\nversion = '1.0.0'\nlicense = 'MIT'\n";
+//! assert_eq!(checked(text.as_bytes()), Ok(("a".into(), "1.0.0".into())));
+//! let wrong = checked(b"[package]\nname = 'a'\nversion = 1\n").unwrap_err();
+//! assert_eq!(wrong, "`package.version` is of the wrong kind: a string is wanted");
+//! assert!(checked(b"[package\nname = 'a'\n").unwrap_err().starts_with("line 1: "));
+//! ```
+//!
+//! # A planner makes a skeleton
+//!
+//! Of a manifest and a list of files it takes what is built, and writes the smallest manifest that builds it: so a layer of
+//! an image with all dependencies can be made before the sources are there.
+//!
+//! ```
+//! use cargo_manifest::{AbstractFilesystem, Manifest};
+//! use std::collections::BTreeSet;
+//! use std::io;
+//! use std::path::Path;
+//!
+//! /// Files by their paths.
+//! struct Files(Vec<&'static str>);
+//!
+//! impl AbstractFilesystem for Files {
+//!     fn file_names_in<T: AsRef<Path>>(&self, folder: T) -> io::Result<BTreeSet<Box<str>>> {
+//!         let folder = if folder.as_ref() == Path::new(".") { Path::new("") } else { folder.as_ref() };
+//!         let below = self.0.iter().filter_map(|file| Path::new(file).strip_prefix(folder).ok());
+//!         let names = below.filter_map(|path| path.iter().next()?.to_str().map(Into::into));
+//!         Ok(names.collect())
+//!     }
+//! }
+//!
+//! let text = "[package]\nname = 'shop'\nversion = '0.1.0'\nedition = '2021'\ndescription = 'x'\n[dependencies]\nlog = '0.4'\n";
+//! let mut manifest: Manifest = text.parse()?;
+//! manifest.complete_from_abstract_filesystem(&Files(vec!["src/lib.rs", "src/bin/till.rs", "tests/sells.rs"]))?;
+//! let bins: Vec<_> = manifest.bin.iter().filter_map(|bin| bin.path.as_deref()).collect();
+//! assert_eq!(bins, ["src/bin/till.rs"]);
+//!
+//! manifest.test.clear();
+//! manifest.package.as_mut().expect("a package").description = None;
+//! let skeleton = manifest.to_toml_string()?;
+//! assert!(skeleton.starts_with("[[bin]]\nedition = \"2021\"\nname = \"till\"\npath = \"src/bin/till.rs\"\n"));
+//! assert!(skeleton.contains("[dependencies]\nlog = \"0.4\"\n") && !skeleton.contains("description"));
+//! # Ok::<(), cargo_manifest::Error>(())
+//! ```
+//!
+//! # A linter makes a list
+//!
+//! ```
+//! use cargo_manifest::{Dependency, Manifest};
+//!
+//! /// What a reviewer would say of the dependencies.
+//! fn remarks(manifest: &Manifest) -> Vec<String> {
+//!     let all = manifest.dependencies.iter().flatten();
+//!     all.filter_map(|(name, dependency)| match dependency {
+//!         Dependency::Inherited(_) => None,
+//!         other if other.req() == "*" && other.is_crates_io() => Some(format!("{name}: any version will do")),
+//!         other => other.git().map(|address| format!("{name}: it comes from {address}")),
+//!     })
+//!     .collect()
+//! }
+//!
+//! let text = "[package]\nname = 'a'\n[dependencies]\nb = '1'\nc = '*'\nd = { git = 'https://e.org/d' }\ne.workspace = true\n";
+//! let manifest: Manifest = text.parse()?;
+//! assert_eq!(remarks(&manifest), ["c: any version will do", "d: it comes from https://e.org/d"]);
+//! # Ok::<(), cargo_manifest::Error>(())
+//! ```
+//!
+//! # What is proved
+//!
+//! The library takes the bytes of a `Cargo.toml`, and what it answers is the table of the manifest that these bytes mean, as
+//! the definitions have it; or the table of the completed or the resolved manifest; or a manifest's canonical text. That is
+//! proved, and `LIBRARY.md` of the repository has the contracts. Where a manifest is refused, the library says why and at
+//! which key path.
+//!
+//! What this crate does with these bytes is plain Rust, which is tested: a [`Manifest`] is decoded from the bytes of its
+//! table, and encoded to them before it is completed, resolved or written; one list of rows for each type does both. In a
+//! debug build each manifest that is decoded is encoded again, and compared. Bytes that are no such table, as an archive of
+//! another version might give them, end in a panic with one sentence. Also in plain Rust are the folders that are asked for
+//! a completion, [`Manifest::from_value`], what is read and written by serde, floats in metadata (which the library hands
+//! over as it read them), and the texts of errors.
+//!
+//! # Threads, memory, stack
+//!
+//! Nothing is kept between calls, so each may be made from any thread at any time. Where no memory is left for the library,
+//! the error is [`Error::Io`] of the kind `OutOfMemory`.
+//!
+//! A call takes the more stack the deeper its text nests tables: 128 kB are enough for a usual manifest, but a text of 21 kB
+//! can nest so deep that 3.3 MB are needed, and a thread that has less is ended by the system. So a thread that reads the
+//! manifests of others should have 8 MB (`std::thread::Builder::stack_size`), or bound their length.
+//!
+//! # Features
+//!
+//! The package `cargo-manifest-proved` has no dependency and no features. The package `cargo-manifest` of the same repository
+//! is made of the same sources, and has two, which are both on unless `default-features = false`:
+//!
+//! - `serde`: `Serialize` and `Deserialize` for every type, and metadata of any type that serde reads and writes;
+//! - `toml`: [`Value`] from and to the `Value` of the crate `toml`, of the versions 0.5.11 to 0.9.
 
+// (a variant in a box would be another type than the crate cargo-manifest has)
 #![allow(clippy::large_enum_variant)]
+#![warn(missing_docs)]
 
 mod badge;
 pub mod calls;
@@ -27,6 +156,11 @@ mod words;
 mod workspace;
 mod writing;
 
+#[cfg(feature = "serde")]
+pub use self::serde::ValueError;
+#[doc = include_str!("from_cargo_manifest.md")]
+pub mod from_cargo_manifest {}
+
 pub use badge::{Badge, Badges, Maintenance, MaintenanceStatus};
 pub use calls::Cause;
 pub use dependency::{Dependency, DependencyDetail, InheritedDependencyDetail, Target};
@@ -39,8 +173,6 @@ pub use metadata::{Metadata, WrittenMetadata};
 pub use package::{Package, Publish, StringOrBool};
 pub use product::Product;
 pub use profile::{Profile, Profiles, StripSetting};
-#[cfg(feature = "serde")]
-pub use self::serde::ValueError;
 use std::collections::BTreeMap;
 pub use value::{Date, Datetime, DatetimeParseError, Index, Map, Offset, Time, Value};
 pub use words::{Edition, Resolver};

@@ -93,8 +93,12 @@ record! {
     #[derive(Debug, Clone, PartialEq, Eq)]
     pub struct LintConfig {
         /// The level.
+        ///
+        /// [Cargo reference](https://doc.rust-lang.org/cargo/reference/manifest.html#the-lints-section).
         "level" => level: LintLevel, needed;
-        /// Which of two lints counts that are about the same: that of the higher priority.
+        /// Lints and groups of them are applied from the lowest priority to the highest. Default: 0.
+        ///
+        /// [Cargo reference](https://doc.rust-lang.org/cargo/reference/manifest.html#the-lints-section).
         "priority" => priority: i8, default(0);
     }
 }

@@ -9,64 +9,122 @@ record! {
     #[derive(Debug, Clone, PartialEq)]
     pub struct Package<Metadata> {
         /// The name. (It may have capitals.)
+        ///
+        /// [Cargo reference](https://doc.rust-lang.org/cargo/reference/manifest.html#the-name-field).
         "name" => name: String, needed;
         /// The edition of Rust. A package without one has the edition 2015.
+        ///
+        /// [Cargo reference](https://doc.rust-lang.org/cargo/reference/manifest.html#the-edition-field).
         "edition" => edition: Option<MaybeInherited<Edition>>, optional;
         /// The version, as `1.9.0`. [`Package::version`] has the one that counts.
+        ///
+        /// [Cargo reference](https://doc.rust-lang.org/cargo/reference/manifest.html#the-version-field).
         "version" => version: Option<MaybeInherited<String>>, optional;
-        /// The build script, or whether there is one.
+        /// The file of the build script, or whether there is one. Without it, or where it is true, completion puts `build.rs` if
+        /// that is there.
+        ///
+        /// [Cargo reference](https://doc.rust-lang.org/cargo/reference/manifest.html#the-build-field).
         "build" => build: Option<StringOrBool>, optional;
         /// The folder of the workspace's root, where Cargo would not find it.
+        ///
+        /// [Cargo reference](https://doc.rust-lang.org/cargo/reference/manifest.html#the-workspace-field).
         "workspace" => workspace: Option<String>, optional;
         /// The authors, each as `Name <mail@address>`.
+        ///
+        /// [Cargo reference](https://doc.rust-lang.org/cargo/reference/manifest.html#the-authors-field).
         "authors" => authors: Option<MaybeInherited<Vec<String>>>, optional;
         /// The library outside of Rust that the package links.
+        ///
+        /// [Cargo reference](https://doc.rust-lang.org/cargo/reference/manifest.html#the-links-field).
         "links" => links: Option<String>, optional;
         /// What the package is, in plain text.
+        ///
+        /// [Cargo reference](https://doc.rust-lang.org/cargo/reference/manifest.html#the-description-field).
         "description" => description: Option<MaybeInherited<String>>, optional;
         /// The address of the home page.
+        ///
+        /// [Cargo reference](https://doc.rust-lang.org/cargo/reference/manifest.html#the-homepage-field).
         "homepage" => homepage: Option<MaybeInherited<String>>, optional;
         /// The address of the documentation.
+        ///
+        /// [Cargo reference](https://doc.rust-lang.org/cargo/reference/manifest.html#the-documentation-field).
         "documentation" => documentation: Option<MaybeInherited<String>>, optional;
-        /// The readme, from the folder of the manifest, or whether there is one.
+        /// The readme, from the folder of the manifest, or whether there is one. Without it, `README.md`, `README.txt` or
+        /// `README`.
+        ///
+        /// [Cargo reference](https://doc.rust-lang.org/cargo/reference/manifest.html#the-readme-field).
         "readme" => readme: Option<MaybeInherited<StringOrBool>>, optional;
         /// At most five words by which the package is found.
+        ///
+        /// [Cargo reference](https://doc.rust-lang.org/cargo/reference/manifest.html#the-keywords-field).
         "keywords" => keywords: Option<MaybeInherited<Vec<String>>>, optional;
         /// At most five categories of crates.io.
+        ///
+        /// [Cargo reference](https://doc.rust-lang.org/cargo/reference/manifest.html#the-categories-field).
         "categories" => categories: Option<MaybeInherited<Vec<String>>>, optional;
         /// The licence, as an SPDX expression.
+        ///
+        /// [Cargo reference](https://doc.rust-lang.org/cargo/reference/manifest.html#the-license-and-license-file-fields).
         "license" => license: Option<MaybeInherited<String>>, optional;
         /// The file of the licence.
+        ///
+        /// [Cargo reference](https://doc.rust-lang.org/cargo/reference/manifest.html#the-license-and-license-file-fields).
         "license-file" => license_file: Option<MaybeInherited<String>>, optional;
         /// The address of the repository.
+        ///
+        /// [Cargo reference](https://doc.rust-lang.org/cargo/reference/manifest.html#the-repository-field).
         "repository" => repository: Option<MaybeInherited<String>>, optional;
         /// `[package.metadata]`, which is for other programs.
+        ///
+        /// [Cargo reference](https://doc.rust-lang.org/cargo/reference/manifest.html#the-metadata-table).
         "metadata" => metadata: Option<Metadata>, metadata(package);
         /// The oldest Rust that can build the package, as `1.63.0`.
+        ///
+        /// [Cargo reference](https://doc.rust-lang.org/cargo/reference/manifest.html#the-rust-version-field).
         "rust-version" => rust_version: Option<MaybeInherited<String>>, optional;
         /// The files that are not packed.
+        ///
+        /// [Cargo reference](https://doc.rust-lang.org/cargo/reference/manifest.html#the-exclude-and-include-fields).
         "exclude" => exclude: Option<MaybeInherited<Vec<String>>>, optional;
         /// The files that are packed.
+        ///
+        /// [Cargo reference](https://doc.rust-lang.org/cargo/reference/manifest.html#the-exclude-and-include-fields).
         "include" => include: Option<MaybeInherited<Vec<String>>>, optional;
         /// The binary that `cargo run` runs.
+        ///
+        /// [Cargo reference](https://doc.rust-lang.org/cargo/reference/manifest.html#the-default-run-field).
         "default-run" => default_run: Option<String>, optional;
-        /// Whether a library that is not declared is found.
+        /// Whether a library that is not declared is found. Without it, it is.
+        ///
+        /// [Cargo reference](https://doc.rust-lang.org/cargo/reference/cargo-targets.html#target-auto-discovery).
         "autolib" => autolib: Option<bool>, optional;
         /// Whether binaries that are not declared are found. [`Manifest::autobins`](crate::Manifest::autobins) has what
         /// counts.
+        ///
+        /// [Cargo reference](https://doc.rust-lang.org/cargo/reference/cargo-targets.html#target-auto-discovery).
         "autobins" => autobins: Option<bool>, optional;
         /// Whether examples that are not declared are found. [`Manifest::autoexamples`](crate::Manifest::autoexamples) has
         /// what counts.
+        ///
+        /// [Cargo reference](https://doc.rust-lang.org/cargo/reference/cargo-targets.html#target-auto-discovery).
         "autoexamples" => autoexamples: Option<bool>, optional;
         /// Whether tests that are not declared are found. [`Manifest::autotests`](crate::Manifest::autotests) has what
         /// counts.
+        ///
+        /// [Cargo reference](https://doc.rust-lang.org/cargo/reference/cargo-targets.html#target-auto-discovery).
         "autotests" => autotests: Option<bool>, optional;
         /// Whether benches that are not declared are found. [`Manifest::autobenches`](crate::Manifest::autobenches) has
         /// what counts.
+        ///
+        /// [Cargo reference](https://doc.rust-lang.org/cargo/reference/cargo-targets.html#target-auto-discovery).
         "autobenches" => autobenches: Option<bool>, optional;
-        /// The registries that the package may be published to.
+        /// The registries that the package may be published to. Without it, to any.
+        ///
+        /// [Cargo reference](https://doc.rust-lang.org/cargo/reference/manifest.html#the-publish-field).
         "publish" => publish: Option<MaybeInherited<Publish>>, optional;
-        /// How versions and features are chosen.
+        /// How versions and features are chosen. Without it, as the edition says.
+        ///
+        /// [Cargo reference](https://doc.rust-lang.org/cargo/reference/resolver.html#resolver-versions).
         "resolver" => resolver: Option<Resolver>, optional;
     }
 }

@@ -10,12 +10,20 @@ record! {
     #[derive(Debug, Clone, PartialEq, Default)]
     pub struct Profiles {
         /// `[profile.release]`, of `cargo build --release`.
+        ///
+        /// [Cargo reference](https://doc.rust-lang.org/cargo/reference/profiles.html#release).
         "release" => release: Option<Profile>, optional;
         /// `[profile.dev]`, of `cargo build`.
+        ///
+        /// [Cargo reference](https://doc.rust-lang.org/cargo/reference/profiles.html#dev).
         "dev" => dev: Option<Profile>, optional;
         /// `[profile.test]`, of `cargo test`.
+        ///
+        /// [Cargo reference](https://doc.rust-lang.org/cargo/reference/profiles.html#test).
         "test" => test: Option<Profile>, optional;
         /// `[profile.bench]`, of `cargo bench`.
+        ///
+        /// [Cargo reference](https://doc.rust-lang.org/cargo/reference/profiles.html#bench).
         "bench" => bench: Option<Profile>, optional;
         /// `[profile.doc]`, of `cargo doc`.
         "doc" => doc: Option<Profile>, optional;
@@ -31,32 +39,60 @@ record! {
     #[derive(Debug, Clone, PartialEq)]
     pub struct Profile {
         /// How much is optimised: a number, `"s"` or `"z"`.
+        ///
+        /// [Cargo reference](https://doc.rust-lang.org/cargo/reference/profiles.html#opt-level).
         "opt-level" also "opt_level" => opt_level: Option<Value>, optional;
         /// How much is said for a debugger: a number, a boolean or a word.
+        ///
+        /// [Cargo reference](https://doc.rust-lang.org/cargo/reference/profiles.html#debug).
         "debug" => debug: Option<Value>, optional;
         /// Whether the path of shared libraries is put into what is built.
+        ///
+        /// [Cargo reference](https://doc.rust-lang.org/cargo/reference/profiles.html#rpath).
         "rpath" => rpath: Option<bool>, optional;
         /// The profile that this one is made of.
+        ///
+        /// [Cargo reference](https://doc.rust-lang.org/cargo/reference/profiles.html#custom-profiles).
         "inherits" => inherits: Option<String>, optional;
         /// How much is optimised at linking: a boolean or a word.
+        ///
+        /// [Cargo reference](https://doc.rust-lang.org/cargo/reference/profiles.html#lto).
         "lto" => lto: Option<Value>, optional;
         /// Whether `debug_assert!` is compiled.
+        ///
+        /// [Cargo reference](https://doc.rust-lang.org/cargo/reference/profiles.html#debug-assertions).
         "debug-assertions" also "debug_assertions" => debug_assertions: Option<bool>, optional;
         /// Into how many parts a crate is split.
+        ///
+        /// [Cargo reference](https://doc.rust-lang.org/cargo/reference/profiles.html#codegen-units).
         "codegen-units" also "codegen_units" => codegen_units: Option<u16>, optional;
         /// What a panic does: `"unwind"` or `"abort"`.
+        ///
+        /// [Cargo reference](https://doc.rust-lang.org/cargo/reference/profiles.html#panic).
         "panic" => panic: Option<String>, optional;
         /// Whether what was compiled is kept for the next time.
+        ///
+        /// [Cargo reference](https://doc.rust-lang.org/cargo/reference/profiles.html#incremental).
         "incremental" => incremental: Option<bool>, optional;
         /// Whether arithmetic that overflows panics.
+        ///
+        /// [Cargo reference](https://doc.rust-lang.org/cargo/reference/profiles.html#overflow-checks).
         "overflow-checks" also "overflow_checks" => overflow_checks: Option<bool>, optional;
         /// What is left out of what is built.
+        ///
+        /// [Cargo reference](https://doc.rust-lang.org/cargo/reference/profiles.html#strip).
         "strip" => strip: Option<StripSetting>, optional;
         /// Settings of single packages.
+        ///
+        /// [Cargo reference](https://doc.rust-lang.org/cargo/reference/profiles.html#overrides).
         "package" => package: BTreeMap<String, Value>, default(BTreeMap::new());
         /// Where what is said for a debugger goes.
+        ///
+        /// [Cargo reference](https://doc.rust-lang.org/cargo/reference/profiles.html#split-debuginfo).
         "split-debuginfo" => split_debuginfo: Option<String>, optional;
         /// Settings of build scripts and procedural macros.
+        ///
+        /// [Cargo reference](https://doc.rust-lang.org/cargo/reference/profiles.html#build-dependencies).
         "build-override" => build_override: Option<Value>, optional;
     }
 }
@@ -97,8 +133,9 @@ impl TryFrom<Value> for StripSetting {
     fn try_from(value: Value) -> Result<StripSetting, Error> {
         match &value {
             Value::Boolean(flag) => Ok(StripSetting::of_flag(*flag)),
-            Value::String(word) => StripSetting::of_word(word)
-                .ok_or_else(|| Error::Other(format!("`{word}` is no choice of `strip`"))),
+            Value::String(word) => {
+                StripSetting::of_word(word).ok_or_else(|| Error::Other(format!("`{word}` is no choice of `strip`")))
+            }
             other => Err(Error::Other(format!("`strip` is a {}: a boolean or a string is wanted", other.type_str()))),
         }
     }

@@ -92,7 +92,8 @@ impl<PackageMetadata: Metadata> Manifest<PackageMetadata> {
     pub fn from_slice_with_metadata(cargo_toml_content: &[u8]) -> Result<Self, Error> {
         let (mut manifest, aside) = read(cargo_toml_content).map_err(|refusal| refused(refusal, cargo_toml_content))?;
         if let Some(package) = &mut manifest.package {
-            package.metadata = aside.package.map(|value| PackageMetadata::read(value, "package.metadata")).transpose()?;
+            package.metadata =
+                aside.package.map(|value| PackageMetadata::read(value, "package.metadata")).transpose()?;
         }
         if let Some(workspace) = &mut manifest.workspace {
             workspace.metadata = aside.workspace;
@@ -119,16 +120,18 @@ fn read<P, W>(bytes: &[u8]) -> Result<(Manifest<P, W>, Aside), Refusal> {
         return Err(refusal);
     }
     // metadata with a float is not in the table: it is taken from the document
-    let Some((table, document)) = tables::without_metadata(bytes)? else { return Err(refusal) };
-    let (manifest, _) = decode(&table);
-    let Some(Value::Table(document)) = crate::value::decoded(&document) else { is_broken() };
+    let Some(apart) = tables::without_metadata(bytes)? else { return Err(refusal) };
+    let (manifest, _) = decode(&apart.table);
+    let Some(Value::Table(document)) = crate::value::decoded(&apart.document) else { is_broken() };
     Ok((manifest, metadata_of(document)))
 }
 
 /// Whether a float in metadata is what is refused, under a header of today or an old one.
 fn is_float_of_metadata(refusal: &Refusal) -> bool {
     let places = ["package.metadata", "workspace.metadata", "project.metadata", "metadata"];
-    let is_at = |path: &str, place| path.strip_prefix(place).is_some_and(|below| below.is_empty() || below.starts_with(['.', '[']));
+    let is_at = |path: &str, place| {
+        path.strip_prefix(place).is_some_and(|below| below.is_empty() || below.starts_with(['.', '[']))
+    };
     match refusal {
         Refusal::Schema { cause: Cause::HoldsFloat, path, .. } => places.iter().any(|place| is_at(path, place)),
         _ => false,
@@ -139,10 +142,11 @@ fn is_float_of_metadata(refusal: &Refusal) -> bool {
 fn metadata_of(mut document: Map) -> Aside {
     let mut metadata = |key| document.get_mut(key)?.as_table_mut()?.remove("metadata");
     let (package, workspace) = (metadata("package"), metadata("workspace"));
-    let package = match (document.contains_key("package") || document.contains_key("workspace"), document.get_mut("project")) {
-        (true, _) => package,
-        (false, Some(project)) => project.as_table_mut().and_then(|project| project.remove("metadata")),
-        (false, None) => document.remove("metadata"),
-    };
+    let package =
+        match (document.contains_key("package") || document.contains_key("workspace"), document.get_mut("project")) {
+            (true, _) => package,
+            (false, Some(project)) => project.as_table_mut().and_then(|project| project.remove("metadata")),
+            (false, None) => document.remove("metadata"),
+        };
     Aside { package, workspace }
 }

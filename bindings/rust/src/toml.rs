@@ -34,9 +34,9 @@ impl From<Value> for ::toml::Value {
                 text.parse().map_or(::toml::Value::String(text), ::toml::Value::Datetime)
             }
             Value::Array(items) => ::toml::Value::Array(items.into_iter().map(::toml::Value::from).collect()),
-            Value::Table(members) => {
-                ::toml::Value::Table(members.into_iter().map(|(key, value)| (key, ::toml::Value::from(value))).collect())
-            }
+            Value::Table(members) => ::toml::Value::Table(
+                members.into_iter().map(|(key, value)| (key, ::toml::Value::from(value))).collect(),
+            ),
         }
     }
 }

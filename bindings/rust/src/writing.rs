@@ -8,7 +8,9 @@ use crate::reading::encode;
 use crate::value::{decoded, inline, Value};
 use crate::{Error, Manifest};
 
-impl<PackageMetadata: WrittenMetadata, WorkspaceMetadata: WrittenMetadata> Manifest<PackageMetadata, WorkspaceMetadata> {
+impl<PackageMetadata: WrittenMetadata, WorkspaceMetadata: WrittenMetadata>
+    Manifest<PackageMetadata, WorkspaceMetadata>
+{
     /// The canonical text of the manifest: its keys in the order of their bytes, each by its first spelling.
     ///
     /// The text comes from the proved writer. Metadata with a float in it is written behind that text by this crate, which
@@ -37,7 +39,8 @@ impl<PackageMetadata: WrittenMetadata, WorkspaceMetadata: WrittenMetadata> Manif
             workspace: workspace.map(|metadata| metadata.written("workspace.metadata")).transpose()?,
         };
         let holds_float = |value: &mut Value| value.holds_float();
-        let behind = [("package", aside.package.take_if(holds_float)), ("workspace", aside.workspace.take_if(holds_float))];
+        let behind =
+            [("package", aside.package.take_if(holds_float)), ("workspace", aside.workspace.take_if(holds_float))];
         let mut text = tables::canonical(&encode(self, aside)?).map_err(|refusal| refused(refusal, &[]))?;
         for (table, metadata) in behind {
             if let Some(metadata) = metadata {

@@ -1,8 +1,8 @@
 //! The declarations of the library, and its calls with memory for their text.
 
-use super::refusal::{Cause, Fault, Part, Refusal};
 use super::folders::{with_folders, Folder};
 use super::listings::Listings;
+use super::refusal::{Cause, Fault, Part, Refusal};
 
 /// What a call answers: `struct manifest_answer` of `bindings/c/cargo_manifest.h`.
 #[repr(C)]
@@ -112,7 +112,7 @@ fn refused(answer: Answer, text: Vec<u8>) -> Refusal {
         11 => Refusal::InheritedInWorkspace(text_of(text)),
         12 => Refusal::MixedLints,
         13 => Refusal::ToolNamedWorkspace,
-        14 | 30 => Refusal::NoTable(part),
+        14 | 30 => Refusal::Untagged(part),
         _ => is_broken(),
     }
 }

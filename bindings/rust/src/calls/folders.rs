@@ -1,7 +1,7 @@
 //! Listings, as the library takes them.
 
-use super::refusal::Fault;
 use super::listings::Listings;
+use super::refusal::Fault;
 
 /// A slice that is lent: `struct manifest_bytes` and `struct manifest_names` of `bindings/c/cargo_manifest.h`.
 #[repr(C)]
@@ -35,9 +35,8 @@ fn number_of(fault: Fault) -> u8 {
 /// Runs with the listings as folders. What they point to lives as long as the run.
 pub(crate) fn with_folders<T>(listings: &Listings, run: impl FnOnce(&[Folder]) -> T) -> T {
     let entries = || listings.entries();
-    let names: Vec<Vec<Slice<u8>>> = entries()
-        .map(|(_, listed)| listed.iter().flatten().map(|name| Slice::of(name.as_bytes())).collect())
-        .collect();
+    let names: Vec<Vec<Slice<u8>>> =
+        entries().map(|(_, listed)| listed.iter().flatten().map(|name| Slice::of(name.as_bytes())).collect()).collect();
     let folders: Vec<Folder> = entries()
         .zip(&names)
         .map(|((path, listed), names)| Folder {

@@ -26,8 +26,8 @@ pub(crate) mod tables;
 mod tests;
 
 use crate::value::{decoded, Value};
-use declared::{complete, read, resolve, resolve_and_complete, text_of, Output};
 pub(crate) use declared::is_broken;
+use declared::{complete, read, resolve, resolve_and_complete, text_of, Output};
 pub use listings::Listings;
 pub use refusal::{Cause, Fault, Part, Refusal};
 
@@ -49,6 +49,14 @@ pub fn resolved(bytes: &[u8], root: &[u8]) -> Result<String, Refusal> {
 /// The same, resolved and then completed.
 pub fn resolved_completed(bytes: &[u8], root: &[u8], listings: &Listings) -> Result<String, Refusal> {
     resolve_and_complete(Output::Text, bytes, root, listings).map(text_of)
+}
+
+/// What a document is whose metadata the library cannot keep, as tagged bytes.
+pub(crate) struct Apart {
+    /// The table of the manifest, with an empty table in the place of all metadata.
+    pub(crate) table: Vec<u8>,
+    /// The whole document.
+    pub(crate) document: Vec<u8>,
 }
 
 /// The value of tagged bytes.

@@ -112,9 +112,23 @@ impl fmt::Display for Fault {
 #[non_exhaustive]
 pub enum Refusal {
     /// The text is no TOML, for this reason, at this range of its bytes.
-    Toml { part: Part, message: String, range: Range<usize> },
+    Toml {
+        /// Which manifest it is.
+        part: Part,
+        /// Why, in words for people.
+        message: String,
+        /// Where in its bytes.
+        range: Range<usize>,
+    },
     /// The text is TOML and no manifest: why, and the key path at which that stands, as `package.authors[0]`.
-    Schema { part: Part, cause: Cause, path: String },
+    Schema {
+        /// Which manifest it is.
+        part: Part,
+        /// Why.
+        cause: Cause,
+        /// The key path.
+        path: String,
+    },
     /// The bytes are not UTF-8.
     Utf8(Part),
     /// A listing has a fault that refuses the completion.
@@ -136,7 +150,7 @@ pub enum Refusal {
     /// The manifest inherits its lints, and the workspace has lints of a tool named `workspace`.
     ToolNamedWorkspace,
     /// The bytes are not the tagged bytes of a table.
-    NoTable(Part),
+    Untagged(Part),
 }
 
 impl fmt::Display for Refusal {
@@ -153,7 +167,7 @@ impl fmt::Display for Refusal {
             Refusal::InheritedInWorkspace(name) => write!(f, "inherited in workspace: {name}"),
             Refusal::MixedLints => f.write_str("mixed lints"),
             Refusal::ToolNamedWorkspace => f.write_str("tool named workspace"),
-            Refusal::NoTable(part) => write!(f, "{part}no table"),
+            Refusal::Untagged(part) => write!(f, "{part}untagged"),
         }
     }
 }

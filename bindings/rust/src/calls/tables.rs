@@ -2,7 +2,7 @@
 
 use super::declared::{self, of_table, of_tables, of_text, text_of};
 use super::folders::with_folders;
-use super::{is_broken, Listings, Refusal};
+use super::{is_broken, Apart, Listings, Refusal};
 use std::sync::OnceLock;
 
 /// The version of the calls that this crate is written for.
@@ -22,13 +22,12 @@ pub(crate) fn table(bytes: &[u8]) -> Result<Vec<u8>, Refusal> {
     of_text(declared::manifest_table, bytes)
 }
 
-/// The same where metadata does not fit, with the whole document beside it: the table has an empty table in the place of all
-/// metadata.
-pub(crate) fn without_metadata(bytes: &[u8]) -> Result<Option<(Vec<u8>, Vec<u8>)>, Refusal> {
+/// The same where metadata has a float.
+pub(crate) fn without_metadata(bytes: &[u8]) -> Result<Option<Apart>, Refusal> {
     version_fits();
     let table = of_text(declared::manifest_table_without_metadata, bytes)?;
     let document = of_text(declared::manifest_document, bytes)?;
-    Ok(Some((table, document)))
+    Ok(Some(Apart { table, document }))
 }
 
 /// The canonical text of a table.

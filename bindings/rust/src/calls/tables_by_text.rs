@@ -4,7 +4,7 @@
 //! every key in quotes.
 
 use super::declared::{complete, read, resolve, text_of, Output};
-use super::{is_broken, Listings, Refusal};
+use super::{is_broken, Apart, Listings, Refusal};
 use crate::value::{decoded, Value};
 use std::fmt::Write;
 
@@ -13,9 +13,8 @@ pub(crate) fn table(bytes: &[u8]) -> Result<Vec<u8>, Refusal> {
     read(Output::Table, bytes)
 }
 
-/// The same where metadata does not fit, with the whole document beside it: the table has an empty table in the place of all
-/// metadata. The archive has no call for this, so there is none.
-pub(crate) fn without_metadata(_: &[u8]) -> Result<Option<(Vec<u8>, Vec<u8>)>, Refusal> {
+/// The same where metadata has a float. The archive has no call for this, so there is none.
+pub(crate) fn without_metadata(_: &[u8]) -> Result<Option<Apart>, Refusal> {
     Ok(None)
 }
 

@@ -3,8 +3,8 @@
 use super::declared::{manifest_canonical, Answer};
 use super::folders::{Folder, Slice};
 use super::heap::refusals::{blocks, with_refused};
-use crate::value::{decoded, Value};
 use super::{canonical, resolved_completed, resolved_completed_table, table, Fault, Listings, Refusal};
+use crate::value::{decoded, Value};
 use std::fmt::Debug;
 use std::mem::{offset_of, size_of};
 use std::thread;

@@ -7,6 +7,8 @@ mod path;
 pub(crate) mod read;
 mod reader;
 mod record;
+#[cfg(test)]
+mod tests;
 mod words;
 mod writer;
 

@@ -88,9 +88,10 @@ pub(crate) fn others<T: Form>(members: Map, aside: &mut Aside) -> Result<BTreeMa
 
 /// All items of an array, each as the same type.
 pub(crate) fn items<T: Form>(items: Vec<Value>, aside: &mut Aside) -> Result<Vec<T>, Misfit> {
-    let read = items.into_iter().enumerate().map(|(place, item)| {
-        T::read(item, aside).map_err(|misfit| misfit.below(Step::Place(place)))
-    });
+    let read = items
+        .into_iter()
+        .enumerate()
+        .map(|(place, item)| T::read(item, aside).map_err(|misfit| misfit.below(Step::Place(place))));
     read.collect()
 }
 

@@ -191,9 +191,11 @@ pub(crate) use row;
 
 /// What is done with a key that no row has.
 macro_rules! others_of {
-    (wanted $path:ident) => { None };
+    (wanted $path:ident) => {
+        None
+    };
     (wanted $path:ident $other:ty) => {
-        <std::collections::BTreeMap<String, $other> as $crate::codec::Form>::wanted_at($path)
+        <$other as $crate::codec::Form>::wanted_at($path)
     };
     ($reader:ident $key:ident) => {{
         let _ = $key;

@@ -34,11 +34,7 @@ impl<'de> Deserializer<'de> for Value {
         visitor.visit_some(self)
     }
 
-    fn deserialize_newtype_struct<V: Visitor<'de>>(
-        self,
-        _: &'static str,
-        visitor: V,
-    ) -> Result<V::Value, ValueError> {
+    fn deserialize_newtype_struct<V: Visitor<'de>>(self, _: &'static str, visitor: V) -> Result<V::Value, ValueError> {
         visitor.visit_newtype_struct(self)
     }
 
@@ -127,7 +123,9 @@ impl<'de> MapAccess<'de> for Members {
     }
 
     fn next_value_seed<V: DeserializeSeed<'de>>(&mut self, seed: V) -> Result<V::Value, ValueError> {
-        let Some((key, value)) = self.next.take() else { return Err(ValueError::new("a key is read before its value")) };
+        let Some((key, value)) = self.next.take() else {
+            return Err(ValueError::new("a key is read before its value"));
+        };
         seed.deserialize(value).map_err(|error| error.below(Step::Key(key)))
     }
 

@@ -260,7 +260,11 @@ macro_rules! members {
                 type Ok = Value;
                 type Error = ValueError;
 
-                fn serialize_field<T: Serialize + ?Sized>(&mut self, key: &'static str, value: &T) -> Result<(), ValueError> {
+                fn serialize_field<T: Serialize + ?Sized>(
+                    &mut self,
+                    key: &'static str,
+                    value: &T,
+                ) -> Result<(), ValueError> {
                     self.put(key, value)
                 }
 

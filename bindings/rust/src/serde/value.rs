@@ -65,7 +65,9 @@ impl<'de> Deserialize<'de> for Datetime {
     fn deserialize<D: Deserializer<'de>>(deserializer: D) -> Result<Datetime, D::Error> {
         match deserializer.deserialize_struct(NAME, &[FIELD], ValueVisitor)? {
             Value::Datetime(datetime) => Ok(datetime),
-            other => Err(::serde::de::Error::custom(format!("a {} stands where a date-time is wanted", other.type_str()))),
+            other => {
+                Err(::serde::de::Error::custom(format!("a {} stands where a date-time is wanted", other.type_str())))
+            }
         }
     }
 }

@@ -7,9 +7,9 @@ mod text;
 
 pub use access::Index;
 pub(crate) use codec::decoded;
-pub(crate) use text::{inline, key};
 pub use datetime::{Date, Datetime, DatetimeParseError, Offset, Time};
 use std::collections::BTreeMap;
+pub(crate) use text::{inline, key};
 
 /// Keys and their values, in the order of the keys' bytes.
 pub type Map = BTreeMap<String, Value>;
