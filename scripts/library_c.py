@@ -100,9 +100,10 @@ def check_valgrind(room):
     checked = ["valgrind", "-q", "--error-exitcode=9", "--leak-check=full"]
     for name in ("calls", "own_heap", "blocks"):
         counted(f"{name}.c under valgrind", run([*checked, room / name]), COUNTS)
-    (room / "Cargo.toml").write_text("[package]\nname = 'a-b'\n[lib]\n", encoding="utf-8")
+    manifest = room / "a-b.toml"  # (no Cargo.toml, which cargo would find above what is built in this folder)
+    manifest.write_text("[package]\nname = 'a-b'\n[lib]\n", encoding="utf-8")
     for files, status in (("src/lib.rs\nsrc/bin/x/main.rs\n", 0), ("", 1)):
-        said = run([*checked, room / "listed", room / "Cargo.toml"], input=files)
+        said = run([*checked, room / "listed", manifest], input=files)
         is_right = said.returncode == status
         told(f"listed.c under valgrind on {files!r}", None if is_right else f"{said.returncode} {said.stderr}")
 
