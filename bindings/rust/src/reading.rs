@@ -13,11 +13,9 @@ use std::str::FromStr;
 pub(crate) fn decode<P, W>(table: &[u8]) -> (Manifest<P, W>, Aside) {
     let Some((manifest, mut aside)) = decoded(table) else { is_broken() };
     if cfg!(debug_assertions) {
-        // (the metadata is lent to the writer: a copy would take stack by its depth)
-        let mut writer = Writer::new(aside);
-        manifest.encode(&mut writer);
-        aside = std::mem::take(&mut writer.aside);
-        assert!(writer.finish().is_ok_and(|again| again == table), "a manifest is not written as it was read");
+        let Ok((again, kept)) = written(&manifest, aside) else { panic!("a manifest that was read is not written") };
+        assert!(again == table, "a manifest is not written as it was read");
+        aside = kept;
     }
     (manifest, aside)
 }
@@ -31,9 +29,14 @@ pub(crate) fn decoded<P, W>(table: &[u8]) -> Option<(Manifest<P, W>, Aside)> {
 
 /// The table of a manifest with this metadata.
 pub(crate) fn encode<P, W>(manifest: &Manifest<P, W>, aside: Aside) -> Result<Vec<u8>, Error> {
+    written(manifest, aside).map(|(table, _)| table).map_err(Error::Other)
+}
+
+/// The same, with the metadata again.
+fn written<P, W>(manifest: &Manifest<P, W>, aside: Aside) -> Result<(Vec<u8>, Aside), String> {
     let mut writer = Writer::new(aside);
     manifest.encode(&mut writer);
-    writer.finish().map_err(Error::Other)
+    writer.finish()
 }
 
 impl Manifest {

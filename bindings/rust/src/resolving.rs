@@ -28,7 +28,7 @@ impl<PackageMetadata, WorkspaceMetadata> Manifest<PackageMetadata, WorkspaceMeta
         let mut members = Members::default();
         members.push("workspace", workspace);
         members.encode(&mut writer);
-        let root = writer.finish().map_err(Error::Other)?;
+        let (root, _) = writer.finish().map_err(Error::Other)?;
         let resolved = tables::resolved(&member, &root).map_err(|refusal| refused(refusal, &[]))?;
         self.replace(&resolved);
         Ok(())

@@ -85,7 +85,8 @@ fn put_metadata(text: &mut String, table: &str, metadata: &Value) {
     }
 }
 
-/// The canonical text of the manifest that the bytes are.
+/// The canonical text of the manifest that the bytes are, all of it by the proved writer. So metadata with a float is
+/// refused here; [`Manifest::to_toml_string`] writes it.
 ///
 /// ```
 /// let text = cargo_manifest::canonical(b"name = 'a'\nedition = '2021'")?; // an old header

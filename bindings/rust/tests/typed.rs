@@ -104,6 +104,20 @@ impl Numbers {
         }
     }
 
+    fn workspace(&mut self) -> Workspace {
+        let readme = Some(StringOrBool::String(self.text()));
+        Workspace {
+            members: self.texts(),
+            default_members: None,
+            exclude: Some(self.texts()),
+            resolver: Some(Resolver::V3),
+            dependencies: None,
+            package: Some(WorkspacePackage { readme, ..Default::default() }),
+            metadata: Some(self.value()),
+            lints: None,
+        }
+    }
+
     fn profile(&mut self) -> Profile {
         let text = "[profile.dev]\n[package]\nname = 'a'\n".parse::<Manifest>().unwrap();
         let mut profile = text.profile.unwrap().dev.unwrap();
@@ -126,45 +140,40 @@ fn change(manifest: &mut Manifest, numbers: &mut Numbers) {
         3 => package.metadata = Some(numbers.value()),
         4 => package.publish = Some(MaybeInherited::Local(Publish::Registry(numbers.texts()))),
         5 => package.readme = Some(MaybeInherited::Local(StringOrBool::Bool(false))),
-        6 => {
-            let dependencies = manifest.dependencies.get_or_insert_with(BTreeMap::new);
-            dependencies.insert(numbers.text(), numbers.dependency());
+        6 => manifest.bin.push(Product { path: Some(numbers.text()), harness: false, ..Product::default() }),
+        7 => manifest.lib = Some(Product { crate_type: Some(numbers.texts()), proc_macro: true, ..Product::default() }),
+        8 => drop(manifest.features.get_or_insert_with(BTreeMap::new).insert(numbers.text(), numbers.texts())),
+        9 => {
+            let maintenance = Maintenance { status: MaintenanceStatus::LookingForMaintainer };
+            manifest.badges = Some(Badges { maintenance, ..Badges::default() });
         }
-        7 => {
-            let dependencies = BTreeMap::from([(numbers.text(), numbers.dependency())]);
-            let (dev_dependencies, build_dependencies) = (BTreeMap::new(), BTreeMap::new());
-            let target = Target { dependencies, dev_dependencies, build_dependencies };
-            manifest.target.get_or_insert_with(BTreeMap::new).insert(numbers.text(), target);
-        }
-        8 => manifest.bin.push(Product { path: Some(numbers.text()), harness: false, ..Product::default() }),
-        9 => manifest.lib = Some(Product { crate_type: Some(numbers.texts()), proc_macro: true, ..Product::default() }),
-        10 => {
-            let readme = Some(StringOrBool::String(numbers.text()));
-            manifest.workspace = Some(Workspace {
-                members: numbers.texts(),
-                default_members: None,
-                exclude: Some(numbers.texts()),
-                resolver: Some(Resolver::V3),
-                dependencies: None,
-                package: Some(WorkspacePackage { readme, ..Default::default() }),
-                metadata: Some(numbers.value()),
-                lints: None,
-            });
-        }
+        other => change_deep(manifest, other, numbers),
+    }
+}
+
+/// The same of a field with tables in it.
+fn change_deep(manifest: &mut Manifest, which: usize, numbers: &mut Numbers) {
+    match which {
+        10 => manifest.workspace = Some(numbers.workspace()),
         11 => {
             let profiles = manifest.profile.get_or_insert_with(Profiles::default);
             profiles.custom.insert(numbers.text(), numbers.profile());
         }
         12 => {
-            let maintenance = Maintenance { status: MaintenanceStatus::LookingForMaintainer };
-            manifest.badges = Some(Badges { maintenance, ..Badges::default() });
-        }
-        13 => {
             let lint = Lint::Config(LintConfig { level: LintLevel::Forbid, priority: -128 });
             let lints = BTreeMap::from([(numbers.text(), BTreeMap::from([(numbers.text(), lint)]))]);
             manifest.lints = Some(MaybeInheritedLintsSet { workspace: Some(True), lints });
         }
-        14 => drop(manifest.features.get_or_insert_with(BTreeMap::new).insert(numbers.text(), numbers.texts())),
+        13 => {
+            let dependencies = BTreeMap::from([(numbers.text(), numbers.dependency())]);
+            let (dev_dependencies, build_dependencies) = (BTreeMap::new(), BTreeMap::new());
+            let target = Target { dependencies, dev_dependencies, build_dependencies };
+            manifest.target.get_or_insert_with(BTreeMap::new).insert(numbers.text(), target);
+        }
+        14 => {
+            let dependencies = manifest.dependencies.get_or_insert_with(BTreeMap::new);
+            dependencies.insert(numbers.text(), numbers.dependency());
+        }
         _ => {
             let sources = manifest.patch.get_or_insert_with(BTreeMap::new);
             sources.entry(numbers.text()).or_default().insert(numbers.text(), numbers.dependency());
@@ -305,4 +314,23 @@ fn what_is_shared_between_threads() {
             });
         }
     });
+}
+
+/// Tables in one another, as deep as the reader of TOML takes a short text.
+#[test]
+fn deep_metadata_on_8_megabytes_of_stack() {
+    let key = vec!["a"; 80].join(".");
+    let (open, close) = (format!("{{{key} = ").repeat(79), "}".repeat(79));
+    let text = format!("[package]\nname = 'p'\n[package.metadata]\na = {open}1{close}\n");
+    let run = move || {
+        let manifest: Manifest = text.parse().unwrap();
+        let mut depth = 0;
+        let mut value = manifest.package.as_ref().and_then(|package| package.metadata.as_ref());
+        while let Some(inner) = value.and_then(|value| value.get("a")) {
+            value = Some(inner);
+            depth += 1;
+        }
+        assert_eq!((depth, value.and_then(Value::as_integer)), (79 * 80 + 1, Some(1)));
+    };
+    std::thread::Builder::new().stack_size(8 << 20).spawn(run).unwrap().join().unwrap();
 }

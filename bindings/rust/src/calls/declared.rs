@@ -117,7 +117,7 @@ fn refused(answer: Answer, text: Vec<u8>) -> Refusal {
     }
 }
 
-/// Calls with memory for this many bytes, and once more where the text takes more. `run` is handed a pointer to so many
+/// Calls with memory for this many bytes, and once more where the text takes more. `run` gets a pointer to so many
 /// bytes that are set.
 fn bytes_of(room: usize, run: impl Fn(*mut u8, usize) -> Answer) -> Result<Vec<u8>, Refusal> {
     let mut out = Vec::new();

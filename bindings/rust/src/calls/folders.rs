@@ -3,7 +3,7 @@
 use super::listings::Listings;
 use super::refusal::Fault;
 
-/// A slice that is lent: `struct manifest_bytes` and `struct manifest_names` of `bindings/c/cargo_manifest.h`.
+/// A slice that is borrowed: `struct manifest_bytes` and `struct manifest_names` of `bindings/c/cargo_manifest.h`.
 #[repr(C)]
 pub(crate) struct Slice<T> {
     pub(crate) at: *const T,

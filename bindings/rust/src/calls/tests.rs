@@ -1,4 +1,4 @@
-//! What only this crate sees: memory that is lent, memory that is refused, and how the declarations lie in memory.
+//! What only this crate sees: memory for the answer, memory that is refused, and how the declarations lie in memory.
 
 use super::declared::{manifest_canonical, Answer};
 use super::folders::{Folder, Slice};
@@ -40,7 +40,7 @@ fn the_text_is_put_whole_or_not_at_all() {
     }
 }
 
-/// Refuses each request for memory of a call in turn: it answers want of memory, or the answer that is wanted, and gives all
+/// Refuses each request for memory of a call in turn: it says that no memory is left, or answers as wanted, and gives all
 /// blocks back.
 fn are_refused<T: Debug + PartialEq>(run: impl Fn() -> Result<T, Refusal>, wanted: &Result<T, Refusal>) {
     let held = blocks();

@@ -49,7 +49,7 @@ pub(crate) trait Encode {
 }
 
 /// The metadata of a manifest, which is kept beside it while it is read or written: its types are the user's.
-#[derive(Clone, Debug, Default)]
+#[derive(Debug, Default)]
 pub(crate) struct Aside {
     pub(crate) package: Option<Value>,
     pub(crate) workspace: Option<Value>,

@@ -55,10 +55,10 @@ impl Writer {
         self.refused.get_or_insert(why);
     }
 
-    /// What was written, or why it is none that a table holds.
-    pub(crate) fn finish(self) -> Result<Vec<u8>, String> {
+    /// What was written, with the metadata; or why it is none that a table holds.
+    pub(crate) fn finish(self) -> Result<(Vec<u8>, Aside), String> {
         match self.refused {
-            None => Ok(self.bytes),
+            None => Ok((self.bytes, self.aside)),
             Some(why) => Err(why),
         }
     }
@@ -102,7 +102,7 @@ impl AsideOf {
 
 impl Encode for AsideOf {
     fn encode(&self, writer: &mut Writer) {
-        // (a row is written only where there is metadata)
+        // (a row is written only where there is metadata, which is put back for the next use)
         if let Some(value) = (self.0)(&mut writer.aside).take() {
             value.encode(writer);
             *(self.0)(&mut writer.aside) = Some(value);
