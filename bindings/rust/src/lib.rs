@@ -115,9 +115,10 @@
 //! Nothing is kept between calls, so each may be made from any thread at any time. Where no memory is left for the library,
 //! the error is [`Error::Io`] of the kind `OutOfMemory`.
 //!
-//! A call takes the more stack the deeper its text nests tables: 128 kB are enough for a usual manifest, but a text of 21 kB
-//! can nest so deep that 3.3 MB are needed, and a thread that has less is ended by the system. So a thread that reads the
-//! manifests of others should have 8 MB (`std::thread::Builder::stack_size`), or bound their length.
+//! A call takes the more stack the deeper its text nests tables. 192 kB are enough for a usual manifest, but a text of 13 kB
+//! can nest so deep that reading it takes 3.2 MB (5.4 MB in a debug build) and writing it 6.2 MB (11.8 MB in a debug build),
+//! and a thread that has less is ended by the system. So a thread that reads the manifests of others should have 8 MB
+//! (`std::thread::Builder::stack_size`), one that writes them in a debug build 16 MB; or bound their length.
 //!
 //! # Features
 //!
