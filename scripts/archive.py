@@ -63,7 +63,7 @@ def built_files(words):
 def declared_calls():
     """The calls that the header declares."""
     header = (BINDINGS / "c" / "cargo_manifest.h").read_text(encoding="utf-8")
-    return set(re.findall(r"^struct manifest_answer (\w+)\(", header, re.M))
+    return set(re.findall(r"^(?:struct manifest_answer|uint32_t) (\w+)\(", header, re.M))
 
 
 def check_example(name, program):

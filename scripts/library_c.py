@@ -38,7 +38,7 @@ def built(compiler, archive, room, *more):
     """Compiles the programs of bindings/c over the archive alone, and says whether it could. The heap functions, which are in
     the archive, are compiled too."""
     ended(f"heap.c, by {compiler}", run([compiler, *FLAGS, "-c", "-o", os.devnull, C / "heap.c"]))
-    for name in ("calls", "canonical", "listed", "own_heap"):
+    for name in ("calls", "canonical", "listed", "own_heap", "blocks"):
         words = [compiler, *FLAGS, *more, "-o", room / name, C / f"{name}.c", archive, "-pthread"]
         if not ended(f"{name}.c, by {compiler}", run(words)):
             return False
@@ -87,6 +87,7 @@ def run_all(name, runner, room):
     """Runs the programs that were built, by a runner or by themselves."""
     counted(f"calls from {name}", run([*runner, room / "calls"]), COUNTS)
     counted(f"calls from {name} over a heap of its own", run([*runner, room / "own_heap"]), COUNTS)
+    counted(f"blocks of the library's heap, from {name}", run([*runner, room / "blocks"]), COUNTS)
     replay_manifests(name, [*runner, room / "canonical"])
     replay_folders(name, [*runner, room / "listed"], room)
 
@@ -97,7 +98,7 @@ def check_valgrind(room):
         print("the calls from C are not run under valgrind: it is not there")
         return
     checked = ["valgrind", "-q", "--error-exitcode=9", "--leak-check=full"]
-    for name in ("calls", "own_heap"):
+    for name in ("calls", "own_heap", "blocks"):
         counted(f"{name}.c under valgrind", run([*checked, room / name]), COUNTS)
     manifest = room / "a-b.toml"  # (no Cargo.toml, which cargo would find above what is built in this folder)
     manifest.write_text("[package]\nname = 'a-b'\n[lib]\n", encoding="utf-8")

@@ -7,7 +7,10 @@
 #include <stdlib.h>
 #include <string.h>
 
-enum which { CANONICAL, COMPLETED, RESOLVED, RESOLVED_COMPLETED, TABLE, COMPLETED_TABLE, RESOLVED_TABLE, RESOLVED_COMPLETED_TABLE };
+enum which {
+    CANONICAL, COMPLETED, RESOLVED, RESOLVED_COMPLETED, TABLE, COMPLETED_TABLE, RESOLVED_TABLE, RESOLVED_COMPLETED_TABLE,
+    TABLE_WITHOUT_METADATA, DOCUMENT, CANONICAL_OF_TABLE, COMPLETED_OF_TABLE, RESOLVED_OF_TABLES
+};
 
 /* A call, and its answer. For bytes, a root or folders that are null it is handed a null pointer and the length 0. */
 struct call {
@@ -19,7 +22,8 @@ struct call {
     int status;
     int cause;
     size_t start;
-    const char *text; /* or null, for `toml`'s words */
+    const char *text;   /* or null, for `toml`'s words */
+    size_t text_length; /* or 0, where a zero byte ends the text */
 };
 
 #define COUNT_OF(type, ...) (sizeof((const type[]){__VA_ARGS__}) / sizeof(type))
@@ -141,6 +145,67 @@ static const struct call TABLES[] = {
      .text = ""},
 };
 
+/* An answer with zero bytes in it. */
+#define BYTES(bytes) .text = (bytes), .text_length = sizeof(bytes) - 1
+#define HALF "\x09\x80\x80\x80\x80\x80\x80\x80\xf0\x3f"
+#define NOT_A_NUMBER "\x09\x80\x80\x80\x80\x80\x80\x80\xfc\x7f"
+#define VERSIONS_TABLE "\x08\x01\x09workspace\x08\x01\x07package\x08\x01\x07version\x01\x05" "2.0.0"
+#define MEMBER_TABLE                                                                                                    \
+    "\x08\x01\x07package\x08\x03\x07" "edition\x01\x04" "2021\x04name\x01\x03p-q\x07version\x08\x01\x09workspace\x05"
+
+/* Metadata that is not looked at, and documents whatever they mean. */
+static const struct call UNREAD[] = {
+    {TABLE_WITHOUT_METADATA, .bytes = NAME "[package.metadata]\na = [0, 1.5]",
+     BYTES("\x08\x01\x07package\x08\x02\x08metadata\x08\x00\x04name\x01\x03p-q")},
+    {TABLE_WITHOUT_METADATA, .bytes = "name = 'p-q'\nmetadata = 0.5",
+     BYTES("\x08\x01\x07package\x08\x02\x08metadata\x08\x00\x04name\x01\x03p-q")},
+    {TABLE_WITHOUT_METADATA, .bytes = "[workspace.metadata]\na = nan",
+     BYTES("\x08\x01\x09workspace\x08\x02\x07members\x07\x00\x08metadata\x08\x00")},
+    {TABLE_WITHOUT_METADATA, .bytes = NAME, .text = "\x08\x01\x07package\x08\x01\x04name\x01\x03p-q"},
+    {TABLE_WITHOUT_METADATA, .bytes = NAME "authors = [true]", .status = MANIFEST_SCHEMA, .cause = MANIFEST_WRONG_KIND,
+     .text = "package.authors[0]"},
+    {TABLE_WITHOUT_METADATA, .bytes = NAME "[profile.dev]\nlto = 0.5", .status = MANIFEST_SCHEMA,
+     .cause = MANIFEST_HOLDS_FLOAT, .text = "profile.dev.lto"},
+    {TABLE_WITHOUT_METADATA, .bytes = "[package\nname = 'p'", .status = MANIFEST_NO_TOML, .start = 8},
+    {DOCUMENT, .bytes = "x = 0.5\ny = nan", .text = "\x08\x02\x01x" HALF "\x01y" NOT_A_NUMBER},
+    {DOCUMENT, .bytes = "edition = 1", .text = "\x08\x01\x07" "edition\x02\x01"},
+    {DOCUMENT, .bytes = "\xff", .status = MANIFEST_NOT_UTF8, .text = ""},
+    {DOCUMENT, .bytes = "[package\nname = 'p'", .status = MANIFEST_NO_TOML, .start = 8},
+    {DOCUMENT, BYTES("\x08\x00")},
+};
+
+/* Calls whose bytes are a tagged table. */
+static const struct call OF_TABLES[] = {
+    {CANONICAL_OF_TABLE, .bytes = "\x08\x01" PACKAGE_TABLE, .text = PACKAGE},
+    {CANONICAL_OF_TABLE, .bytes = "\x08\x01\x04name\x01\x03p-q", .text = ""},
+    {CANONICAL_OF_TABLE, .bytes = "\x08\x01\x07package\x08\x01\x04name\x05", .status = MANIFEST_SCHEMA,
+     .cause = MANIFEST_WRONG_KIND, .text = "package.name"},
+    {CANONICAL_OF_TABLE, .bytes = "\x08\x01\x07package\x08\x02\x08metadata" HALF "\x04name\x01\x03p-q",
+     .status = MANIFEST_SCHEMA, .cause = MANIFEST_HOLDS_FLOAT, .text = "package.metadata"},
+    {CANONICAL_OF_TABLE, .bytes = "\x05", .status = MANIFEST_SCHEMA, .cause = MANIFEST_WRONG_KIND, .text = "(top)"},
+    {CANONICAL_OF_TABLE, .status = MANIFEST_UNTAGGED, .text = ""},
+    {CANONICAL_OF_TABLE, .bytes = NAME, .status = MANIFEST_UNTAGGED, .text = ""},
+    {CANONICAL_OF_TABLE, .bytes = "\x08\x02" PACKAGE_TABLE, .status = MANIFEST_UNTAGGED, .text = ""},
+    {CANONICAL_OF_TABLE, .bytes = "\x08\x01" PACKAGE_TABLE "\x05", .status = MANIFEST_UNTAGGED, .text = ""},
+    {CANONICAL_OF_TABLE, .bytes = "\x08\x01\x07package\x08\x01\x04name\x01\x02" CUT, .status = MANIFEST_UNTAGGED, .text = ""},
+    {CANONICAL_OF_TABLE, .bytes = "\x08\x02\x01" "b\x05\x01" "a\x05", .status = MANIFEST_UNTAGGED, .text = ""},
+    {CANONICAL_OF_TABLE, .bytes = "\x08\x02\x01" "a\x05\x01" "a\x05", .status = MANIFEST_UNTAGGED, .text = ""},
+    {CANONICAL_OF_TABLE, .bytes = "\x08\x81\x80\x80\x80\x80\x80\x80\x80\x80\x01", .status = MANIFEST_UNTAGGED, .text = ""},
+    {CANONICAL_OF_TABLE, .bytes = "\x08\xff\xff\xff\xff\xff\xff\xff\xff\xff\x7f", .status = MANIFEST_UNTAGGED, .text = ""},
+    {COMPLETED_OF_TABLE, .bytes = "\x08\x01" PACKAGE_TABLE, FOLDERS({TEXT("."), NAMES(TEXT("build.rs")), 0}),
+     .text = "\x08\x01" BUILT_TABLE},
+    {COMPLETED_OF_TABLE, .bytes = "\x08\x01" PACKAGE_TABLE, FOLDERS(HERE, HERE), .status = MANIFEST_LISTINGS, .text = ""},
+    {COMPLETED_OF_TABLE, .bytes = OWN, FOLDERS(HERE), .status = MANIFEST_UNTAGGED, .text = ""},
+    {COMPLETED_OF_TABLE, .bytes = "\x08\x01" PACKAGE_TABLE, FOLDERS(HERE, FAULTY), .status = MANIFEST_IO,
+     .cause = MANIFEST_OTHER_FAULT, .text = ""},
+    {RESOLVED_OF_TABLES, .bytes = MEMBER_TABLE, .root = VERSIONS_TABLE, .text = "\x08\x01" VERSIONED_TABLE},
+    {RESOLVED_OF_TABLES, .bytes = MEMBER_TABLE, .root = MEMBER_TABLE, .status = MANIFEST_NO_WORKSPACE, .text = ""},
+    {RESOLVED_OF_TABLES, .bytes = MEMBER_TABLE, .root = ROOT, .status = MANIFEST_ROOT_UNTAGGED, .text = ""},
+    {RESOLVED_OF_TABLES, .bytes = MEMBER, .root = ROOT, .status = MANIFEST_UNTAGGED, .text = ""},
+    {RESOLVED_OF_TABLES, .bytes = MEMBER_TABLE, .root = "\x05", .status = MANIFEST_ROOT_SCHEMA,
+     .cause = MANIFEST_WRONG_KIND, .text = "(top)"},
+};
+
 /* Of two steps that refuse, the one that goes before the other is told. */
 static const struct call ORDERS[] = {
     {COMPLETED, .bytes = CUT, FOLDERS(HERE, HERE), .status = MANIFEST_LISTINGS, .text = ""},
@@ -188,7 +253,8 @@ static const struct group {
     const char *name;
     const struct call *calls;
     size_t length;
-} GROUPS[] = {GROUP(READINGS), GROUP(COMPLETIONS), GROUP(RESOLVINGS), GROUP(TABLES), GROUP(ORDERS), GROUP(NULLS)};
+} GROUPS[] = {GROUP(READINGS), GROUP(COMPLETIONS), GROUP(RESOLVINGS), GROUP(TABLES), GROUP(UNREAD), GROUP(OF_TABLES),
+              GROUP(ORDERS), GROUP(NULLS)};
 
 enum { GROUP_COUNT = sizeof GROUPS / sizeof GROUPS[0], THREADS = 4, TURNS = 20, SET = 0xAA };
 
@@ -212,16 +278,32 @@ static struct manifest_answer made(const struct call *call, uint8_t *out, size_t
     case RESOLVED_TABLE:
         return manifest_resolved_table(bytes, length, root, root_length, out, room);
     case RESOLVED_COMPLETED_TABLE:
+        return manifest_resolved_completed_table(bytes, length, root, root_length, call->folders, call->folders_length, out, room);
+    case TABLE_WITHOUT_METADATA:
+        return manifest_table_without_metadata(bytes, length, out, room);
+    case DOCUMENT:
+        return manifest_document(bytes, length, out, room);
+    case CANONICAL_OF_TABLE:
+        return manifest_canonical_of_table(bytes, length, out, room);
+    case COMPLETED_OF_TABLE:
+        return manifest_completed_of_table(bytes, length, call->folders, call->folders_length, out, room);
+    case RESOLVED_OF_TABLES:
         break;
     }
-    return manifest_resolved_completed_table(bytes, length, root, root_length, call->folders, call->folders_length, out, room);
+    return manifest_resolved_of_tables(bytes, length, root, root_length, out, room);
+}
+
+/* How long the text that is wanted is. */
+static size_t wanted(const struct call *call)
+{
+    return call->text_length ? call->text_length : strlen(call->text);
 }
 
 /* Whether an answer has the numbers that are wanted. */
 static int has_numbers(struct manifest_answer answer, const struct call *call)
 {
     return answer.status == call->status && answer.cause == call->cause && answer.start == call->start
-           && (call->text ? answer.end == 0 && answer.length == strlen(call->text)
+           && (call->text ? answer.end == 0 && answer.length == wanted(call)
                           : answer.end >= answer.start && answer.length > 0);
 }
 
@@ -336,6 +418,7 @@ int main(int words_length, char **words)
     for (int group = 0; group < GROUP_COUNT; group++)
         for (size_t i = 0; i < GROUPS[group].length; i++)
             count(is_answered(&GROUPS[group].calls[i]), GROUPS[group].name, i + 1);
+    count(manifest_version() == MANIFEST_VERSION, "version", MANIFEST_VERSION);
     if (!count_threads())
         return 2;
     printf("%d passed, %d failed\n", passed, failed);

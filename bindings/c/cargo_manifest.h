@@ -48,8 +48,8 @@ extern "C" {
    order, as far as it has them, and the first that refuses is told:
 
        the folders                8
-       the bytes                  4, 1, 2
-       the root                   20, 17, 18   (it is read also where the manifest inherits nothing)
+       the bytes                  4, 1, 2, or 14, 2
+       the root                   20, 17, 18, or 30, 18   (it is read also where the manifest inherits nothing)
        its workspace              9
        what the workspace lends   10, 11, 12, 13
        the completion             3, 5
@@ -90,10 +90,14 @@ enum manifest_status {
     MANIFEST_MIXED_LINTS = 12,
     /* the manifest inherits its lints, and the workspace has lints of a tool named `workspace` */
     MANIFEST_TOOL_NAMED_WORKSPACE = 13,
-    /* 1, 2 and 4 of the root: 16 more. `start` and `end` are places in the root */
+    /* bytes that should be a tagged table are none: a text in them is not UTF-8, the keys of a table do not ascend, a number
+       is not written in the shortest way, or they end too early or too late */
+    MANIFEST_UNTAGGED = 14,
+    /* 1, 2, 4 and 14 of the root: 16 more. `start` and `end` are places in the root */
     MANIFEST_ROOT_NO_TOML = 17,
     MANIFEST_ROOT_SCHEMA = 18,
-    MANIFEST_ROOT_NOT_UTF8 = 20
+    MANIFEST_ROOT_NOT_UTF8 = 20,
+    MANIFEST_ROOT_UNTAGGED = 30
 };
 
 /* The cause of MANIFEST_SCHEMA and MANIFEST_ROOT_SCHEMA. */
@@ -205,6 +209,38 @@ struct manifest_answer manifest_resolved_table(const uint8_t *bytes, size_t byte
 struct manifest_answer manifest_resolved_completed_table(const uint8_t *bytes, size_t bytes_length, const uint8_t *root,
                                                          size_t root_length, const struct manifest_folder *folders,
                                                          size_t folders_length, uint8_t *out, size_t out_length);
+
+/* The table that manifest_table gives, but that the metadata of the package and of the workspace is not looked at: where
+   there is any, it is written as the empty table. So metadata refuses nothing, also where it has a float. */
+struct manifest_answer manifest_table_without_metadata(const uint8_t *bytes, size_t bytes_length, uint8_t *out,
+                                                       size_t out_length);
+
+/* The document that the bytes are, as a tagged table, whatever it means: all its keys as they stand. It may have floats:
+
+      9  a float: its 64 bits as a number, 0x7ff8000000000000 for all that are not a number */
+struct manifest_answer manifest_document(const uint8_t *bytes, size_t bytes_length, uint8_t *out, size_t out_length);
+
+/* Calls whose bytes are no text but a tagged table, such as manifest_table gives, or a program makes. A table has no old
+   headers: its package is `package`. A float in it is refused as any other value that does not fit.
+
+   The canonical text of its manifest. */
+struct manifest_answer manifest_canonical_of_table(const uint8_t *bytes, size_t bytes_length, uint8_t *out,
+                                                   size_t out_length);
+
+/* The tagged table of its manifest, completed over the folders. */
+struct manifest_answer manifest_completed_of_table(const uint8_t *bytes, size_t bytes_length,
+                                                   const struct manifest_folder *folders, size_t folders_length,
+                                                   uint8_t *out, size_t out_length);
+
+/* The tagged table of its manifest, with what it inherits from the workspace of the root put in. The root's bytes are a
+   tagged table too. */
+struct manifest_answer manifest_resolved_of_tables(const uint8_t *bytes, size_t bytes_length, const uint8_t *root,
+                                                   size_t root_length, uint8_t *out, size_t out_length);
+
+/* The version of these calls and of the tagged bytes: MANIFEST_VERSION, where the library is of the same version as this
+   header. */
+#define MANIFEST_VERSION 1
+uint32_t manifest_version(void);
 
 /* What a request for memory answers. */
 struct rattle_tried {

@@ -84,9 +84,12 @@ static const struct manifest_bytes SOURCES[] = {{(const uint8_t *)"lib.rs", 6}, 
 static const struct manifest_folder FOLDERS[] = {{{(const uint8_t *)".", 1}, {NULL, 0}, MANIFEST_NO_FAULT},
                                                  {{(const uint8_t *)"src", 3}, {SOURCES, 2}, MANIFEST_NO_FAULT}};
 
+#define INLINE "package = {edition = '2021', name = 'p-q'}"
+#define TABLE "\x08\x01\x07package\x08\x02\x07" "edition\x01\x04" "2021\x04name\x01\x03p-q"
+
 /* What each kind of call answers. */
 static const char *const TEXTS[] = {PACKAGE, LIBRARY PACKAGE, PACKAGE VERSION, LIBRARY PACKAGE VERSION,
-                                    "\x08\x01\x07package\x08\x02\x07" "edition\x01\x04" "2021\x04name\x01\x03p-q"};
+                                    TABLE, TABLE, TABLE, PACKAGE};
 
 enum { CALLS = sizeof TEXTS / sizeof TEXTS[0] };
 
@@ -103,8 +106,14 @@ static struct manifest_answer made(int call, uint8_t *out, size_t room)
         return manifest_resolved(member, member_length, root, root_length, out, room);
     case 3:
         return manifest_resolved_completed(member, member_length, root, root_length, FOLDERS, 2, out, room);
-    default:
+    case 4:
         return manifest_table(own, length, out, room);
+    case 5:
+        return manifest_table_without_metadata(own, length, out, room);
+    case 6:
+        return manifest_document((const uint8_t *)INLINE, sizeof INLINE - 1, out, room);
+    default:
+        return manifest_canonical_of_table((const uint8_t *)TABLE, sizeof TABLE - 1, out, room);
     }
 }
 

@@ -9,24 +9,20 @@ use std::process;
 
 const ARCHIVE: &str = "libcargo_manifest.a";
 
-/// The calls on texts, which each archive has.
-const ON_TEXTS: [&str; 8] = [
+/// The calls that this crate makes.
+const CALLS: [&str; 14] = [
     "manifest_canonical",
+    "manifest_canonical_of_table",
     "manifest_completed",
+    "manifest_completed_of_table",
     "manifest_completed_table",
+    "manifest_document",
     "manifest_resolved",
     "manifest_resolved_completed",
     "manifest_resolved_completed_table",
+    "manifest_resolved_of_tables",
     "manifest_resolved_table",
     "manifest_table",
-];
-
-/// The calls on tables. Without all of them a table is handed over as a text.
-const ON_TABLES: [&str; 6] = [
-    "manifest_canonical_of_table",
-    "manifest_completed_of_table",
-    "manifest_document",
-    "manifest_resolved_of_tables",
     "manifest_table_without_metadata",
     "manifest_version",
 ];
@@ -65,7 +61,6 @@ fn names(archive: &[u8]) -> HashSet<&[u8]> {
 
 fn main() {
     println!("cargo:rerun-if-env-changed=MANIFEST_FFI");
-    println!("cargo:rustc-check-cfg=cfg(calls_on_tables)");
     // (the features are those of the package beside this one, which has the same sources)
     println!("cargo:rustc-check-cfg=cfg(feature, values(\"serde\", \"toml\"))");
     let folder = match env::var_os("MANIFEST_FFI") {
@@ -75,11 +70,8 @@ fn main() {
     let file = folder.join(ARCHIVE);
     let archive = fs::read(&file).unwrap_or_else(|fault| stop(&format!("{} cannot be read: {fault}", file.display())));
     let names = names(&archive);
-    if let Some(call) = ON_TEXTS.iter().find(|call| !names.contains(call.as_bytes())) {
+    if let Some(call) = CALLS.iter().find(|call| !names.contains(call.as_bytes())) {
         stop(&format!("the archive {} is of another version: it has no call {call}", file.display()));
-    }
-    if ON_TABLES.iter().all(|call| names.contains(call.as_bytes())) {
-        println!("cargo:rustc-cfg=calls_on_tables");
     }
     println!("cargo:rerun-if-changed={}", file.display());
     println!("cargo:rustc-link-search=native={}", folder.display());

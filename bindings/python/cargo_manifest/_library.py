@@ -68,6 +68,23 @@ def _loaded() -> ctypes.CDLL:
         raise ImportError(f"the library of cargo_manifest cannot be loaded ({fault}): {advice}") from fault
 
 
+# the version of the calls that this package is written for: MANIFEST_VERSION of `cargo_manifest.h`
+_VERSION = 1
+
+
+def compare_versions(library: ctypes.CDLL) -> None:
+    """Raises an ImportError where the library has another version of the calls than this package is written for."""
+    try:
+        version = library["manifest_version"]
+    except AttributeError as fault:
+        raise ImportError(f"the library has no call manifest_version: name a {NAME} that has it by {VARIABLE}") from fault
+    version.argtypes = []
+    version.restype = ctypes.c_uint32
+    if version() != _VERSION:
+        raise ImportError(f"the library has version {version()} of its calls, and cargo_manifest is written for version "
+                          f"{_VERSION}: name a {NAME} of that version by {VARIABLE}")
+
+
 def _declared(library: ctypes.CDLL, name: str, *slices: tuple[Any, Any]) -> Call:
     """A call that takes these slices, each a pointer with its length, and the memory for its text behind them."""
     try:
@@ -88,3 +105,4 @@ manifest_table = _declared(_LIBRARY, "manifest_table", _TEXT)
 manifest_completed_table = _declared(_LIBRARY, "manifest_completed_table", _TEXT, _FOLDERS)
 manifest_resolved_table = _declared(_LIBRARY, "manifest_resolved_table", _TEXT, _TEXT)
 manifest_resolved_completed_table = _declared(_LIBRARY, "manifest_resolved_completed_table", _TEXT, _TEXT, _FOLDERS)
+compare_versions(_LIBRARY)

@@ -56,6 +56,13 @@ class WithoutThisLibrary(unittest.TestCase):
             self.skipTest("this Python has no module of its own that is a library")
         self.assertIn("no call manifest_canonical", self.fault(library=other))
 
+    def test_a_library_of_another_version(self) -> None:
+        def version() -> int:
+            return 2
+
+        with self.assertRaisesRegex(ImportError, "has version 2 of its calls.* written for version 1"):
+            _library.compare_versions({"manifest_version": version})  # type: ignore[arg-type]
+
     def test_beside_the_modules_and_above(self) -> None:
         package = self.modules / PACKAGE.name
         above = [package.parents[number] / PREBUILT for number in (2, 1, 0)]

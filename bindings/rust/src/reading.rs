@@ -123,7 +123,7 @@ fn read<P, W>(bytes: &[u8]) -> Result<(Manifest<P, W>, Aside), Refusal> {
         return Err(refusal);
     }
     // metadata with a float is not in the table: it is taken from the document
-    let Some(apart) = tables::without_metadata(bytes)? else { return Err(refusal) };
+    let apart = tables::without_metadata(bytes)?;
     let (manifest, _) = decode(&apart.table);
     let Some(Value::Table(document)) = crate::value::decoded(&apart.document) else { is_broken() };
     Ok((manifest, metadata_of(document)))

@@ -1,5 +1,4 @@
 //! Metadata with floats, which the archive hands over by calls of their own.
-#![cfg(calls_on_tables)]
 
 use cargo_manifest::{canonical, Cause, Error, Manifest, Value};
 

@@ -30,6 +30,8 @@ pub use manifest_parts::{
     True,
 };
 pub use manifest_tables::{Package, Profiles, Workspace, WorkspacePackage};
-pub use manifest_value::{Cause, KeyPath, Metadata, Plain, ReadFault, Schema, SchemaFault, Step};
+pub use manifest_value::{
+    Cause, KeyPath, Metadata, Plain, ReadFault, Schema, SchemaFault, Step, Unread,
+};
 pub use toml::Value;
 pub use writing::INVALID_DATE;

@@ -110,10 +110,10 @@ fn read_text<P: Metadata, W: Metadata>(
 
 /// The manifest that a text means.
 #[inline(always)]
-fn from_text<P: Metadata>(alloc: Global, text: &str) -> Result<Manifest<P, Value>, Error>
-    ensures ok { IfOk result (λ m. IsDocumentOf (tree_of P.kind) (tree_of kept) text.now
-        (manifest_kept P.kind P.content m)) }
-    ensures refused { IfErr result (RefusesText (tree_of P.kind) (tree_of kept) text.now) }
+fn from_text<P: Metadata, W: Metadata>(alloc: Global, text: &str) -> Result<Manifest<P, W>, Error>
+    ensures ok { IfOk result (λ m. IsDocumentOf (tree_of P.kind) (tree_of W.kind) text.now
+        (manifest_of P.kind W.kind P.content W.content m)) }
+    ensures refused { IfErr result (RefusesText (tree_of P.kind) (tree_of W.kind) text.now) }
 {
     let mut manifest = Manifest::default(alloc);
     match read_text(alloc, text, &mut manifest) {
@@ -122,6 +122,30 @@ fn from_text<P: Metadata>(alloc: Global, text: &str) -> Result<Manifest<P, Value
             drop(manifest);
             Err(fault)
         }
+    }
+}
+
+impl<P: Metadata, W: Metadata> Manifest<P, W> {
+    /// Reads the bytes of a `Cargo.toml`, with the package's metadata as a `P` and the workspace's as a `W`. It refuses as
+    /// [`Manifest::from_slice_with_metadata`] does.
+    ///
+    /// ```ignore
+    /// let manifest: Manifest<Unread, Unread> = Manifest::from_slice_with_both_metadata(alloc, bytes)?;
+    /// ```
+    pub fn from_slice_with_both_metadata(
+        alloc: Global,
+        bytes: &[u8],
+    ) -> Result<Manifest<P, W>, Error>
+        ensures ok { IfOk result
+            (λ m. IsUtf8 bytes.now × IsDocumentOf (tree_of P.kind) (tree_of W.kind) bytes.now
+            (manifest_of P.kind W.kind P.content W.content m)) }
+        ensures refused { IfErr result (Refuses (tree_of P.kind) (tree_of W.kind) bytes.now) }
+    {
+        let text = match std::str::from_utf8(bytes) {
+            Ok(text) => text,
+            Err(fault) => return Err(Error::Utf8(fault)),
+        };
+        from_text(alloc, text)
     }
 }
 
@@ -147,11 +171,7 @@ impl<P: Metadata> Manifest<P, Value> {
             (manifest_kept P.kind P.content m)) }
         ensures refused { IfErr result (Refuses (tree_of P.kind) (tree_of kept) bytes.now) }
     {
-        let text = match std::str::from_utf8(bytes) {
-            Ok(text) => text,
-            Err(fault) => return Err(Error::Utf8(fault)),
-        };
-        from_text(alloc, text)
+        Manifest::from_slice_with_both_metadata(alloc, bytes)
     }
 }
 

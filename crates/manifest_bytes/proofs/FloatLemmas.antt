@@ -300,10 +300,7 @@ manifest_are_floatless K W k w = search (simple_rows, package_floatless, workspa
 manifest_floatless : (K W : Kinds.Kind Data) → Floatless K → Floatless W → Floatless (form (manifest_rows K W))
 manifest_floatless K W k w = form_floatless (manifest_rows K W) (manifest_are_floatless K W k w)
 
-kept_tree : Floatless (tree_of kept)
-kept_tree = tree_floatless kept_floatless
-
-pub table_is_decoded : TableIsDecoded
-table_is_decoded m g =
-    let floatless = manifest_floatless (tree_of kept) (tree_of kept) kept_tree kept_tree in
-    encoded_is_decoded (written_manifest (tree_of kept) (tree_of kept) m) (floatless.writes m g)
+pub table_is_decoded : (K W : Kinds.Kind Data) → TableIsDecoded K W
+table_is_decoded K W k w m g =
+    let floatless = manifest_floatless K W (record { writes = k }) (record { writes = w }) in
+    encoded_is_decoded (written_manifest K W m) (floatless.writes m g)

@@ -1,5 +1,6 @@
 -- A value as bytes: a tag, and behind it what the value holds.
-use Rattle.std.specs.Prelude.{ℕ, suc, List, [], ◌∷◌, ◌++◌, length, Bool, true, false, ℤ, pos, negsuc, Option, Some, None}
+use Rattle.std.specs.Prelude.{ℕ, suc, List, [], ◌∷◌, ◌++◌, length, Bool, true, false, ℤ, pos, negsuc, Option, Some, None, to_bits}
+use lib.Ieee.{binary64}
 use Rattle.toml_datetime.specs.declared.datetime.Date.{Date}
 use Rattle.toml_datetime.specs.declared.datetime.Time.{Time}
 use Rattle.toml_datetime.specs.declared.datetime.Offset.{Offset}
@@ -57,7 +58,7 @@ abbrev pub member_count : Members → ℕ
 member_count no_members = 0
 member_count (member k d ms) = suc (member_count ms)
 
--- A VALUE. A float has its tag alone: no table of a manifest has one.
+-- A VALUE. A float is its 64 bits as a number, the same ones for everything that is not a number. No table of a manifest has one.
 abbrev mutual
   pub encoded : Data → List ℕ
   encoded (string s) = 1 ∷ text_bytes s
@@ -66,7 +67,7 @@ abbrev mutual
   encoded (datetime t) = 6 ∷ datetime_bytes t
   encoded (array ds) = 7 ∷ (number_bytes (item_count ds) ++ items_bytes ds)
   encoded (table ms) = 8 ∷ (number_bytes (member_count ms) ++ members_bytes ms)
-  encoded (float x) = 9 ∷ []
+  encoded (float x) = 9 ∷ number_bytes (to_bits binary64 x)
 
   -- the items in a row
   pub items_bytes : Items → List ℕ

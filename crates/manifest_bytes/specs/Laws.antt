@@ -1,7 +1,7 @@
 -- What is promised of the bytes of a value.
 use Rattle.std.specs.Prelude.{◌≡◌, IsTrue, Some}
 use Rattle.toml.specs.Data.{Data}
-use Rattle.manifest_schema.specs.Kinds.{plain, kept, tree_of}
+use Rattle.manifest_schema.specs.Kinds.{Kind, plain}
 use Rattle.manifest_schema.specs.Contents.{Manifest}
 use Rattle.manifest_schema.specs.Meaning.{well_formed, written_manifest}
 use Rattle.manifest_bytes.specs.Encoded.{encoded}
@@ -15,8 +15,11 @@ IsHeld d = decoded (encoded d) ≡ Some d
 abbrev pub EncodedIsDecoded : Type 0
 EncodedIsDecoded = (d : Data) → IsTrue (plain d) → IsHeld d
 
--- so is the table of each well-formed manifest whose metadata is kept as it is: it has no float
-abbrev pub TableIsDecoded : Type 0
-TableIsDecoded =
-    (m : Manifest) → well_formed (tree_of kept) (tree_of kept) m
-    → IsHeld (written_manifest (tree_of kept) (tree_of kept) m)
+-- of each value of a kind what is written has no float, if it is well-formed
+abbrev pub IsFloatless : Kind Data → Type 0
+IsFloatless K = (x : Data) → K.good x → IsTrue (plain (K.written x))
+
+-- so is the table of each well-formed manifest, where no metadata that is well-formed is written with a float
+abbrev pub TableIsDecoded : Kind Data → Kind Data → Type 0
+TableIsDecoded K W =
+    IsFloatless K → IsFloatless W → (m : Manifest) → well_formed K W m → IsHeld (written_manifest K W m)

@@ -2,6 +2,7 @@
 #![tactic(auto)]
 
 pub mod laws;
+mod reading;
 mod values;
 
-pub use values::value_bytes;
+pub use values::{value_bytes, value_of_bytes};

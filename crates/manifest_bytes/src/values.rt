@@ -1,11 +1,13 @@
 //! The bytes of a value.
 
-ghost use Rattle.std.specs.Prelude.{◌≡◌, ◌++◌, ◌∷◌, [], OnOk, IfOk, option_map};
+ghost use Rattle.std.specs.Prelude.{◌≡◌, ◌++◌, ◌∷◌, [], OnOk, IfOk, IfSome, option_map};
 ghost use Rattle.toml.specs.View.{view, array_view, table_view};
 ghost use Rattle.manifest_bytes.specs.Numbers.{number_bytes};
 ghost use Rattle.manifest_bytes.specs.Encoded.{text_bytes, integer_bytes, part_bytes, date_bytes, second_bytes, time_bytes, offset_bytes, datetime_bytes, item_count, member_count, encoded, items_bytes, members_bytes};
 
+use crate::reading::{Reader, read_value};
 use std::alloc::{AllocError, Global};
+use std::num::f64_to_bits_with_nan;
 use toml::{Table, Value};
 use toml_datetime::{Date, Datetime, Offset, Time};
 
@@ -155,9 +157,9 @@ fn push_value(out: &mut Vec<u8>, value: &Value) -> Result<(), AllocError>
             push_text(out, text.as_str())
         }
         Value::Integer(number) => push_integer(out, *number),
-        Value::Float(_) => {
+        Value::Float(number) => {
             out.push(9)?;
-            Ok(())
+            push_number(out, f64_to_bits_with_nan(*number))
         }
         Value::Boolean(flag) => {
             out.push(if *flag { 5 } else { 4 })?;
@@ -219,4 +221,26 @@ pub fn value_bytes(alloc: Global, value: &Value) -> Result<Vec<u8>, AllocError>
     let mut out = Vec::new(alloc);
     push_value(&mut out, value)?;
     Ok(out)
+}
+
+/// The value whose bytes these are: what is read of them is kept where its bytes are the same again. None where they are
+/// the bytes of no value, as where a text is not UTF-8, or the keys of a table do not ascend.
+///
+/// ```ignore
+/// let value = value_of_bytes(alloc, &[7, 2, 5, 2, 172, 2])?; // `[true, 300]`
+/// ```
+pub fn value_of_bytes(alloc: Global, bytes: &[u8]) -> Result<Option<Value>, AllocError>
+    ensures { IfOk result (λ value. IfSome value (λ v. bytes.now ≡ encoded (view v))) }
+{
+    let mut reader = Reader { left: bytes };
+    let Some(value) = read_value(alloc, bytes.len(), &mut reader)? else {
+        return Ok(None);
+    };
+    let again = value_bytes(alloc, &value)?;
+    if again.as_slice() == bytes {
+        Ok(Some(value))
+    } else {
+        drop(value);
+        Ok(None)
+    }
 }

@@ -1,2 +1,3 @@
 pub mod GivenLemmas
 pub mod MadeLemmas
+pub mod UnreadLemmas

@@ -2,7 +2,8 @@
 use Rattle.std.proofs.Common.{◌≡◌, ℕ, List, Vec, Global, Result, Ok, Err, IfOk, inl, inr, ap, sym, subst, ◌∙◌}
 use Rattle.std.specs.Prelude.{IfErr}
 use Rattle.manifest_bytes.specs.Decoded.{decoded}
-use Rattle.manifest_bytes.proofs.FloatLemmas.{table_is_decoded}
+use Rattle.manifest_bytes.specs.Laws.{IsFloatless}
+use Rattle.manifest_bytes.proofs.FloatLemmas.{kept_floatless, tree_floatless, table_is_decoded}
 use Rattle.manifest_schema.specs.Paths.{Text}
 use Rattle.manifest_schema.specs.Contents.{Manifest}
 use Rattle.manifest_schema.specs.Needs.{good_some}
@@ -11,18 +12,21 @@ use Rattle.manifest_schema.specs.ManifestForms.{workspace_rows}
 use Rattle.manifest_schema.specs.Meaning.{well_formed}
 use Rattle.manifest_schema.proofs.KindLaws.{tree_lawful}
 use Rattle.manifest_schema.proofs.KeptLaws.{kept_lawful}
+use Rattle.manifest_schema.proofs.ManifestLaws.{manifest_lawful}
 use Rattle.manifest_schema.proofs.MeaningLaws.{accepted_is_well_formed}
 use Rattle.manifest_completion.specs.Listings.{Answer as Listed}
 use Rattle.manifest_completion.specs.Stored.{stored_map}
 use Rattle.manifest_completion.proofs.CompletedLaws.{completed_fixed}
-use Rattle.cargo_manifest.specs.Canonical.{metadata, Means}
+use Rattle.cargo_manifest.specs.Canonical.{metadata}
 use Rattle.cargo_manifest.proofs.WellFormedLaws.{package_by_metadata, workspace_by_parts, manifest_by_parts}
 use Rattle.manifest_inherit.proofs.FormedLaws.{stays_well_formed}
 use Rattle.manifest_ffi.specs.declared.folders.Folder.{Folder}
+use Rattle.manifest_ffi.specs.declared.making.Input.{Input}
+use Rattle.manifest_ffi.specs.declared.making.Input.TheVariants.{Toml, Tagged}
 use Rattle.manifest_ffi.specs.declared.making.Output.{Output}
 use Rattle.manifest_ffi.specs.declared.making.Output.TheVariants.{CanonicalText, TaggedTable}
 use Rattle.manifest_ffi.specs.declared.refusal.Refusal.{Refusal}
-use Rattle.manifest_ffi.specs.Made.{Makes, Completed, Resolved, Refusals, Writes, Holds, Gives, RefusesOutput, OrOutput, IsMade}
+use Rattle.manifest_ffi.specs.Made.{Makes, Are, Completed, Resolved, Refusals, Writes, Holds, Gives, RefusesOutput, OrOutput, IsMade}
 use Rattle.manifest_ffi.specs.Given.{given}
 use Rattle.manifest_ffi.specs.Calls.{MakesCompleted, MakesResolved, MakesResolvedCompleted}
 
@@ -30,36 +34,43 @@ use Rattle.manifest_ffi.specs.Calls.{MakesCompleted, MakesResolved, MakesResolve
 abbrev pub Forms : Makes → Type 0
 Forms makes = (m : Manifest) → makes m → well_formed metadata metadata m
 
-pub read_formed : (bytes : List ℕ) → Forms (Means bytes)
-read_formed bytes m is =
+pub read_formed : (input : Input) (bytes : List ℕ) → Forms (Are input bytes)
+read_formed Toml bytes m is =
     let kept_tree = tree_lawful kept_lawful in
     (accepted_is_well_formed kept_tree kept_tree is.1.document m is.1.meant).0
+read_formed Tagged bytes m is =
+    let kept_tree = tree_lawful kept_lawful in
+    (manifest_lawful metadata metadata kept_tree kept_tree).well is.value m is.read
 
 completed_formed : (stored : Text → Listed) (makes : Makes) → Forms makes → Forms (Completed stored makes)
 completed_formed stored makes formed n (m, is, becomes) =
     let kept_tree = tree_lawful kept_lawful in
     (completed_fixed metadata metadata kept_tree kept_tree m n (stored_map stored) (formed m is) becomes).formed
 
-lent_formed : (root : List ℕ) (makes : Makes) → Forms makes → Forms (Resolved root makes)
-lent_formed root makes formed n (m, is, lent) =
+lent_formed : (input : Input) (root : List ℕ) (makes : Makes) → Forms makes → Forms (Resolved input root makes)
+lent_formed input root makes formed n (m, is, lent) =
     let by_manifest = manifest_by_parts metadata metadata in
-    let of_root = ((by_manifest lent.manifest).0 (read_formed root lent.manifest lent.read)).1 in
+    let of_root = ((by_manifest lent.manifest).0 (read_formed input root lent.manifest lent.read)).1 in
     let lends = subst (good_some (form (workspace_rows metadata))) lent.has of_root in
     stays_well_formed metadata metadata metadata (package_by_metadata metadata) (workspace_by_parts metadata) by_manifest m n lent.lends (formed m is) lends lent.resolves
 
-pub made_formed : (bytes : List ℕ) (folders : List Folder) → Forms (MakesCompleted bytes folders)
-made_formed bytes folders n (listings, is) = completed_formed (given folders) (Means bytes) (read_formed bytes) n is
+pub made_formed : (input : Input) (bytes : List ℕ) (folders : List Folder) → Forms (MakesCompleted input bytes folders)
+made_formed input bytes folders n (listings, is) = completed_formed (given folders) (Are input bytes) (read_formed input bytes) n is
 
-pub resolved_formed : (bytes root : List ℕ) → Forms (MakesResolved bytes root)
-resolved_formed bytes root = lent_formed root (Means bytes) (read_formed bytes)
+pub resolved_formed : (input : Input) (bytes root : List ℕ) → Forms (MakesResolved input bytes root)
+resolved_formed input bytes root = lent_formed input root (Are input bytes) (read_formed input bytes)
 
-pub resolved_made_formed : (bytes root : List ℕ) (folders : List Folder) → Forms (MakesResolvedCompleted bytes root folders)
-resolved_made_formed bytes root folders n (listings, is) = completed_formed (given folders) (MakesResolved bytes root) (resolved_formed bytes root) n is
+pub resolved_made_formed : (input : Input) (bytes root : List ℕ) (folders : List Folder) → Forms (MakesResolvedCompleted input bytes root folders)
+resolved_made_formed input bytes root folders n (listings, is) = completed_formed (given folders) (MakesResolved input bytes root) (resolved_formed input bytes root) n is
 
 -- THE LAST STEP
+-- metadata that is kept is written without floats
+kept_is_floatless : IsFloatless metadata
+kept_is_floatless = let kept_tree = tree_floatless kept_floatless in kept_tree.writes
+
 held : (output : Output) (m : Manifest) (text : Text) → well_formed metadata metadata m → Writes output m text → Holds output m text
 held CanonicalText m text g written = tt
-held TaggedTable m text g written = ap decoded written ∙ table_is_decoded m g
+held TaggedTable m text g written = ap decoded written ∙ table_is_decoded metadata metadata kept_is_floatless kept_is_floatless m g
 
 given_of : (output : Output) (makes : Makes) (refuses : Refusals) (m : Manifest) (r : Result (Vec ℕ Global) Refusal) → makes m → well_formed metadata metadata m
     → IsMade (Writes output m) (RefusesOutput output m) r → IsMade (Gives output makes) (OrOutput output makes refuses) r

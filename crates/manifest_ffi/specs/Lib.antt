@@ -7,3 +7,4 @@ pub mod Told
 pub mod Answered
 pub mod Made
 pub mod Calls
+pub mod Unread

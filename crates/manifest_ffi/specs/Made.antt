@@ -3,40 +3,55 @@ use Rattle.std.specs.Prelude.{◌≡◌, ◌⊎◌, ℕ, List, Some, None, Vec, 
 use Rattle.std.specs.declared.alloc.Global.{Global}
 use Rattle.manifest_schema.specs.Paths.{Text}
 use Rattle.manifest_schema.specs.Contents.{Workspace, Manifest}
+use Rattle.manifest_schema.specs.Meaning.{reads_manifest, faulty_manifest}
 use Rattle.manifest_completion.specs.Listings.{Answer}
 use Rattle.manifest_completion.specs.Completed.{completed, completed_to}
 use Rattle.manifest_completion.specs.Stored.{stored_map}
 use Rattle.manifest_completion.specs.Outcome.{IsRefusalOf}
 use Rattle.cargo_manifest.specs.Answers.{Refuses, RefusesToPrint}
 use Rattle.cargo_manifest.specs.Canonical.{metadata, rewritten, Means, IsTextOf}
+use Rattle.manifest_parts.specs.Refusals.{RefusedIn as RefusedAs}
+use Rattle.manifest_parts.specs.declared.error.Error.{Error}
 use Rattle.manifest_inherit.specs.Answers.{ResolvesTo, RefusedIn}
 use Rattle.manifest_inherit.specs.Refused.{refuses}
-use Rattle.toml.specs.Data.{table}
+use Rattle.toml.specs.Data.{Data, table}
 use Rattle.manifest_bytes.specs.Encoded.{encoded}
 use Rattle.manifest_bytes.specs.Decoded.{decoded}
+use Rattle.manifest_ffi.specs.declared.making.Input.{Input}
+use Rattle.manifest_ffi.specs.declared.making.Input.TheVariants.{Toml, Tagged}
 use Rattle.manifest_ffi.specs.declared.making.Output.{Output}
 use Rattle.manifest_ffi.specs.declared.making.Output.TheVariants.{CanonicalText, TaggedTable}
 use Rattle.manifest_ffi.specs.declared.refusal.Refusal.{Refusal}
-use Rattle.manifest_ffi.specs.declared.refusal.Refusal.TheVariants.{Bytes, Root, NoWorkspace, Resolving, Listings, Completion, Printing, Memory}
+use Rattle.manifest_ffi.specs.declared.refusal.Refusal.TheVariants.{Bytes, Untagged, Root, UntaggedRoot, NoWorkspace, Resolving, Listings, Completion, Printing, Memory}
 
 -- MANIFESTS that are told by this are made; a step makes them of those of the step before
 abbrev pub Makes : Type 1
 Makes = Manifest → Type 0
 
+-- THE BYTES ARE A MANIFEST: the text of one, or the tagged bytes of a table that the form of a manifest reads as one
+pub record IsTagged (bytes : List ℕ) (m : Manifest) : Type 0 where
+  pub value : Data
+  pub tagged : bytes ≡ encoded value
+  pub read : reads_manifest metadata metadata value m
+
+abbrev pub Are : Input → List ℕ → Makes
+Are Toml bytes = Means bytes
+Are Tagged bytes = IsTagged bytes
+
 -- there, the manifests of the one, each completed over what is stored for the paths
 abbrev pub Completed : (Text → Answer) → Makes → Makes
 Completed stored makes n = (m : Manifest) × makes m × (completed m (stored_map stored) ≡ completed_to n)
 
--- the manifest is resolved to the other one over the workspace of the manifest that the root's bytes mean
-pub record IsLent (root : List ℕ) (m n : Manifest) : Type 0 where
+-- the manifest is resolved to the other one over the workspace of the manifest that the root's bytes are
+pub record IsLent (input : Input) (root : List ℕ) (m n : Manifest) : Type 0 where
   pub manifest : Manifest
   pub lends : Workspace
-  pub read : Means root manifest
+  pub read : Are input root manifest
   pub has : manifest.workspace ≡ Some lends
   pub resolves : ResolvesTo m lends n
 
-abbrev pub Resolved : List ℕ → Makes → Makes
-Resolved root makes n = (m : Manifest) × makes m × IsLent root m n
+abbrev pub Resolved : Input → List ℕ → Makes → Makes
+Resolved input root makes n = (m : Manifest) × makes m × IsLent input root m n
 
 -- WHAT IS ASKED FOR of a manifest: its canonical text, or the tagged bytes of its table
 abbrev pub Writes : Output → Manifest → Text → Type 0
@@ -66,19 +81,45 @@ abbrev pub RefusesUnless : Type 0 → Refusals
 RefusesUnless P Listings = ¬ P
 RefusesUnless P r = IsWantOfMemory r
 
--- the bytes are refused as they are read
-abbrev pub RefusesBytes : List ℕ → Refusals
-RefusesBytes bytes (Bytes e) = Refuses metadata metadata bytes e
-RefusesBytes bytes _ = ⊥
+-- tagged bytes are refused for a fault that the value has which they hold
+pub record HasFault (bytes : List ℕ) (e : Error) : Type 0 where
+  pub value : Data
+  pub tagged : bytes ≡ encoded value
+  pub stands : RefusedAs (faulty_manifest metadata metadata value) e
 
--- the root is refused as it is read, or has no workspace, or its workspace does not lend what the manifest inherits
-abbrev pub RefusesToLend : List ℕ → Manifest → Refusals
-RefusesToLend root m (Root e) = Refuses metadata metadata root e
-RefusesToLend root m NoWorkspace = (r : Manifest) × Means root r × (r.workspace ≡ None)
-RefusesToLend root m (Resolving e) =
-    (r : Manifest) × Means root r
+-- the error of the reading
+abbrev pub RefusesToRead : Input → List ℕ → Error → Type 0
+RefusesToRead Toml bytes e = Refuses metadata metadata bytes e
+RefusesToRead Tagged bytes e = HasFault bytes e
+
+-- the bytes hold no value that can be told from its bytes
+abbrev pub AreUntagged : Input → List ℕ → Type 0
+AreUntagged Toml bytes = ⊥
+AreUntagged Tagged bytes = Unit {0}
+
+-- the bytes are refused as they are read
+abbrev pub RefusesBytes : Input → List ℕ → Refusals
+RefusesBytes input bytes (Bytes e) = RefusesToRead input bytes e
+RefusesBytes input bytes Untagged = AreUntagged input bytes
+RefusesBytes input bytes r = IsWantOfMemory r
+
+-- so are those of the root
+abbrev pub RefusesRoot : Input → List ℕ → Refusals
+RefusesRoot input root (Root e) = RefusesToRead input root e
+RefusesRoot input root UntaggedRoot = AreUntagged input root
+RefusesRoot input root r = IsWantOfMemory r
+
+-- the root has no workspace, or its workspace does not lend what the manifest inherits
+abbrev pub IsNotLent : Input → List ℕ → Manifest → Refusals
+IsNotLent input root m NoWorkspace = (r : Manifest) × Are input root r × (r.workspace ≡ None)
+IsNotLent input root m (Resolving e) =
+    (r : Manifest) × Are input root r
     × (w : Workspace) × (r.workspace ≡ Some w) × RefusedIn (refuses m w) e
-RefusesToLend root m _ = ⊥
+IsNotLent input root m _ = ⊥
+
+-- the root is refused as it is read, or it does not lend
+abbrev pub RefusesToLend : Input → List ℕ → Manifest → Refusals
+RefusesToLend input root m r = RefusesRoot input root r ⊎ IsNotLent input root m r
 
 -- the manifest is not completed over what is stored for the paths
 abbrev pub RefusesToComplete : (Text → Answer) → Manifest → Refusals

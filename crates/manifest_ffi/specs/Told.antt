@@ -15,7 +15,7 @@ use Rattle.manifest_parts.specs.declared.error.ParseFault.TheVariants.{Toml, Sch
 use Rattle.manifest_inherit.specs.declared.error.ResolveError.{ResolveError}
 use Rattle.manifest_inherit.specs.declared.error.ResolveError.TheVariants as unresolved
 use Rattle.manifest_ffi.specs.declared.refusal.Refusal.{Refusal}
-use Rattle.manifest_ffi.specs.declared.refusal.Refusal.TheVariants.{Bytes, Root, NoWorkspace, Resolving, Listings, Completion, Printing, Memory}
+use Rattle.manifest_ffi.specs.declared.refusal.Refusal.TheVariants.{Bytes, Untagged, Root, UntaggedRoot, NoWorkspace, Resolving, Listings, Completion, Printing, Memory}
 use Rattle.manifest_ffi.specs.declared.telling.Told.{Told}
 
 -- THE NUMBER of a cause
@@ -86,7 +86,9 @@ TellsResolving (unresolved.Memory e) t = TellsMemory t
 -- EACH REFUSAL
 abbrev pub Tells : Refusal → Told → Type 0
 Tells (Bytes e) t = TellsError false e t
+Tells Untagged t = IsTold t 14 0 []
 Tells (Root e) t = TellsError true e t
+Tells UntaggedRoot t = IsTold t 30 0 []
 Tells NoWorkspace t = IsTold t 9 0 []
 Tells (Resolving e) t = TellsResolving e t
 Tells Listings t = IsTold t 8 0 []

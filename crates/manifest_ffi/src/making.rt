@@ -1,24 +1,35 @@
 //! The manifests that are asked for, step by step, and what is written of them.
 
-ghost use Rattle.std.specs.Prelude.{◌≡◌, Err, IfOk, IfErr, OnOk};
+ghost use Rattle.std.specs.Prelude.{◌≡◌, ℕ, List, Err, IfOk, IfErr, OnOk};
 ghost use Rattle.toml.specs.Data.{table};
 ghost use Rattle.toml.specs.View.{view};
 ghost use Rattle.manifest_bytes.specs.Encoded.{encoded};
 ghost use Rattle.manifest_completion.specs.Completed.{completed, completed_to};
 ghost use Rattle.manifest_completion.specs.Stored.{stored_map};
 ghost use Rattle.cargo_manifest.specs.Whole.{manifest_content};
-ghost use Rattle.cargo_manifest.specs.Canonical.{rewritten, Means, IsTextOf};
+ghost use Rattle.cargo_manifest.specs.Canonical.{rewritten, IsTextOf};
+ghost use Rattle.manifest_ffi.specs.declared.making.Input.{Input};
+ghost use Rattle.manifest_ffi.specs.declared.making.Input.TheVariants.{Tagged};
 ghost use Rattle.manifest_ffi.specs.Given.{given_by};
-ghost use Rattle.manifest_ffi.specs.Made.{IsLent, Writes, IsWantOfMemory, RefusesBytes, RefusesToLend, RefusesToComplete, RefusesText, RefusesOutput, IsMade};
+ghost use Rattle.manifest_ffi.specs.Made.{Are, IsLent, Writes, IsWantOfMemory, RefusesBytes, RefusesRoot, RefusesToLend, RefusesToComplete, RefusesText, RefusesOutput, IsMade};
 ghost use Rattle.manifest_ffi.specs.Calls.{MakesCompleted, RefusesCompleted, MakesResolved, RefusesResolved, MakesResolvedCompleted, RefusesResolvedCompleted};
 
 use crate::folders::{Folder, GivenFolders};
 use crate::refusal::Refusal;
 use cargo_manifest::laws::stored_decides;
 use cargo_manifest::{Manifest, Schema};
-use manifest_bytes::value_bytes;
+use manifest_bytes::{value_bytes, value_of_bytes};
 use manifest_inherit::resolve;
 use std::alloc::Global;
+
+/// What the bytes of a manifest are.
+#[derive(Debug, Clone, Copy)]
+pub(crate) enum Input {
+    /// The text of a `Cargo.toml`.
+    Toml,
+    /// The tagged bytes of its table.
+    Tagged,
+}
 
 /// What is asked for of a manifest.
 #[derive(Debug, Clone, Copy)]
@@ -29,27 +40,59 @@ pub(crate) enum Output {
     TaggedTable,
 }
 
-/// The manifest that the bytes mean.
-pub(crate) fn read(alloc: Global, bytes: &[u8]) -> Result<Manifest, Refusal>
-    ensures ok { IfOk result (λ m. Means bytes.now (manifest_content view view m)) }
-    ensures refused { IfErr result (RefusesBytes bytes.now) }
+/// The manifest of a table, from its tagged bytes.
+fn from_tagged(alloc: Global, bytes: &[u8]) -> Result<Manifest, Refusal>
+    ensures ok { IfOk result (λ m. Are Tagged bytes.now (manifest_content view view m)) }
+    ensures refused { IfErr result (RefusesBytes Tagged bytes.now) }
 {
-    match Manifest::from_slice(alloc, bytes) {
+    let Some(value) = value_of_bytes(alloc, bytes)? else {
+        return Err(Refusal::Untagged);
+    };
+    match Manifest::from_value(alloc, &value) {
         Ok(manifest) => Ok(manifest),
         Err(error) => Err(Refusal::Bytes(error)),
     }
 }
 
+/// The manifest that the bytes are.
+pub(crate) fn read(alloc: Global, input: Input, bytes: &[u8]) -> Result<Manifest, Refusal>
+    ensures ok { IfOk result (λ m. Are input bytes.now (manifest_content view view m)) }
+    ensures refused { IfErr result (RefusesBytes input bytes.now) }
+{
+    match input {
+        Input::Toml => match Manifest::from_slice(alloc, bytes) {
+            Ok(manifest) => Ok(manifest),
+            Err(error) => Err(Refusal::Bytes(error)),
+        },
+        Input::Tagged => match from_tagged(alloc, bytes) {
+            Ok(manifest) => Ok(manifest),
+            Err(refusal) => Err(refusal),
+        },
+    }
+}
+
+/// A refusal of the root, where the bytes are the root's.
+fn of_root(refusal: Refusal) -> Refusal
+    ensures { (input : Input) (root : List ℕ) → RefusesBytes input root refusal
+        → RefusesRoot input root result }
+{
+    match refusal {
+        Refusal::Bytes(error) => Refusal::Root(error),
+        Refusal::Untagged => Refusal::UntaggedRoot,
+        other => other,
+    }
+}
+
 /// Puts into a manifest what the workspace of the root lends it.
-fn lend(alloc: Global, root: &[u8], manifest: &mut Manifest) -> Result<(), Refusal>
-    ensures ok { OnOk result (IsLent root.now
+fn lend(alloc: Global, input: Input, root: &[u8], manifest: &mut Manifest) -> Result<(), Refusal>
+    ensures ok { OnOk result (IsLent input root.now
         (manifest_content view view manifest.old) (manifest_content view view manifest.new)) }
     ensures refused { IfErr result
-        (RefusesToLend root.now (manifest_content view view manifest.old)) }
+        (RefusesToLend input root.now (manifest_content view view manifest.old)) }
 {
-    let root = match Manifest::from_slice(alloc, root) {
+    let root = match read(alloc, input, root) {
         Ok(root) => root,
-        Err(error) => return Err(Refusal::Root(error)),
+        Err(refusal) => return Err(of_root(refusal)),
     };
     let lent = match &root.workspace {
         Some(workspace) => match resolve(alloc, manifest, workspace) {
@@ -81,21 +124,22 @@ fn complete(
     }
 }
 
-/// The manifest that the bytes mean, completed over the folders.
+/// The manifest that the bytes are, completed over the folders.
 pub(crate) fn completed(
     alloc: Global,
+    input: Input,
     bytes: &[u8],
     folders: &[Folder<'_>],
 ) -> Result<Manifest, Refusal>
     ensures ok { IfOk result
-        (λ m. MakesCompleted bytes.now folders.now (manifest_content view view m)) }
-    ensures refused { IfErr result (RefusesCompleted bytes.now folders.now) }
+        (λ m. MakesCompleted input bytes.now folders.now (manifest_content view view m)) }
+    ensures refused { IfErr result (RefusesCompleted input bytes.now folders.now) }
 {
     let given = match GivenFolders::new(alloc, folders) {
         Ok(given) => given,
         Err(refusal) => return Err(refusal),
     };
-    let mut manifest = match read(alloc, bytes) {
+    let mut manifest = match read(alloc, input, bytes) {
         Ok(manifest) => manifest,
         Err(refusal) => return Err(refusal),
     };
@@ -108,17 +152,22 @@ pub(crate) fn completed(
     }
 }
 
-/// The manifest that the bytes mean, resolved over the workspace of the root.
-pub(crate) fn resolved(alloc: Global, bytes: &[u8], root: &[u8]) -> Result<Manifest, Refusal>
+/// The manifest that the bytes are, resolved over the workspace of the root.
+pub(crate) fn resolved(
+    alloc: Global,
+    input: Input,
+    bytes: &[u8],
+    root: &[u8],
+) -> Result<Manifest, Refusal>
     ensures ok { IfOk result
-        (λ m. MakesResolved bytes.now root.now (manifest_content view view m)) }
-    ensures refused { IfErr result (RefusesResolved bytes.now root.now) }
+        (λ m. MakesResolved input bytes.now root.now (manifest_content view view m)) }
+    ensures refused { IfErr result (RefusesResolved input bytes.now root.now) }
 {
-    let mut manifest = match read(alloc, bytes) {
+    let mut manifest = match read(alloc, input, bytes) {
         Ok(manifest) => manifest,
         Err(refusal) => return Err(refusal),
     };
-    match lend(alloc, root, &mut manifest) {
+    match lend(alloc, input, root, &mut manifest) {
         Ok(()) => Ok(manifest),
         Err(refusal) => {
             drop(manifest);
@@ -130,23 +179,24 @@ pub(crate) fn resolved(alloc: Global, bytes: &[u8], root: &[u8]) -> Result<Manif
 /// The same, resolved and then completed.
 pub(crate) fn resolved_completed(
     alloc: Global,
+    input: Input,
     bytes: &[u8],
     root: &[u8],
     folders: &[Folder<'_>],
 ) -> Result<Manifest, Refusal>
-    ensures ok { IfOk result (λ m. MakesResolvedCompleted bytes.now root.now folders.now
+    ensures ok { IfOk result (λ m. MakesResolvedCompleted input bytes.now root.now folders.now
         (manifest_content view view m)) }
-    ensures refused { IfErr result (RefusesResolvedCompleted bytes.now root.now folders.now) }
+    ensures refused { IfErr result (RefusesResolvedCompleted input bytes.now root.now folders.now) }
 {
     let given = match GivenFolders::new(alloc, folders) {
         Ok(given) => given,
         Err(refusal) => return Err(refusal),
     };
-    let mut manifest = match read(alloc, bytes) {
+    let mut manifest = match read(alloc, input, bytes) {
         Ok(manifest) => manifest,
         Err(refusal) => return Err(refusal),
     };
-    if let Err(refusal) = lend(alloc, root, &mut manifest) {
+    if let Err(refusal) = lend(alloc, input, root, &mut manifest) {
         drop(manifest);
         return Err(refusal);
     }

@@ -9,8 +9,12 @@ use std::alloc::{AllocError, AllocFailed};
 pub enum Refusal {
     /// The bytes are no manifest.
     Bytes(Error),
+    /// The bytes are no tagged table.
+    Untagged,
     /// The bytes of the workspace's root are no manifest.
     Root(Error),
+    /// The bytes of the workspace's root are no tagged table.
+    UntaggedRoot,
     /// The root has no workspace.
     NoWorkspace,
     /// The workspace does not lend what the manifest inherits.

@@ -155,7 +155,9 @@ pub(crate) fn tell(alloc: Global, refusal: Refusal) -> Told
 {
     match refusal {
         Refusal::Bytes(error) => tell_error(alloc, error, false),
+        Refusal::Untagged => with_text(14, 0, Vec::new(alloc)),
         Refusal::Root(error) => tell_error(alloc, error, true),
+        Refusal::UntaggedRoot => with_text(30, 0, Vec::new(alloc)),
         Refusal::NoWorkspace => with_text(9, 0, Vec::new(alloc)),
         Refusal::Resolving(error) => tell_resolving(alloc, error),
         Refusal::Listings => with_text(8, 0, Vec::new(alloc)),

@@ -1,6 +1,6 @@
 //! Values as tagged bytes. The bytes that are due come from the table of docs/LIBRARY.md.
 use crate::answers::value;
-use manifest_bytes::value_bytes;
+use manifest_bytes::{value_bytes, value_of_bytes};
 use std::alloc::Global;
 use std::test::Fail;
 use toml::Value;
@@ -65,5 +65,77 @@ fn bytes_of_a_list(alloc: Global) -> Result<Vec<u8>, Fail> {
 fn bytes_of_the_example(rt: HostRuntime) -> Result<(), Fail> {
     let bytes = bytes_of_a_list(rt.alloc())?;
     assert_eq!(rt; bytes.as_slice(), [7, 2, 5, 2, 172, 2].as_slice());
+    Ok(())
+}
+
+#[test]
+fn values_of_bytes(rt: HostRuntime) -> Result<(), Fail> {
+    for (text, bytes) in VALUES {
+        let got = value_of_bytes(rt.alloc(), bytes)?.ok_or("no value")?;
+        let again = value_bytes(rt.alloc(), &got)?;
+        assert_eq!(rt; again.as_slice(), *bytes, "at {text}");
+        drop(got);
+    }
+    Ok(())
+}
+
+/// Bytes of no value: none, an unknown tag, one byte too many or too few, a text that is not UTF-8, a number in more groups
+/// than it takes or in too many, keys that do not ascend, a part that is neither there nor not.
+const NO_VALUES: &[&[u8]] = &[
+    b"",
+    b"\x00",
+    b"\x0a",
+    b"\x05\x05",
+    b"\x01\x02a",
+    b"\x01\x01\xff",
+    b"\x02\x80\x00",
+    b"\x02\xff\xff\xff\xff\xff\xff\xff\xff\xff\x02",
+    b"\x02\xff\xff\xff\xff\xff\xff\xff\xff\xff\x01",
+    b"\x07\x02\x05",
+    b"\x08\x02\x01b\x05\x01a\x05",
+    b"\x08\x02\x01a\x05\x01a\x05",
+    b"\x06\x02\x00\x00",
+];
+
+#[test]
+fn bytes_of_no_value(rt: HostRuntime) -> Result<(), Fail> {
+    for bytes in NO_VALUES {
+        let got = value_of_bytes(rt.alloc(), bytes)?;
+        assert!(rt; got.is_none(), "at {bytes:?}");
+        drop(got);
+    }
+    Ok(())
+}
+
+fn list_of_bytes(alloc: Global) -> Result<Option<Value>, Fail> {
+    let value = value_of_bytes(alloc, &[7, 2, 5, 2, 172, 2])?; // `[true, 300]`
+    Ok(value)
+}
+
+#[test]
+fn value_of_the_example(rt: HostRuntime) -> Result<(), Fail> {
+    let got = list_of_bytes(rt.alloc())?.ok_or("no value")?;
+    let wanted = value(rt.alloc(), "[true, 300]")?;
+    assert!(rt; got == wanted);
+    drop(got);
+    Ok(())
+}
+
+/// Bytes of numbers with a fraction, by the bits that IEEE 754 gives them.
+const FLOATS: &[(&str, &[u8])] = &[
+    ("0.5", b"\x09\x80\x80\x80\x80\x80\x80\x80\xf0\x3f"),
+    ("nan", b"\x09\x80\x80\x80\x80\x80\x80\x80\xfc\x7f"),
+    ("0.0", b"\x09\x00"),
+];
+
+#[test]
+fn bytes_of_floats(rt: HostRuntime) -> Result<(), Fail> {
+    for (text, bytes) in FLOATS {
+        let got = value_bytes(rt.alloc(), &value(rt.alloc(), text)?)?;
+        assert_eq!(rt; got.as_slice(), *bytes, "at {text}");
+        let back = value_of_bytes(rt.alloc(), bytes)?;
+        assert!(rt; back.is_some(), "at {text}");
+        drop(back);
+    }
     Ok(())
 }

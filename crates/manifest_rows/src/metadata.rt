@@ -1,7 +1,7 @@
 //! Manifests whose package has metadata of a type.
-use crate::answers::{PACKAGE, Row, assert_is, expected_behind, written};
+use crate::answers::{PACKAGE, Row, assert_is, assert_written, expected_behind, written};
 use crate::score::{Level, Score};
-use cargo_manifest::{Manifest, Metadata};
+use cargo_manifest::{Manifest, Metadata, Unread};
 use std::alloc::Global;
 use std::process::Abort;
 use std::test::Fail;
@@ -80,4 +80,41 @@ const NOTHING: &[Row] = &[
 #[test]
 fn none_at_all(rt: HostRuntime) -> Result<(), Fail> {
     assert_metadata::<()>(&rt, rt.alloc(), NOTHING)
+}
+
+const UNREAD: &[Row] = &[
+    ("", Ok("")),
+    ("[package.metadata]\nx = 0.5", Ok("metadata = {}")),
+    ("metadata = nan", Ok("metadata = {}")),
+    (
+        "authors = [true]\nmetadata = 0.5",
+        Err("wrong kind at package.authors[0]"),
+    ),
+    (
+        "[workspace.metadata]\nx = 0.5",
+        Err("holds a float at workspace.metadata.x"),
+    ),
+];
+
+#[test]
+fn not_looked_at(rt: HostRuntime) -> Result<(), Fail> {
+    assert_metadata::<Unread>(&rt, rt.alloc(), UNREAD)?;
+    assert!(rt; Unread.is_well_formed());
+    Ok(())
+}
+
+fn manifest_of_both(alloc: Global, bytes: &[u8]) -> Result<Manifest<Unread, Unread>, Fail> {
+    let manifest: Manifest<Unread, Unread> = Manifest::from_slice_with_both_metadata(alloc, bytes)?;
+    Ok(manifest)
+}
+
+#[test]
+fn neither_is_looked_at(rt: HostRuntime) -> Result<(), Fail> {
+    let document = b"[package]\nname = 'a'\nmetadata = inf\n[workspace.metadata]\nx = 0.5";
+    assert_written(
+        &rt,
+        rt.alloc(),
+        manifest_of_both(rt.alloc(), document),
+        "{ package = { name = 'a', metadata = {} }, workspace = { members = [], metadata = {} } }",
+    )
 }

@@ -5,7 +5,7 @@ use Rattle.std.proofs.Common.{inr}
 use Rattle.toml.specs.Data.{Members, same_key}
 use Rattle.manifest_schema.specs.Paths.{Text, metadata_fault}
 use Rattle.manifest_schema.specs.Slots.{Spellings, only, both, first, at, put_some}
-use Rattle.manifest_schema.specs.Kinds.{nothing}
+use Rattle.manifest_schema.specs.Kinds.{nothing, unread}
 use Rattle.manifest_schema.specs.Forms.{Rows, ◌⨾◌}
 use Rattle.manifest_schema.specs.Lawful.{IsLawful, IsTotal}
 
@@ -45,3 +45,7 @@ nothing_laws = record { single = λ d x y a b. absurd a; apart = λ d p c x f a.
 
 pub nothing_told : IsTotal nothing
 nothing_told = record { total = λ d. inr ([], metadata_fault, (refl, refl)) }
+
+-- THE KIND THAT LOOKS AT NO VALUE keeps them too: no value has a fault
+pub unread_laws : IsLawful unread
+unread_laws = record { single = λ d x y a b. refl; apart = λ d p c x f a. f; well = λ d x a. tt; back = λ x g. tt }

@@ -263,3 +263,7 @@ tree_of K = metadata K.reads K.faulty K.written K.good
 -- no metadata at all: every value is refused, and nothing is well-formed
 abbrev pub nothing : Kind (Unit {0})
 nothing = record { reads = λ d x. ⊥; faulty = λ d. itself metadata_fault; written = λ x. table no_members; good = λ x. ⊥ }
+
+-- metadata that is not looked at: every value is read, as the same, and the empty table is written
+abbrev pub unread : Kind (Unit {0})
+unread = record { reads = λ d x. Unit {0}; faulty = λ d p c. ⊥; written = λ x. table no_members; good = any_good }

@@ -28,7 +28,7 @@ pub mod writers;
 pub use closures::{list_of, map_of};
 pub use fault::{Cause, KeyPath, ReadFault, SchemaFault, Step};
 pub use kept_values::{holds_float, kept};
-pub use metadata::Metadata;
+pub use metadata::{Metadata, Unread};
 pub use plain::Plain;
 pub use readers::{boolean, field, table, text, texts, whole};
 pub use schema::Schema;

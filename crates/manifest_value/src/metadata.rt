@@ -1,12 +1,12 @@
 //! Metadata of any type.
-ghost use Rattle.std.specs.Prelude.{◌≡◌, ◌↔◌, IsTrue, IfOk, IfErr, OnOk, option_map};
+ghost use Rattle.std.specs.Prelude.{◌≡◌, ◌↔◌, IsTrue, IfOk, IfErr, OnOk, option_map, refl};
 ghost use Rattle.std.proofs.Common.{subst};
 ghost use Rattle.toml.specs.View.{view, table_view};
 ghost use Rattle.manifest_value.specs.Faults.{FaultIn, IsSchema};
 ghost use Rattle.manifest_schema.specs.Slots.{put_some};
-ghost use Rattle.manifest_schema.specs.Kinds.{plain, tree_of, nothing};
+ghost use Rattle.manifest_schema.specs.Kinds.{plain, tree_of, nothing, unread};
 ghost use Rattle.manifest_schema.specs.Needs.{written_some};
-ghost use Rattle.manifest_schema.specs.ForProofs.{nothing_laws};
+ghost use Rattle.manifest_schema.specs.ForProofs.{nothing_laws, unread_laws};
 ghost use Rattle.manifest_value.specs.Reading.{written_as};
 
 use crate::fault::{Cause, ReadFault, here};
@@ -92,4 +92,41 @@ impl Metadata for Value {
     ghost without_floats = { λ x g. g };
 
     ghost good_by_tree = { λ x y g e. subst (λ d. IsTrue (plain d)) e g };
+}
+
+/// Metadata that is not looked at: every value is read, and the empty table is written. It is for a program that wants
+/// the rest of a manifest, whatever its metadata holds, a float too.
+///
+/// ```ignore
+/// let manifest = Manifest::<Unread>::from_slice_with_metadata(alloc, bytes)?;
+/// ```
+#[derive(Debug, Clone, Copy, PartialEq, Eq)]
+pub struct Unread;
+
+impl Schema for Unread {
+    ghost Content = { Unit {0} };
+
+    ghost content = { λ u. tt };
+
+    ghost kind = { unread };
+
+    fn from_value(_alloc: Global, _value: &Value) -> Result<Unread, ReadFault> {
+        Ok(Unread)
+    }
+
+    fn to_value(&self, alloc: Global) -> Result<Value, AllocError> {
+        Ok(Value::Table(Table::new(alloc)))
+    }
+
+    ghost lawful = { unread_laws };
+}
+
+impl Metadata for Unread {
+    fn is_well_formed(&self) -> bool {
+        true
+    }
+
+    ghost without_floats = { λ x g. refl };
+
+    ghost good_by_tree = { λ x y g e. tt };
 }

@@ -3,6 +3,7 @@
 use super::folders::{with_folders, Folder};
 use super::listings::Listings;
 use super::refusal::{Cause, Fault, Part, Refusal};
+use std::sync::OnceLock;
 
 /// What a call answers: `struct manifest_answer` of `bindings/c/cargo_manifest.h`.
 #[repr(C)]
@@ -20,10 +21,6 @@ pub(crate) struct Answer {
 extern "C" {
     pub(crate) fn manifest_canonical(bytes: *const u8, bytes_length: usize, out: *mut u8, out_length: usize) -> Answer;
     pub(crate) fn manifest_table(bytes: *const u8, bytes_length: usize, out: *mut u8, out_length: usize) -> Answer;
-}
-
-#[cfg(calls_on_tables)]
-extern "C" {
     fn manifest_version() -> u32;
     pub(crate) fn manifest_table_without_metadata(
         bytes: *const u8,
@@ -62,10 +59,6 @@ declared! {
     manifest_resolved_table(root: u8, root_length);
     manifest_resolved_completed(root: u8, root_length, folders: Folder, folders_length);
     manifest_resolved_completed_table(root: u8, root_length, folders: Folder, folders_length);
-}
-
-#[cfg(calls_on_tables)]
-declared! {
     manifest_completed_of_table(folders: Folder, folders_length);
     manifest_resolved_of_tables(root: u8, root_length);
 }
@@ -117,9 +110,27 @@ fn refused(answer: Answer, text: Vec<u8>) -> Refusal {
     }
 }
 
+/// The version of the archive's calls.
+fn version() -> u32 {
+    // SAFETY: the call takes nothing.
+    unsafe { manifest_version() }
+}
+
+/// The version of the calls that this crate is written for.
+const VERSION: u32 = 1;
+
+/// Compares the versions of this crate and of the archive, at the first call.
+fn version_fits() {
+    static FITS: OnceLock<bool> = OnceLock::new();
+    if !FITS.get_or_init(|| version() == VERSION) {
+        is_broken();
+    }
+}
+
 /// Calls with memory for this many bytes, and once more where the text takes more. `run` gets a pointer to so many
 /// bytes that are set.
 fn bytes_of(room: usize, run: impl Fn(*mut u8, usize) -> Answer) -> Result<Vec<u8>, Refusal> {
+    version_fits();
     let mut out = Vec::new();
     let mut room = room;
     loop {
@@ -208,19 +219,10 @@ pub(crate) fn resolve_and_complete(
     })
 }
 
-/// The version of the archive's calls.
-#[cfg(calls_on_tables)]
-pub(crate) fn version() -> u32 {
-    // SAFETY: the call takes nothing.
-    unsafe { manifest_version() }
-}
-
 /// A call that takes one slice.
-#[cfg(calls_on_tables)]
 type OnSlice = unsafe extern "C" fn(*const u8, usize, *mut u8, usize) -> Answer;
 
 /// What a call answers that takes one slice.
-#[cfg(calls_on_tables)]
 pub(crate) fn of_text(call: OnSlice, bytes: &[u8]) -> Result<Vec<u8>, Refusal> {
     bytes_of(room_for(bytes.len()), |out, room| {
         // SAFETY: as in `read`.
@@ -229,7 +231,6 @@ pub(crate) fn of_text(call: OnSlice, bytes: &[u8]) -> Result<Vec<u8>, Refusal> {
 }
 
 /// A table, completed over folders that have so many names.
-#[cfg(calls_on_tables)]
 pub(crate) fn of_table(table: &[u8], folders: &[Folder], names: usize) -> Result<Vec<u8>, Refusal> {
     bytes_of(room_for(table.len() + 64 * names), |out, room| {
         // SAFETY: as in `complete`.
@@ -238,7 +239,6 @@ pub(crate) fn of_table(table: &[u8], folders: &[Folder], names: usize) -> Result
 }
 
 /// A table, with what it inherits from the workspace of the root's put in.
-#[cfg(calls_on_tables)]
 pub(crate) fn of_tables(member: &[u8], root: &[u8]) -> Result<Vec<u8>, Refusal> {
     bytes_of(room_for(member.len() + root.len()), |out, room| {
         // SAFETY: as in `read`.

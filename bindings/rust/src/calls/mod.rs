@@ -17,10 +17,6 @@ mod folders;
 mod heap;
 mod listings;
 mod refusal;
-#[cfg(calls_on_tables)]
-pub(crate) mod tables;
-#[cfg(not(calls_on_tables))]
-#[path = "tables_by_text.rs"]
 pub(crate) mod tables;
 #[cfg(test)]
 mod tests;

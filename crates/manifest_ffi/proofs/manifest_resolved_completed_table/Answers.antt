@@ -1,6 +1,7 @@
 use Rattle.toml.specs.View.{view}
 use Rattle.cargo_manifest.specs.Whole.{manifest_content}
 use Rattle.manifest_ffi.specs.Calls.{MakesResolvedCompleted, RefusesResolvedCompleted}
+use Rattle.manifest_ffi.specs.declared.making.Input.TheVariants.{Toml}
 use Rattle.manifest_ffi.specs.declared.making.Output.TheVariants.{TaggedTable}
 use Rattle.manifest_ffi.proofs.MadeLemmas.{resolved_made_formed, finished}
 use Rattle.manifest_ffi.proofs.manifest_resolved_completed_table.Goals as goal
@@ -9,7 +10,7 @@ pub returns : goal.returns
 returns c = record {
   made = c.finished-text.result;
   told = c.outcome-told.result;
-  is_made = finished (manifest_content view view) TaggedTable (MakesResolvedCompleted c.args.bytes.now c.args.root.now c.args.folders.now) (RefusesResolvedCompleted c.args.bytes.now c.args.root.now c.args.folders.now) c.resolved_completed-manifest.result c.finished-text.result (resolved_made_formed c.args.bytes.now c.args.root.now c.args.folders.now) c.resolved_completed-manifest.ensures.ok c.resolved_completed-manifest.ensures.refused c.finished-text.ensures.made c.finished-text.ensures.refused;
+  is_made = finished (manifest_content view view) TaggedTable (MakesResolvedCompleted Toml c.args.bytes.now c.args.root.now c.args.folders.now) (RefusesResolvedCompleted Toml c.args.bytes.now c.args.root.now c.args.folders.now) c.resolved_completed-manifest.result c.finished-text.result (resolved_made_formed Toml c.args.bytes.now c.args.root.now c.args.folders.now) c.resolved_completed-manifest.ensures.ok c.resolved_completed-manifest.ensures.refused c.finished-text.ensures.made c.finished-text.ensures.refused;
   outcome = c.outcome-told.ensures;
   hands = c.handed.ensures;
 }

@@ -1,7 +1,7 @@
 use Rattle.toml.specs.View.{view}
 use Rattle.cargo_manifest.specs.Whole.{manifest_content}
-use Rattle.cargo_manifest.specs.Canonical.{Means}
-use Rattle.manifest_ffi.specs.Made.{RefusesBytes}
+use Rattle.manifest_ffi.specs.Made.{Are, RefusesBytes}
+use Rattle.manifest_ffi.specs.declared.making.Input.TheVariants.{Toml}
 use Rattle.manifest_ffi.specs.declared.making.Output.TheVariants.{TaggedTable}
 use Rattle.manifest_ffi.proofs.MadeLemmas.{read_formed, finished}
 use Rattle.manifest_ffi.proofs.manifest_table.Goals as goal
@@ -10,7 +10,7 @@ pub returns : goal.returns
 returns c = record {
   made = c.finished-text.result;
   told = c.outcome-told.result;
-  is_made = finished (manifest_content view view) TaggedTable (Means c.args.bytes.now) (RefusesBytes c.args.bytes.now) c.read-manifest.result c.finished-text.result (read_formed c.args.bytes.now) c.read-manifest.ensures.ok c.read-manifest.ensures.refused c.finished-text.ensures.made c.finished-text.ensures.refused;
+  is_made = finished (manifest_content view view) TaggedTable (Are Toml c.args.bytes.now) (RefusesBytes Toml c.args.bytes.now) c.read-manifest.result c.finished-text.result (read_formed Toml c.args.bytes.now) c.read-manifest.ensures.ok c.read-manifest.ensures.refused c.finished-text.ensures.made c.finished-text.ensures.refused;
   outcome = c.outcome-told.ensures;
   hands = c.handed.ensures;
 }

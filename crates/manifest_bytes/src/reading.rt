@@ -1,0 +1,208 @@
+//! The value that some bytes may hold: the way back from `values`. What is read here is only sought, and `value_of_bytes`
+//! keeps it where its bytes are those that were read.
+
+use std::alloc::{AllocError, Global};
+use std::num::f64_from_bits_with_nan;
+use toml::{Table, Value};
+use toml_datetime::{Date, Datetime, Offset, Time};
+
+/// What is read, or nothing where the bytes hold none; and an error where there was no memory for it.
+type Read<T> = Result<Option<T>, AllocError>;
+
+/// Bytes that are read from the front.
+#[derive(Drop)]
+pub(crate) struct Reader<'a> {
+    pub(crate) left: &'a [u8],
+}
+
+impl<'a> Reader<'a> {
+    fn byte(&mut self) -> Option<u8> {
+        let (first, left) = self.left.split_first()?;
+        self.left = left;
+        Some(*first)
+    }
+
+    /// Groups of seven bits, the lowest first, with 128 added to each but the last.
+    fn number(&mut self) -> Option<u64> {
+        let mut number: u64 = 0;
+        let mut unit: u64 = 1;
+        for _ in 0..9 {
+            let byte = self.byte()?;
+            number = number.checked_add(u64::from(byte % 128).checked_mul(unit)?)?;
+            if byte < 128 {
+                return Some(number);
+            }
+            unit = unit.checked_mul(128)?;
+        }
+        let last = u64::from(self.byte()?);
+        number.checked_add(last.checked_mul(unit)?)
+    }
+
+    fn text(&mut self) -> Option<&'a str> {
+        let length = usize::try_from(self.number()?).ok()?;
+        let (text, left) = self.left.split_at_checked(length)?;
+        self.left = left;
+        std::str::from_utf8(text).ok()
+    }
+
+    /// Whether a part stands here that may be left out.
+    fn has_part(&mut self) -> Option<bool> {
+        match self.byte()? {
+            0 => Some(false),
+            1 => Some(true),
+            _ => None,
+        }
+    }
+
+    fn date(&mut self) -> Option<Date> {
+        let month = self.byte()?;
+        let day = self.byte()?;
+        let year = u16::try_from(self.number()?).ok()?;
+        Some(Date { year, month, day })
+    }
+
+    fn second(&mut self) -> Option<Option<u8>> {
+        if self.has_part()? {
+            Some(Some(self.byte()?))
+        } else {
+            Some(None)
+        }
+    }
+
+    fn nanosecond(&mut self) -> Option<Option<u32>> {
+        if self.has_part()? {
+            Some(Some(u32::try_from(self.number()?).ok()?))
+        } else {
+            Some(None)
+        }
+    }
+
+    fn time(&mut self) -> Option<Time> {
+        let hour = self.byte()?;
+        let minute = self.byte()?;
+        let second = self.second()?;
+        let nanosecond = self.nanosecond()?;
+        Some(Time {
+            hour,
+            minute,
+            second,
+            nanosecond,
+        })
+    }
+
+    fn offset(&mut self) -> Option<Offset> {
+        match self.byte()? {
+            0 => Some(Offset::Z),
+            1 => {
+                let minutes = i16::try_from(self.number()?).ok()?;
+                Some(Offset::Custom { minutes })
+            }
+            2 => {
+                let behind = i16::try_from(self.number()?).ok()?;
+                Some(Offset::Custom { minutes: !behind })
+            }
+            _ => None,
+        }
+    }
+
+    fn datetime(&mut self) -> Option<Datetime> {
+        let date = if self.has_part()? {
+            Some(self.date()?)
+        } else {
+            None
+        };
+        let time = if self.has_part()? {
+            Some(self.time()?)
+        } else {
+            None
+        };
+        let offset = if self.has_part()? {
+            Some(self.offset()?)
+        } else {
+            None
+        };
+        Some(Datetime { date, time, offset })
+    }
+
+    /// What stands behind the tag of a value that holds no other, where that is no text.
+    fn simple(&mut self, tag: u8) -> Option<Value> {
+        match tag {
+            2 => Some(Value::Integer(i64::try_from(self.number()?).ok()?)),
+            3 => Some(Value::Integer(!i64::try_from(self.number()?).ok()?)),
+            4 => Some(Value::Boolean(false)),
+            5 => Some(Value::Boolean(true)),
+            6 => Some(Value::Datetime(self.datetime()?)),
+            9 => Some(Value::Float(f64_from_bits_with_nan(self.number()?))),
+            _ => None,
+        }
+    }
+}
+
+/// A text.
+fn read_text(alloc: Global, reader: &mut Reader<'_>) -> Read<String> {
+    match reader.text() {
+        Some(text) => Ok(Some(String::from_str(alloc, text)?)),
+        None => Ok(None),
+    }
+}
+
+/// A value that nests less than so deep.
+#[cycle(reading)]
+pub(crate) fn read_value(alloc: Global, deep: usize, reader: &mut Reader<'_>) -> Read<Value> {
+    if deep == 0 {
+        return Ok(None);
+    }
+    match reader.byte() {
+        Some(1) => match read_text(alloc, reader)? {
+            Some(text) => Ok(Some(Value::String(text))),
+            None => Ok(None),
+        },
+        Some(7) => match read_items(alloc, deep - 1, reader)? {
+            Some(items) => Ok(Some(Value::Array(items))),
+            None => Ok(None),
+        },
+        Some(8) => match read_members(alloc, deep - 1, reader)? {
+            Some(members) => Ok(Some(Value::Table(members))),
+            None => Ok(None),
+        },
+        Some(tag) => Ok(reader.simple(tag)),
+        None => Ok(None),
+    }
+}
+
+/// How many items there are, and the items.
+#[cycle(reading)]
+fn read_items(alloc: Global, deep: usize, reader: &mut Reader<'_>) -> Read<Vec<Value>> {
+    let mut items = Vec::new(alloc);
+    let Some(count) = reader.number() else {
+        return Ok(None);
+    };
+    for _ in 0..count {
+        match read_value(alloc, deep, reader)? {
+            Some(item) => items.push(item)?,
+            None => return Ok(None),
+        }
+    }
+    Ok(Some(items))
+}
+
+/// How many members there are, and the members.
+#[cycle(reading)]
+fn read_members(alloc: Global, deep: usize, reader: &mut Reader<'_>) -> Read<Table> {
+    let mut members = Table::new(alloc);
+    let Some(count) = reader.number() else {
+        return Ok(None);
+    };
+    for _ in 0..count {
+        let Some(key) = read_text(alloc, reader)? else {
+            return Ok(None);
+        };
+        match read_value(alloc, deep, reader)? {
+            Some(member) => {
+                let _former = members.insert(key, member)?;
+            }
+            None => return Ok(None),
+        }
+    }
+    Ok(Some(members))
+}
