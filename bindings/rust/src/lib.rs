@@ -115,10 +115,11 @@
 //! Nothing is kept between calls, so each may be made from any thread at any time. Where no memory is left for the library,
 //! the error is [`Error::Io`] of the kind `OutOfMemory`.
 //!
-//! A call takes the more stack the deeper its text nests tables. 192 kB are enough for a usual manifest, but a text of 13 kB
-//! can nest so deep that reading it takes 3.2 MB (5.4 MB in a debug build) and writing it 6.2 MB (11.8 MB in a debug build),
-//! and a thread that has less is ended by the system. So a thread that reads the manifests of others should have 8 MB
-//! (`std::thread::Builder::stack_size`), one that writes them in a debug build 16 MB; or bound their length.
+//! A call takes the more stack the deeper its text nests tables, and a thread that has less is ended by the system. A usual
+//! manifest takes less than 200 kB. A text of 13 kB can nest so deep that it takes 3.2 MB to be read, and 6.2 MB to be
+//! written; and in a debug build 5.4 MB to be read, and 11.8 MB to be copied or written. So a thread that handles the
+//! manifests of others should have 8 MB, and in a debug build 16 MB (`std::thread::Builder::stack_size`), or bound their
+//! length.
 //!
 //! # Features
 //!
