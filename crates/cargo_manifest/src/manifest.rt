@@ -1,7 +1,7 @@
 //! A manifest.
 #![tactic(auto, unfolding(manifest_schema::specs::ManifestForms::manifest_rows))]
 
-ghost use Rattle.std.specs.Prelude.{◌≡◌, ◌↔◌, IsTrue, map, option_map, IfOk, IfErr, OnOk};
+ghost use Rattle.std.specs.Prelude.{◌≡◌, ◌↔◌, IsTrue, option_map, IfOk, IfErr};
 ghost use Rattle.toml.specs.Data.{Data};
 ghost use Rattle.manifest_schema.specs.Defaults.{empty_manifest};
 ghost use Rattle.toml.specs.View.{view, table_view};
@@ -14,11 +14,7 @@ ghost use Rattle.manifest_schema.specs.ManifestForms.{manifest_rows};
 ghost use Rattle.manifest_schema.specs.Meaning.{rewritten};
 ghost use Rattle.manifest_schema.proofs.KindLaws.{tree_lawful};
 ghost use Rattle.manifest_schema.proofs.ManifestLaws.{manifest_lawful};
-ghost use Rattle.manifest_value.specs.Faults.{FaultIn};
-ghost use Rattle.manifest_value.specs.Reading.{Reads, WritesRows};
-ghost use Rattle.manifest_value.specs.Sources.{table_source};
-ghost use Rattle.manifest_value.specs.Walks.{spellings_view, names_of};
-ghost use Rattle.manifest_value.specs.Cursors.{ReadsRows};
+ghost use Rattle.manifest_value.specs.Reading.{Reads};
 ghost use Rattle.manifest_parts.specs.Records.{lints_content};
 ghost use Rattle.manifest_parts.specs.Refusals.{RefusedIn};
 ghost use Rattle.manifest_tables.specs.Tables.{profiles_content, package_of, package_form, workspace_of, workspace_form};
@@ -29,11 +25,9 @@ use manifest_parts::{
     Badges, DepsSet, FeatureSet, MaybeInheritedLintsSet, PatchSet, Product, TargetDepsSet,
 };
 use manifest_tables::{Package, Profiles, Workspace};
-use manifest_value::cursor::{RowCursor, fill, fill_default, rows_of};
-use manifest_value::fault::here;
-use manifest_value::row_slots::slots_of;
-use manifest_value::rows::{put_nonempty, put_optional};
-use manifest_value::{Cause, Metadata, ReadFault, Schema, Spellings, TableSource, spelled};
+use manifest_value::form::{RowPut, RowRead, Rowed, Word, write_form};
+use manifest_value::row_slots::RowSlot;
+use manifest_value::{Form, Metadata, Spellings, names_of_rows, put_row_of, read_row_of};
 use std::alloc::{AllocError, Global};
 use toml::{Table, Value};
 
@@ -217,147 +211,62 @@ impl<P, W> Manifest<P, W> {
     }
 }
 
-static MANIFEST: &[Spellings] = &spelled! {
-    "package", "cargo-features", "workspace", "dependencies",
-    "dev-dependencies" | "dev_dependencies", "build-dependencies" | "build_dependencies", "target",
-    "features", "bin", "bench", "test", "example", "patch", "lib", "profile", "badges", "lints",
-};
-
-/// The spellings of the rows.
-fn manifest_names<P: Metadata, W: Metadata>() -> &'static [Spellings]
-    ensures { map spellings_view result.now
-        ≡ names_of (manifest_rows (tree_of P.kind) (tree_of W.kind)) }
-{
-    MANIFEST
+/// The rows of a manifest.
+macro_rules! manifest {
+    ($make:ident $given:tt) => {
+        $make! { $given
+            package: optional "package";
+            cargo_features: optional "cargo-features";
+            workspace: optional "workspace";
+            dependencies: optional "dependencies";
+            dev_dependencies: optional "dev-dependencies" | "dev_dependencies";
+            build_dependencies: optional "build-dependencies" | "build_dependencies";
+            target: optional "target";
+            features: optional "features";
+            bin: nonempty_list "bin";
+            bench: nonempty_list "bench";
+            test: nonempty_list "test";
+            example: nonempty_list "example";
+            patch: optional "patch";
+            lib: optional "lib";
+            profile: optional "profile";
+            badges: optional "badges";
+            lints: optional "lints";
+        }
+    };
 }
 
-/// Reads the rows of a table.
-pub(crate) fn read_rows<P: Metadata, W: Metadata>(
-    alloc: Global,
-    table: TableSource<'_>,
-    x: &mut Manifest<P, W>,
-) -> Result<(), ReadFault>
-    ensures ok { OnOk result
-        (Reads (manifest_form P.kind W.kind) (manifest_of P.kind W.kind P.content W.content)
-        (table_source table.entry) x.new) }
-    ensures fault { IfErr result
-        (FaultIn ((manifest_form P.kind W.kind).faulty (table_source table.entry))) }
-{
-    let names = manifest_names::<P, W>();
-    let mut rows = rows_of(names, slots_of(alloc, table, names)?);
-    fill_manifest(alloc, &mut rows, x)
+static MANIFEST: &[Spellings] = manifest!(names_of_rows());
+
+impl<P: Metadata, W: Metadata> Rowed for Manifest<P, W> {
+    ghost Content = { Contents.Manifest };
+
+    ghost content = { manifest_of P.kind W.kind P.content W.content };
+
+    ghost rows = { manifest_rows (tree_of P.kind) (tree_of W.kind) };
+
+    fn names() -> &'static [Spellings] {
+        MANIFEST
+    }
+
+    fn empty(alloc: Global) -> Manifest<P, W> {
+        Manifest::default(alloc)
+    }
+
+    fn read_row(&mut self, alloc: Global, i: usize, key: Word, slot: &mut RowSlot<'_>) -> RowRead {
+        manifest!(read_row_of(self, alloc, i, key, slot))
+    }
+
+    fn put_row(&self, alloc: Global, i: usize, key: Word, out: &mut Table) -> RowPut {
+        manifest!(put_row_of(self, alloc, i, key, out))
+    }
 }
 
-/// Reads all rows.
-fn fill_manifest<P: Metadata, W: Metadata>(
-    alloc: Global,
-    rows: &mut RowCursor<'_, '_>,
-    x: &mut Manifest<P, W>,
-) -> Result<(), ReadFault>
-    ensures { ReadsRows "package" "lints" (manifest_rows (tree_of P.kind) (tree_of W.kind))
-        (manifest_of P.kind W.kind P.content W.content) rows.old rows.new x.old x.new result }
-{
-    fill_header(alloc, rows, x)?;
-    fill_targets(alloc, rows, x)?;
-    Ok(())
-}
+impl<P: Metadata, W: Metadata> Form for Manifest<P, W> {
+    fn covers() {}
 
-/// Reads `package` to `features`.
-fn fill_header<P: Metadata, W: Metadata>(
-    alloc: Global,
-    rows: &mut RowCursor<'_, '_>,
-    x: &mut Manifest<P, W>,
-) -> Result<(), ReadFault>
-    ensures { ReadsRows "package" "features" (manifest_rows (tree_of P.kind) (tree_of W.kind))
-        (manifest_of P.kind W.kind P.content W.content) rows.old rows.new x.old x.new result }
-{
-    fill(alloc, rows, &mut x.package)?;
-    fill(alloc, rows, &mut x.cargo_features)?;
-    fill(alloc, rows, &mut x.workspace)?;
-    fill(alloc, rows, &mut x.dependencies)?;
-    fill(alloc, rows, &mut x.dev_dependencies)?;
-    fill(alloc, rows, &mut x.build_dependencies)?;
-    fill(alloc, rows, &mut x.target)?;
-    fill(alloc, rows, &mut x.features)?;
-    Ok(())
-}
-
-/// Reads `bin` to `lints`.
-fn fill_targets<P: Metadata, W: Metadata>(
-    alloc: Global,
-    rows: &mut RowCursor<'_, '_>,
-    x: &mut Manifest<P, W>,
-) -> Result<(), ReadFault>
-    ensures { ReadsRows "bin" "lints" (manifest_rows (tree_of P.kind) (tree_of W.kind))
-        (manifest_of P.kind W.kind P.content W.content) rows.old rows.new x.old x.new result }
-{
-    fill_default(alloc, rows, Vec::new(alloc), &mut x.bin)?;
-    fill_default(alloc, rows, Vec::new(alloc), &mut x.bench)?;
-    fill_default(alloc, rows, Vec::new(alloc), &mut x.test)?;
-    fill_default(alloc, rows, Vec::new(alloc), &mut x.example)?;
-    fill(alloc, rows, &mut x.patch)?;
-    fill(alloc, rows, &mut x.lib)?;
-    fill(alloc, rows, &mut x.profile)?;
-    fill(alloc, rows, &mut x.badges)?;
-    fill(alloc, rows, &mut x.lints)?;
-    Ok(())
-}
-
-/// Writes `package` to `build-dependencies`, from the last to the first.
-fn put_header<P: Metadata, W: Metadata>(
-    alloc: Global,
-    out: &mut Table,
-    x: &Manifest<P, W>,
-) -> Result<(), AllocError>
-    ensures { OnOk result
-        (WritesRows "package" "build-dependencies"
-        (manifest_rows (tree_of P.kind) (tree_of W.kind))
-        (manifest_of P.kind W.kind P.content W.content x.now) out.old out.new) }
-{
-    put_optional(alloc, out, "build-dependencies", &x.build_dependencies)?;
-    put_optional(alloc, out, "dev-dependencies", &x.dev_dependencies)?;
-    put_optional(alloc, out, "dependencies", &x.dependencies)?;
-    put_optional(alloc, out, "workspace", &x.workspace)?;
-    put_optional(alloc, out, "cargo-features", &x.cargo_features)?;
-    put_optional(alloc, out, "package", &x.package)?;
-    Ok(())
-}
-
-/// Writes `target` to `example`, from the last to the first.
-fn put_features<P: Metadata, W: Metadata>(
-    alloc: Global,
-    out: &mut Table,
-    x: &Manifest<P, W>,
-) -> Result<(), AllocError>
-    ensures { OnOk result
-        (WritesRows "target" "example" (manifest_rows (tree_of P.kind) (tree_of W.kind))
-        (manifest_of P.kind W.kind P.content W.content x.now) out.old out.new) }
-{
-    put_nonempty(alloc, out, "example", &x.example)?;
-    put_nonempty(alloc, out, "test", &x.test)?;
-    put_nonempty(alloc, out, "bench", &x.bench)?;
-    put_nonempty(alloc, out, "bin", &x.bin)?;
-    put_optional(alloc, out, "features", &x.features)?;
-    put_optional(alloc, out, "target", &x.target)?;
-    Ok(())
-}
-
-/// Writes `patch` to `lints`, from the last to the first.
-fn put_settings<P: Metadata, W: Metadata>(
-    alloc: Global,
-    out: &mut Table,
-    x: &Manifest<P, W>,
-) -> Result<(), AllocError>
-    ensures { OnOk result
-        (WritesRows "patch" "lints" (manifest_rows (tree_of P.kind) (tree_of W.kind))
-        (manifest_of P.kind W.kind P.content W.content x.now) out.old out.new) }
-{
-    put_optional(alloc, out, "lints", &x.lints)?;
-    put_optional(alloc, out, "badges", &x.badges)?;
-    put_optional(alloc, out, "profile", &x.profile)?;
-    put_optional(alloc, out, "lib", &x.lib)?;
-    put_optional(alloc, out, "patch", &x.patch)?;
-    Ok(())
+    ghost lawful = { manifest_lawful (tree_of P.kind) (tree_of W.kind) (tree_lawful P.lawful)
+        (tree_lawful W.lawful) };
 }
 
 /// The table that is written.
@@ -368,35 +277,5 @@ pub(crate) fn manifest_table<P: Metadata, W: Metadata>(
     ensures { IfOk result (λ t. table_view t ≡ rewritten (tree_of P.kind) (tree_of W.kind)
         (manifest_of P.kind W.kind P.content W.content x.now)) }
 {
-    let mut out = Table::new(alloc);
-    put_settings(alloc, &mut out, x)?;
-    put_features(alloc, &mut out, x)?;
-    put_header(alloc, &mut out, x)?;
-    Ok(out)
-}
-
-impl<P: Metadata, W: Metadata> Schema for Manifest<P, W> {
-    ghost Content = { Contents.Manifest };
-
-    ghost content = { manifest_of P.kind W.kind P.content W.content };
-
-    ghost kind = { manifest_form P.kind W.kind };
-
-    #[tactic(auto)]
-    fn from_value(alloc: Global, value: &Value) -> Result<Manifest<P, W>, ReadFault> {
-        match value {
-            Value::Table(table) => {
-                let mut manifest = Manifest::default(alloc);
-                read_rows(alloc, TableSource::Lent(table), &mut manifest).and(Ok(manifest))
-            }
-            _ => Err(here(alloc, Cause::WrongKind)),
-        }
-    }
-
-    fn to_value(&self, alloc: Global) -> Result<Value, AllocError> {
-        Ok(Value::Table(manifest_table(alloc, self)?))
-    }
-
-    ghost lawful = { manifest_lawful (tree_of P.kind) (tree_of W.kind) (tree_lawful P.lawful)
-        (tree_lawful W.lawful) };
+    write_form(x, alloc)
 }

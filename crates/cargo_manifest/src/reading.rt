@@ -1,6 +1,6 @@
 //! A manifest from bytes or from a text.
 
-ghost use Rattle.std.specs.Prelude.{◌≡◌, false, codes, IfOk, IfErr, OnOk, IsUtf8};
+ghost use Rattle.std.specs.Prelude.{◌≡◌, false, codes, IfOk, IfErr, IsUtf8};
 ghost use Rattle.toml.specs.Data.{get_member};
 ghost use Rattle.toml.specs.View.{view, table_view};
 ghost use Rattle.manifest_schema.specs.Kinds.{kept, tree_of};
@@ -10,11 +10,12 @@ ghost use Rattle.manifest_tables.specs.Tables.{package_of, package_form};
 ghost use Rattle.cargo_manifest.specs.Whole.{manifest_content, manifest_of, manifest_kept};
 ghost use Rattle.cargo_manifest.specs.Answers.{IsDocumentOf, Refuses, RefusesText};
 
-use crate::manifest::{Manifest, read_rows};
+use crate::manifest::Manifest;
 use manifest_parts::error::refusal;
 use manifest_parts::{Error, ParseFault};
 use manifest_tables::Package;
 use manifest_tables::package::package_from;
+use manifest_value::form::read_form;
 use manifest_value::readers::find;
 use manifest_value::rows::read_under;
 use manifest_value::{Metadata, ReadFault, TableSource};
@@ -50,49 +51,48 @@ fn read_old_package<P: Metadata>(alloc: Global, table: &Table) -> Result<Package
     }
 }
 
-/// Reads the manifest that a table without a header means: its package is that of `project`, or else of the whole table.
+/// The manifest that a table without a header means: its package is that of `project`, or else of the whole table.
 fn read_headless<P: Metadata, W: Metadata>(
     alloc: Global,
     table: &Table,
-    x: &mut Manifest<P, W>,
-) -> Result<(), ReadFault>
-    ensures ok { OnOk result
-        (means_by (tree_of P.kind) (tree_of W.kind) false (table_view table.now)
-        (manifest_of P.kind W.kind P.content W.content x.new)) }
+) -> Result<Manifest<P, W>, ReadFault>
+    ensures ok { IfOk result
+        (λ m. means_by (tree_of P.kind) (tree_of W.kind) false (table_view table.now)
+        (manifest_of P.kind W.kind P.content W.content m)) }
     ensures fault { IfErr result
         (FaultIn (unmeant_by (tree_of P.kind) (tree_of W.kind) false (table_view table.now))) }
 {
-    read_rows(alloc, TableSource::Lent(table), x)?;
-    x.package = Some(read_old_package(alloc, table)?);
-    Ok(())
+    let mut manifest: Manifest<P, W> = read_form(alloc, TableSource::Lent(table))?;
+    match read_old_package(alloc, table) {
+        Ok(package) => {
+            manifest.package = Some(package);
+            Ok(manifest)
+        }
+        Err(fault) => Err(fault),
+    }
 }
 
-/// Reads the manifest that a table means, with or without a header.
+/// The manifest that a table means, with or without a header.
 fn read_table<P: Metadata, W: Metadata>(
     alloc: Global,
     table: Table,
-    x: &mut Manifest<P, W>,
-) -> Result<(), ReadFault>
-    ensures ok { OnOk result (means (tree_of P.kind) (tree_of W.kind) (table_view table)
-        (manifest_of P.kind W.kind P.content W.content x.new)) }
+) -> Result<Manifest<P, W>, ReadFault>
+    ensures ok { IfOk result (λ m. means (tree_of P.kind) (tree_of W.kind) (table_view table)
+        (manifest_of P.kind W.kind P.content W.content m)) }
     ensures fault { IfErr result
         (FaultIn (unmeant (tree_of P.kind) (tree_of W.kind) (table_view table))) }
 {
     if has_package_or_workspace(&table) {
-        read_rows(alloc, TableSource::Taken(table), x)
+        read_form(alloc, TableSource::Taken(table))
     } else {
-        read_headless(alloc, &table, x)
+        read_headless(alloc, &table)
     }
 }
 
-/// Reads the manifest that a text means.
-fn read_text<P: Metadata, W: Metadata>(
-    alloc: Global,
-    text: &str,
-    x: &mut Manifest<P, W>,
-) -> Result<(), Error>
-    ensures ok { OnOk result (IsDocumentOf (tree_of P.kind) (tree_of W.kind) text.now
-        (manifest_of P.kind W.kind P.content W.content x.new)) }
+/// The manifest that a text means.
+fn from_text<P: Metadata, W: Metadata>(alloc: Global, text: &str) -> Result<Manifest<P, W>, Error>
+    ensures ok { IfOk result (λ m. IsDocumentOf (tree_of P.kind) (tree_of W.kind) text.now
+        (manifest_of P.kind W.kind P.content W.content m)) }
     ensures refused { IfErr result (RefusesText (tree_of P.kind) (tree_of W.kind) text.now) }
 {
     let table = match toml::table_from_str(alloc, text) {
@@ -102,26 +102,9 @@ fn read_text<P: Metadata, W: Metadata>(
             return Err(Error::Parse(ParseFault::Toml(shared)));
         }
     };
-    match read_table(alloc, table, x) {
-        Ok(()) => Ok(()),
+    match read_table(alloc, table) {
+        Ok(manifest) => Ok(manifest),
         Err(fault) => Err(refusal(fault)),
-    }
-}
-
-/// The manifest that a text means.
-#[inline(always)]
-fn from_text<P: Metadata, W: Metadata>(alloc: Global, text: &str) -> Result<Manifest<P, W>, Error>
-    ensures ok { IfOk result (λ m. IsDocumentOf (tree_of P.kind) (tree_of W.kind) text.now
-        (manifest_of P.kind W.kind P.content W.content m)) }
-    ensures refused { IfErr result (RefusesText (tree_of P.kind) (tree_of W.kind) text.now) }
-{
-    let mut manifest = Manifest::default(alloc);
-    match read_text(alloc, text, &mut manifest) {
-        Ok(()) => Ok(manifest),
-        Err(fault) => {
-            drop(manifest);
-            Err(fault)
-        }
     }
 }
 

@@ -1,17 +1,16 @@
 //! A type of metadata: a score.
 
-ghost use Rattle.std.specs.Prelude.{◌≡◌, ℤ, pos, map};
+ghost use Rattle.std.specs.Prelude.{◌≡◌, ℤ, pos};
 ghost use Rattle.manifest_schema.specs.Kinds.{whole};
-ghost use Rattle.manifest_schema.specs.Forms.{form};
 ghost use Rattle.manifest_schema.proofs.KindLaws.{whole_lawful};
-ghost use Rattle.manifest_value.specs.Walks.{spellings_view, names_of};
 ghost use Rattle.manifest_rows.specs.Scores.{score_rows, score_lawful, score_plain, score_by_tree};
 
-use manifest_value::cursor::{required, rows_of};
 use manifest_value::fault::here;
-use manifest_value::row_slots::slots_of;
-use manifest_value::rows::put_row;
-use manifest_value::{Cause, Metadata, ReadFault, Schema, Source, Spellings, spelled};
+use manifest_value::form::{RowPut, RowRead, Rowed, Word};
+use manifest_value::row_slots::RowSlot;
+use manifest_value::{
+    Cause, Form, Metadata, ReadFault, Schema, Spellings, names_of_rows, put_row_of, read_row_of,
+};
 use std::alloc::{AllocError, Global};
 use toml::{Table, Value};
 
@@ -55,42 +54,47 @@ pub struct Score {
     pub level: Level,
 }
 
-static SCORE: &[Spellings] = &spelled!["level"];
-
-/// The spellings of the rows.
-#[tactic(auto, unfolding(crate::specs::Scores::score_rows))]
-fn score_names() -> &'static [Spellings]
-    ensures { map spellings_view result.now ≡ names_of score_rows }
-{
-    SCORE
+/// The rows of a score.
+macro_rules! score {
+    ($make:ident $given:tt) => {
+        $make! { $given
+            level: required "level";
+        }
+    };
 }
 
-impl Schema for Score {
+static SCORE: &[Spellings] = score!(names_of_rows());
+
+#[tactic(auto, unfolding(crate::specs::Scores::score_rows))]
+impl Rowed for Score {
     ghost Content = { ℤ };
 
     ghost content = { λ x. pos x.level.number };
 
-    ghost kind = { form score_rows };
+    ghost rows = { score_rows };
 
-    fn from_value(alloc: Global, value: &Value) -> Result<Score, ReadFault> {
-        <Score as Schema>::from_source(alloc, Source::Lent(value))
+    fn names() -> &'static [Spellings] {
+        SCORE
     }
 
-    #[tactic(auto, unfolding(crate::specs::Scores::score_rows), using(manifest_value::proofs::Behind::form_refuses))]
-    fn from_source(alloc: Global, source: Source<'_>) -> Result<Score, ReadFault> {
-        let names = score_names();
-        let mut rows = rows_of(names, slots_of(alloc, source.into_table(alloc)?, names)?);
-        Ok(Score {
-            level: required(alloc, &mut rows)?,
-        })
+    fn empty(_alloc: Global) -> Score {
+        Score {
+            level: Level { number: 0 },
+        }
     }
 
-    #[tactic(auto, unfolding(crate::specs::Scores::score_rows))]
-    fn to_value(&self, alloc: Global) -> Result<Value, AllocError> {
-        let mut out = Table::new(alloc);
-        put_row(alloc, &mut out, "level", &self.level)?;
-        Ok(Value::Table(out))
+    fn read_row(&mut self, alloc: Global, i: usize, key: Word, slot: &mut RowSlot<'_>) -> RowRead {
+        score!(read_row_of(self, alloc, i, key, slot))
     }
+
+    fn put_row(&self, alloc: Global, i: usize, key: Word, out: &mut Table) -> RowPut {
+        score!(put_row_of(self, alloc, i, key, out))
+    }
+}
+
+#[tactic(auto, unfolding(crate::specs::Scores::score_rows))]
+impl Form for Score {
+    fn covers() {}
 
     ghost lawful = { score_lawful };
 }

@@ -1,11 +1,10 @@
 //! A walk over a table, and the readers of its rows, by their names.
 use crate::answers::{assert_is, told};
 use manifest_parts::error::refusal;
-use manifest_value::cursor::{
-    fill, fill_default, fill_tree, lenient_default, lenient_optional, optional, or_default,
-    required, rows_of,
-};
 use manifest_value::entries::map_of_entries;
+use manifest_value::row_readers::{
+    read_default, read_lenient, read_lenient_default, read_optional, read_required, read_tree,
+};
 use manifest_value::row_slots::{RowSlot, slots_of};
 use manifest_value::{Schema, Slot, Source, Spellings, TableSource, spelled, walk};
 use std::alloc::Global;
@@ -125,35 +124,38 @@ fn sources_that_are_taken_or_lent(rt: HostRuntime) -> Result<(), Fail> {
 }
 
 /// A row for each reader of a row, and one that is not there.
-static READ: [Spellings; 9] = spelled!["a", "b", "c", "d", "e", "f", "g", "h", "missing"];
+static READ: [Spellings; 7] = spelled!["a", "b", "c", "d", "e", "f", "missing"];
 
 /// Rows of `READ`, of which two hold no boolean, and a key that no row has.
-const READ_FROM: &str =
-    "a = true\nb = true\nc = true\nd = true\ne = true\nf = 6\ng = 1\nh = 1\nother = true";
+const READ_FROM: &str = "a = true\nb = true\nc = true\nd = 6\ne = 1\nf = 1\nother = true";
 
 #[test]
-fn each_reader_reads_the_next_row(rt: HostRuntime) -> Result<(), Fail> {
+fn each_reader_reads_its_row(rt: HostRuntime) -> Result<(), Fail> {
     let alloc = rt.alloc();
     let table = toml::table_from_str(alloc, READ_FROM)?;
-    let mut rows = rows_of(&READ, slots_of(alloc, TableSource::Taken(table), &READ)?);
-    assert!(rt; matches!(required::<bool>(alloc, &mut rows), Ok(true)));
-    assert!(rt; matches!(optional::<bool>(alloc, &mut rows), Ok(Some(true))));
-    assert!(rt; matches!(or_default(alloc, &mut rows, false), Ok(true)));
+    let mut rows = slots_of(alloc, TableSource::Taken(table), &READ)?;
+    let mut flag = false;
+    assert!(rt; read_required(alloc, "a", &mut rows[0], &mut flag).is_ok());
+    assert!(rt; flag);
     let mut place: Option<bool> = None;
-    assert!(rt; fill(alloc, &mut rows, &mut place).is_ok());
+    assert!(rt; read_optional(alloc, "b", &mut rows[1], &mut place).is_ok());
     assert_eq!(rt; place, Some(true));
     let mut flag = false;
-    assert!(rt; fill_default(alloc, &mut rows, false, &mut flag).is_ok());
+    assert!(rt; read_default(alloc, "c", &mut rows[2], &mut flag, false).is_ok());
     assert!(rt; flag);
     let mut tree: Option<Value> = None;
-    assert!(rt; fill_tree(alloc, &mut rows, &mut tree).is_ok());
+    assert!(rt; read_tree(alloc, "d", &mut rows[3], &mut tree).is_ok());
     assert!(rt; matches!(tree, Some(Value::Integer(6))));
-    assert!(rt; matches!(lenient_optional::<bool>(alloc, &mut rows), Ok(None)));
-    assert!(rt; matches!(lenient_default(alloc, &mut rows, true), Ok(true)));
-    let told = match required::<bool>(alloc, &mut rows) {
-        Ok(_) => String::from_str(alloc, "accepted")?,
+    assert!(rt; read_lenient(alloc, "e", &mut rows[4], &mut place).is_ok());
+    assert_eq!(rt; place, None);
+    let mut flag = false;
+    assert!(rt; read_lenient_default(alloc, "f", &mut rows[5], &mut flag, true).is_ok());
+    assert!(rt; flag);
+    let told = match read_required(alloc, "missing", &mut rows[6], &mut flag) {
+        Ok(()) => String::from_str(alloc, "accepted")?,
         Err(fault) => told(alloc, &refusal(fault))?,
     };
+    assert!(rt; flag);
     assert_is(&rt, Ok(told), "missing at missing", READ_FROM)
 }
 

@@ -1,2 +1,1 @@
 pub mod ProfileLemmas
-pub mod FillLemmas

@@ -3,16 +3,15 @@ use Rattle.std.proofs.Common.{◌≡◌, inr, subst}
 use Rattle.toml.specs.Data.{Members, table}
 use Rattle.manifest_schema.specs.Slots.{without}
 use Rattle.manifest_schema.specs.Kinds.{faulty_entry}
-use Rattle.manifest_schema.specs.Forms.{form}
+use Rattle.manifest_schema.specs.Forms.{form, spelled}
 use Rattle.manifest_schema.specs.PartForms.{profile_rows, profiles_rows}
 use Rattle.manifest_value.specs.Faults.{FaultIn}
-use Rattle.manifest_value.specs.Walks.{names_of, all_words}
 use Rattle.manifest_value.specs.declared.fault.ReadFault.{ReadFault}
 use Rattle.manifest_value.proofs.Behind.{fault_weaker}
 
-pub custom_fault : (ms rest : Members) (f : ReadFault) → rest ≡ without (all_words (names_of profiles_rows)) ms → FaultIn (faulty_entry (form profile_rows) rest) f
+pub custom_fault : (ms rest : Members) (f : ReadFault) → rest ≡ without (spelled profiles_rows) ms → FaultIn (faulty_entry (form profile_rows) rest) f
     → FaultIn ((form profiles_rows).faulty (table ms)) f
 unfolding profiles_rows
 custom_fault ms rest f whole h =
-    fault_weaker (faulty_entry (form profile_rows) (without (all_words (names_of profiles_rows)) ms)) ((form profiles_rows).faulty (table ms)) f (λ p c q. inr (inr (inr (inr (inr q)))))
+    fault_weaker (faulty_entry (form profile_rows) (without (spelled profiles_rows) ms)) ((form profiles_rows).faulty (table ms)) f (λ p c q. inr (inr (inr (inr (inr q)))))
     (subst (λ r. FaultIn (faulty_entry (form profile_rows) r) f) whole h)

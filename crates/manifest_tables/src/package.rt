@@ -1,10 +1,9 @@
 //! The package of a manifest.
-#![tactic(auto, unfolding(manifest_schema::specs::ManifestForms::package_rows), using(manifest_value::proofs::Behind::form_refuses))]
+#![tactic(auto, unfolding(manifest_schema::specs::ManifestForms::package_rows))]
 
-ghost use Rattle.std.specs.Prelude.{◌≡◌, ◌↔◌, IsTrue, map, IfOk, IfErr, OnOk, Some, string_bytes};
+ghost use Rattle.std.specs.Prelude.{◌≡◌, ◌↔◌, IsTrue, IfOk, IfErr, Some, string_bytes};
 ghost use Rattle.toml.specs.Data.{Data};
 ghost use Rattle.toml.specs.View.{view};
-ghost use Rattle.manifest_schema.specs.Forms.{form};
 ghost use Rattle.manifest_schema.specs.Kinds.{tree_of, local};
 ghost use Rattle.manifest_schema.specs.Defaults.{named};
 ghost use Rattle.manifest_schema.specs.Contents;
@@ -12,10 +11,7 @@ ghost use Rattle.manifest_schema.specs.ManifestForms.{package_rows};
 ghost use Rattle.manifest_schema.proofs.KindLaws.{tree_lawful};
 ghost use Rattle.manifest_schema.proofs.ManifestLaws.{package_lawful};
 ghost use Rattle.manifest_value.specs.Faults.{FaultIn};
-ghost use Rattle.manifest_value.specs.Reading.{data_of, Reads, WritesRows};
-ghost use Rattle.manifest_value.specs.Sources.{table_source};
-ghost use Rattle.manifest_value.specs.Walks.{spellings_view, names_of};
-ghost use Rattle.manifest_value.specs.Cursors.{ReadsRows};
+ghost use Rattle.manifest_value.specs.Reading.{data_of, Reads};
 ghost use Rattle.manifest_parts.specs.Parts.{inh_content};
 ghost use Rattle.manifest_parts.specs.Queries.{version_of};
 ghost use Rattle.manifest_parts.specs.Refusals.{RefusedIn};
@@ -23,13 +19,13 @@ ghost use Rattle.manifest_tables.specs.Tables.{package_content, package_of, pack
 
 use manifest_parts::error::{Error, read};
 use manifest_parts::{Edition, MaybeInherited, Publish, Resolver, StringOrBool};
-use manifest_value::cursor::{RowCursor, fill, fill_tree, required, rows_of};
-use manifest_value::metadata::put_tree;
-use manifest_value::row_slots::slots_of;
-use manifest_value::rows::{put_optional, put_row};
+use manifest_value::form::{RowPut, RowRead, Rowed, Word, read_form};
+use manifest_value::row_slots::RowSlot;
 use manifest_value::well_formed::tree_is_well_formed;
-use manifest_value::{Metadata, ReadFault, Schema, Source, Spellings, TableSource, spelled};
-use std::alloc::{AllocError, Global};
+use manifest_value::{
+    Form, Metadata, ReadFault, Spellings, TableSource, names_of_rows, put_row_of, read_row_of,
+};
+use std::alloc::Global;
 use toml::{Table, Value};
 
 /// The package of a manifest; `M` is the type of its metadata. What is `MaybeInherited` may be inherited: then it
@@ -199,19 +195,43 @@ fn named<M>(name: String) -> Package<M>
     }
 }
 
-static PACKAGE: &[Spellings] = &spelled! {
-    "name", "edition", "version", "build", "workspace", "authors", "links", "description",
-    "homepage", "documentation", "readme", "keywords", "categories", "license", "license-file",
-    "repository", "metadata", "rust-version", "exclude", "include", "default-run", "autolib",
-    "autobins", "autoexamples", "autotests", "autobenches", "publish", "resolver",
-};
-
-/// The spellings of the rows.
-fn package_names<M: Metadata>() -> &'static [Spellings]
-    ensures { map spellings_view result.now ≡ names_of (package_rows (tree_of M.kind)) }
-{
-    PACKAGE
+/// The rows of a package.
+macro_rules! package {
+    ($make:ident $given:tt) => {
+        $make! { $given
+            name: required "name";
+            edition: optional "edition";
+            version: optional "version";
+            build: optional "build";
+            workspace: optional "workspace";
+            authors: optional "authors";
+            links: optional "links";
+            description: optional "description";
+            homepage: optional "homepage";
+            documentation: optional "documentation";
+            readme: optional "readme";
+            keywords: optional "keywords";
+            categories: optional "categories";
+            license: optional "license";
+            license_file: optional "license-file";
+            repository: optional "repository";
+            metadata: tree "metadata";
+            rust_version: optional "rust-version";
+            exclude: optional "exclude";
+            include: optional "include";
+            default_run: optional "default-run";
+            autolib: optional "autolib";
+            autobins: optional "autobins";
+            autoexamples: optional "autoexamples";
+            autotests: optional "autotests";
+            autobenches: optional "autobenches";
+            publish: optional "publish";
+            resolver: optional "resolver";
+        }
+    };
 }
+
+static PACKAGE: &[Spellings] = package!(names_of_rows());
 
 /// Reads a package from a table: the one reading of the table by the form of a package, as of a value that is this table.
 ///
@@ -227,186 +247,35 @@ pub fn package_from<M: Metadata>(alloc: Global, table: &Table) -> Result<Package
         (Reads (package_form M.kind) (package_of M.kind M.content) (data_of table.now)) }
     ensures fault { IfErr result (FaultIn ((package_form M.kind).faulty (data_of table.now))) }
 {
-    package_in(alloc, TableSource::Lent(table))
+    read_form(alloc, TableSource::Lent(table))
 }
 
-/// Reads the rows of a table.
-fn package_in<M: Metadata>(alloc: Global, table: TableSource<'_>) -> Result<Package<M>, ReadFault>
-    ensures ok { IfOk result
-        (Reads (package_form M.kind) (package_of M.kind M.content) (table_source table.entry)) }
-    ensures fault { IfErr result
-        (FaultIn ((package_form M.kind).faulty (table_source table.entry))) }
-{
-    let names = package_names::<M>();
-    let mut rows = rows_of(names, slots_of(alloc, table, names)?);
-    let mut x = named(String::new(alloc));
-    fill_package(alloc, &mut rows, &mut x).and(Ok(x))
-}
-
-/// Reads all rows.
-fn fill_package<M: Metadata>(
-    alloc: Global,
-    rows: &mut RowCursor<'_, '_>,
-    x: &mut Package<M>,
-) -> Result<(), ReadFault>
-    ensures { ReadsRows "name" "resolver" (package_rows (tree_of M.kind))
-        (package_of M.kind M.content) rows.old rows.new x.old x.new result }
-{
-    fill_identity(alloc, rows, x)?;
-    fill_description(alloc, rows, x)?;
-    fill_build(alloc, rows, x)?;
-    Ok(())
-}
-
-/// Reads `name` to `documentation`.
-fn fill_identity<M: Metadata>(
-    alloc: Global,
-    rows: &mut RowCursor<'_, '_>,
-    x: &mut Package<M>,
-) -> Result<(), ReadFault>
-    ensures { ReadsRows "name" "documentation" (package_rows (tree_of M.kind))
-        (package_of M.kind M.content) rows.old rows.new x.old x.new result }
-{
-    x.name = required(alloc, rows)?;
-    fill(alloc, rows, &mut x.edition)?;
-    fill(alloc, rows, &mut x.version)?;
-    fill(alloc, rows, &mut x.build)?;
-    fill(alloc, rows, &mut x.workspace)?;
-    fill(alloc, rows, &mut x.authors)?;
-    fill(alloc, rows, &mut x.links)?;
-    fill(alloc, rows, &mut x.description)?;
-    fill(alloc, rows, &mut x.homepage)?;
-    fill(alloc, rows, &mut x.documentation)?;
-    Ok(())
-}
-
-/// Reads `readme` to `exclude`.
-fn fill_description<M: Metadata>(
-    alloc: Global,
-    rows: &mut RowCursor<'_, '_>,
-    x: &mut Package<M>,
-) -> Result<(), ReadFault>
-    ensures { ReadsRows "readme" "exclude" (package_rows (tree_of M.kind))
-        (package_of M.kind M.content) rows.old rows.new x.old x.new result }
-{
-    fill(alloc, rows, &mut x.readme)?;
-    fill(alloc, rows, &mut x.keywords)?;
-    fill(alloc, rows, &mut x.categories)?;
-    fill(alloc, rows, &mut x.license)?;
-    fill(alloc, rows, &mut x.license_file)?;
-    fill(alloc, rows, &mut x.repository)?;
-    fill_tree(alloc, rows, &mut x.metadata)?;
-    fill(alloc, rows, &mut x.rust_version)?;
-    fill(alloc, rows, &mut x.exclude)?;
-    Ok(())
-}
-
-/// Reads `include` to `resolver`.
-fn fill_build<M: Metadata>(
-    alloc: Global,
-    rows: &mut RowCursor<'_, '_>,
-    x: &mut Package<M>,
-) -> Result<(), ReadFault>
-    ensures { ReadsRows "include" "resolver" (package_rows (tree_of M.kind))
-        (package_of M.kind M.content) rows.old rows.new x.old x.new result }
-{
-    fill(alloc, rows, &mut x.include)?;
-    fill(alloc, rows, &mut x.default_run)?;
-    fill(alloc, rows, &mut x.autolib)?;
-    fill(alloc, rows, &mut x.autobins)?;
-    fill(alloc, rows, &mut x.autoexamples)?;
-    fill(alloc, rows, &mut x.autotests)?;
-    fill(alloc, rows, &mut x.autobenches)?;
-    fill(alloc, rows, &mut x.publish)?;
-    fill(alloc, rows, &mut x.resolver)?;
-    Ok(())
-}
-
-/// Writes `name` to `documentation`, from the last to the first.
-fn put_identity<M: Metadata>(
-    alloc: Global,
-    out: &mut Table,
-    x: &Package<M>,
-) -> Result<(), AllocError>
-    ensures { OnOk result
-        (WritesRows "name" "documentation" (package_rows (tree_of M.kind))
-        (package_of M.kind M.content x.now) out.old out.new) }
-{
-    put_optional(alloc, out, "documentation", &x.documentation)?;
-    put_optional(alloc, out, "homepage", &x.homepage)?;
-    put_optional(alloc, out, "description", &x.description)?;
-    put_optional(alloc, out, "links", &x.links)?;
-    put_optional(alloc, out, "authors", &x.authors)?;
-    put_optional(alloc, out, "workspace", &x.workspace)?;
-    put_optional(alloc, out, "build", &x.build)?;
-    put_optional(alloc, out, "version", &x.version)?;
-    put_optional(alloc, out, "edition", &x.edition)?;
-    put_row(alloc, out, "name", &x.name)?;
-    Ok(())
-}
-
-/// Writes `readme` to `exclude`, from the last to the first.
-fn put_description<M: Metadata>(
-    alloc: Global,
-    out: &mut Table,
-    x: &Package<M>,
-) -> Result<(), AllocError>
-    ensures { OnOk result
-        (WritesRows "readme" "exclude" (package_rows (tree_of M.kind))
-        (package_of M.kind M.content x.now) out.old out.new) }
-{
-    put_optional(alloc, out, "exclude", &x.exclude)?;
-    put_optional(alloc, out, "rust-version", &x.rust_version)?;
-    put_tree(alloc, out, "metadata", &x.metadata)?;
-    put_optional(alloc, out, "repository", &x.repository)?;
-    put_optional(alloc, out, "license-file", &x.license_file)?;
-    put_optional(alloc, out, "license", &x.license)?;
-    put_optional(alloc, out, "categories", &x.categories)?;
-    put_optional(alloc, out, "keywords", &x.keywords)?;
-    put_optional(alloc, out, "readme", &x.readme)?;
-    Ok(())
-}
-
-/// Writes `include` to `resolver`, from the last to the first.
-fn put_build<M: Metadata>(alloc: Global, out: &mut Table, x: &Package<M>) -> Result<(), AllocError>
-    ensures { OnOk result
-        (WritesRows "include" "resolver" (package_rows (tree_of M.kind))
-        (package_of M.kind M.content x.now) out.old out.new) }
-{
-    put_optional(alloc, out, "resolver", &x.resolver)?;
-    put_optional(alloc, out, "publish", &x.publish)?;
-    put_optional(alloc, out, "autobenches", &x.autobenches)?;
-    put_optional(alloc, out, "autotests", &x.autotests)?;
-    put_optional(alloc, out, "autoexamples", &x.autoexamples)?;
-    put_optional(alloc, out, "autobins", &x.autobins)?;
-    put_optional(alloc, out, "autolib", &x.autolib)?;
-    put_optional(alloc, out, "default-run", &x.default_run)?;
-    put_optional(alloc, out, "include", &x.include)?;
-    Ok(())
-}
-
-impl<M: Metadata> Schema for Package<M> {
+impl<M: Metadata> Rowed for Package<M> {
     ghost Content = { Contents.Package };
 
     ghost content = { package_of M.kind M.content };
 
-    ghost kind = { package_form M.kind };
+    ghost rows = { package_rows (tree_of M.kind) };
 
-    fn from_value(alloc: Global, value: &Value) -> Result<Package<M>, ReadFault> {
-        <Package<M> as Schema>::from_source(alloc, Source::Lent(value))
+    fn names() -> &'static [Spellings] {
+        PACKAGE
     }
 
-    fn from_source(alloc: Global, source: Source<'_>) -> Result<Package<M>, ReadFault> {
-        package_in(alloc, source.into_table(alloc)?)
+    fn empty(alloc: Global) -> Package<M> {
+        named(String::new(alloc))
     }
 
-    fn to_value(&self, alloc: Global) -> Result<Value, AllocError> {
-        let mut out = Table::new(alloc);
-        put_build(alloc, &mut out, self)?;
-        put_description(alloc, &mut out, self)?;
-        put_identity(alloc, &mut out, self)?;
-        Ok(Value::Table(out))
+    fn read_row(&mut self, alloc: Global, i: usize, key: Word, slot: &mut RowSlot<'_>) -> RowRead {
+        package!(read_row_of(self, alloc, i, key, slot))
     }
+
+    fn put_row(&self, alloc: Global, i: usize, key: Word, out: &mut Table) -> RowPut {
+        package!(put_row_of(self, alloc, i, key, out))
+    }
+}
+
+impl<M: Metadata> Form for Package<M> {
+    fn covers() {}
 
     ghost lawful = { package_lawful (tree_of M.kind) (tree_lawful M.lawful) };
 }

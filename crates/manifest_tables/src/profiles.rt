@@ -1,10 +1,8 @@
 //! The profiles of a manifest.
 #![tactic(auto, unfolding(manifest_schema::specs::PartForms::profiles_rows), using(manifest_value::proofs::Behind::form_refuses))]
 
-ghost use Rattle.std.specs.Prelude.{◌≡◌, ◌↔◌, ◌∷◌, [], codes, IsTrue, map, option_map, IfOk, IfErr, OnOk};
-ghost use Rattle.toml.specs.Data.{Members, table as table_data};
+ghost use Rattle.std.specs.Prelude.{◌≡◌, ◌↔◌, ◌∷◌, [], codes, IsTrue, option_map, IfOk, IfErr};
 ghost use Rattle.toml.specs.View.{view};
-ghost use Rattle.manifest_schema.specs.Slots.{without};
 ghost use Rattle.manifest_schema.specs.Forms.{form, none_named};
 ghost use Rattle.manifest_schema.specs.Kinds.{good_entries};
 ghost use Rattle.manifest_schema.specs.Needs.{good_some};
@@ -15,21 +13,18 @@ ghost use Rattle.manifest_schema.proofs.PartLaws.{profiles_lawful};
 ghost use Rattle.manifest_value.specs.Faults.{FaultIn};
 ghost use Rattle.manifest_value.specs.Entries.{entries_content};
 ghost use Rattle.manifest_value.specs.Reading.{data_of, Reads};
-ghost use Rattle.manifest_value.specs.Walks.{spellings_view, names_of, all_words, rest_view, Ascend};
-ghost use Rattle.manifest_value.specs.Cursors.{ReadsRows, Stands};
 ghost use Rattle.manifest_parts.specs.Records.{profile_content};
 ghost use Rattle.manifest_parts.specs.Refusals.{RefusedIn};
 ghost use Rattle.manifest_tables.specs.Tables.{profiles_content, NamedAreGood};
 
 use manifest_parts::Profile;
 use manifest_parts::error::{Error, read};
-use manifest_value::cursor::{RowCursor, fill, rows_of};
 use manifest_value::entries::map_of_entries;
+use manifest_value::form::{RowPut, RowRead, Rowed, Word, put_rows, read_open};
 use manifest_value::maps::entries_table;
-use manifest_value::row_slots::lent_slots;
-use manifest_value::rows::put_optional;
+use manifest_value::row_slots::RowSlot;
 use manifest_value::well_formed::none_is_named;
-use manifest_value::{ReadFault, Schema, Spellings, spelled, table, walk};
+use manifest_value::{ReadFault, Schema, Spellings, names_of_rows, put_row_of, read_row_of, table};
 use std::alloc::{AllocError, Global};
 use std::collections::BTreeMap;
 use toml::{Table, Value};
@@ -147,62 +142,58 @@ fn customs_are_well_formed(custom: &BTreeMap<String, Profile>) -> bool
     true
 }
 
-static PROFILES: &[Spellings] = &spelled! { "release", "dev", "test", "bench", "doc" };
-
-/// The spellings of the rows.
-fn profiles_names() -> &'static [Spellings]
-    ensures { map spellings_view result.now ≡ names_of profiles_rows }
-{
-    PROFILES
+/// The rows of profiles; every other key is the name of a custom profile.
+macro_rules! profiles {
+    ($make:ident $given:tt) => {
+        $make! { $given
+            release: optional "release";
+            dev: optional "dev";
+            test: optional "test";
+            bench: optional "bench";
+            doc: optional "doc";
+        }
+    };
 }
 
-/// Reads the rows of a table.
+static PROFILES: &[Spellings] = profiles!(names_of_rows());
+
+impl Rowed for Profiles {
+    ghost Content = { Contents.Profiles };
+
+    ghost content = { profiles_content };
+
+    ghost rows = { profiles_rows };
+
+    fn names() -> &'static [Spellings] {
+        PROFILES
+    }
+
+    fn empty(alloc: Global) -> Profiles {
+        Profiles::default(alloc)
+    }
+
+    fn read_row(&mut self, alloc: Global, i: usize, key: Word, slot: &mut RowSlot<'_>) -> RowRead {
+        profiles!(read_row_of(self, alloc, i, key, slot))
+    }
+
+    fn put_row(&self, alloc: Global, i: usize, key: Word, out: &mut Table) -> RowPut {
+        profiles!(put_row_of(self, alloc, i, key, out))
+    }
+}
+
+/// Reads the profiles of a table: those that Cargo names, and of all other keys the custom ones.
 fn profiles_from(alloc: Global, table: &Table) -> Result<Profiles, ReadFault>
     ensures ok { IfOk result (Reads (form profiles_rows) profiles_content (data_of table.now)) }
     ensures fault { IfErr result (FaultIn ((form profiles_rows).faulty (data_of table.now))) }
 {
-    let names = profiles_names();
-    let walk = walk(alloc, table, names)?;
-    let mut rows = rows_of(names, lent_slots(alloc, walk.slots.as_slice())?);
-    let mut x = Profiles::default(alloc);
-    fill_profiles(alloc, &mut rows, walk.rest.as_slice(), &mut x).and(Ok(x))
-}
-
-/// Reads the profiles that Cargo names, and of the rest those of all other names.
-fn fill_profiles(
-    alloc: Global,
-    rows: &mut RowCursor<'_, '_>,
-    rest: &[(&str, &Value)],
-    x: &mut Profiles,
-) -> Result<(), ReadFault>
-    requires { Ascend (rest_view rest.now) }
-    ensures ok { (ms : Members) → Stands rows.old (names_of profiles_rows) ms
-        → rest_view rest.now ≡ without (all_words (names_of profiles_rows)) ms
-        → OnOk result (Reads (form profiles_rows) profiles_content (table_data ms) x.new) }
-    ensures fault { (ms : Members) → Stands rows.old (names_of profiles_rows) ms
-        → rest_view rest.now ≡ without (all_words (names_of profiles_rows)) ms
-        → IfErr result (FaultIn ((form profiles_rows).faulty (table_data ms))) }
-{
-    fill_named(alloc, rows, x)?;
-    x.custom = map_of_entries(alloc, rest)?;
-    Ok(())
-}
-
-/// Reads `release` to `doc`.
-fn fill_named(
-    alloc: Global,
-    rows: &mut RowCursor<'_, '_>,
-    x: &mut Profiles,
-) -> Result<(), ReadFault>
-    ensures { ReadsRows "release" "doc" profiles_rows profiles_content rows.old rows.new x.old x.new
-        result }
-{
-    fill(alloc, rows, &mut x.release)?;
-    fill(alloc, rows, &mut x.dev)?;
-    fill(alloc, rows, &mut x.test)?;
-    fill(alloc, rows, &mut x.bench)?;
-    fill(alloc, rows, &mut x.doc)?;
-    Ok(())
+    let (mut x, rest) = read_open::<Profiles>(alloc, table)?;
+    match map_of_entries(alloc, rest.as_slice()) {
+        Ok(custom) => {
+            x.custom = custom;
+            Ok(x)
+        }
+        Err(fault) => Err(fault),
+    }
 }
 
 impl Schema for Profiles {
@@ -218,11 +209,7 @@ impl Schema for Profiles {
 
     fn to_value(&self, alloc: Global) -> Result<Value, AllocError> {
         let mut out = entries_table(alloc, &self.custom)?;
-        put_optional(alloc, &mut out, "doc", &self.doc)?;
-        put_optional(alloc, &mut out, "bench", &self.bench)?;
-        put_optional(alloc, &mut out, "test", &self.test)?;
-        put_optional(alloc, &mut out, "dev", &self.dev)?;
-        put_optional(alloc, &mut out, "release", &self.release)?;
+        put_rows(self, alloc, &mut out)?;
         Ok(Value::Table(out))
     }
 

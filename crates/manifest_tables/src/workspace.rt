@@ -1,7 +1,7 @@
 //! The workspace of a manifest, and the package fields that members can inherit from it.
-#![tactic(auto, unfolding(manifest_schema::specs::ManifestForms::workspace_package_rows, manifest_schema::specs::ManifestForms::workspace_rows), using(manifest_value::proofs::Behind::form_refuses))]
+#![tactic(auto, unfolding(manifest_schema::specs::ManifestForms::workspace_package_rows, manifest_schema::specs::ManifestForms::workspace_rows))]
 
-ghost use Rattle.std.specs.Prelude.{◌≡◌, ◌↔◌, IsTrue, map, option_map, IfOk, IfErr, OnOk};
+ghost use Rattle.std.specs.Prelude.{◌≡◌, ◌↔◌, IsTrue, option_map, IfOk, IfErr};
 ghost use Rattle.toml.specs.Data.{Data};
 ghost use Rattle.toml.specs.View.{view};
 ghost use Rattle.manifest_schema.specs.Forms.{form};
@@ -14,9 +14,7 @@ ghost use Rattle.manifest_schema.specs.ManifestForms.{workspace_package_rows, wo
 ghost use Rattle.manifest_schema.proofs.KindLaws.{tree_lawful};
 ghost use Rattle.manifest_schema.proofs.ManifestLaws.{workspace_package_lawful, workspace_lawful};
 ghost use Rattle.manifest_value.specs.Entries.{entries_content};
-ghost use Rattle.manifest_value.specs.Reading.{Reads, WritesRows};
-ghost use Rattle.manifest_value.specs.Walks.{spellings_view, names_of};
-ghost use Rattle.manifest_value.specs.Cursors.{ReadsRows};
+ghost use Rattle.manifest_value.specs.Reading.{Reads};
 ghost use Rattle.manifest_parts.specs.Records.{lint_content};
 ghost use Rattle.manifest_parts.specs.Refusals.{RefusedIn};
 ghost use Rattle.manifest_tables.specs.Tables.{workspace_package_content, workspace_content, workspace_of, workspace_form};
@@ -24,13 +22,11 @@ ghost use Rattle.manifest_tables.specs.Tables.{workspace_package_content, worksp
 use manifest_parts::error::{Error, read};
 use manifest_parts::lints::lints_fit;
 use manifest_parts::{DepsSet, Edition, LintsSet, Publish, Resolver, StringOrBool};
-use manifest_value::cursor::{RowCursor, fill, fill_default, fill_tree, rows_of};
-use manifest_value::metadata::put_tree;
-use manifest_value::row_slots::slots_of;
-use manifest_value::rows::{put_optional, put_row};
+use manifest_value::form::{RowPut, RowRead, Rowed, Word};
+use manifest_value::row_slots::RowSlot;
 use manifest_value::well_formed::tree_is_well_formed;
-use manifest_value::{Metadata, ReadFault, Schema, Source, Spellings, spelled};
-use std::alloc::{AllocError, Global};
+use manifest_value::{Form, Metadata, Spellings, names_of_rows, put_row_of, read_row_of};
+use std::alloc::Global;
 use toml::{Table, Value};
 
 /// The package fields that members can inherit from a workspace, each by `{ workspace = true }`. See the
@@ -91,118 +87,58 @@ impl WorkspacePackage {
     }
 }
 
-static LENT: &[Spellings] = &spelled! {
-    "edition", "version", "authors", "description", "homepage", "documentation", "readme",
-    "keywords", "categories", "license", "license-file", "repository", "rust-version", "exclude",
-    "include", "publish",
-};
-
-/// The spellings of the rows.
-fn workspace_package_names() -> &'static [Spellings]
-    ensures { map spellings_view result.now ≡ names_of workspace_package_rows }
-{
-    LENT
+/// The rows of the package fields of a workspace.
+macro_rules! workspace_package {
+    ($make:ident $given:tt) => {
+        $make! { $given
+            edition: optional "edition";
+            version: optional "version";
+            authors: optional "authors";
+            description: optional "description";
+            homepage: optional "homepage";
+            documentation: optional "documentation";
+            readme: optional "readme";
+            keywords: optional "keywords";
+            categories: optional "categories";
+            license: optional "license";
+            license_file: optional "license-file";
+            repository: optional "repository";
+            rust_version: optional "rust-version";
+            exclude: optional "exclude";
+            include: optional "include";
+            publish: optional "publish";
+        }
+    };
 }
 
-/// Reads all rows.
-fn fill_workspace_package(
-    alloc: Global,
-    rows: &mut RowCursor<'_, '_>,
-    x: &mut WorkspacePackage,
-) -> Result<(), ReadFault>
-    ensures { ReadsRows "edition" "publish" workspace_package_rows workspace_package_content
-        rows.old rows.new x.old x.new result }
-{
-    fill(alloc, rows, &mut x.edition)?;
-    fill(alloc, rows, &mut x.version)?;
-    fill(alloc, rows, &mut x.authors)?;
-    fill(alloc, rows, &mut x.description)?;
-    fill(alloc, rows, &mut x.homepage)?;
-    fill(alloc, rows, &mut x.documentation)?;
-    fill(alloc, rows, &mut x.readme)?;
-    fill(alloc, rows, &mut x.keywords)?;
-    fill_licensed(alloc, rows, x)?;
-    Ok(())
-}
+static LENT: &[Spellings] = workspace_package!(names_of_rows());
 
-/// Reads `categories` to `publish`.
-fn fill_licensed(
-    alloc: Global,
-    rows: &mut RowCursor<'_, '_>,
-    x: &mut WorkspacePackage,
-) -> Result<(), ReadFault>
-    ensures { ReadsRows "categories" "publish" workspace_package_rows workspace_package_content
-        rows.old rows.new x.old x.new result }
-{
-    fill(alloc, rows, &mut x.categories)?;
-    fill(alloc, rows, &mut x.license)?;
-    fill(alloc, rows, &mut x.license_file)?;
-    fill(alloc, rows, &mut x.repository)?;
-    fill(alloc, rows, &mut x.rust_version)?;
-    fill(alloc, rows, &mut x.exclude)?;
-    fill(alloc, rows, &mut x.include)?;
-    fill(alloc, rows, &mut x.publish)?;
-    Ok(())
-}
-
-/// Writes `edition` to `keywords`, from the last to the first.
-fn put_described(alloc: Global, out: &mut Table, x: &WorkspacePackage) -> Result<(), AllocError>
-    ensures { OnOk result
-        (WritesRows "edition" "keywords" workspace_package_rows (workspace_package_content x.now)
-        out.old out.new) }
-{
-    put_optional(alloc, out, "keywords", &x.keywords)?;
-    put_optional(alloc, out, "readme", &x.readme)?;
-    put_optional(alloc, out, "documentation", &x.documentation)?;
-    put_optional(alloc, out, "homepage", &x.homepage)?;
-    put_optional(alloc, out, "description", &x.description)?;
-    put_optional(alloc, out, "authors", &x.authors)?;
-    put_optional(alloc, out, "version", &x.version)?;
-    put_optional(alloc, out, "edition", &x.edition)?;
-    Ok(())
-}
-
-/// Writes `categories` to `publish`, from the last to the first.
-fn put_licensed(alloc: Global, out: &mut Table, x: &WorkspacePackage) -> Result<(), AllocError>
-    ensures { OnOk result
-        (WritesRows "categories" "publish" workspace_package_rows (workspace_package_content x.now)
-        out.old out.new) }
-{
-    put_optional(alloc, out, "publish", &x.publish)?;
-    put_optional(alloc, out, "include", &x.include)?;
-    put_optional(alloc, out, "exclude", &x.exclude)?;
-    put_optional(alloc, out, "rust-version", &x.rust_version)?;
-    put_optional(alloc, out, "repository", &x.repository)?;
-    put_optional(alloc, out, "license-file", &x.license_file)?;
-    put_optional(alloc, out, "license", &x.license)?;
-    put_optional(alloc, out, "categories", &x.categories)?;
-    Ok(())
-}
-
-impl Schema for WorkspacePackage {
+impl Rowed for WorkspacePackage {
     ghost Content = { Contents.WorkspacePackage };
 
     ghost content = { workspace_package_content };
 
-    ghost kind = { form workspace_package_rows };
+    ghost rows = { workspace_package_rows };
 
-    fn from_value(alloc: Global, value: &Value) -> Result<WorkspacePackage, ReadFault> {
-        <WorkspacePackage as Schema>::from_source(alloc, Source::Lent(value))
+    fn names() -> &'static [Spellings] {
+        LENT
     }
 
-    fn from_source(alloc: Global, source: Source<'_>) -> Result<WorkspacePackage, ReadFault> {
-        let names = workspace_package_names();
-        let mut rows = rows_of(names, slots_of(alloc, source.into_table(alloc)?, names)?);
-        let mut x = WorkspacePackage::default();
-        fill_workspace_package(alloc, &mut rows, &mut x).and(Ok(x))
+    fn empty(_alloc: Global) -> WorkspacePackage {
+        WorkspacePackage::default()
     }
 
-    fn to_value(&self, alloc: Global) -> Result<Value, AllocError> {
-        let mut out = Table::new(alloc);
-        put_licensed(alloc, &mut out, self)?;
-        put_described(alloc, &mut out, self)?;
-        Ok(Value::Table(out))
+    fn read_row(&mut self, alloc: Global, i: usize, key: Word, slot: &mut RowSlot<'_>) -> RowRead {
+        workspace_package!(read_row_of(self, alloc, i, key, slot))
     }
+
+    fn put_row(&self, alloc: Global, i: usize, key: Word, out: &mut Table) -> RowPut {
+        workspace_package!(put_row_of(self, alloc, i, key, out))
+    }
+}
+
+impl Form for WorkspacePackage {
+    fn covers() {}
 
     ghost lawful = { workspace_package_lawful };
 }
@@ -322,68 +258,50 @@ fn lent_lints_fit(lints: &Option<LintsSet>)
     }
 }
 
-static WORKSPACE: &[Spellings] = &spelled! {
-    "members", "default-members" | "default_members", "exclude", "resolver", "dependencies",
-    "package", "metadata", "lints",
-};
-
-/// The spellings of the rows.
-fn workspace_names<M: Metadata>() -> &'static [Spellings]
-    ensures { map spellings_view result.now ≡ names_of (workspace_rows (tree_of M.kind)) }
-{
-    WORKSPACE
+/// The rows of a workspace.
+macro_rules! workspace {
+    ($make:ident $given:tt) => {
+        $make! { $given
+            members: default_list "members";
+            default_members: optional "default-members" | "default_members";
+            exclude: optional "exclude";
+            resolver: optional "resolver";
+            dependencies: optional "dependencies";
+            package: optional "package";
+            metadata: tree "metadata";
+            lints: optional "lints";
+        }
+    };
 }
 
-/// Reads all rows.
-fn fill_workspace<M: Metadata>(
-    alloc: Global,
-    rows: &mut RowCursor<'_, '_>,
-    x: &mut Workspace<M>,
-) -> Result<(), ReadFault>
-    ensures { ReadsRows "members" "lints" (workspace_rows (tree_of M.kind))
-        (workspace_of M.kind M.content) rows.old rows.new x.old x.new result }
-{
-    fill_default(alloc, rows, Vec::new(alloc), &mut x.members)?;
-    fill(alloc, rows, &mut x.default_members)?;
-    fill(alloc, rows, &mut x.exclude)?;
-    fill(alloc, rows, &mut x.resolver)?;
-    fill(alloc, rows, &mut x.dependencies)?;
-    fill(alloc, rows, &mut x.package)?;
-    fill_tree(alloc, rows, &mut x.metadata)?;
-    fill(alloc, rows, &mut x.lints)?;
-    Ok(())
-}
+static WORKSPACE: &[Spellings] = workspace!(names_of_rows());
 
-impl<M: Metadata> Schema for Workspace<M> {
+impl<M: Metadata> Rowed for Workspace<M> {
     ghost Content = { Contents.Workspace };
 
     ghost content = { workspace_of M.kind M.content };
 
-    ghost kind = { workspace_form M.kind };
+    ghost rows = { workspace_rows (tree_of M.kind) };
 
-    fn from_value(alloc: Global, value: &Value) -> Result<Workspace<M>, ReadFault> {
-        <Workspace<M> as Schema>::from_source(alloc, Source::Lent(value))
+    fn names() -> &'static [Spellings] {
+        WORKSPACE
     }
 
-    fn from_source(alloc: Global, source: Source<'_>) -> Result<Workspace<M>, ReadFault> {
-        let names = workspace_names::<M>();
-        let mut rows = rows_of(names, slots_of(alloc, source.into_table(alloc)?, names)?);
-        let mut x = Workspace::default(alloc);
-        fill_workspace(alloc, &mut rows, &mut x).and(Ok(x))
+    fn empty(alloc: Global) -> Workspace<M> {
+        Workspace::default(alloc)
     }
 
-    fn to_value(&self, alloc: Global) -> Result<Value, AllocError> {
-        let mut out = Table::new(alloc);
-        put_optional(alloc, &mut out, "lints", &self.lints)?;
-        put_tree(alloc, &mut out, "metadata", &self.metadata)?;
-        put_optional(alloc, &mut out, "package", &self.package)?;
-        put_optional(alloc, &mut out, "dependencies", &self.dependencies)?;
-        put_optional(alloc, &mut out, "resolver", &self.resolver)?;
-        put_optional(alloc, &mut out, "exclude", &self.exclude)?;
-        put_optional(alloc, &mut out, "default-members", &self.default_members)?;
-        put_row(alloc, &mut out, "members", &self.members)?;
-        Ok(Value::Table(out))
+    fn read_row(&mut self, alloc: Global, i: usize, key: Word, slot: &mut RowSlot<'_>) -> RowRead {
+        workspace!(read_row_of(self, alloc, i, key, slot))
     }
+
+    fn put_row(&self, alloc: Global, i: usize, key: Word, out: &mut Table) -> RowPut {
+        workspace!(put_row_of(self, alloc, i, key, out))
+    }
+}
+
+impl<M: Metadata> Form for Workspace<M> {
+    fn covers() {}
 
     ghost lawful = { workspace_lawful (tree_of M.kind) (tree_lawful M.lawful) };
 }

@@ -4,7 +4,6 @@
 #![tactic(auto)]
 
 pub mod closures;
-pub mod cursor;
 pub mod entries;
 pub mod fault;
 pub mod form;

@@ -1,6 +1,6 @@
 //! What stands in the rows of a table, by reference or by value.
 
-ghost use Rattle.std.specs.Prelude.{◌≡◌, ◌<◌, ◌+◌, ◌∷◌, IsTrue, map, length, drop, IfOk};
+ghost use Rattle.std.specs.Prelude.{◌≡◌, IsTrue, map, IfOk};
 ghost use Rattle.toml.specs.View.{table_view};
 ghost use Rattle.manifest_value.specs.Sources.{members_of, row_view};
 ghost use Rattle.manifest_value.specs.Walks.{spellings_view, distinct_words, slot_view, slots_at};
@@ -10,7 +10,6 @@ use crate::spellings::Spellings;
 use crate::walked::{Found, Slot};
 use crate::walking::{empty_slots, fill_slot, row_of, walk};
 use std::alloc::{AllocError, Global};
-use std::mem;
 use toml::Table;
 
 /// What a table holds under the spellings of a row: the value as it is read.
@@ -36,7 +35,7 @@ fn lent_slot<'t>(slot: &Slot<'t>) -> RowSlot<'t>
 ///
 /// ```ignore
 /// let walk = walk(alloc, table, &ROWS)?;
-/// let mut rows = rows_of(&ROWS, lent_slots(alloc, walk.slots.as_slice())?); // the other keys are `walk.rest`
+/// let slots = lent_slots(alloc, walk.slots.as_slice())?; // the other keys are `walk.rest`
 /// ```
 pub fn lent_slots<'t>(alloc: Global, slots: &[Slot<'t>]) -> Result<Vec<RowSlot<'t>>, AllocError>
     ensures { IfOk result (λ v. map row_view v.items ≡ map slot_view slots.now) }
@@ -94,14 +93,4 @@ fn taken_slots<'t>(
         }
     }
     Ok(slots)
-}
-
-/// Takes what stands in a slot of a list.
-#[inline(always)]
-pub(crate) fn take_slot<'t>(slots: &mut Vec<RowSlot<'t>>, i: usize) -> RowSlot<'t>
-    requires { i < length slots.now.items }
-    ensures { map row_view (drop i slots.old.items)
-        ≡ row_view result ∷ map row_view (drop (i + 1) slots.new.items) }
-{
-    mem::replace(&mut slots[i], RowSlot::Absent)
 }

@@ -1,0 +1,13 @@
+use Rattle.std.proofs.Common.{false, codes, inr}
+use Rattle.toml.specs.Data.{get_member}
+use Rattle.toml.specs.View.{table_view}
+use Rattle.manifest_schema.specs.Kinds.{tree_of}
+use Rattle.manifest_schema.specs.Meaning.{faulty_old, unmeant_by}
+use Rattle.manifest_value.proofs.Behind.{fault_weaker}
+use Rattle.cargo_manifest.proofs.reading.read_headless.Goals as goal
+
+pub returns-in-Err-clause-fault : goal.returns-in-Err-clause-fault
+returns-in-Err-clause-fault g c =
+    let K = tree_of g.P.Schema.kind in
+    let ms = table_view c.args.table.now in
+    fault_weaker (faulty_old K ms (get_member (codes "project") ms)) (unmeant_by K (tree_of g.W.Schema.kind) false ms) _ (λ p c q. inr q) c.in-Err.ensures.fault
