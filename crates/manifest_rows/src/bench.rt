@@ -10,6 +10,7 @@ use cargo_manifest::{
     MaybeInheritedLintsSet, Package, Product, Profile, Profiles, Target, Workspace,
     WorkspacePackage,
 };
+use manifest_value::Schema;
 use std::alloc::{AllocError, Global};
 use std::process::Abort;
 use std::test::Fail;
@@ -184,7 +185,7 @@ fn others(
 type Refusal<'a> = (&'a str, &'a str, &'a str);
 
 /// What a form's entries are answered with: by the call of the type, or at a place of a document.
-fn answer<T: FromValue>(
+fn answer<T: FromValue + Schema>(
     alloc: Global,
     place: Option<&Place>,
     entries: &str,
@@ -248,7 +249,7 @@ impl Form<'_> {
     }
 
     /// Asserts what entries are answered with: what is due where these are written, or this is refused.
-    fn assert_answer<T: FromValue>(
+    fn assert_answer<T: FromValue + Schema>(
         &self,
         rt: &impl Abort,
         alloc: Global,
@@ -266,7 +267,7 @@ impl Form<'_> {
     }
 
     /// A value under one spelling of a row.
-    fn assert_value<T: FromValue>(
+    fn assert_value<T: FromValue + Schema>(
         &self,
         rt: &impl Abort,
         alloc: Global,
@@ -297,7 +298,7 @@ impl Form<'_> {
     }
 
     /// The row with both spellings, or without its key where it is needed.
-    fn assert_faults<T: FromValue>(
+    fn assert_faults<T: FromValue + Schema>(
         &self,
         rt: &impl Abort,
         alloc: Global,
@@ -317,7 +318,7 @@ impl Form<'_> {
     }
 
     /// Every trial of a row.
-    fn assert_row<T: FromValue>(
+    fn assert_row<T: FromValue + Schema>(
         &self,
         rt: &impl Abort,
         alloc: Global,
@@ -333,7 +334,11 @@ impl Form<'_> {
     }
 
     /// All rows, each with a value that is written.
-    fn assert_filled<T: FromValue>(&self, rt: &impl Abort, alloc: Global) -> Result<(), Fail> {
+    fn assert_filled<T: FromValue + Schema>(
+        &self,
+        rt: &impl Abort,
+        alloc: Global,
+    ) -> Result<(), Fail> {
         let mut entries = Entries::new(alloc);
         for line in self.rows {
             let row = row_of(line);
@@ -351,7 +356,11 @@ impl Form<'_> {
     }
 
     /// Keys that no row has, with a value of each kind: they are ignored.
-    fn assert_ignored<T: FromValue>(&self, rt: &impl Abort, alloc: Global) -> Result<(), Fail> {
+    fn assert_ignored<T: FromValue + Schema>(
+        &self,
+        rt: &impl Abort,
+        alloc: Global,
+    ) -> Result<(), Fail> {
         for value in VALUES {
             let mut entries = others(alloc, self.rows, "", self.besides())?;
             for line in self.rows {
@@ -362,7 +371,11 @@ impl Form<'_> {
         Ok(())
     }
 
-    fn assert_all<T: FromValue>(&self, rt: &impl Abort, alloc: Global) -> Result<(), Fail> {
+    fn assert_all<T: FromValue + Schema>(
+        &self,
+        rt: &impl Abort,
+        alloc: Global,
+    ) -> Result<(), Fail> {
         let mut has_map = false;
         for line in self.rows {
             let row = row_of(line);
@@ -380,7 +393,7 @@ impl Form<'_> {
 }
 
 /// Every trial of a form by the call of its type, and at each of these places.
-fn assert_form<T: FromValue>(
+fn assert_form<T: FromValue + Schema>(
     rt: &impl Abort,
     alloc: Global,
     rows: &[&'static str],

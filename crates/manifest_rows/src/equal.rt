@@ -6,6 +6,7 @@ use cargo_manifest::{
     MaintenanceStatus, MaybeInherited, MaybeInheritedLintsSet, Product, Publish, Resolver,
     StringOrBool, StripSetting, Target, WorkspacePackage,
 };
+use manifest_value::Schema;
 use std::alloc::Global;
 use std::fmt::Debug;
 use std::hash::{DefaultHasher, Hash, Hasher};
@@ -82,7 +83,7 @@ fn order_of_strip_settings(rt: HostRuntime) -> Result<(), Fail> {
 }
 
 /// Asserts that of the values of these texts, read as a `T`, two are equal only where they are of one text.
-fn assert_apart<T: FromValue + PartialEq>(
+fn assert_apart<T: FromValue + Schema + PartialEq>(
     rt: &impl Abort,
     alloc: Global,
     texts: &[&str],

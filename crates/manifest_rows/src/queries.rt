@@ -4,12 +4,13 @@ use cargo_manifest::{
     Dependency, Edition, Lint, LintLevel, MaybeInherited, MaybeInheritedLintsSet, Package, Publish,
     True,
 };
+use manifest_value::Schema;
 use std::alloc::Global;
 use std::test::Fail;
 use toml::Value;
 
 /// The value of a text, read as a `T`.
-pub fn read_as<T: FromValue>(alloc: Global, text: &str) -> Result<T, Fail> {
+pub fn read_as<T: FromValue + Schema>(alloc: Global, text: &str) -> Result<T, Fail> {
     match T::read(alloc, &value(alloc, text)?) {
         Ok(x) => Ok(x),
         Err(error) => Err(Fail::from(told(alloc, &error)?.as_str())),
