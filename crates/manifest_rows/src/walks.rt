@@ -123,40 +123,59 @@ fn sources_that_are_taken_or_lent(rt: HostRuntime) -> Result<(), Fail> {
     Ok(())
 }
 
-/// A row for each reader of a row, and one that is not there.
+/// Rows of one spelling, the last of which is not there.
 static READ: [Spellings; 7] = spelled!["a", "b", "c", "d", "e", "f", "missing"];
 
-/// Rows of `READ`, of which two hold no boolean, and a key that no row has.
+/// Rows of `READ`, and a key that no row has.
 const READ_FROM: &str = "a = true\nb = true\nc = true\nd = 6\ne = 1\nf = 1\nother = true";
+
+/// A slot with this value.
+fn slot_of(value: Value) -> RowSlot<'static> {
+    RowSlot::One {
+        spelling: "a",
+        value: Source::Taken(value),
+    }
+}
 
 #[test]
 fn each_reader_reads_its_row(rt: HostRuntime) -> Result<(), Fail> {
     let alloc = rt.alloc();
-    let table = toml::table_from_str(alloc, READ_FROM)?;
-    let mut rows = slots_of(alloc, TableSource::Taken(table), &READ)?;
     let mut flag = false;
-    assert!(rt; read_required(alloc, "a", &mut rows[0], &mut flag).is_ok());
+    let mut there = slot_of(Value::Boolean(true));
+    assert!(rt; read_required(alloc, "a", &mut there, &mut flag).is_ok());
     assert!(rt; flag);
     let mut place: Option<bool> = None;
-    assert!(rt; read_optional(alloc, "b", &mut rows[1], &mut place).is_ok());
+    let mut there = slot_of(Value::Boolean(true));
+    assert!(rt; read_optional(alloc, "a", &mut there, &mut place).is_ok());
     assert_eq!(rt; place, Some(true));
-    let mut flag = false;
-    assert!(rt; read_default(alloc, "c", &mut rows[2], &mut flag, false).is_ok());
-    assert!(rt; flag);
+    let mut there = slot_of(Value::Boolean(false));
+    assert!(rt; read_default(alloc, "a", &mut there, &mut flag, true).is_ok());
+    assert!(rt; !flag);
     let mut tree: Option<Value> = None;
-    assert!(rt; read_tree(alloc, "d", &mut rows[3], &mut tree).is_ok());
+    let mut there = slot_of(Value::Integer(6));
+    assert!(rt; read_tree(alloc, "a", &mut there, &mut tree).is_ok());
     assert!(rt; matches!(tree, Some(Value::Integer(6))));
-    assert!(rt; read_lenient(alloc, "e", &mut rows[4], &mut place).is_ok());
+    Ok(())
+}
+
+#[test]
+fn each_lenient_reader_passes_over_what_does_not_fit(rt: HostRuntime) -> Result<(), Fail> {
+    let alloc = rt.alloc();
+    let mut place: Option<bool> = Some(true);
+    let mut unfit = slot_of(Value::Integer(1));
+    assert!(rt; read_lenient(alloc, "a", &mut unfit, &mut place).is_ok());
     assert_eq!(rt; place, None);
     let mut flag = false;
-    assert!(rt; read_lenient_default(alloc, "f", &mut rows[5], &mut flag, true).is_ok());
+    let mut unfit = slot_of(Value::Integer(1));
+    assert!(rt; read_lenient_default(alloc, "a", &mut unfit, &mut flag, true).is_ok());
     assert!(rt; flag);
-    let told = match read_required(alloc, "missing", &mut rows[6], &mut flag) {
+    let mut missing = RowSlot::Absent;
+    let told = match read_required(alloc, "a", &mut missing, &mut flag) {
         Ok(()) => String::from_str(alloc, "accepted")?,
         Err(fault) => told(alloc, &refusal(fault))?,
     };
     assert!(rt; flag);
-    assert_is(&rt, Ok(told), "missing at missing", READ_FROM)
+    assert_is(&rt, Ok(told), "missing at a", "nothing")
 }
 
 #[test]
