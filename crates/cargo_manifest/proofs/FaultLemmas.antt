@@ -9,8 +9,8 @@ use Rattle.manifest_schema.proofs.MeaningLaws.{faulty_means_nothing}
 use Rattle.manifest_value.specs.Faults.{FaultIn, path_of, cause_of}
 use Rattle.manifest_value.specs.declared.fault.ReadFault.{ReadFault}
 use Rattle.manifest_value.specs.declared.fault.ReadFault.TheVariants as read
-use Rattle.manifest_parts.specs.Refusals.{IsRefusal}
-use Rattle.manifest_parts.specs.declared.error.Error.{Error}
+use Rattle.manifest_value.specs.Refusals.{IsRefusal}
+use Rattle.manifest_value.specs.declared.error.Error.{Error}
 use Rattle.cargo_manifest.specs.Answers.{RefusesText}
 
 pub refuses_text : {K W : Kind Data} (k : IsLawful K) (w : IsLawful W) (text : List ℕ) (ms : Members) (f : ReadFault) (e : Error)

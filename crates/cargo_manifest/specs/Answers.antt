@@ -8,9 +8,9 @@ use Rattle.manifest_schema.specs.Contents.{Manifest}
 use Rattle.manifest_schema.specs.Meaning.{means, unmeant, rewritten}
 use Rattle.manifest_value.specs.declared.fault.SchemaFault.{SchemaFault}
 use Rattle.manifest_value.specs.Faults.{IsOneOf}
-use Rattle.manifest_parts.specs.declared.error.Error.{Error}
-use Rattle.manifest_parts.specs.declared.error.Error.TheVariants.{Parse, Utf8, Other, Memory}
-use Rattle.manifest_parts.specs.declared.error.ParseFault.TheVariants.{Toml, Schema}
+use Rattle.manifest_value.specs.declared.error.Error.{Error}
+use Rattle.manifest_value.specs.declared.error.Error.TheVariants.{Parse, Utf8, Other, Memory}
+use Rattle.manifest_value.specs.declared.error.ParseFault.TheVariants.{Toml, Schema}
 use Rattle.cargo_manifest.specs.Whole.{manifest_content}
 use Rattle.cargo_manifest.specs.declared.manifest.Manifest.{Manifest as ManifestOfCode}
 

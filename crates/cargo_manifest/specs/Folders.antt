@@ -8,8 +8,8 @@ use Rattle.toml.specs.Data.{Data}
 use Rattle.manifest_schema.specs.Paths.{Text}
 use Rattle.manifest_schema.specs.Kinds.{Kind}
 use Rattle.manifest_schema.specs.Contents.{Manifest}
-use Rattle.manifest_parts.specs.declared.error.Error.{Error}
-use Rattle.manifest_parts.specs.declared.error.Error.TheVariants.{Io}
+use Rattle.manifest_value.specs.declared.error.Error.{Error}
+use Rattle.manifest_value.specs.declared.error.Error.TheVariants.{Io}
 use Rattle.manifest_completion.specs.Listings.{AnyAscending}
 use Rattle.manifest_completion.specs.Completed.{completed_to}
 use Rattle.cargo_manifest.specs.Answers.{IsDocumentOf, Refuses}

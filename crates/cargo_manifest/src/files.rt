@@ -9,8 +9,7 @@ ghost use Rattle.cargo_manifest.specs.Folders.{folder_of, CompletesIn, IsComplet
 
 use crate::manifest::Manifest;
 use manifest_completion::Filesystem;
-use manifest_parts::Error;
-use manifest_value::Metadata;
+use manifest_value::{Error, Metadata};
 use std::path::Path;
 use std::rt::Files;
 use std::{fs, io};

@@ -22,16 +22,10 @@ mod writing;
 
 pub use manifest::Manifest;
 pub use manifest_completion::{AbstractFilesystem, Filesystem, Listing, Listings};
-pub use manifest_parts::{
-    Badge, Badges, Dependency, DependencyDetail, DepsSet, Edition, Error, FeatureSet,
-    InheritedDependencyDetail, Lint, LintConfig, LintLevel, LintsSet, Maintenance,
-    MaintenanceStatus, MaybeInherited, MaybeInheritedLintsSet, ParseFault, PatchSet, Product,
-    Profile, Publish, Resolver, StringOrBool, StripSetting, Target, TargetDepsSet, ToolLintsSet,
-    True,
-};
+pub use manifest_parts::{Badge, Badges, Dependency, DependencyDetail, DepsSet, Edition, FeatureSet, InheritedDependencyDetail, Lint, LintConfig, LintLevel, LintsSet, Maintenance, MaintenanceStatus, MaybeInherited, MaybeInheritedLintsSet, PatchSet, Product, Profile, Publish, Resolver, StringOrBool, StripSetting, Target, TargetDepsSet, ToolLintsSet, True};
 pub use manifest_tables::{Package, Profiles, Workspace, WorkspacePackage};
 pub use manifest_value::{
-    Cause, KeyPath, Metadata, Plain, ReadFault, Schema, SchemaFault, Step, Unread,
+    Cause, Error, KeyPath, Metadata, ParseFault, Plain, ReadFault, Schema, SchemaFault, Step, Unread,
 };
 pub use toml::Value;
 pub use writing::INVALID_DATE;

@@ -1,33 +1,26 @@
 //! A manifest.
 #![tactic(auto, unfolding(manifest_schema::specs::ManifestForms::manifest_rows))]
 
-ghost use Rattle.std.specs.Prelude.{◌≡◌, ◌↔◌, IsTrue, option_map, IfOk, IfErr};
+ghost use Rattle.std.specs.Prelude.{◌≡◌, IfOk};
 ghost use Rattle.toml.specs.Data.{Data};
 ghost use Rattle.manifest_schema.specs.Defaults.{empty_manifest};
-ghost use Rattle.toml.specs.View.{view, table_view};
+ghost use Rattle.toml.specs.View.{table_view};
 ghost use Rattle.manifest_schema.specs.Forms.{form};
 ghost use Rattle.manifest_schema.specs.Kinds.{tree_of};
-ghost use Rattle.manifest_schema.specs.Needs.{good_some};
 ghost use Rattle.manifest_schema.specs.Contents;
-ghost use Rattle.manifest_schema.specs.PartForms.{profiles_rows, lints_rows};
 ghost use Rattle.manifest_schema.specs.ManifestForms.{manifest_rows};
 ghost use Rattle.manifest_schema.specs.Meaning.{rewritten};
 ghost use Rattle.manifest_schema.proofs.KindLaws.{tree_lawful};
 ghost use Rattle.manifest_schema.proofs.ManifestLaws.{manifest_lawful};
-ghost use Rattle.manifest_value.specs.Reading.{Reads};
-ghost use Rattle.manifest_parts.specs.Records.{lints_content};
-ghost use Rattle.manifest_parts.specs.Refusals.{RefusedIn};
-ghost use Rattle.manifest_tables.specs.Tables.{profiles_content, package_of, package_form, workspace_of, workspace_form};
-ghost use Rattle.cargo_manifest.specs.Whole.{manifest_content, manifest_of, manifest_form};
+ghost use Rattle.cargo_manifest.specs.Whole.{manifest_content, manifest_of};
 
-use manifest_parts::error::{Error, read};
 use manifest_parts::{
     Badges, DepsSet, FeatureSet, MaybeInheritedLintsSet, PatchSet, Product, TargetDepsSet,
 };
 use manifest_tables::{Package, Profiles, Workspace};
 use manifest_value::form::{RowPut, RowRead, Rowed, Word, write_form};
 use manifest_value::row_slots::RowSlot;
-use manifest_value::{Form, Metadata, Spellings, names_of_rows, put_row_of, read_row_of};
+use manifest_value::{Form, Metadata, Spellings, good_row_of, names_of_rows, put_row_of, read_row_of};
 use std::alloc::{AllocError, Global};
 use toml::{Table, Value};
 
@@ -69,114 +62,6 @@ pub struct Manifest<P = Value, W = Value> {
     pub badges: Option<Badges>,
     /// The lints of the package, its own or inherited.
     pub lints: Option<MaybeInheritedLintsSet>,
-}
-
-impl<P: Metadata, W: Metadata> Manifest<P, W> {
-    /// The one reading of the value by the form of a manifest, without old headers.
-    ///
-    /// Refuses with `Error::Parse(ParseFault::Schema(..))` of a cause and its key path in the value: `WrongKind` at the
-    /// empty path of a value that is no table, and else the fault of a row. Want of memory is [`Error::Memory`].
-    ///
-    /// ```ignore
-    /// let value = Value::from_str(alloc, "{ package = { name = 'a' } }")?;
-    /// let manifest = Manifest::<Value, Value>::from_value(alloc, &value)?;
-    /// ```
-    pub fn from_value(alloc: Global, value: &Value) -> Result<Manifest<P, W>, Error>
-        ensures ok { IfOk result
-            (Reads (manifest_form P.kind W.kind) (manifest_of P.kind W.kind P.content W.content)
-            (view value.now)) }
-        ensures refused { IfErr result
-            (RefusedIn ((manifest_form P.kind W.kind).faulty (view value.now))) }
-    {
-        read(alloc, value)
-    }
-
-    /// Whether the manifest can be written and read back: its package, its workspace, its profiles and its lints, where they
-    /// are there, are well-formed. All else always is. With a custom profile `dev`, or a tool of lints named `workspace`, it is
-    /// not well-formed.
-    ///
-    /// ```ignore
-    /// if manifest.is_well_formed() {
-    ///     let text = manifest.to_toml_string(alloc)?; // is read back as this manifest, where it is at most 80 deep
-    /// }
-    /// ```
-    pub fn is_well_formed(&self) -> bool
-        ensures { IsTrue result
-            ↔ (manifest_form P.kind W.kind).good
-            (manifest_of P.kind W.kind P.content W.content self.now) }
-    {
-        tables_are_well_formed(&self.package, &self.workspace)
-            & settings_are_well_formed(&self.profile, &self.lints)
-    }
-}
-
-/// Whether the package and the workspace are well-formed, where they are there.
-fn tables_are_well_formed<P: Metadata, W: Metadata>(
-    package: &Option<Package<P>>,
-    workspace: &Option<Workspace<W>>,
-) -> bool
-    ensures { IsTrue result
-        ↔ (good_some (package_form P.kind) (option_map (package_of P.kind P.content) «package».now)
-        × good_some (workspace_form W.kind)
-        (option_map (workspace_of W.kind W.content) workspace.now)) }
-{
-    package_is_well_formed(package) && workspace_is_well_formed(workspace)
-}
-
-/// Whether the profiles and the lints are well-formed, where they are there.
-fn settings_are_well_formed(
-    profiles: &Option<Profiles>,
-    lints: &Option<MaybeInheritedLintsSet>,
-) -> bool
-    ensures { IsTrue result
-        ↔ (good_some (form profiles_rows) (option_map profiles_content profiles.now)
-        × good_some (form lints_rows) (option_map lints_content lints.now)) }
-{
-    profiles_are_well_formed(profiles) && lints_are_well_formed(lints)
-}
-
-/// Whether the package is absent or well-formed.
-fn package_is_well_formed<P: Metadata>(package: &Option<Package<P>>) -> bool
-    ensures { IsTrue result
-        ↔ good_some (package_form P.kind) (option_map (package_of P.kind P.content) «package».now) }
-{
-    match package {
-        Some(package) => package.is_well_formed(),
-        None => true,
-    }
-}
-
-/// Whether the workspace is absent or well-formed.
-fn workspace_is_well_formed<W: Metadata>(workspace: &Option<Workspace<W>>) -> bool
-    ensures { IsTrue result
-        ↔ good_some (workspace_form W.kind)
-        (option_map (workspace_of W.kind W.content) workspace.now) }
-{
-    match workspace {
-        Some(workspace) => workspace.is_well_formed(),
-        None => true,
-    }
-}
-
-/// Whether the profiles are absent or well-formed.
-fn profiles_are_well_formed(profiles: &Option<Profiles>) -> bool
-    ensures { IsTrue result
-        ↔ good_some (form profiles_rows) (option_map profiles_content profiles.now) }
-{
-    match profiles {
-        Some(profiles) => profiles.is_well_formed(),
-        None => true,
-    }
-}
-
-/// Whether the lints are absent or well-formed.
-fn lints_are_well_formed(lints: &Option<MaybeInheritedLintsSet>) -> bool
-    ensures { IsTrue result ↔ good_some (form lints_rows) (option_map lints_content lints.now) }
-{
-    match lints {
-        Some(lints) => lints.is_well_formed(),
-        None => true,
-    }
 }
 
 impl<P, W> Manifest<P, W> {
@@ -259,6 +144,10 @@ impl<P: Metadata, W: Metadata> Rowed for Manifest<P, W> {
 
     fn put_row(&self, alloc: Global, i: usize, key: Word, out: &mut Table) -> RowPut {
         manifest!(put_row_of(self, alloc, i, key, out))
+    }
+
+    fn row_is_well_formed(&self, i: usize) -> bool {
+        manifest!(good_row_of(self, i))
     }
 }
 

@@ -7,8 +7,7 @@ ghost use Rattle.toml.specs.Text.{IsDocumentText};
 ghost use Rattle.cargo_manifest.specs.Answers.{RefusesToPrint, written_of};
 
 use crate::manifest::{Manifest, manifest_table};
-use manifest_parts::Error;
-use manifest_value::Metadata;
+use manifest_value::{Error, Metadata};
 use std::alloc::{AllocError, Global};
 
 /// What is told of a table with a date-time that TOML cannot write.

@@ -3,8 +3,8 @@ use Rattle.std.proofs.Common.{◌≡◌, ℕ, inl, inr, List, [], Option, Some, 
 use Rattle.std.specs.Io.KnownBytes.{Appends, Keeps}
 use Rattle.std.proofs.KnownBytes.{Keeps-refl}
 use Rattle.manifest_schema.specs.Contents.{Manifest}
-use Rattle.manifest_parts.specs.declared.error.Error.{Error}
-use Rattle.manifest_parts.specs.declared.error.Error.TheVariants.{Parse, Io, Utf8, Other, Memory}
+use Rattle.manifest_value.specs.declared.error.Error.{Error}
+use Rattle.manifest_value.specs.declared.error.Error.TheVariants.{Parse, Io, Utf8, Other, Memory}
 use Rattle.cargo_manifest.specs.Answers.{Refuses, RefusesToPrint}
 use Rattle.cargo_manifest.specs.Canonical.{metadata, rewritten, Means}
 use Rattle.manifest_canon.specs.Run.{Begins, FailsToPrint, IsRefused}

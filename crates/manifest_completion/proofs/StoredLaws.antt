@@ -9,7 +9,7 @@ use Rattle.std.specs.declared.io.ErrorKind.{ErrorKind}
 use Rattle.std.specs.declared.io.ErrorKind.TheVariants.{OutOfMemory}
 use Rattle.manifest_schema.specs.Paths.{Text}
 use Rattle.manifest_schema.specs.Contents.{TextOrFlag, a_text, a_flag, Product, Package, Manifest}
-use Rattle.manifest_parts.specs.declared.error.Error.TheVariants.{Parse, Io, Utf8, Other, Memory}
+use Rattle.manifest_value.specs.declared.error.Error.TheVariants.{Parse, Io, Utf8, Other, Memory}
 use Rattle.manifest_completion.specs.Listings.{Answer, names, fault, names_of, is_memory_kind, is_memory_fault, TargetFolder, bins, examples, tests, benches, Place, source, folder, entry, root, path_text, entry_answer, FolderListing, ListingMap, folder_of, at}
 use Rattle.manifest_completion.specs.Completed.{PackageTargets, folder_places, target_places, root_places, up_to_memory_fault, has_memory_fault, asks_root, root_fault, after_root, Library, no_file, known, library, source_fault, Completion, completed_to, refused, no_library, completed_targets, asked_targets, completed, asked, completed_by, asked_by, completion_with, targets_of, AllAllowed}
 use Rattle.manifest_completion.specs.Stored.{AnswersAsStored, stored_folder, stored_map}

@@ -7,7 +7,7 @@ use Rattle.manifest_schema.specs.Paths.{Text}
 use Rattle.manifest_schema.specs.Kinds.{Kind}
 use Rattle.manifest_schema.specs.Contents.{Manifest}
 use Rattle.manifest_schema.specs.Meaning.{well_formed, reads_manifest, written_manifest}
-use Rattle.manifest_parts.specs.declared.error.Error.{Error}
+use Rattle.manifest_value.specs.declared.error.Error.{Error}
 use Rattle.manifest_completion.specs.declared.completion.CompletedTargets.{CompletedTargets}
 use Rattle.manifest_completion.specs.Listings.{Answer, Place, path_text, ListingMap, at, NamesAscend, HasNoNameTwice}
 use Rattle.manifest_completion.specs.Completed.{PackageTargets, completed_to, completed, asked}

@@ -10,8 +10,8 @@ use Rattle.manifest_completion.specs.Stored.{stored_map}
 use Rattle.manifest_completion.specs.Outcome.{IsRefusalOf}
 use Rattle.cargo_manifest.specs.Answers.{Refuses, RefusesToPrint}
 use Rattle.cargo_manifest.specs.Canonical.{metadata, rewritten, Means, IsTextOf}
-use Rattle.manifest_parts.specs.Refusals.{RefusedIn as RefusedAs}
-use Rattle.manifest_parts.specs.declared.error.Error.{Error}
+use Rattle.manifest_value.specs.Refusals.{RefusedIn as RefusedAs}
+use Rattle.manifest_value.specs.declared.error.Error.{Error}
 use Rattle.manifest_inherit.specs.Answers.{ResolvesTo, RefusedIn}
 use Rattle.manifest_inherit.specs.Refused.{refuses}
 use Rattle.toml.specs.Data.{Data, table}

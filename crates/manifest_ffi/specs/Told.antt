@@ -9,9 +9,9 @@ use Rattle.manifest_schema.specs.Paths.{Text, Cause, wrong_kind, missing, two_sp
 use Rattle.manifest_schema.specs.PathTexts.{path_text}
 use Rattle.manifest_value.specs.Faults.{path_of, cause_of}
 use Rattle.manifest_value.specs.declared.fault.SchemaFault.{SchemaFault}
-use Rattle.manifest_parts.specs.declared.error.Error.{Error}
-use Rattle.manifest_parts.specs.declared.error.Error.TheVariants as fault
-use Rattle.manifest_parts.specs.declared.error.ParseFault.TheVariants.{Toml, Schema}
+use Rattle.manifest_value.specs.declared.error.Error.{Error}
+use Rattle.manifest_value.specs.declared.error.Error.TheVariants as fault
+use Rattle.manifest_value.specs.declared.error.ParseFault.TheVariants.{Toml, Schema}
 use Rattle.manifest_inherit.specs.declared.error.ResolveError.{ResolveError}
 use Rattle.manifest_inherit.specs.declared.error.ResolveError.TheVariants as unresolved
 use Rattle.manifest_ffi.specs.declared.refusal.Refusal.{Refusal}

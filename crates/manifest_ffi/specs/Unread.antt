@@ -7,9 +7,9 @@ use Rattle.manifest_schema.specs.Paths.{Text}
 use Rattle.manifest_schema.specs.Kinds.{Kind, tree_of, unread}
 use Rattle.manifest_schema.specs.Contents.{Manifest}
 use Rattle.manifest_schema.specs.Meaning.{written_manifest}
-use Rattle.manifest_parts.specs.declared.error.Error.{Error}
-use Rattle.manifest_parts.specs.declared.error.Error.TheVariants.{Parse, Utf8, Memory as MemoryError}
-use Rattle.manifest_parts.specs.declared.error.ParseFault.TheVariants.{Toml}
+use Rattle.manifest_value.specs.declared.error.Error.{Error}
+use Rattle.manifest_value.specs.declared.error.Error.TheVariants.{Parse, Utf8, Memory as MemoryError}
+use Rattle.manifest_value.specs.declared.error.ParseFault.TheVariants.{Toml}
 use Rattle.cargo_manifest.specs.Answers.{Refuses}
 use Rattle.cargo_manifest.specs.Folders.{IsRead}
 use Rattle.manifest_bytes.specs.Encoded.{encoded}

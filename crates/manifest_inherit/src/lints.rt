@@ -9,6 +9,7 @@ ghost use Rattle.manifest_inherit.specs.ForProofs.{Accepted, tools_content};
 
 use crate::error::{ResolveError, not_in_workspace};
 use manifest_parts::{LintsSet, MaybeInheritedLintsSet};
+use manifest_value::spelled;
 use manifest_value::well_formed::none_is_named;
 use std::alloc::{AllocError, Global};
 
@@ -47,7 +48,7 @@ pub(crate) fn make_lints(
     match lent {
         None => Err(not_in_workspace(alloc, "lints")),
         Some(lent) => {
-            if !none_is_named(lent, &["workspace"]) {
+            if !none_is_named(lent, &spelled!["workspace"]) {
                 return Err(ResolveError::ToolNamedWorkspace);
             }
             *place = Some(copied_lints(lent)?);

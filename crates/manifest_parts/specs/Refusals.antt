@@ -1,46 +1,9 @@
--- What an error says of a value that was refused.
+-- What an error says of a value that is no strip setting.
 use Rattle.std.specs.Prelude.{◌≡◌, ◌++◌, None, codes, string_bytes}
-use Rattle.std.specs.IoError.{error_kind}
 use Rattle.toml.specs.Data.{Data, string}
-use Rattle.manifest_schema.specs.Paths.{Faults}
 use Rattle.manifest_schema.specs.Choices.{strip_meaning}
-use Rattle.manifest_value.specs.Faults.{IsOneOf, path_of}
-use Rattle.manifest_value.specs.declared.fault.ReadFault.{ReadFault}
-use Rattle.manifest_value.specs.declared.fault.ReadFault.TheVariants as read
-use Rattle.manifest_parts.specs.declared.error.Error.{Error}
-use Rattle.manifest_parts.specs.declared.error.Error.TheVariants.{Parse, Io, Utf8, Other, Memory}
-use Rattle.manifest_parts.specs.declared.error.ParseFault.TheVariants.{Toml, Schema}
-
--- the error tells one of these faults of the schema, or want of memory
-abbrev pub RefusedIn : Faults → Error → Type 0
-RefusedIn F (Parse (Schema f)) = IsOneOf F f
-RefusedIn F (Memory e) = Unit {0}
-RefusedIn F _ = ⊥
-
--- the error tells a fault of the schema
-abbrev pub TellsSchema : Error → Type 0
-TellsSchema (Parse (Schema f)) = Unit {0}
-TellsSchema _ = ⊥
-
--- want of memory
-abbrev pub IsWantOfMemory : Error → Type 0
-IsWantOfMemory (Memory e) = Unit {0}
-IsWantOfMemory _ = ⊥
-
--- the error that tells what a reader refuses with
-abbrev pub IsRefusal : ReadFault → Error → Type 0
-IsRefusal (read.Schema f) e = e ≡ Parse (Schema f)
-IsRefusal (read.Memory m) e = e ≡ Memory m
-
--- two errors say the same: one answer with the same fault of `toml`, path and cause, I/O kind, fault of UTF-8, or text
-abbrev pub SameError : Error → Error → Type 0
-SameError (Parse (Toml e)) (Parse (Toml f)) = e.value ≡ f.value
-SameError (Parse (Schema e)) (Parse (Schema f)) = (path_of e.path ≡ path_of f.path) × (e.cause ≡ f.cause)
-SameError (Io e) (Io f) = error_kind e ≡ error_kind f
-SameError (Utf8 e) (Utf8 f) = e ≡ f
-SameError (Other s) (Other t) = string_bytes s ≡ string_bytes t
-SameError (Memory e) (Memory f) = e ≡ f
-SameError _ _ = ⊥
+use Rattle.manifest_value.specs.declared.error.Error.{Error}
+use Rattle.manifest_value.specs.declared.error.Error.TheVariants.{Other, Memory}
 
 -- the value is no strip setting, and the text says so
 abbrev pub RefusesStrip : Data → Error → Type 0

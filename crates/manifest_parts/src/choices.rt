@@ -1,18 +1,13 @@
 //! Choices of one text among several.
 
-ghost use Rattle.std.specs.Prelude.{◌≡◌, IfOk, IfErr, option_map};
-ghost use Rattle.toml.specs.View.{view};
+ghost use Rattle.std.specs.Prelude.{◌≡◌, option_map};
 ghost use Rattle.manifest_schema.specs.Contents;
 ghost use Rattle.manifest_schema.specs.Choices.{edition, edition_text, resolver, resolver_text, level, level_text, status, status_text, status_words, meaning_of};
 ghost use Rattle.manifest_schema.proofs.ChoiceLaws.{edition_lawful, edition_plain, resolver_lawful, level_lawful, status_lawful};
 ghost use Rattle.manifest_parts.specs.Parts.{edition_content, resolver_content, level_content, status_content};
-ghost use Rattle.manifest_value.specs.Faults.{FaultIn, IsSchema};
-ghost use Rattle.manifest_value.specs.Reading.{Reads};
-ghost use Rattle.manifest_parts.specs.Refusals.{RefusedIn, TellsSchema};
 
-use crate::error::{Error, refusal};
 use manifest_value::fault::here;
-use manifest_value::{Cause, Plain, ReadFault, Schema};
+use manifest_value::{Cause, Plain, ReadFault, Schema, Source};
 use std::alloc::{AllocError, Global};
 use toml::Value;
 
@@ -45,24 +40,6 @@ impl Edition {
             Edition::E2024 => "2024",
         }
     }
-
-    /// The one reading of the value: one of the texts.
-    ///
-    /// Refuses with `Error::Parse(ParseFault::Schema(..))` of a cause and the empty key path: `WrongKind` of a value
-    /// that is no text, and `NotAChoice` of another text. It never wants memory, so it never refuses with
-    /// [`Error::Memory`].
-    ///
-    /// ```ignore
-    /// let value = Value::from_str(alloc, "'2021'")?;
-    /// let edition = Edition::from_value(alloc, &value)?; // `E2021`
-    /// ```
-    pub fn from_value(alloc: Global, value: &Value) -> Result<Edition, Error>
-        ensures ok { IfOk result (Reads edition edition_content (view value.now)) }
-        ensures refused { IfErr result (RefusedIn (edition.faulty (view value.now))) }
-        ensures schema { IfErr result TellsSchema }
-    {
-        <Edition as Schema>::from_value(alloc, value).map_err(refusal)
-    }
 }
 
 impl Schema for Edition {
@@ -72,13 +49,10 @@ impl Schema for Edition {
 
     ghost kind = { edition };
 
-    /// The one reading of the value, or a fault that it has. It never wants memory.
-    fn from_value(alloc: Global, value: &Value) -> Result<Edition, ReadFault>
-        ensures ok { IfOk result (Reads edition edition_content (view value.now)) }
-        ensures fault { IfErr result (FaultIn (edition.faulty (view value.now))) }
-        ensures schema { IfErr result IsSchema }
-    {
-        match value {
+    ghost takes_no_memory = { Unit {0} };
+
+    fn read(alloc: Global, source: Source<'_>) -> Result<Edition, ReadFault> {
+        match source.value() {
             Value::String(s) => match s.as_str() {
                 "2015" => Ok(Edition::E2015),
                 "2018" => Ok(Edition::E2018),
@@ -92,6 +66,10 @@ impl Schema for Edition {
 
     fn to_value(&self, alloc: Global) -> Result<Value, AllocError> {
         Value::string(alloc, self.as_str())
+    }
+
+    fn is_well_formed(&self) -> bool {
+        true
     }
 
     ghost lawful = { edition_lawful };
@@ -133,24 +111,6 @@ impl Resolver {
             Resolver::V3 => "3",
         }
     }
-
-    /// The one reading of the value: one of the texts.
-    ///
-    /// Refuses with `Error::Parse(ParseFault::Schema(..))` of a cause and the empty key path: `WrongKind` of a value
-    /// that is no text, and `NotAChoice` of another text. It never wants memory, so it never refuses with
-    /// [`Error::Memory`].
-    ///
-    /// ```ignore
-    /// let value = Value::from_str(alloc, "'2'")?;
-    /// let resolver = Resolver::from_value(alloc, &value)?; // `V2`
-    /// ```
-    pub fn from_value(alloc: Global, value: &Value) -> Result<Resolver, Error>
-        ensures ok { IfOk result (Reads resolver resolver_content (view value.now)) }
-        ensures refused { IfErr result (RefusedIn (resolver.faulty (view value.now))) }
-        ensures schema { IfErr result TellsSchema }
-    {
-        <Resolver as Schema>::from_value(alloc, value).map_err(refusal)
-    }
 }
 
 impl Schema for Resolver {
@@ -160,13 +120,10 @@ impl Schema for Resolver {
 
     ghost kind = { resolver };
 
-    /// The one reading of the value, or a fault that it has. It never wants memory.
-    fn from_value(alloc: Global, value: &Value) -> Result<Resolver, ReadFault>
-        ensures ok { IfOk result (Reads resolver resolver_content (view value.now)) }
-        ensures fault { IfErr result (FaultIn (resolver.faulty (view value.now))) }
-        ensures schema { IfErr result IsSchema }
-    {
-        match value {
+    ghost takes_no_memory = { Unit {0} };
+
+    fn read(alloc: Global, source: Source<'_>) -> Result<Resolver, ReadFault> {
+        match source.value() {
             Value::String(s) => match s.as_str() {
                 "1" => Ok(Resolver::V1),
                 "2" => Ok(Resolver::V2),
@@ -179,6 +136,10 @@ impl Schema for Resolver {
 
     fn to_value(&self, alloc: Global) -> Result<Value, AllocError> {
         Value::string(alloc, self.as_str())
+    }
+
+    fn is_well_formed(&self) -> bool {
+        true
     }
 
     ghost lawful = { resolver_lawful };
@@ -222,24 +183,6 @@ impl LintLevel {
             LintLevel::Allow => "allow",
         }
     }
-
-    /// The one reading of the value: one of the texts.
-    ///
-    /// Refuses with `Error::Parse(ParseFault::Schema(..))` of a cause and the empty key path: `WrongKind` of a value
-    /// that is no text, and `NotAChoice` of another text. It never wants memory, so it never refuses with
-    /// [`Error::Memory`].
-    ///
-    /// ```ignore
-    /// let value = Value::from_str(alloc, "'deny'")?;
-    /// let level = LintLevel::from_value(alloc, &value)?; // `Deny`
-    /// ```
-    pub fn from_value(alloc: Global, value: &Value) -> Result<LintLevel, Error>
-        ensures ok { IfOk result (Reads level level_content (view value.now)) }
-        ensures refused { IfErr result (RefusedIn (level.faulty (view value.now))) }
-        ensures schema { IfErr result TellsSchema }
-    {
-        <LintLevel as Schema>::from_value(alloc, value).map_err(refusal)
-    }
 }
 
 impl Schema for LintLevel {
@@ -249,13 +192,10 @@ impl Schema for LintLevel {
 
     ghost kind = { level };
 
-    /// The one reading of the value, or a fault that it has. It never wants memory.
-    fn from_value(alloc: Global, value: &Value) -> Result<LintLevel, ReadFault>
-        ensures ok { IfOk result (Reads level level_content (view value.now)) }
-        ensures fault { IfErr result (FaultIn (level.faulty (view value.now))) }
-        ensures schema { IfErr result IsSchema }
-    {
-        match value {
+    ghost takes_no_memory = { Unit {0} };
+
+    fn read(alloc: Global, source: Source<'_>) -> Result<LintLevel, ReadFault> {
+        match source.value() {
             Value::String(s) => match s.as_str() {
                 "forbid" => Ok(LintLevel::Forbid),
                 "deny" => Ok(LintLevel::Deny),
@@ -269,6 +209,10 @@ impl Schema for LintLevel {
 
     fn to_value(&self, alloc: Global) -> Result<Value, AllocError> {
         Value::string(alloc, self.as_str())
+    }
+
+    fn is_well_formed(&self) -> bool {
+        true
     }
 
     ghost lawful = { level_lawful };
@@ -308,24 +252,6 @@ impl MaintenanceStatus {
             MaintenanceStatus::Deprecated => "deprecated",
         }
     }
-
-    /// The one reading of the value: one of the texts.
-    ///
-    /// Refuses with `Error::Parse(ParseFault::Schema(..))` of a cause and the empty key path: `WrongKind` of a value
-    /// that is no text, and `NotAChoice` of another text. It never wants memory, so it never refuses with
-    /// [`Error::Memory`].
-    ///
-    /// ```ignore
-    /// let value = Value::from_str(alloc, "'as-is'")?;
-    /// let status = MaintenanceStatus::from_value(alloc, &value)?; // `AsIs`
-    /// ```
-    pub fn from_value(alloc: Global, value: &Value) -> Result<MaintenanceStatus, Error>
-        ensures ok { IfOk result (Reads status status_content (view value.now)) }
-        ensures refused { IfErr result (RefusedIn (status.faulty (view value.now))) }
-        ensures schema { IfErr result TellsSchema }
-    {
-        <MaintenanceStatus as Schema>::from_value(alloc, value).map_err(refusal)
-    }
 }
 
 /// The status that a text stands for.
@@ -351,13 +277,10 @@ impl Schema for MaintenanceStatus {
 
     ghost kind = { status };
 
-    /// The one reading of the value, or a fault that it has. It never wants memory.
-    fn from_value(alloc: Global, value: &Value) -> Result<MaintenanceStatus, ReadFault>
-        ensures ok { IfOk result (Reads status status_content (view value.now)) }
-        ensures fault { IfErr result (FaultIn (status.faulty (view value.now))) }
-        ensures schema { IfErr result IsSchema }
-    {
-        match value {
+    ghost takes_no_memory = { Unit {0} };
+
+    fn read(alloc: Global, source: Source<'_>) -> Result<MaintenanceStatus, ReadFault> {
+        match source.value() {
             Value::String(s) => match status_of(s.as_str()) {
                 Some(status) => Ok(status),
                 None => Err(here(alloc, Cause::NotAChoice)),
@@ -368,6 +291,10 @@ impl Schema for MaintenanceStatus {
 
     fn to_value(&self, alloc: Global) -> Result<Value, AllocError> {
         Value::string(alloc, self.as_str())
+    }
+
+    fn is_well_formed(&self) -> bool {
+        true
     }
 
     ghost lawful = { status_lawful };

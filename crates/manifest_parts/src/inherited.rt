@@ -1,17 +1,14 @@
 //! What may be inherited from the workspace.
 
-ghost use Rattle.std.specs.Prelude.{◌≡◌, IfOk, IfErr, true};
+ghost use Rattle.std.specs.Prelude.{◌≡◌, true};
 ghost use Rattle.toml.specs.View.{view};
 ghost use Rattle.toml.specs.Data.{Data};
 ghost use Rattle.manifest_schema.specs.Paths.{Path, Cause as FaultCause};
 ghost use Rattle.manifest_schema.specs.Kinds.{Inheritable, inh, inherits, truth};
 ghost use Rattle.manifest_schema.proofs.KindLaws.{inh_lawful, truth_lawful};
 ghost use Rattle.manifest_parts.specs.Parts.{inh_content};
-ghost use Rattle.manifest_value.specs.Faults.{FaultIn, IsSchema};
-ghost use Rattle.manifest_value.specs.Reading.{data_of, Reads};
-ghost use Rattle.manifest_parts.specs.Refusals.{RefusedIn, TellsSchema};
+ghost use Rattle.manifest_value.specs.Reading.{data_of};
 
-use crate::error::{Error, read, refusal};
 use manifest_value::fault::here;
 use manifest_value::readers::find;
 use manifest_value::rows::put_row;
@@ -23,25 +20,6 @@ use toml::{Table, Value};
 #[derive(Clone, Debug, PartialEq, Eq, Drop)]
 pub struct True;
 
-impl True {
-    /// The one reading of the value: the boolean true.
-    ///
-    /// Refuses with `Error::Parse(ParseFault::Schema(..))` of a cause and the empty key path: `NotTrue` of false, and
-    /// `WrongKind` of any other value. It never wants memory, so it never refuses with [`Error::Memory`].
-    ///
-    /// ```ignore
-    /// let value = Value::from_str(alloc, "true")?;
-    /// let word = True::from_value(alloc, &value)?;
-    /// ```
-    pub fn from_value(alloc: Global, value: &Value) -> Result<True, Error>
-        ensures ok { IfOk result (λ x. truth.reads (view value.now) tt) }
-        ensures refused { IfErr result (RefusedIn (truth.faulty (view value.now))) }
-        ensures schema { IfErr result TellsSchema }
-    {
-        <True as Schema>::from_value(alloc, value).map_err(refusal)
-    }
-}
-
 impl Schema for True {
     ghost Content = { Unit {0} };
 
@@ -49,26 +27,22 @@ impl Schema for True {
 
     ghost kind = { truth };
 
-    /// The one reading of the value, or a fault that it has. It never wants memory.
-    fn from_value(alloc: Global, value: &Value) -> Result<True, ReadFault>
-        ensures ok { IfOk result (λ x. truth.reads (view value.now) tt) }
-        ensures fault { IfErr result (FaultIn (truth.faulty (view value.now))) }
-        ensures schema { IfErr result IsSchema }
-    {
-        match value {
-            Value::Boolean(b) => {
-                if *b {
-                    Ok(True)
-                } else {
-                    Err(here(alloc, Cause::NotTrue))
-                }
-            }
+    ghost takes_no_memory = { Unit {0} };
+
+    fn read(alloc: Global, source: Source<'_>) -> Result<True, ReadFault> {
+        match source.value() {
+            Value::Boolean(true) => Ok(True),
+            Value::Boolean(false) => Err(here(alloc, Cause::NotTrue)),
             _ => Err(here(alloc, Cause::WrongKind)),
         }
     }
 
     fn to_value(&self, _alloc: Global) -> Result<Value, AllocError> {
         Ok(Value::Boolean(true))
+    }
+
+    fn is_well_formed(&self) -> bool {
+        true
     }
 
     ghost lawful = { truth_lawful };
@@ -88,25 +62,6 @@ pub enum MaybeInherited<T> {
     Inherited { workspace: True },
     /// The package's own value.
     Local(T),
-}
-
-impl<T: Plain> MaybeInherited<T> {
-    /// The one reading of the value: `Inherited` of a table whose `workspace` is the boolean true, else `Local` of the
-    /// type's own reading.
-    ///
-    /// Refuses with `Error::Parse(ParseFault::Schema(..))` of a cause and its key path in the value: `WrongKind` at the
-    /// empty path of any other table, and else the type's own fault. Want of memory is [`Error::Memory`].
-    ///
-    /// ```ignore
-    /// let value = Value::from_str(alloc, "{ workspace = true }")?;
-    /// let edition = MaybeInherited::<Edition>::from_value(alloc, &value)?; // `Inherited`
-    /// ```
-    pub fn from_value(alloc: Global, value: &Value) -> Result<MaybeInherited<T>, Error>
-        ensures ok { IfOk result (Reads (inh T.kind) (inh_content T.content) (view value.now)) }
-        ensures refused { IfErr result (RefusedIn ((inh T.kind).faulty (view value.now))) }
-    {
-        read(alloc, value)
-    }
 }
 
 /// Whether the value is a table whose `workspace` is the boolean true.
@@ -145,17 +100,13 @@ impl<T: Plain> Schema for MaybeInherited<T> {
 
     ghost kind = { inh T.kind };
 
-    fn from_value(alloc: Global, value: &Value) -> Result<MaybeInherited<T>, ReadFault> {
-        <MaybeInherited<T> as Schema>::from_source(alloc, Source::Lent(value))
-    }
-
-    fn from_source(alloc: Global, source: Source<'_>) -> Result<MaybeInherited<T>, ReadFault> {
+    fn read(alloc: Global, source: Source<'_>) -> Result<MaybeInherited<T>, ReadFault> {
         if says_workspace(source.value()) {
             return Ok(MaybeInherited::Inherited { workspace: True });
         }
         match source.value() {
             Value::Table(_) => Err(here(alloc, Cause::WrongKind)),
-            _ => Ok(MaybeInherited::Local(T::from_source(alloc, source)?)),
+            _ => Ok(MaybeInherited::Local(T::read(alloc, source)?)),
         }
     }
 
@@ -168,6 +119,13 @@ impl<T: Plain> Schema for MaybeInherited<T> {
                 Ok(Value::Table(out))
             }
             MaybeInherited::Local(x) => x.to_value(alloc),
+        }
+    }
+
+    fn is_well_formed(&self) -> bool {
+        match self {
+            MaybeInherited::Inherited { .. } => true,
+            MaybeInherited::Local(x) => x.is_well_formed(),
         }
     }
 

@@ -1,12 +1,11 @@
 //! The small types of a manifest, each with its kind: editions and other choices, dependencies, products, platforms,
-//! profiles, badges and lints; and the error of every call.
+//! profiles, badges and lints.
 #![tactic(auto)]
 
 pub mod badges;
 pub mod choices;
 pub mod copies;
 pub mod dependency;
-pub mod error;
 pub mod inherited;
 pub mod laws;
 pub mod lints;
@@ -20,7 +19,6 @@ pub mod target;
 pub use badges::{Badge, Badges, Maintenance};
 pub use choices::{Edition, LintLevel, MaintenanceStatus, Resolver};
 pub use dependency::{Dependency, DependencyDetail, InheritedDependencyDetail};
-pub use error::{Error, ParseFault};
 pub use inherited::{MaybeInherited, True};
 pub use lints::{Lint, LintConfig, MaybeInheritedLintsSet};
 pub use product::Product;

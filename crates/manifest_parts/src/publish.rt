@@ -1,17 +1,12 @@
 //! A text or a boolean, and where a package may be published.
 
-ghost use Rattle.std.specs.Prelude.{◌≡◌, true, IfOk, IfErr};
-ghost use Rattle.toml.specs.View.{view};
+ghost use Rattle.std.specs.Prelude.{◌≡◌, true};
 ghost use Rattle.manifest_schema.specs.Contents;
 ghost use Rattle.manifest_schema.specs.PartForms.{text_or_flag, publish};
 ghost use Rattle.manifest_schema.proofs.RowLaws.{text_or_flag_lawful, text_or_flag_plain, publish_lawful, publish_plain};
-ghost use Rattle.manifest_value.specs.Reading.{Reads};
 ghost use Rattle.manifest_parts.specs.Parts.{text_or_flag_content, publish_content};
-ghost use Rattle.manifest_parts.specs.Refusals.{RefusedIn};
 
-use crate::error::{Error, read};
-use manifest_value::fault::here;
-use manifest_value::{Cause, Plain, ReadFault, Schema, Source};
+use manifest_value::{Plain, ReadFault, Schema, Source};
 use std::alloc::{AllocError, Global};
 use toml::Value;
 
@@ -24,24 +19,6 @@ pub enum StringOrBool {
     Bool(bool),
 }
 
-impl StringOrBool {
-    /// The one reading of the value: a text or a boolean.
-    ///
-    /// Refuses any other value with `Error::Parse(ParseFault::Schema(..))` of the cause `WrongKind` and the empty key
-    /// path. Want of memory is [`Error::Memory`].
-    ///
-    /// ```ignore
-    /// let value = Value::from_str(alloc, "'build.rs'")?;
-    /// let build = StringOrBool::from_value(alloc, &value)?; // `String` of this text
-    /// ```
-    pub fn from_value(alloc: Global, value: &Value) -> Result<StringOrBool, Error>
-        ensures ok { IfOk result (Reads text_or_flag text_or_flag_content (view value.now)) }
-        ensures refused { IfErr result (RefusedIn (text_or_flag.faulty (view value.now))) }
-    {
-        read(alloc, value)
-    }
-}
-
 impl Schema for StringOrBool {
     ghost Content = { Contents.TextOrFlag };
 
@@ -49,18 +26,10 @@ impl Schema for StringOrBool {
 
     ghost kind = { text_or_flag };
 
-    fn from_value(alloc: Global, value: &Value) -> Result<StringOrBool, ReadFault> {
-        match value {
+    fn read(alloc: Global, source: Source<'_>) -> Result<StringOrBool, ReadFault> {
+        match source.value() {
             Value::Boolean(b) => Ok(StringOrBool::Bool(*b)),
-            Value::String(s) => Ok(StringOrBool::String(String::from_str(alloc, s.as_str())?)),
-            _ => Err(here(alloc, Cause::WrongKind)),
-        }
-    }
-
-    fn from_source(alloc: Global, source: Source<'_>) -> Result<StringOrBool, ReadFault> {
-        match source {
-            Source::Taken(Value::String(s)) => Ok(StringOrBool::String(s)),
-            other => <StringOrBool as Schema>::from_value(alloc, other.value()),
+            _ => Ok(StringOrBool::String(String::read(alloc, source)?)),
         }
     }
 
@@ -69,6 +38,10 @@ impl Schema for StringOrBool {
             StringOrBool::Bool(b) => Ok(Value::Boolean(*b)),
             StringOrBool::String(s) => Value::string(alloc, s.as_str()),
         }
+    }
+
+    fn is_well_formed(&self) -> bool {
+        true
     }
 
     ghost lawful = { text_or_flag_lawful };
@@ -88,24 +61,6 @@ pub enum Publish {
     Registry(Vec<String>),
 }
 
-impl Publish {
-    /// The one reading of the value: a boolean, or a list of texts.
-    ///
-    /// Refuses any other value with `Error::Parse(ParseFault::Schema(..))` of the cause `WrongKind` and its key path:
-    /// that of an item which is no text, and else the empty one. Want of memory is [`Error::Memory`].
-    ///
-    /// ```ignore
-    /// let value = Value::from_str(alloc, "['crates-io']")?;
-    /// let publish = Publish::from_value(alloc, &value)?; // `Registry` of one name
-    /// ```
-    pub fn from_value(alloc: Global, value: &Value) -> Result<Publish, Error>
-        ensures ok { IfOk result (Reads publish publish_content (view value.now)) }
-        ensures refused { IfErr result (RefusedIn (publish.faulty (view value.now))) }
-    {
-        read(alloc, value)
-    }
-}
-
 impl Schema for Publish {
     ghost Content = { Contents.Publish };
 
@@ -113,10 +68,10 @@ impl Schema for Publish {
 
     ghost kind = { publish };
 
-    fn from_value(alloc: Global, value: &Value) -> Result<Publish, ReadFault> {
-        match value {
+    fn read(alloc: Global, source: Source<'_>) -> Result<Publish, ReadFault> {
+        match source.value() {
             Value::Boolean(b) => Ok(Publish::Flag(*b)),
-            _ => Ok(Publish::Registry(Schema::from_value(alloc, value)?)),
+            _ => Ok(Publish::Registry(Schema::read(alloc, source)?)),
         }
     }
 
@@ -124,6 +79,13 @@ impl Schema for Publish {
         match self {
             Publish::Flag(b) => Ok(Value::Boolean(*b)),
             Publish::Registry(registries) => registries.to_value(alloc),
+        }
+    }
+
+    fn is_well_formed(&self) -> bool {
+        match self {
+            Publish::Flag(_) => true,
+            Publish::Registry(registries) => registries.is_well_formed(),
         }
     }
 

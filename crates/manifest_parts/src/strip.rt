@@ -7,13 +7,11 @@ ghost use Rattle.manifest_schema.specs.Contents;
 ghost use Rattle.manifest_schema.specs.Choices.{strip, strip_meaning};
 ghost use Rattle.manifest_schema.proofs.ChoiceLaws.{strip_lawful};
 ghost use Rattle.manifest_parts.specs.Parts.{strip_content};
-ghost use Rattle.manifest_value.specs.Faults.{FaultIn, IsSchema};
 ghost use Rattle.manifest_value.specs.Reading.{Reads};
-ghost use Rattle.manifest_parts.specs.Refusals.{RefusedIn, TellsSchema, RefusesStrip};
+ghost use Rattle.manifest_parts.specs.Refusals.{RefusesStrip};
 
-use crate::error::{Error, refusal};
 use manifest_value::fault::here;
-use manifest_value::{Cause, ReadFault, Schema};
+use manifest_value::{Cause, Error, ReadFault, Schema, Source};
 use std::alloc::{AllocError, Global};
 use toml::Value;
 
@@ -30,23 +28,6 @@ pub enum StripSetting {
 }
 
 impl StripSetting {
-    /// The one reading of the value: a boolean, or one of the texts.
-    ///
-    /// Refuses with `Error::Parse(ParseFault::Schema(..))` of a cause and the empty key path: `NotAChoice` of another
-    /// text, and `WrongKind` of another kind. It never wants memory, so it never refuses with [`Error::Memory`].
-    ///
-    /// ```ignore
-    /// let value = Value::from_str(alloc, "'debuginfo'")?;
-    /// let strip = StripSetting::from_value(alloc, &value)?; // `Debuginfo`
-    /// ```
-    pub fn from_value(alloc: Global, value: &Value) -> Result<StripSetting, Error>
-        ensures ok { IfOk result (Reads strip strip_content (view value.now)) }
-        ensures refused { IfErr result (RefusedIn (strip.faulty (view value.now))) }
-        ensures schema { IfErr result TellsSchema }
-    {
-        <StripSetting as Schema>::from_value(alloc, value).map_err(refusal)
-    }
-
     /// The same reading, with the refusal told as a text: `'X' is not a valid value for 'strip'` of another text X, and
     /// `wrong data type for strip setting` of another kind.
     ///
@@ -92,20 +73,12 @@ impl Schema for StripSetting {
 
     ghost kind = { strip };
 
-    /// The one reading of the value, or a fault that it has. It never wants memory.
-    fn from_value(alloc: Global, value: &Value) -> Result<StripSetting, ReadFault>
-        ensures ok { IfOk result (Reads strip strip_content (view value.now)) }
-        ensures fault { IfErr result (FaultIn (strip.faulty (view value.now))) }
-        ensures schema { IfErr result IsSchema }
-    {
-        match value {
-            Value::Boolean(b) => {
-                if *b {
-                    Ok(StripSetting::Symbols)
-                } else {
-                    Ok(StripSetting::None)
-                }
-            }
+    ghost takes_no_memory = { Unit {0} };
+
+    fn read(alloc: Global, source: Source<'_>) -> Result<StripSetting, ReadFault> {
+        match source.value() {
+            Value::Boolean(true) => Ok(StripSetting::Symbols),
+            Value::Boolean(false) => Ok(StripSetting::None),
             Value::String(s) => match s.as_str() {
                 "none" => Ok(StripSetting::None),
                 "symbols" => Ok(StripSetting::Symbols),
@@ -122,6 +95,10 @@ impl Schema for StripSetting {
             StripSetting::Debuginfo => Value::string(alloc, "debuginfo"),
             StripSetting::Symbols => Ok(Value::Boolean(true)),
         }
+    }
+
+    fn is_well_formed(&self) -> bool {
+        true
     }
 
     ghost lawful = { strip_lawful };

@@ -138,18 +138,13 @@ pub fn assert_documents(
     Ok(())
 }
 
-/// A type that is read from a value by a call of its own.
-pub trait FromValue: Sized + Drop {
-    fn read(alloc: Global, value: &Value) -> Result<Self, Error>;
-}
-
 /// What is written of the value of a text, read as a `T`, or how it is told to be refused.
-fn value_answer<T: FromValue + Schema>(alloc: Global, text: &str) -> Result<String, Fail> {
-    answer_of(alloc, T::read(alloc, &value(alloc, text)?))
+fn value_answer<T: Schema>(alloc: Global, text: &str) -> Result<String, Fail> {
+    answer_of(alloc, T::from_value(alloc, &value(alloc, text)?))
 }
 
 /// Asserts of each row how its text is answered as a `T`.
-pub fn assert_values<T: FromValue + Schema>(
+pub fn assert_values<T: Schema>(
     rt: &impl Abort,
     alloc: Global,
     rows: &[Row],
@@ -162,7 +157,7 @@ pub fn assert_values<T: FromValue + Schema>(
 }
 
 /// Asserts that the first of two keys is told, where a number stands under both and fits neither, behind these entries.
-fn assert_told_first<T: FromValue + Schema>(
+fn assert_told_first<T: Schema>(
     rt: &impl Abort,
     alloc: Global,
     entries: &str,
@@ -180,7 +175,7 @@ fn assert_told_first<T: FromValue + Schema>(
 }
 
 /// The same of each two neighbouring keys.
-pub fn assert_told_in_order<T: FromValue + Schema>(
+pub fn assert_told_in_order<T: Schema>(
     rt: &impl Abort,
     alloc: Global,
     entries: &str,

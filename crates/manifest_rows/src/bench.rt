@@ -2,7 +2,7 @@
 //! together, the row without its key where it is needed, all rows filled, and keys that no row has; and one table in which
 //! all rows of all forms are filled. The answers come from the tables of docs/KEYS.md.
 
-use crate::answers::{FromValue, answer_of, assert_is, document_answer, laid_out, shown};
+use crate::answers::{answer_of, assert_is, document_answer, laid_out, shown};
 use crate::bench_keys;
 use crate::bench_kinds::{Answer, VALUES, cases_of, fitting};
 use cargo_manifest::{
@@ -185,7 +185,7 @@ fn others(
 type Refusal<'a> = (&'a str, &'a str, &'a str);
 
 /// What a form's entries are answered with: by the call of the type, or at a place of a document.
-fn answer<T: FromValue + Schema>(
+fn answer<T: Schema>(
     alloc: Global,
     place: Option<&Place>,
     entries: &str,
@@ -197,7 +197,7 @@ fn answer<T: FromValue + Schema>(
         }
         None => {
             let table = Value::Table(toml::table_from_str(alloc, entries)?);
-            answer_of(alloc, T::read(alloc, &table))
+            answer_of(alloc, T::from_value(alloc, &table))
         }
     }
 }
@@ -249,7 +249,7 @@ impl Form<'_> {
     }
 
     /// Asserts what entries are answered with: what is due where these are written, or this is refused.
-    fn assert_answer<T: FromValue + Schema>(
+    fn assert_answer<T: Schema>(
         &self,
         rt: &impl Abort,
         alloc: Global,
@@ -267,7 +267,7 @@ impl Form<'_> {
     }
 
     /// A value under one spelling of a row.
-    fn assert_value<T: FromValue + Schema>(
+    fn assert_value<T: Schema>(
         &self,
         rt: &impl Abort,
         alloc: Global,
@@ -298,7 +298,7 @@ impl Form<'_> {
     }
 
     /// The row with both spellings, or without its key where it is needed.
-    fn assert_faults<T: FromValue + Schema>(
+    fn assert_faults<T: Schema>(
         &self,
         rt: &impl Abort,
         alloc: Global,
@@ -318,7 +318,7 @@ impl Form<'_> {
     }
 
     /// Every trial of a row.
-    fn assert_row<T: FromValue + Schema>(
+    fn assert_row<T: Schema>(
         &self,
         rt: &impl Abort,
         alloc: Global,
@@ -334,7 +334,7 @@ impl Form<'_> {
     }
 
     /// All rows, each with a value that is written.
-    fn assert_filled<T: FromValue + Schema>(
+    fn assert_filled<T: Schema>(
         &self,
         rt: &impl Abort,
         alloc: Global,
@@ -356,7 +356,7 @@ impl Form<'_> {
     }
 
     /// Keys that no row has, with a value of each kind: they are ignored.
-    fn assert_ignored<T: FromValue + Schema>(
+    fn assert_ignored<T: Schema>(
         &self,
         rt: &impl Abort,
         alloc: Global,
@@ -371,7 +371,7 @@ impl Form<'_> {
         Ok(())
     }
 
-    fn assert_all<T: FromValue + Schema>(
+    fn assert_all<T: Schema>(
         &self,
         rt: &impl Abort,
         alloc: Global,
@@ -393,7 +393,7 @@ impl Form<'_> {
 }
 
 /// Every trial of a form by the call of its type, and at each of these places.
-fn assert_form<T: FromValue + Schema>(
+fn assert_form<T: Schema>(
     rt: &impl Abort,
     alloc: Global,
     rows: &[&'static str],

@@ -5,7 +5,7 @@ use cargo_manifest::{
     Cause, Edition, MaybeInherited, Product, ReadFault, Schema, Step, StringOrBool,
 };
 use manifest_completion::{CompletedTargets, DeclaredTargets, complete};
-use manifest_parts::error::refusal;
+use manifest_value::error::refusal;
 use manifest_value::fault::{here, prefixed, under_key};
 use manifest_value::maps::{entries_table, map_of_list};
 use manifest_value::metadata::put_tree;

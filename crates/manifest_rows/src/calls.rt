@@ -1,7 +1,7 @@
 //! Each reader and writer of values, by its name.
 use crate::answers::{answer_of, assert_is, expected_of, told, value};
 use cargo_manifest::{ReadFault, Schema};
-use manifest_parts::error::refusal;
+use manifest_value::error::refusal;
 use manifest_value::{
     boolean, field, list_of, map_of, table, text, texts, whole, write_list, write_map, write_text,
     write_texts,

@@ -1,5 +1,4 @@
 //! Which values are equal, hash alike and stand before which.
-use crate::answers::FromValue;
 use crate::queries::read_as;
 use cargo_manifest::{
     Badge, Badges, Dependency, DependencyDetail, Edition, InheritedDependencyDetail, LintLevel,
@@ -83,7 +82,7 @@ fn order_of_strip_settings(rt: HostRuntime) -> Result<(), Fail> {
 }
 
 /// Asserts that of the values of these texts, read as a `T`, two are equal only where they are of one text.
-fn assert_apart<T: FromValue + Schema + PartialEq>(
+fn assert_apart<T: Schema + PartialEq>(
     rt: &impl Abort,
     alloc: Global,
     texts: &[&str],

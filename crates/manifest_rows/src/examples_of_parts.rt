@@ -5,7 +5,7 @@ use cargo_manifest::{
     LintConfig, LintLevel, Maintenance, MaintenanceStatus, MaybeInherited, MaybeInheritedLintsSet,
     Product, Profile, Publish, Resolver, StringOrBool, StripSetting, Target, True,
 };
-use manifest_parts::error::{read, refusal};
+use manifest_value::error::refusal;
 use manifest_parts::inherited::{has_workspace, says_workspace};
 use manifest_value::text;
 use std::alloc::Global;
@@ -129,7 +129,7 @@ fn dependencies_are_read(rt: HostRuntime) -> Result<(), Fail> {
 
 fn edition_by_its_kind(alloc: Global) -> Result<Edition, Fail> {
     let value = Value::from_str(alloc, "'2021'")?;
-    let edition: Edition = read(alloc, &value)?;
+    let edition: Edition = Schema::from_value(alloc, &value)?;
     Ok(edition)
 }
 

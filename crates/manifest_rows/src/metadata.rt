@@ -1,7 +1,7 @@
 //! Manifests whose package has metadata of a type.
 use crate::answers::{PACKAGE, Row, assert_is, assert_written, expected_behind, written};
 use crate::score::{Level, Score};
-use cargo_manifest::{Manifest, Metadata, Unread};
+use cargo_manifest::{Manifest, Metadata, Schema, Unread};
 use std::alloc::Global;
 use std::process::Abort;
 use std::test::Fail;

@@ -1,5 +1,5 @@
 //! What is asked of dependencies, lints, packages and of what the workspace may lend.
-use crate::answers::{FromValue, answer_of, assert_is, expected_of, told, value};
+use crate::answers::{answer_of, assert_is, expected_of, told, value};
 use cargo_manifest::{
     Dependency, Edition, Lint, LintLevel, MaybeInherited, MaybeInheritedLintsSet, Package, Publish,
     True,
@@ -10,8 +10,8 @@ use std::test::Fail;
 use toml::Value;
 
 /// The value of a text, read as a `T`.
-pub fn read_as<T: FromValue + Schema>(alloc: Global, text: &str) -> Result<T, Fail> {
-    match T::read(alloc, &value(alloc, text)?) {
+pub fn read_as<T: Schema>(alloc: Global, text: &str) -> Result<T, Fail> {
+    match T::from_value(alloc, &value(alloc, text)?) {
         Ok(x) => Ok(x),
         Err(error) => Err(Fail::from(told(alloc, &error)?.as_str())),
     }

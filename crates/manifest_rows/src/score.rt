@@ -9,7 +9,7 @@ use manifest_value::fault::here;
 use manifest_value::form::{RowPut, RowRead, Rowed, Word};
 use manifest_value::row_slots::RowSlot;
 use manifest_value::{
-    Cause, Form, Metadata, ReadFault, Schema, Spellings, names_of_rows, put_row_of, read_row_of,
+    Cause, Form, Metadata, ReadFault, Schema, Source, Spellings, good_row_of, names_of_rows, put_row_of, read_row_of,
 };
 use std::alloc::{AllocError, Global};
 use toml::{Table, Value};
@@ -27,8 +27,8 @@ impl Schema for Level {
 
     ghost kind = { whole (pos 0) (pos 9) };
 
-    fn from_value(alloc: Global, value: &Value) -> Result<Level, ReadFault> {
-        match value {
+    fn read(alloc: Global, source: Source<'_>) -> Result<Level, ReadFault> {
+        match source.value() {
             Value::Integer(n) => {
                 let n = *n;
                 if 0 <= n && n <= 9 {
@@ -43,6 +43,10 @@ impl Schema for Level {
 
     fn to_value(&self, _alloc: Global) -> Result<Value, AllocError> {
         Ok(Value::Integer(i64::from(self.number)))
+    }
+
+    fn is_well_formed(&self) -> bool {
+        self.number <= 9
     }
 
     ghost lawful = { whole_lawful (pos 0) (pos 9) };
@@ -90,6 +94,10 @@ impl Rowed for Score {
     fn put_row(&self, alloc: Global, i: usize, key: Word, out: &mut Table) -> RowPut {
         score!(put_row_of(self, alloc, i, key, out))
     }
+
+    fn row_is_well_formed(&self, i: usize) -> bool {
+        score!(good_row_of(self, i))
+    }
 }
 
 #[tactic(auto, unfolding(crate::specs::Scores::score_rows))]
@@ -100,11 +108,6 @@ impl Form for Score {
 }
 
 impl Metadata for Score {
-    #[tactic(auto, unfolding(crate::specs::Scores::score_rows))]
-    fn is_well_formed(&self) -> bool {
-        self.level.number <= 9
-    }
-
     ghost without_floats = { score_plain };
 
     ghost good_by_tree = { score_by_tree };

@@ -1,58 +1,12 @@
 //! Values of plain types and of std's, read by the trait and written.
-use crate::answers::{FromValue, Row, assert_values, value};
+use crate::answers::{Row, answer_of, assert_is, assert_values, expected_of, value};
 use cargo_manifest::Error;
-use manifest_parts::error::{read, refusal};
+use manifest_value::error::refusal;
 use manifest_value::{holds_float, kept};
 use std::alloc::Global;
 use std::collections::BTreeMap;
 use std::test::Fail;
 use toml::Value;
-
-impl FromValue for String {
-    fn read(alloc: Global, value: &Value) -> Result<String, Error> {
-        read(alloc, value)
-    }
-}
-
-impl FromValue for bool {
-    fn read(alloc: Global, value: &Value) -> Result<bool, Error> {
-        read(alloc, value)
-    }
-}
-
-impl FromValue for u16 {
-    fn read(alloc: Global, value: &Value) -> Result<u16, Error> {
-        read(alloc, value)
-    }
-}
-
-impl FromValue for i8 {
-    fn read(alloc: Global, value: &Value) -> Result<i8, Error> {
-        read(alloc, value)
-    }
-}
-
-impl FromValue for Vec<String> {
-    fn read(alloc: Global, value: &Value) -> Result<Vec<String>, Error> {
-        read(alloc, value)
-    }
-}
-
-impl FromValue for BTreeMap<String, Vec<String>> {
-    fn read(alloc: Global, value: &Value) -> Result<BTreeMap<String, Vec<String>>, Error> {
-        read(alloc, value)
-    }
-}
-
-/// A kept value, by the call of its own.
-impl FromValue for Value {
-    fn read(alloc: Global, value: &Value) -> Result<Value, Error> {
-        match kept(alloc, value) {
-            Ok(copy) => Ok(copy),
-            Err(fault) => Err(refusal(fault)),
-        }
-    }
-}
 
 const WRONG_KIND: &str = "wrong kind at (top)";
 
@@ -113,6 +67,9 @@ fn kept_values(rt: HostRuntime) -> Result<(), Fail> {
     for (text, answer) in KEPT {
         let value = value(rt.alloc(), text)?;
         assert_eq!(rt; holds_float(&value), answer.is_err(), "at {text}");
+        let expected = expected_of(rt.alloc(), *answer)?;
+        let copy = kept(rt.alloc(), &value).map_err(refusal);
+        assert_is(&rt, answer_of(rt.alloc(), copy), expected.as_str(), text)?;
     }
     Ok(())
 }

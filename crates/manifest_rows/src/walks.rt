@@ -1,6 +1,6 @@
 //! A walk over a table, and the readers of its rows, by their names.
 use crate::answers::{assert_is, told};
-use manifest_parts::error::refusal;
+use manifest_value::error::refusal;
 use manifest_value::entries::map_of_entries;
 use manifest_value::row_readers::{
     read_default, read_lenient, read_lenient_default, read_optional, read_required, read_tree,
@@ -90,8 +90,8 @@ fn sources_that_are_taken_or_lent(rt: HostRuntime) -> Result<(), Fail> {
     let value = Value::string(alloc, "serde")?;
     assert!(rt; matches!(Source::Lent(&value).value(), Value::String(_)));
     for name in [
-        String::from_source(alloc, Source::Lent(&value)),
-        String::from_source(alloc, Source::Taken(value.clone()?)),
+        String::read(alloc, Source::Lent(&value)),
+        String::read(alloc, Source::Taken(value.clone()?)),
     ] {
         match name {
             Ok(name) => assert_eq!(rt; name.as_str(), "serde"),
@@ -100,7 +100,7 @@ fn sources_that_are_taken_or_lent(rt: HostRuntime) -> Result<(), Fail> {
     }
     assert!(rt;
         matches!(
-            bool::from_source(alloc, Source::Taken(Value::Boolean(true))),
+            bool::read(alloc, Source::Taken(Value::Boolean(true))),
             Ok(true)
         )
     );

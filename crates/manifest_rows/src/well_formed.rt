@@ -1,7 +1,6 @@
 //! What is well-formed, of values that no document gives.
 use crate::answers::value;
 use cargo_manifest::{MaybeInheritedLintsSet, Profiles, Schema};
-use manifest_parts::error::read;
 use std::alloc::Global;
 use std::collections::BTreeMap;
 use std::mem;
@@ -14,7 +13,7 @@ fn replace<T: Schema>(
     map: &mut BTreeMap<String, T>,
     text: &str,
 ) -> Result<(), Fail> {
-    let entries = read(alloc, &value(alloc, text)?)?;
+    let entries = Schema::from_value(alloc, &value(alloc, text)?)?;
     drop(mem::replace(map, entries));
     Ok(())
 }

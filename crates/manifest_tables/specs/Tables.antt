@@ -4,9 +4,7 @@ use Rattle.std.specs.declared.alloc.Global.{Global}
 use Rattle.std.specs.BTreeMap.{BTreeMap}
 use Rattle.toml.specs.Data.{Data}
 use Rattle.manifest_schema.specs.Kinds.{Kind, Entries, tree_of}
-use Rattle.manifest_schema.specs.Needs.{good_some}
 use Rattle.manifest_schema.specs.Forms.{form}
-use Rattle.manifest_schema.specs.PartForms.{profile_rows}
 use Rattle.manifest_schema.specs.ManifestForms.{package_rows, workspace_rows}
 use Rattle.manifest_schema.specs.Contents
 use Rattle.manifest_value.specs.Entries.{entries_content}
@@ -111,9 +109,3 @@ profiles_content p = record {
   doc = option_map profile_content p.doc;
   custom = entries_content profile_content p.custom.entries;
 }
-
--- each of the profiles that Cargo names is absent or well-formed
-abbrev pub NamedAreGood : Contents.Profiles → Type 0
-NamedAreGood p =
-    good_some (form profile_rows) p.release × good_some (form profile_rows) p.dev × good_some (form profile_rows) p.test
-    × good_some (form profile_rows) p.bench × good_some (form profile_rows) p.doc

@@ -1,9 +1,8 @@
 //! The package of a manifest.
 #![tactic(auto, unfolding(manifest_schema::specs::ManifestForms::package_rows))]
 
-ghost use Rattle.std.specs.Prelude.{◌≡◌, ◌↔◌, IsTrue, IfOk, IfErr, Some, string_bytes};
+ghost use Rattle.std.specs.Prelude.{◌≡◌, IfOk, IfErr, Some, string_bytes};
 ghost use Rattle.toml.specs.Data.{Data};
-ghost use Rattle.toml.specs.View.{view};
 ghost use Rattle.manifest_schema.specs.Kinds.{tree_of, local};
 ghost use Rattle.manifest_schema.specs.Defaults.{named};
 ghost use Rattle.manifest_schema.specs.Contents;
@@ -14,16 +13,13 @@ ghost use Rattle.manifest_value.specs.Faults.{FaultIn};
 ghost use Rattle.manifest_value.specs.Reading.{data_of, Reads};
 ghost use Rattle.manifest_parts.specs.Parts.{inh_content};
 ghost use Rattle.manifest_parts.specs.Queries.{version_of};
-ghost use Rattle.manifest_parts.specs.Refusals.{RefusedIn};
 ghost use Rattle.manifest_tables.specs.Tables.{package_content, package_of, package_form};
 
-use manifest_parts::error::{Error, read};
 use manifest_parts::{Edition, MaybeInherited, Publish, Resolver, StringOrBool};
 use manifest_value::form::{RowPut, RowRead, Rowed, Word, read_form};
 use manifest_value::row_slots::RowSlot;
-use manifest_value::well_formed::tree_is_well_formed;
 use manifest_value::{
-    Form, Metadata, ReadFault, Spellings, TableSource, names_of_rows, put_row_of, read_row_of,
+    Form, Metadata, ReadFault, Spellings, TableSource, good_row_of, names_of_rows, put_row_of, read_row_of,
 };
 use std::alloc::Global;
 use toml::{Table, Value};
@@ -89,38 +85,6 @@ pub struct Package<M = Value> {
     pub publish: Option<MaybeInherited<Publish>>,
     /// The resolver, of a root package alone; by default 1, in the edition 2021 it is 2, and in 2024 it is 3.
     pub resolver: Option<Resolver>,
-}
-
-impl<M: Metadata> Package<M> {
-    /// The one reading of the value by the form of a package.
-    ///
-    /// Refuses with `Error::Parse(ParseFault::Schema(..))` of a cause and its key path in the value: `WrongKind` at the
-    /// empty path of a value that is no table, and else the fault of a row. Want of memory is [`Error::Memory`].
-    ///
-    /// ```ignore
-    /// let value = Value::from_str(alloc, "{ name = 'a', version = '1.0.0', edition = '2021' }")?;
-    /// let package = Package::<Value>::from_value(alloc, &value)?;
-    /// ```
-    pub fn from_value(alloc: Global, value: &Value) -> Result<Package<M>, Error>
-        ensures ok { IfOk result
-            (Reads (package_form M.kind) (package_of M.kind M.content) (view value.now)) }
-        ensures refused { IfErr result (RefusedIn ((package_form M.kind).faulty (view value.now))) }
-    {
-        read(alloc, value)
-    }
-
-    /// Whether the package can be written and read back: its metadata is absent or well-formed. With a float in metadata of
-    /// the type `Value` it is not well-formed.
-    ///
-    /// ```ignore
-    /// let can_be_written = package.is_well_formed();
-    /// ```
-    pub fn is_well_formed(&self) -> bool
-        ensures { IsTrue result
-            ↔ (package_form M.kind).good (package_of M.kind M.content self.now) }
-    {
-        tree_is_well_formed(&self.metadata)
-    }
 }
 
 impl<M> Package<M> {
@@ -271,6 +235,10 @@ impl<M: Metadata> Rowed for Package<M> {
 
     fn put_row(&self, alloc: Global, i: usize, key: Word, out: &mut Table) -> RowPut {
         package!(put_row_of(self, alloc, i, key, out))
+    }
+
+    fn row_is_well_formed(&self, i: usize) -> bool {
+        package!(good_row_of(self, i))
     }
 }
 

@@ -1,30 +1,25 @@
 //! The profiles of a manifest.
 #![tactic(auto, unfolding(manifest_schema::specs::PartForms::profiles_rows), using(manifest_value::proofs::Behind::form_refuses))]
 
-ghost use Rattle.std.specs.Prelude.{◌≡◌, ◌↔◌, ◌∷◌, [], codes, IsTrue, option_map, IfOk, IfErr};
-ghost use Rattle.toml.specs.View.{view};
-ghost use Rattle.manifest_schema.specs.Forms.{form, none_named};
-ghost use Rattle.manifest_schema.specs.Kinds.{good_entries};
-ghost use Rattle.manifest_schema.specs.Needs.{good_some};
+ghost use Rattle.std.specs.Prelude.{◌≡◌, IfOk, IfErr};
+ghost use Rattle.manifest_schema.specs.Forms.{form};
 ghost use Rattle.manifest_schema.specs.Contents;
 ghost use Rattle.manifest_schema.specs.Defaults.{no_profiles};
-ghost use Rattle.manifest_schema.specs.PartForms.{profile_rows, profiles_rows};
+ghost use Rattle.manifest_schema.specs.PartForms.{profiles_rows};
 ghost use Rattle.manifest_schema.proofs.PartLaws.{profiles_lawful};
 ghost use Rattle.manifest_value.specs.Faults.{FaultIn};
-ghost use Rattle.manifest_value.specs.Entries.{entries_content};
 ghost use Rattle.manifest_value.specs.Reading.{data_of, Reads};
-ghost use Rattle.manifest_parts.specs.Records.{profile_content};
-ghost use Rattle.manifest_parts.specs.Refusals.{RefusedIn};
-ghost use Rattle.manifest_tables.specs.Tables.{profiles_content, NamedAreGood};
+ghost use Rattle.manifest_tables.specs.Tables.{profiles_content};
 
 use manifest_parts::Profile;
-use manifest_parts::error::{Error, read};
 use manifest_value::entries::map_of_entries;
-use manifest_value::form::{RowPut, RowRead, Rowed, Word, put_rows, read_open};
+use manifest_value::form::{
+    RowPut, RowRead, Rowed, Word, put_rows, read_open, rows_are_well_formed,
+};
 use manifest_value::maps::entries_table;
 use manifest_value::row_slots::RowSlot;
-use manifest_value::well_formed::none_is_named;
-use manifest_value::{ReadFault, Schema, Spellings, names_of_rows, put_row_of, read_row_of, table};
+use manifest_value::well_formed::{none_is_named, values_are_well_formed};
+use manifest_value::{ReadFault, Schema, Source, Spellings, good_row_of, names_of_rows, put_row_of, read_row_of, table};
 use std::alloc::{AllocError, Global};
 use std::collections::BTreeMap;
 use toml::{Table, Value};
@@ -65,81 +60,6 @@ impl Profiles {
             custom: BTreeMap::new(alloc),
         }
     }
-
-    /// The one reading of the value by the form of profiles: every key but the five is the name of a custom profile.
-    ///
-    /// Refuses with `Error::Parse(ParseFault::Schema(..))` of a cause and its key path in the value: `WrongKind` at the
-    /// empty path of a value that is no table, and else the fault of a profile. Want of memory is [`Error::Memory`].
-    ///
-    /// ```ignore
-    /// let value = Value::from_str(alloc, "{ release = {}, tiny = { inherits = 'release' } }")?;
-    /// let profiles = Profiles::from_value(alloc, &value)?; // `release`, and the custom profile `tiny`
-    /// ```
-    pub fn from_value(alloc: Global, value: &Value) -> Result<Profiles, Error>
-        ensures ok { IfOk result (Reads (form profiles_rows) profiles_content (view value.now)) }
-        ensures refused { IfErr result (RefusedIn ((form profiles_rows).faulty (view value.now))) }
-    {
-        read(alloc, value)
-    }
-
-    /// Whether the profiles can be written and read back: each is well-formed, and no custom one is named `release`, `dev`,
-    /// `test`, `bench` or `doc`. With a custom profile `dev` they are not well-formed.
-    ///
-    /// ```ignore
-    /// let can_be_written = profiles.is_well_formed();
-    /// ```
-    pub fn is_well_formed(&self) -> bool
-        ensures { IsTrue result ↔ (form profiles_rows).good (profiles_content self.now) }
-    {
-        named_are_well_formed(self) & customs_fit(&self.custom)
-    }
-}
-
-/// Whether the profile is absent or well-formed.
-fn profile_is_well_formed(profile: &Option<Profile>) -> bool
-    ensures { IsTrue result
-        ↔ good_some (form profile_rows) (option_map profile_content profile.now) }
-{
-    match profile {
-        Some(profile) => profile.is_well_formed(),
-        None => true,
-    }
-}
-
-/// Whether each of the profiles that Cargo names is absent or well-formed.
-fn named_are_well_formed(x: &Profiles) -> bool
-    ensures { IsTrue result ↔ NamedAreGood (profiles_content x.now) }
-{
-    profile_is_well_formed(&x.release)
-        && profile_is_well_formed(&x.dev)
-        && profile_is_well_formed(&x.test)
-        && profile_is_well_formed(&x.bench)
-        && profile_is_well_formed(&x.doc)
-}
-
-/// Whether each custom profile is well-formed, and none has the name of one that Cargo names.
-fn customs_fit(custom: &BTreeMap<String, Profile>) -> bool
-    ensures { let names = codes "release" ∷ codes "dev" ∷ codes "test" ∷ codes "bench"
-        ∷ codes "doc" ∷ [] in
-        let others = entries_content profile_content custom.now.entries in
-        IsTrue result
-        ↔ (IsTrue (none_named names others) × good_entries (form profile_rows) others) }
-{
-    none_is_named(custom, &["release", "dev", "test", "bench", "doc"])
-        && customs_are_well_formed(custom)
-}
-
-/// Whether each custom profile is well-formed.
-fn customs_are_well_formed(custom: &BTreeMap<String, Profile>) -> bool
-    ensures { IsTrue result
-        ↔ good_entries (form profile_rows) (entries_content profile_content custom.now.entries) }
-{
-    for (_name, profile) in custom.iter() {
-        if !profile.is_well_formed() {
-            return false;
-        }
-    }
-    true
 }
 
 /// The rows of profiles; every other key is the name of a custom profile.
@@ -179,6 +99,10 @@ impl Rowed for Profiles {
     fn put_row(&self, alloc: Global, i: usize, key: Word, out: &mut Table) -> RowPut {
         profiles!(put_row_of(self, alloc, i, key, out))
     }
+
+    fn row_is_well_formed(&self, i: usize) -> bool {
+        profiles!(good_row_of(self, i))
+    }
 }
 
 /// Reads the profiles of a table: those that Cargo names, and of all other keys the custom ones.
@@ -203,14 +127,20 @@ impl Schema for Profiles {
 
     ghost kind = { form profiles_rows };
 
-    fn from_value(alloc: Global, value: &Value) -> Result<Profiles, ReadFault> {
-        profiles_from(alloc, table(alloc, value)?)
+    fn read(alloc: Global, source: Source<'_>) -> Result<Profiles, ReadFault> {
+        profiles_from(alloc, table(alloc, source.value())?)
     }
 
     fn to_value(&self, alloc: Global) -> Result<Value, AllocError> {
         let mut out = entries_table(alloc, &self.custom)?;
         put_rows(self, alloc, &mut out)?;
         Ok(Value::Table(out))
+    }
+
+    fn is_well_formed(&self) -> bool {
+        rows_are_well_formed(self)
+            && none_is_named(&self.custom, PROFILES)
+            && values_are_well_formed(&self.custom)
     }
 
     ghost lawful = { profiles_lawful };

@@ -1,31 +1,21 @@
 //! The workspace of a manifest, and the package fields that members can inherit from it.
 #![tactic(auto, unfolding(manifest_schema::specs::ManifestForms::workspace_package_rows, manifest_schema::specs::ManifestForms::workspace_rows))]
 
-ghost use Rattle.std.specs.Prelude.{◌≡◌, ◌↔◌, IsTrue, option_map, IfOk, IfErr};
+ghost use Rattle.std.specs.Prelude.{◌≡◌};
 ghost use Rattle.toml.specs.Data.{Data};
-ghost use Rattle.toml.specs.View.{view};
 ghost use Rattle.manifest_schema.specs.Forms.{form};
-ghost use Rattle.manifest_schema.specs.Kinds.{map_of, tree_of};
-ghost use Rattle.manifest_schema.specs.Needs.{good_some};
+ghost use Rattle.manifest_schema.specs.Kinds.{tree_of};
 ghost use Rattle.manifest_schema.specs.Contents;
 ghost use Rattle.manifest_schema.specs.Defaults.{no_workspace_package, empty_workspace};
-ghost use Rattle.manifest_schema.specs.PartForms.{lint};
 ghost use Rattle.manifest_schema.specs.ManifestForms.{workspace_package_rows, workspace_rows};
 ghost use Rattle.manifest_schema.proofs.KindLaws.{tree_lawful};
 ghost use Rattle.manifest_schema.proofs.ManifestLaws.{workspace_package_lawful, workspace_lawful};
-ghost use Rattle.manifest_value.specs.Entries.{entries_content};
-ghost use Rattle.manifest_value.specs.Reading.{Reads};
-ghost use Rattle.manifest_parts.specs.Records.{lint_content};
-ghost use Rattle.manifest_parts.specs.Refusals.{RefusedIn};
-ghost use Rattle.manifest_tables.specs.Tables.{workspace_package_content, workspace_content, workspace_of, workspace_form};
+ghost use Rattle.manifest_tables.specs.Tables.{workspace_package_content, workspace_content, workspace_of};
 
-use manifest_parts::error::{Error, read};
-use manifest_parts::lints::lints_fit;
 use manifest_parts::{DepsSet, Edition, LintsSet, Publish, Resolver, StringOrBool};
 use manifest_value::form::{RowPut, RowRead, Rowed, Word};
 use manifest_value::row_slots::RowSlot;
-use manifest_value::well_formed::tree_is_well_formed;
-use manifest_value::{Form, Metadata, Spellings, names_of_rows, put_row_of, read_row_of};
+use manifest_value::{Form, Metadata, Spellings, good_row_of, names_of_rows, put_row_of, read_row_of};
 use std::alloc::Global;
 use toml::{Table, Value};
 
@@ -65,26 +55,6 @@ pub struct WorkspacePackage {
     pub include: Option<Vec<String>>,
     /// Whether, or to which registries, members that inherit it may be published.
     pub publish: Option<Publish>,
-}
-
-impl WorkspacePackage {
-    /// The one reading of the value by the form of a workspace's package.
-    ///
-    /// Refuses with `Error::Parse(ParseFault::Schema(..))` of a cause and its key path in the value: `WrongKind` at the
-    /// empty path of a value that is no table, and else the fault of a row. Want of memory is [`Error::Memory`].
-    ///
-    /// ```ignore
-    /// let value = Value::from_str(alloc, "{ version = '1.0.0', edition = '2021' }")?;
-    /// let lent = WorkspacePackage::from_value(alloc, &value)?; // what members may inherit
-    /// ```
-    pub fn from_value(alloc: Global, value: &Value) -> Result<WorkspacePackage, Error>
-        ensures ok { IfOk result
-            (Reads (form workspace_package_rows) workspace_package_content (view value.now)) }
-        ensures refused { IfErr result
-            (RefusedIn ((form workspace_package_rows).faulty (view value.now))) }
-    {
-        read(alloc, value)
-    }
 }
 
 /// The rows of the package fields of a workspace.
@@ -134,6 +104,10 @@ impl Rowed for WorkspacePackage {
 
     fn put_row(&self, alloc: Global, i: usize, key: Word, out: &mut Table) -> RowPut {
         workspace_package!(put_row_of(self, alloc, i, key, out))
+    }
+
+    fn row_is_well_formed(&self, i: usize) -> bool {
+        workspace_package!(good_row_of(self, i))
     }
 }
 
@@ -213,51 +187,6 @@ impl<M> Workspace<M> {
     }
 }
 
-impl<M: Metadata> Workspace<M> {
-    /// The one reading of the value by the form of a workspace.
-    ///
-    /// Refuses with `Error::Parse(ParseFault::Schema(..))` of a cause and its key path in the value: `WrongKind` at the
-    /// empty path of a value that is no table, and else the fault of a row. Want of memory is [`Error::Memory`].
-    ///
-    /// ```ignore
-    /// let value = Value::from_str(alloc, "{ members = ['crates/a'], resolver = '2' }")?;
-    /// let workspace = Workspace::<Value>::from_value(alloc, &value)?;
-    /// ```
-    pub fn from_value(alloc: Global, value: &Value) -> Result<Workspace<M>, Error>
-        ensures ok { IfOk result
-            (Reads (workspace_form M.kind) (workspace_of M.kind M.content) (view value.now)) }
-        ensures refused { IfErr result
-            (RefusedIn ((workspace_form M.kind).faulty (view value.now))) }
-    {
-        read(alloc, value)
-    }
-
-    /// Whether the workspace can be written and read back: its metadata is absent or well-formed. With a float in metadata
-    /// of the type `Value` it is not well-formed.
-    ///
-    /// ```ignore
-    /// let can_be_written = workspace.is_well_formed();
-    /// ```
-    pub fn is_well_formed(&self) -> bool
-        ensures { IsTrue result
-            ↔ (workspace_form M.kind).good (workspace_of M.kind M.content self.now) }
-    {
-        lent_lints_fit(&self.lints);
-        tree_is_well_formed(&self.metadata)
-    }
-}
-
-/// Reads the priorities of the lints that members can inherit: each `i8` is in the range of its row.
-fn lent_lints_fit(lints: &Option<LintsSet>)
-    ensures { good_some (map_of (map_of lint))
-        (option_map (λ m. entries_content (λ l. entries_content lint_content l.entries) m.entries)
-        lints.now) }
-{
-    if let Some(lints) = lints {
-        lints_fit(lints);
-    }
-}
-
 /// The rows of a workspace.
 macro_rules! workspace {
     ($make:ident $given:tt) => {
@@ -297,6 +226,10 @@ impl<M: Metadata> Rowed for Workspace<M> {
 
     fn put_row(&self, alloc: Global, i: usize, key: Word, out: &mut Table) -> RowPut {
         workspace!(put_row_of(self, alloc, i, key, out))
+    }
+
+    fn row_is_well_formed(&self, i: usize) -> bool {
+        workspace!(good_row_of(self, i))
     }
 }
 

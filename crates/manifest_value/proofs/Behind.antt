@@ -3,6 +3,7 @@ use Rattle.std.specs.declared.alloc.AllocError.{AllocError}
 use Rattle.manifest_schema.specs.Paths.{Path, Step, Cause as SchemaCause, behind}
 use Rattle.toml.specs.Data.{Data, string, integer, float, boolean, datetime, array, table}
 use Rattle.manifest_schema.specs.Forms.{Rows, faulty_form}
+use Rattle.manifest_schema.specs.Kinds.{Kind, faulty_map}
 use Rattle.manifest_value.specs.Faults.{FaultIn, IsBehind, path_of, no_table}
 use Rattle.manifest_value.specs.declared.fault.ReadFault.{ReadFault}
 use Rattle.manifest_value.specs.declared.fault.ReadFault.TheVariants.{Schema, Memory}
@@ -23,7 +24,7 @@ pub memory_behind : (s : Step) (f : ReadFault) (e : AllocError) → IsBehind s f
 memory_behind s (Schema f) e = tt
 memory_behind s (Memory e') e = tt
 
--- a value that is no table is refused by each form
+-- a value that is no table is refused by each form, and by each map
 pub form_refuses : {A : Type 0} (rows : Rows A) (d : Data) (f : ReadFault) → FaultIn (no_table d) f → FaultIn (faulty_form rows d) f
 form_refuses rows d (Memory e) h = tt
 form_refuses rows (table ms) (Schema f) h = absurd h
@@ -33,3 +34,13 @@ form_refuses rows (float x) (Schema f) h = h
 form_refuses rows (boolean b) (Schema f) h = h
 form_refuses rows (datetime t) (Schema f) h = h
 form_refuses rows (array ds) (Schema f) h = h
+
+pub map_refuses : {A : Type 0} (K : Kind A) (d : Data) (f : ReadFault) → FaultIn (no_table d) f → FaultIn (faulty_map K d) f
+map_refuses K d (Memory e) h = tt
+map_refuses K (table ms) (Schema f) h = absurd h
+map_refuses K (string s) (Schema f) h = h
+map_refuses K (integer n) (Schema f) h = h
+map_refuses K (float x) (Schema f) h = h
+map_refuses K (boolean b) (Schema f) h = h
+map_refuses K (datetime t) (Schema f) h = h
+map_refuses K (array ds) (Schema f) h = h

@@ -116,6 +116,7 @@ pub fn kept(alloc: Global, value: &Value) -> Result<Value, ReadFault>
     Ok(value.clone()?)
 }
 
+/// A value that holds no float, as it is.
 impl Schema for Value {
     ghost Content = { Data };
 
@@ -123,11 +124,7 @@ impl Schema for Value {
 
     ghost kind = { kept_kind };
 
-    fn from_value(alloc: Global, value: &Value) -> Result<Value, ReadFault> {
-        kept(alloc, value)
-    }
-
-    fn from_source(alloc: Global, source: Source<'_>) -> Result<Value, ReadFault> {
+    fn read(alloc: Global, source: Source<'_>) -> Result<Value, ReadFault> {
         refuse_float(alloc, source.value())?;
         match source {
             Source::Lent(value) => Ok(value.clone()?),
@@ -137,6 +134,10 @@ impl Schema for Value {
 
     fn to_value(&self, _alloc: Global) -> Result<Value, AllocError> {
         self.clone()
+    }
+
+    fn is_well_formed(&self) -> bool {
+        !holds_float(self)
     }
 
     ghost lawful = { kept_lawful };

@@ -5,6 +5,7 @@
 
 pub mod closures;
 pub mod entries;
+pub mod error;
 pub mod fault;
 pub mod form;
 pub mod kept_values;
@@ -28,6 +29,7 @@ pub mod well_formed;
 pub mod writers;
 
 pub use closures::{list_of, map_of};
+pub use error::{Error, ParseFault};
 pub use fault::{Cause, KeyPath, ReadFault, SchemaFault, Step};
 pub use form::{Form, Rowed};
 pub use kept_values::{holds_float, kept};

@@ -6,15 +6,17 @@ ghost use Rattle.std.specs.String.{string_cmp};
 ghost use Rattle.toml.specs.View.{table_view};
 ghost use Rattle.manifest_value.specs.Faults.{FaultIn};
 ghost use Rattle.manifest_value.specs.Entries.{entries_content};
+ghost use Rattle.manifest_value.specs.Sources.{members_of};
 ghost use Rattle.manifest_schema.specs.Kinds.{Entries, map_of, reads_entries, written_entries, faulty_entry};
 ghost use Rattle.manifest_schema.proofs.KindLaws.{map_lawful};
 
 use crate::entries::map_of_entries;
-use crate::fault::{Cause, ReadFault, here};
+use crate::fault::ReadFault;
 use crate::schema::Schema;
-use crate::source::Source;
+use crate::source::{Source, TableSource};
 use crate::taken::taken_map;
 use crate::walking::walk;
+use crate::well_formed::values_are_well_formed;
 use crate::writers::entries_by;
 use std::alloc::{AllocError, Global};
 use std::collections::BTreeMap;
@@ -36,13 +38,28 @@ pub fn map_of_list<X: Drop>(
     BTreeMap::from_iter(alloc, all)
 }
 
-/// The entries of a table, each of one kind.
-fn map_from<T: Schema>(alloc: Global, table: &Table) -> Result<BTreeMap<String, T>, ReadFault>
+/// The entries of a table that stays where it is, each of one kind.
+fn lent_map<T: Schema>(alloc: Global, table: &Table) -> Result<BTreeMap<String, T>, ReadFault>
     ensures ok { IfOk result
         (λ m. reads_entries T.kind (table_view table.now) (entries_content T.content m.entries)) }
     ensures fault { IfErr result (FaultIn (faulty_entry T.kind (table_view table.now))) }
 {
     map_of_entries(alloc, walk(alloc, table, &[])?.rest.as_slice())
+}
+
+/// The entries of a table, each of one kind.
+fn map_from<T: Schema>(
+    alloc: Global,
+    table: TableSource<'_>,
+) -> Result<BTreeMap<String, T>, ReadFault>
+    ensures ok { IfOk result (λ m. reads_entries T.kind (members_of table.entry)
+        (entries_content T.content m.entries)) }
+    ensures fault { IfErr result (FaultIn (faulty_entry T.kind (members_of table.entry))) }
+{
+    match table {
+        TableSource::Lent(table) => lent_map(alloc, table),
+        TableSource::Taken(table) => taken_map(alloc, table),
+    }
 }
 
 /// The table of a map.
@@ -67,25 +84,17 @@ impl<T: Schema> Schema for BTreeMap<String, T> {
 
     ghost kind = { map_of T.kind };
 
-    fn from_value(alloc: Global, value: &Value) -> Result<BTreeMap<String, T>, ReadFault> {
-        match value {
-            Value::Table(table) => map_from(alloc, table),
-            _ => Err(here(alloc, Cause::WrongKind)),
-        }
-    }
-
-    fn from_source(alloc: Global, source: Source<'_>) -> Result<BTreeMap<String, T>, ReadFault> {
-        match source {
-            Source::Lent(value) => <BTreeMap<String, T> as Schema>::from_value(alloc, value),
-            Source::Taken(value) => match value {
-                Value::Table(table) => taken_map(alloc, table),
-                _ => Err(here(alloc, Cause::WrongKind)),
-            },
-        }
+    #[tactic(auto, using(crate::proofs::Behind::map_refuses))]
+    fn read(alloc: Global, source: Source<'_>) -> Result<BTreeMap<String, T>, ReadFault> {
+        map_from(alloc, source.into_table(alloc)?)
     }
 
     fn to_value(&self, alloc: Global) -> Result<Value, AllocError> {
         Ok(Value::Table(entries_table(alloc, self)?))
+    }
+
+    fn is_well_formed(&self) -> bool {
+        values_are_well_formed(self)
     }
 
     ghost lawful = { map_lawful T.lawful };

@@ -10,18 +10,15 @@ ghost use Rattle.manifest_schema.specs.ForProofs.{nothing_laws, unread_laws};
 ghost use Rattle.manifest_value.specs.Reading.{written_as};
 
 use crate::fault::{Cause, ReadFault, here};
-use crate::kept_values::holds_float;
 use crate::rows::put_optional;
 use crate::schema::Schema;
+use crate::source::Source;
 use std::alloc::{AllocError, Global};
 use toml::{Table, Value};
 
 /// A type whose well-formed values are written without floats. Whether a value is well-formed is told by the tree that
 /// is written of it: no two values with one tree are told apart.
 pub trait Metadata: Schema {
-    fn is_well_formed(&self) -> bool
-        ensures { IsTrue result ↔ Self.kind.good (Self.content self.now) };
-
     ghost without_floats: { (x : Self.Content) → Self.kind.good x
         → IsTrue (plain (Self.kind.written x)) };
 
@@ -57,12 +54,9 @@ impl Schema for () {
 
     ghost kind = { nothing };
 
-    /// The one reading of the value, or a fault that it has. It never wants memory.
-    fn from_value(alloc: Global, _value: &Value) -> Result<(), ReadFault>
-        ensures ok { IfOk result (λ x. nothing.reads (view _value.now) tt) }
-        ensures fault { IfErr result (FaultIn (nothing.faulty (view _value.now))) }
-        ensures schema { IfErr result IsSchema }
-    {
+    ghost takes_no_memory = { Unit {0} };
+
+    fn read(alloc: Global, _source: Source<'_>) -> Result<(), ReadFault> {
         Err(here(alloc, Cause::Metadata))
     }
 
@@ -70,14 +64,14 @@ impl Schema for () {
         Ok(Value::Table(Table::new(alloc)))
     }
 
-    ghost lawful = { nothing_laws };
-}
-
-impl Metadata for () {
     fn is_well_formed(&self) -> bool {
         false
     }
 
+    ghost lawful = { nothing_laws };
+}
+
+impl Metadata for () {
     ghost without_floats = { λ x g. absurd g };
 
     ghost good_by_tree = { λ x y g e. absurd g };
@@ -85,10 +79,6 @@ impl Metadata for () {
 
 /// Any value without a float, as it is.
 impl Metadata for Value {
-    fn is_well_formed(&self) -> bool {
-        !holds_float(self)
-    }
-
     ghost without_floats = { λ x g. g };
 
     ghost good_by_tree = { λ x y g e. subst (λ d. IsTrue (plain d)) e g };
@@ -110,7 +100,9 @@ impl Schema for Unread {
 
     ghost kind = { unread };
 
-    fn from_value(_alloc: Global, _value: &Value) -> Result<Unread, ReadFault> {
+    ghost takes_no_memory = { Unit {0} };
+
+    fn read(_alloc: Global, _source: Source<'_>) -> Result<Unread, ReadFault> {
         Ok(Unread)
     }
 
@@ -118,14 +110,14 @@ impl Schema for Unread {
         Ok(Value::Table(Table::new(alloc)))
     }
 
-    ghost lawful = { unread_laws };
-}
-
-impl Metadata for Unread {
     fn is_well_formed(&self) -> bool {
         true
     }
 
+    ghost lawful = { unread_laws };
+}
+
+impl Metadata for Unread {
     ghost without_floats = { λ x g. refl };
 
     ghost good_by_tree = { λ x y g e. tt };

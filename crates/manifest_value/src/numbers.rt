@@ -1,14 +1,12 @@
 //! Whole numbers of a range.
 
-ghost use Rattle.std.specs.Prelude.{◌≡◌, ℤ, pos, negsuc, IfOk, IfErr};
-ghost use Rattle.toml.specs.View.{view};
+ghost use Rattle.std.specs.Prelude.{ℤ, pos, negsuc};
 ghost use Rattle.manifest_schema.specs.Kinds.{whole};
 ghost use Rattle.manifest_schema.proofs.KindLaws.{whole_lawful};
-ghost use Rattle.manifest_value.specs.Faults.{FaultIn, IsSchema};
-ghost use Rattle.manifest_value.specs.Reading.{Reads};
 
 use crate::fault::{Cause, ReadFault, here};
 use crate::schema::Schema;
+use crate::source::Source;
 use std::alloc::{AllocError, Global};
 use toml::Value;
 
@@ -20,14 +18,10 @@ impl Schema for u16 {
 
     ghost kind = { whole (pos 0) (pos 65535) };
 
-    /// The one reading of the value, or a fault that it has. It never wants memory.
-    fn from_value(alloc: Global, value: &Value) -> Result<u16, ReadFault>
-        ensures ok { IfOk result (Reads (whole (pos 0) (pos 65535)) pos (view value.now)) }
-        ensures fault { IfErr result
-            (FaultIn ((whole (pos 0) (pos 65535)).faulty (view value.now))) }
-        ensures schema { IfErr result IsSchema }
-    {
-        match value {
+    ghost takes_no_memory = { Unit {0} };
+
+    fn read(alloc: Global, source: Source<'_>) -> Result<u16, ReadFault> {
+        match source.value() {
             Value::Integer(n) => {
                 let n = *n;
                 if 0 <= n && n <= 65535 {
@@ -44,6 +38,11 @@ impl Schema for u16 {
         Ok(Value::Integer(i64::from(*self)))
     }
 
+    fn is_well_formed(&self) -> bool {
+        let _in_range = *self;
+        true
+    }
+
     ghost lawful = { whole_lawful (pos 0) (pos 65535) };
 }
 
@@ -55,14 +54,10 @@ impl Schema for i8 {
 
     ghost kind = { whole (negsuc 127) (pos 127) };
 
-    /// The one reading of the value, or a fault that it has. It never wants memory.
-    fn from_value(alloc: Global, value: &Value) -> Result<i8, ReadFault>
-        ensures ok { IfOk result (λ x. (whole (negsuc 127) (pos 127)).reads (view value.now) x) }
-        ensures fault { IfErr result
-            (FaultIn ((whole (negsuc 127) (pos 127)).faulty (view value.now))) }
-        ensures schema { IfErr result IsSchema }
-    {
-        match value {
+    ghost takes_no_memory = { Unit {0} };
+
+    fn read(alloc: Global, source: Source<'_>) -> Result<i8, ReadFault> {
+        match source.value() {
             Value::Integer(n) => {
                 let n = *n;
                 if -128 <= n && n <= 127 {
@@ -77,6 +72,11 @@ impl Schema for i8 {
 
     fn to_value(&self, _alloc: Global) -> Result<Value, AllocError> {
         Ok(Value::Integer(i64::from(*self)))
+    }
+
+    fn is_well_formed(&self) -> bool {
+        let _in_range = *self;
+        true
     }
 
     ghost lawful = { whole_lawful (negsuc 127) (pos 127) };

@@ -14,6 +14,7 @@ ghost use Rattle.manifest_value.specs.Walks.{value_in};
 use crate::fault::{Cause, ReadFault, here};
 use crate::rows::at_key;
 use crate::schema::Schema;
+use crate::source::Source;
 use std::alloc::Global;
 use toml::{Table, Value};
 
@@ -95,7 +96,7 @@ pub fn texts(alloc: Global, value: &Value) -> Result<Vec<String>, ReadFault>
         (λ v. (list_of text).reads (view value.now) (map string_bytes v.items)) }
     ensures fault { IfErr result (FaultIn ((list_of text).faulty (view value.now))) }
 {
-    <Vec<String> as Schema>::from_value(alloc, value)
+    <Vec<String> as Schema>::read(alloc, Source::Lent(value))
 }
 
 /// Reads a table: the one that stands in the value, not a copy.

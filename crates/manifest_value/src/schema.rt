@@ -1,19 +1,22 @@
 //! Types that are read from a value and written as one.
 
-ghost use Rattle.std.specs.Prelude.{◌≡◌, ℕ, Bool, List, map, IfOk, IfErr, string_bytes};
+ghost use Rattle.std.specs.Prelude.{◌≡◌, ◌↔◌, ℕ, Bool, List, IsTrue, map, IfOk, IfErr, string_bytes};
 ghost use Rattle.toml.specs.View.{view};
 ghost use Rattle.manifest_schema.specs.Kinds.{Kind, text, flag, list_of};
 ghost use Rattle.manifest_schema.specs.Lawful.{IsLawful};
 ghost use Rattle.manifest_schema.proofs.KindLaws.{text_lawful, flag_lawful, list_lawful};
 ghost use Rattle.manifest_value.specs.Faults.{FaultIn, IsSchema};
 ghost use Rattle.manifest_value.specs.Reading.{Reads};
+ghost use Rattle.manifest_value.specs.Refusals.{RefusedIn, TellsSchema};
 ghost use Rattle.manifest_value.specs.Sources.{source_view};
 
 use crate::closures::list_of;
-use crate::fault::ReadFault;
+use crate::error::{Error, refusal};
+use crate::fault::{Cause, ReadFault, here};
 use crate::readers::{boolean, text};
 use crate::source::Source;
 use crate::taken::taken_items;
+use crate::well_formed::items_are_well_formed;
 use crate::writers::{write_list, write_text};
 use std::alloc::{AllocError, Global};
 use toml::Value;
@@ -21,7 +24,7 @@ use toml::Value;
 /// A type that stands in a field of a manifest.
 ///
 /// It names its content (what it holds, apart from where that lies in memory) and its kind: which values are read
-/// as which content, which faults a value has, and what is written.
+/// as which content, which faults a value has, what is written, and what is well-formed.
 pub trait Schema: Sized + Drop {
     ghost Content: { Type 0 };
 
@@ -29,23 +32,40 @@ pub trait Schema: Sized + Drop {
 
     ghost kind: { Kind Content };
 
-    /// The one reading of the value, or a fault that it has, or want of memory.
-    fn from_value(alloc: Global, value: &Value) -> Result<Self, ReadFault>
-        ensures ok { IfOk result (Reads kind content (view value.now)) }
-        ensures fault { IfErr result (FaultIn (kind.faulty (view value.now))) };
+    /// Whether reading takes no memory, so that it is never refused for want of memory.
+    ghost takes_no_memory: { Type 0 } = { ⊥ };
 
-    /// The same reading of a value that may be wanted by nobody else: what that holds is moved where the type can, and
-    /// copied else.
-    fn from_source(alloc: Global, source: Source<'_>) -> Result<Self, ReadFault>
+    /// The one reading of the value, or a fault that it has, or want of memory. What a value that nobody else wants holds
+    /// is moved where the type can, and copied else.
+    fn read(alloc: Global, source: Source<'_>) -> Result<Self, ReadFault>
         ensures ok { IfOk result (Reads kind content (source_view source.entry)) }
         ensures fault { IfErr result (FaultIn (kind.faulty (source_view source.entry))) }
+        ensures schema { takes_no_memory → IfErr result IsSchema };
+
+    /// The one reading of the value.
+    ///
+    /// Refuses with `Error::Parse(ParseFault::Schema(..))` of a cause that the value has and its key path in the value, and
+    /// for want of memory with [`Error::Memory`].
+    ///
+    /// ```ignore
+    /// let value = Value::from_str(alloc, "'2021'")?;
+    /// let edition = Edition::from_value(alloc, &value)?; // `E2021`
+    /// ```
+    fn from_value(alloc: Global, value: &Value) -> Result<Self, Error>
+        ensures ok { IfOk result (Reads kind content (view value.now)) }
+        ensures refused { IfErr result (RefusedIn (kind.faulty (view value.now))) }
+        ensures schema { takes_no_memory → IfErr result TellsSchema }
     {
-        Self::from_value(alloc, source.value())
+        Self::read(alloc, Source::Lent(value)).map_err(refusal)
     }
 
-    /// The value that is written.
+    /// The value that is written. It fails for want of memory alone.
     fn to_value(&self, alloc: Global) -> Result<Value, AllocError>
         ensures { IfOk result (λ v. view v ≡ kind.written (content self.now)) };
+
+    /// Whether what is written is read back as the same.
+    fn is_well_formed(&self) -> bool
+        ensures { IsTrue result ↔ kind.good (content self.now) };
 
     ghost lawful: { IsLawful kind };
 }
@@ -58,12 +78,7 @@ impl Schema for String {
     ghost kind = { text };
 
     #[inline(always)]
-    fn from_value(alloc: Global, value: &Value) -> Result<String, ReadFault> {
-        text(alloc, value)
-    }
-
-    #[inline(always)]
-    fn from_source(alloc: Global, source: Source<'_>) -> Result<String, ReadFault> {
+    fn read(alloc: Global, source: Source<'_>) -> Result<String, ReadFault> {
         match source {
             Source::Taken(Value::String(s)) => Ok(s),
             other => text(alloc, other.value()),
@@ -72,6 +87,10 @@ impl Schema for String {
 
     fn to_value(&self, alloc: Global) -> Result<Value, AllocError> {
         write_text(alloc, self.as_str())
+    }
+
+    fn is_well_formed(&self) -> bool {
+        true
     }
 
     ghost lawful = { text_lawful };
@@ -84,18 +103,19 @@ impl Schema for bool {
 
     ghost kind = { flag };
 
-    /// The one reading of the value, or a fault that it has. It never wants memory.
+    ghost takes_no_memory = { Unit {0} };
+
     #[inline(always)]
-    fn from_value(alloc: Global, value: &Value) -> Result<bool, ReadFault>
-        ensures ok { IfOk result (λ x. flag.reads (view value.now) x) }
-        ensures fault { IfErr result (FaultIn (flag.faulty (view value.now))) }
-        ensures schema { IfErr result IsSchema }
-    {
-        boolean(alloc, value)
+    fn read(alloc: Global, source: Source<'_>) -> Result<bool, ReadFault> {
+        boolean(alloc, source.value())
     }
 
     fn to_value(&self, _alloc: Global) -> Result<Value, AllocError> {
         Ok(Value::Boolean(*self))
+    }
+
+    fn is_well_formed(&self) -> bool {
+        true
     }
 
     ghost lawful = { flag_lawful };
@@ -108,20 +128,20 @@ impl<T: Schema> Schema for Vec<T> {
 
     ghost kind = { list_of T.kind };
 
-    #[inline(always)]
-    fn from_value(alloc: Global, value: &Value) -> Result<Vec<T>, ReadFault> {
-        list_of(alloc, value, |item| T::from_value(alloc, item))
-    }
-
-    fn from_source(alloc: Global, source: Source<'_>) -> Result<Vec<T>, ReadFault> {
+    fn read(alloc: Global, source: Source<'_>) -> Result<Vec<T>, ReadFault> {
         match source {
             Source::Taken(Value::Array(items)) => taken_items(alloc, items),
-            other => <Vec<T> as Schema>::from_value(alloc, other.value()),
+            Source::Taken(_) => Err(here(alloc, Cause::WrongKind)),
+            Source::Lent(value) => list_of(alloc, value, |item| T::read(alloc, Source::Lent(item))),
         }
     }
 
     fn to_value(&self, alloc: Global) -> Result<Value, AllocError> {
         write_list(alloc, self.as_slice(), |x| x.to_value(alloc))
+    }
+
+    fn is_well_formed(&self) -> bool {
+        items_are_well_formed(self.as_slice())
     }
 
     ghost lawful = { list_lawful T.lawful };

@@ -86,7 +86,7 @@ pub(crate) fn source_under<T: Schema>(
     ensures fault { IfErr result
         (FaultIn (behind (key word.now) (T.kind.faulty (source_view source.entry)))) }
 {
-    match T::from_source(alloc, source) {
+    match T::read(alloc, source) {
         Ok(x) => Ok(x),
         Err(fault) => Err(under_key(alloc, word, fault)),
     }

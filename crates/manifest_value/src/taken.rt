@@ -25,7 +25,7 @@ fn taken_item<T: Schema>(alloc: Global, value: Value, i: usize) -> Result<T, Rea
     ensures ok { IfOk result (Reads T.kind T.content (view value)) }
     ensures fault { IfErr result (FaultIn (behind (index i) (T.kind.faulty (view value)))) }
 {
-    match T::from_source(alloc, Source::Taken(value)) {
+    match T::read(alloc, Source::Taken(value)) {
         Ok(x) => Ok(x),
         Err(fault) => Err(prefixed(Step::Index(i), fault)),
     }

@@ -1,15 +1,18 @@
 //! Whether what stands in a row is well-formed.
 
 ghost use Rattle.std.specs.Prelude.{◌≡◌, ◌↔◌, IsTrue, map, option_map};
-ghost use Rattle.manifest_schema.specs.Kinds.{tree_of, good_entries};
+ghost use Rattle.manifest_schema.specs.Kinds.{tree_of, good_items, good_entries};
 ghost use Rattle.manifest_schema.specs.Needs.{good_some};
 ghost use Rattle.manifest_schema.specs.Slots.{is_among};
 ghost use Rattle.manifest_schema.specs.Forms.{none_named};
 ghost use Rattle.manifest_value.specs.Entries.{entries_content};
 ghost use Rattle.manifest_value.specs.Reading.{written_as};
+ghost use Rattle.manifest_value.specs.Walks.{spellings_view, all_words};
 
 use crate::metadata::Metadata;
 use crate::schema::Schema;
+use crate::spellings::Spellings;
+use crate::walking::row_of;
 use std::collections::BTreeMap;
 
 /// Whether the value is absent or well-formed.
@@ -17,8 +20,8 @@ use std::collections::BTreeMap;
 /// ```ignore
 /// let is_well = optional_is_well_formed(&profile.opt_level);
 /// ```
-pub fn optional_is_well_formed<M: Metadata>(value: &Option<M>) -> bool
-    ensures { IsTrue result ↔ good_some M.kind (option_map M.content value.now) }
+pub fn optional_is_well_formed<T: Schema>(value: &Option<T>) -> bool
+    ensures { IsTrue result ↔ good_some T.kind (option_map T.content value.now) }
 {
     match value {
         Some(x) => x.is_well_formed(),
@@ -41,13 +44,25 @@ pub fn tree_is_well_formed<M: Metadata>(value: &Option<M>) -> bool
     }
 }
 
+/// Whether each item is well-formed.
+pub(crate) fn items_are_well_formed<T: Schema>(items: &[T]) -> bool
+    ensures { IsTrue result ↔ good_items T.kind (map T.content items.now) }
+{
+    for x in items {
+        if !x.is_well_formed() {
+            return false;
+        }
+    }
+    true
+}
+
 /// Whether each value of the map is well-formed.
 ///
 /// ```ignore
-/// let is_well = values_are_well_formed(&profile.package);
+/// let is_well = values_are_well_formed(&profiles.custom);
 /// ```
-pub fn values_are_well_formed<M: Metadata>(all: &BTreeMap<String, M>) -> bool
-    ensures { IsTrue result ↔ good_entries M.kind (entries_content M.content all.now.entries) }
+pub fn values_are_well_formed<T: Schema>(all: &BTreeMap<String, T>) -> bool
+    ensures { IsTrue result ↔ good_entries T.kind (entries_content T.content all.now.entries) }
 {
     for (_key, x) in all.iter() {
         if !x.is_well_formed() {
@@ -57,34 +72,19 @@ pub fn values_are_well_formed<M: Metadata>(all: &BTreeMap<String, M>) -> bool
     true
 }
 
-/// Whether the key is one of the names.
+/// Whether no key of the map is a spelling of one of the rows.
 ///
 /// ```ignore
-/// let is_one = is_named(&["release", "dev"], "dev"); // true
+/// let is_well = none_is_named(&lints.lints, MaybeInheritedLintsSet::names()); // no tool is named `workspace`
 /// ```
-#[inline(always)]
-fn is_named(named: &[&'static str], key: &str) -> bool
-    ensures { result ≡ is_among (map (λ n. n.now) named.now) key.now }
-{
-    for name in named {
-        if *name == key {
-            return true;
-        }
-    }
-    false
-}
-
-/// Whether no key of the map is one of the names.
-///
-/// ```ignore
-/// let is_well = none_is_named(&lints.lints, &["workspace"]); // no tool is named so
-/// ```
-pub fn none_is_named<T: Schema>(all: &BTreeMap<String, T>, named: &[&'static str]) -> bool
+#[tactic(auto, using(crate::proofs::WalkLemmas::word_among))]
+pub fn none_is_named<T: Schema>(all: &BTreeMap<String, T>, rows: &[Spellings]) -> bool
     ensures { result
-        ≡ none_named (map (λ n. n.now) named.now) (entries_content T.content all.now.entries) }
+        ≡ none_named (all_words (map spellings_view rows.now))
+        (entries_content T.content all.now.entries) }
 {
     for (key, _x) in all.iter() {
-        if is_named(named, key.as_str()) {
+        if let Some(_row) = row_of(rows, key.as_str()) {
             return false;
         }
     }

@@ -5,7 +5,7 @@ use Rattle.manifest_value.specs.Entries.{entries_content}
 use Rattle.manifest_value.specs.Faults.{FaultIn}
 use Rattle.manifest_value.specs.Walks.{rest_view}
 use Rattle.manifest_value.proofs.WalkLemmas.{without-none}
-use Rattle.manifest_value.proofs.maps.map_from.Goals as goal
+use Rattle.manifest_value.proofs.maps.lent_map.Goals as goal
 
 pub returns-clause-ok : goal.returns-clause-ok
 returns-clause-ok g c =

@@ -1,17 +1,14 @@
 //! Why a call refused.
 
-ghost use Rattle.std.specs.Prelude.{IfOk, IfErr};
-ghost use Rattle.toml.specs.View.{view};
-ghost use Rattle.manifest_value.specs.Reading.{Reads};
-ghost use Rattle.manifest_parts.specs.Refusals.{RefusedIn, IsRefusal};
+ghost use Rattle.std.specs.Prelude.{IfOk};
+ghost use Rattle.manifest_value.specs.Refusals.{IsRefusal};
 
-use manifest_value::{ReadFault, Schema, SchemaFault};
+use crate::fault::{ReadFault, SchemaFault};
 use std::alloc::{AllocError, AllocFailed, Global};
 use std::io;
 use std::rc::Rc;
 use std::str::Utf8Error;
 use thiserror::Error;
-use toml::Value;
 
 /// Why a text is no manifest.
 #[derive(Debug, Drop, Error)]
@@ -45,7 +42,7 @@ pub enum Error {
 }
 
 impl Error {
-    ghost use Rattle.manifest_parts.specs.Refusals.{SameError};
+    ghost use Rattle.manifest_value.specs.Refusals.{SameError};
 
     /// An error that says the same: the same answer, with the same fault of `toml` (which is shared), the same path and
     /// cause, the same I/O kind, or the same text.
@@ -71,19 +68,6 @@ impl Error {
     }
 }
 
-/// Reads a value by the kind of its type.
-///
-/// ```ignore
-/// let value = Value::from_str(alloc, "'2021'")?;
-/// let edition: Edition = read(alloc, &value)?;
-/// ```
-pub fn read<T: Schema>(alloc: Global, value: &Value) -> Result<T, Error>
-    ensures ok { IfOk result (Reads T.kind T.content (view value.now)) }
-    ensures refused { IfErr result (RefusedIn (T.kind.faulty (view value.now))) }
-{
-    Ok(T::from_value(alloc, value)?)
-}
-
 /// The error that tells a reader's fault.
 ///
 /// ```ignore
@@ -103,7 +87,7 @@ pub fn refusal(fault: ReadFault) -> Error
 
 impl From<io::Error> for Error {
     ghost use Rattle.std.specs.Prelude.{◌≡◌};
-    ghost use Rattle.manifest_parts.specs.declared.error.Error.TheVariants.{Io};
+    ghost use Rattle.manifest_value.specs.declared.error.Error.TheVariants.{Io};
 
     ghost from_gives = { λ fault e. e ≡ Io fault };
 
@@ -114,7 +98,7 @@ impl From<io::Error> for Error {
 
 impl From<Utf8Error> for Error {
     ghost use Rattle.std.specs.Prelude.{◌≡◌};
-    ghost use Rattle.manifest_parts.specs.declared.error.Error.TheVariants.{Utf8};
+    ghost use Rattle.manifest_value.specs.declared.error.Error.TheVariants.{Utf8};
 
     ghost from_gives = { λ fault e. e ≡ Utf8 fault };
 
@@ -133,7 +117,7 @@ impl From<ReadFault> for Error {
 
 impl From<AllocError> for Error {
     ghost use Rattle.std.specs.Prelude.{◌≡◌};
-    ghost use Rattle.manifest_parts.specs.declared.error.Error.TheVariants.{Memory};
+    ghost use Rattle.manifest_value.specs.declared.error.Error.TheVariants.{Memory};
 
     ghost from_gives = { λ refused e. e ≡ Memory refused };
 
@@ -143,7 +127,7 @@ impl From<AllocError> for Error {
 }
 
 impl<T: Drop> From<AllocFailed<T>> for Error {
-    ghost use Rattle.manifest_parts.specs.Refusals.{IsWantOfMemory};
+    ghost use Rattle.manifest_value.specs.Refusals.{IsWantOfMemory};
 
     ghost from_gives = { λ _ e. IsWantOfMemory e };
 
