@@ -2,17 +2,17 @@
 #![tactic(auto, unfolding(manifest_schema::specs::ManifestForms::manifest_rows))]
 
 ghost use Rattle.std.specs.Prelude.{◌≡◌, IfOk};
-ghost use Rattle.toml.specs.Data.{Data};
-ghost use Rattle.manifest_schema.specs.Defaults.{empty_manifest};
+ghost use Rattle.toml.specs.Data.{Data, no_members};
 ghost use Rattle.toml.specs.View.{table_view};
 ghost use Rattle.manifest_schema.specs.Forms.{form};
-ghost use Rattle.manifest_schema.specs.Kinds.{tree_of};
+ghost use Rattle.manifest_schema.specs.Kinds.{tree_of, kept};
 ghost use Rattle.manifest_schema.specs.Contents;
 ghost use Rattle.manifest_schema.specs.ManifestForms.{manifest_rows};
 ghost use Rattle.manifest_schema.specs.Meaning.{rewritten};
 ghost use Rattle.manifest_schema.proofs.KindLaws.{tree_lawful};
 ghost use Rattle.manifest_schema.proofs.ManifestLaws.{manifest_lawful};
 ghost use Rattle.cargo_manifest.specs.Whole.{manifest_content, manifest_of};
+ghost use Rattle.manifest_value.specs.Reading.{IsOfTable};
 
 use manifest_parts::{
     Badges, DepsSet, FeatureSet, MaybeInheritedLintsSet, PatchSet, Product, TargetDepsSet,
@@ -72,7 +72,8 @@ impl<P, W> Manifest<P, W> {
     /// manifest.package = Some(package);
     /// ```
     pub fn default(alloc: Global) -> Manifest<P, W>
-        ensures { (f : P → Data) (g : W → Data) → manifest_content f g result ≡ empty_manifest }
+        ensures { (f : P → Data) (g : W → Data)
+            → IsOfTable (manifest_rows kept kept) (manifest_content f g) no_members result }
     {
         Manifest {
             package: None,

@@ -10,13 +10,13 @@ use Rattle.manifest_schema.specs.Needs.{good_some}
 use Rattle.manifest_schema.specs.Forms.{form}
 use Rattle.manifest_schema.specs.Lawful.{IsLawful}
 use Rattle.manifest_schema.specs.Contents.{TextOrFlag, a_text, a_flag, Product, Package, Manifest}
-use Rattle.manifest_schema.specs.Defaults.{default_product}
 use Rattle.manifest_schema.specs.ManifestForms.{package_rows}
 use Rattle.manifest_schema.specs.Meaning.{well_formed}
 use Rattle.manifest_schema.proofs.GoodLaws.{package_good, package_metadata_good, manifest_good, manifest_parts_good}
 use Rattle.manifest_schema.proofs.ManifestLaws.{manifest_lawful}
 use Rattle.manifest_completion.specs.Listings.{Answer, names, fault, lists, is_memory_fault, examples, tests, benches, Place, source, ListingMap, at}
 use Rattle.manifest_completion.specs.Finds.{finds, bin_finds}
+use Rattle.manifest_completion.specs.Targets.{found}
 use Rattle.manifest_completion.specs.Completed.{PackageTargets, is_legacy, own_edition, underscored, library_type, library_path, Library, no_file, known, declared_library, inferred_library, library_of, library, asks_root, build_of, bin_defaults, example_defaults, test_defaults, filled, Completion, completed_to, refused, no_library, target_places, has_memory_fault, source_fault, root_fault, completed_targets, targets_of, with_targets, completion_with, completed_by, completed, up_to_memory_fault, root_places, asked_targets, asked_by, asked}
 use Rattle.manifest_completion.specs.Laws.{IsAmong, IsFixed, CompletedIsFixed}
 use Rattle.manifest_completion.proofs.TargetLaws.{or_idem, targets_fixed}
@@ -39,7 +39,7 @@ inferred_fixed t src None h = ap known h
 inferred_fixed t src (Some lib) h = one (unwrap_or t.autolib true && lists src (codes "lib.rs")) h
   where
     made : Product
-    made = record default_product { path = Some (codes "src/lib.rs"); name = Some (underscored t.name); edition = own_edition t.edition; crate_type = Some library_type }
+    made = record (found (record { path = codes "src/lib.rs"; name = underscored t.name })) { edition = own_edition t.edition; crate_type = Some library_type }
 
     one : (b : Bool) → (if b then Some made else None) ≡ Some lib → library_of t (Some lib) src ≡ known (Some lib)
     one true e =

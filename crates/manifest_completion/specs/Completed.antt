@@ -7,11 +7,10 @@ use Rattle.std.specs.declared.io.ErrorKind.TheVariants.{NotFound, OutOfMemory}
 use Rattle.manifest_schema.specs.Paths.{Text}
 use Rattle.manifest_schema.specs.Kinds.{Inheritable, inherited, local}
 use Rattle.manifest_schema.specs.Contents.{Edition, e2015, TextOrFlag, a_text, a_flag, Product, Package, Manifest}
-use Rattle.manifest_schema.specs.Defaults.{default_product}
 use Rattle.manifest_schema.specs.Needs.{is_empty}
 use Rattle.manifest_completion.specs.Listings.{Answer, names, fault, lists, is_memory_fault, TargetFolder, bins, examples, tests, benches, Place, source, folder, entry, root, names_of, path_text, ListingMap, at, NamesAscend}
 use Rattle.manifest_completion.specs.Finds.{finds, bin_finds}
-use Rattle.manifest_completion.specs.Targets.{targets, Defaults}
+use Rattle.manifest_completion.specs.Targets.{found, targets, Defaults}
 
 -- THE TARGETS OF A PACKAGE: what completion reads of a manifest. It fills in `build`, the library and the four lists.
 pub record PackageTargets : Type 0 where
@@ -87,7 +86,7 @@ declared_library t lib (Some q) = known (Some (record lib {
 abbrev pub inferred_library : PackageTargets → Answer → Option Product
 inferred_library t src =
     if unwrap_or t.autolib true && lists src (codes "lib.rs")
-    then Some (record default_product { path = Some (codes "src/lib.rs"); name = Some (underscored t.name); edition = own_edition t.edition; crate_type = Some library_type })
+    then Some (record (found (record { path = codes "src/lib.rs"; name = underscored t.name })) { edition = own_edition t.edition; crate_type = Some library_type })
     else None
 
 abbrev pub library_of : PackageTargets → Option Product → Answer → Library

@@ -1,11 +1,10 @@
 -- A list of targets: filled in from the finds, added to, and given its defaults.
-use Rattle.std.specs.Prelude.{List, [], ◌∷◌, ◌++◌, map, if◌then◌else◌, Option, Some, None, Bool}
+use Rattle.std.specs.Prelude.{List, [], ◌∷◌, ◌++◌, map, if◌then◌else◌, Option, Some, None, Bool, true, false}
 use Rattle.std.specs.Option.{option_or}
 use Rattle.std.specs.List.{list_any}
 use Rattle.std.specs.Str.{bytes_eq}
 use Rattle.manifest_schema.specs.Paths.{Text}
 use Rattle.manifest_schema.specs.Contents.{Edition, Product}
-use Rattle.manifest_schema.specs.Defaults.{default_product}
 use Rattle.manifest_completion.specs.Finds.{Find}
 
 -- FILL: a target with a name and no path takes the path of the first find of its name
@@ -33,9 +32,22 @@ paths_of (p ∷ ps) = paths_with p.path (paths_of ps)
 abbrev pub has_path : List Text → Text → Bool
 has_path qs q = list_any (bytes_eq q) qs
 
--- a target as it is found: without an edition, and else as a product begins
+-- a target as it is found: its path and name, and all else as where its table says no more
 abbrev pub found : Find → Product
-found f = record default_product { path = Some f.path; name = Some f.name; edition = None }
+found f = record {
+  path = Some f.path;
+  name = Some f.name;
+  test = true;
+  doctest = true;
+  bench = true;
+  doc = true;
+  plugin = false;
+  proc_macro = false;
+  harness = true;
+  edition = None;
+  required_features = [];
+  crate_type = None;
+}
 
 -- the finds whose path is not among these, and that no earlier find has
 abbrev pub added : List Text → List Find → List Product

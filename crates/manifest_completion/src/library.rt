@@ -105,6 +105,7 @@ fn declared_library(
 }
 
 /// The library of `src/lib.rs`, where none is declared and `src` lists it, unless the package says otherwise.
+#[tactic(auto, unfolding(manifest_schema::specs::PartForms::product_rows))]
 fn inferred_library(
     alloc: Global,
     declared: &DeclaredTargets<'_>,

@@ -104,6 +104,7 @@ fn filled_target<'a>(
 }
 
 /// A target that was found, with its defaults.
+#[tactic(auto, unfolding(manifest_schema::specs::PartForms::product_rows))]
 fn found_target(
     alloc: Global,
     find: &FoundTarget,

@@ -29,7 +29,7 @@ field_accepted key (Some inherited) lent h r x = h
 -- THE TABLE: each of its fields is resolved in the package, and a package with its own content of a field is that package
 abbrev AreResolved : Fields → Type 0
 AreResolved no_more = Unit {0}
-AreResolved (f ⨾ fs) = ((w : WorkspacePackage) (p : Package) → f.own (resolved_package w p) ≡ resolved_field (f.own p) (f.lent w)) × AreResolved fs
+AreResolved (f ⨾ fs) = ((w : Option WorkspacePackage) (p : Package) → f.own (resolved_package w p) ≡ resolved_field (f.own p) (f.lent w)) × AreResolved fs
 
 all_resolved : AreResolved lendable
 unfolding lendable resolved_package
@@ -44,45 +44,45 @@ unfolding lendable
 all_kept = (λ p. refl, (λ p. refl, (λ p. refl, (λ p. refl, (λ p. refl, (λ p. refl, (λ p. refl, (λ p. refl, (λ p. refl, (λ p. refl, (λ p. refl, (λ p. refl, (λ p. refl, (λ p. refl, (λ p. refl, (λ p. refl, tt))))))))))))))))
 
 -- THE FIELDS
-fields_own : (fs : Fields) → AreResolved fs → (w : WorkspacePackage) (p : Package) → NoneHolds (refuses_fields fs w p) → AreOwn fs (resolved_package w p)
+fields_own : (fs : Fields) → AreResolved fs → (w : Option WorkspacePackage) (p : Package) → NoneHolds (refuses_fields fs w p) → AreOwn fs (resolved_package w p)
 fields_own no_more k w p h = tt
 fields_own (f ⨾ fs) k w p h = (subst IsOwn (sym (k.0 w p)) (field_own f.key (f.own p) (f.lent w) (λ r x. h r (inl x))), fields_own fs k.1 w p (λ r x. h r (inr x)))
 
-fields_same : (fs : Fields) → AreKept fs → (w : WorkspacePackage) (p : Package) → AreOwn fs p → resolved_fields fs w p ≡ p
+fields_same : (fs : Fields) → AreKept fs → (w : Option WorkspacePackage) (p : Package) → AreOwn fs p → resolved_fields fs w p ≡ p
 fields_same no_more k w p h = refl
 fields_same (f ⨾ fs) k w p h = rw (fields_same fs k.1 w p h.1, field_same (f.own p) (f.lent w) h.0) (k.0 p)
 
-fields_accepted : (fs : Fields) (w : WorkspacePackage) (p : Package) → AreOwn fs p → NoneHolds (refuses_fields fs w p)
+fields_accepted : (fs : Fields) (w : Option WorkspacePackage) (p : Package) → AreOwn fs p → NoneHolds (refuses_fields fs w p)
 fields_accepted no_more w p h r x = x
 fields_accepted (f ⨾ fs) w p h r (inl x) = field_accepted f.key (f.own p) (f.lent w) h.0 r x
 fields_accepted (f ⨾ fs) w p h r (inr x) = fields_accepted fs w p h.1 r x
 
 -- A PACKAGE
-pub package_own : (w : WorkspacePackage) (p : Package) → NoneHolds (refuses_fields lendable w p) → AreOwn lendable (resolved_package w p)
+pub package_own : (w : Option WorkspacePackage) (p : Package) → NoneHolds (refuses_fields lendable w p) → AreOwn lendable (resolved_package w p)
 package_own = fields_own lendable all_resolved
 
-pub package_same : (w : WorkspacePackage) (p : Package) → AreOwn lendable p → resolved_package w p ≡ p
+pub package_same : (w : Option WorkspacePackage) (p : Package) → AreOwn lendable p → resolved_package w p ≡ p
 unfolding resolved_package
 package_same = fields_same lendable all_kept
 
-pub package_accepted : (w : WorkspacePackage) (p : Package) → AreOwn lendable p → NoneHolds (refuses_fields lendable w p)
+pub package_accepted : (w : Option WorkspacePackage) (p : Package) → AreOwn lendable p → NoneHolds (refuses_fields lendable w p)
 package_accepted = fields_accepted lendable
 
 -- WHAT IS MADE of the fields
-abbrev AllMade : Fields → Package → WorkspacePackage → WorkspacePackage → Type 0
+abbrev AllMade : Fields → Package → Option WorkspacePackage → Option WorkspacePackage → Type 0
 AllMade no_more p w made = Unit {0}
 AllMade (f ⨾ fs) p w made =
     Accepted (refuses_field f.key (f.own p) (f.lent w)) (resolved_field (f.own p) (f.lent w)) (resolved_field (f.own p) (f.lent made)) × AllMade fs p w made
 
-made_accepted : (fs : Fields) (p : Package) (w made : WorkspacePackage) → AllMade fs p w made → NoneHolds (refuses_fields fs w p)
+made_accepted : (fs : Fields) (p : Package) (w made : Option WorkspacePackage) → AllMade fs p w made → NoneHolds (refuses_fields fs w p)
 made_accepted no_more p w made h r x = x
 made_accepted (f ⨾ fs) p w made h r (inl x) = h.0.0 r x
 made_accepted (f ⨾ fs) p w made h r (inr x) = made_accepted fs p w made h.1 r x
 
-made_same : (fs : Fields) (p : Package) (w made : WorkspacePackage) → AllMade fs p w made → resolved_fields fs made p ≡ resolved_fields fs w p
+made_same : (fs : Fields) (p : Package) (w made : Option WorkspacePackage) → AllMade fs p w made → resolved_fields fs made p ≡ resolved_fields fs w p
 made_same no_more p w made h = refl
 made_same (f ⨾ fs) p w made h = rw (made_same fs p w made h.1, h.0.1) refl
 
-pub package_made : (p : Package) (w made : WorkspacePackage) → first_made 16 lendable p w made → Accepted (refuses_fields lendable w p) (resolved_package w p) (resolved_package made p)
+pub package_made : (p : Package) (w made : Option WorkspacePackage) → first_made 16 lendable p w made → Accepted (refuses_fields lendable w p) (resolved_package w p) (resolved_package made p)
 unfolding lendable resolved_package
 package_made p w made h = (made_accepted lendable p w made h, made_same lendable p w made h)

@@ -13,7 +13,7 @@ use Rattle.manifest_completion.specs.Completed.{PackageTargets, Completion, comp
 use Rattle.manifest_completion.specs.Laws.{CompletedIsFixed}
 use Rattle.cargo_manifest.specs.WellFormed.{PackageByMetadata, WorkspaceByParts, ManifestByParts}
 use Rattle.manifest_inherit.specs.Fields.{lendable}
-use Rattle.manifest_inherit.specs.Resolved.{resolved_package, resolved_lints_by, resolved_lints, lent_fields, resolved}
+use Rattle.manifest_inherit.specs.Resolved.{resolved_package, resolved_lints_by, resolved_lints, resolved}
 use Rattle.manifest_inherit.specs.Refused.{NoneHolds, tool_named_workspace, refuses_lints_by, refuses_lints, refuses_some, refuses}
 use Rattle.manifest_inherit.specs.Own.{AreOwn, IfThere, InheritsNothing}
 use Rattle.manifest_inherit.specs.Laws.{ResolvedIsWellFormed, CompletedStaysResolved}
@@ -21,11 +21,11 @@ use Rattle.manifest_inherit.proofs.SettledLaws.{resolved_is_settled, own_is_sett
 
 -- WELL-FORMED
 -- the metadata of a package is not lent
-metadata_stays : (w : WorkspacePackage) (p : Package) → (resolved_package w p).metadata ≡ p.metadata
+metadata_stays : (w : Option WorkspacePackage) (p : Package) → (resolved_package w p).metadata ≡ p.metadata
 unfolding lendable resolved_package
 metadata_stays w p = refl
 
-package_formed : (K : Kind Data) → PackageByMetadata K → (w : WorkspacePackage) (o : Option Package) → good_some (form (package_rows K)) o → good_some (form (package_rows K)) (option_map (resolved_package w) o)
+package_formed : (K : Kind Data) → PackageByMetadata K → (w : Option WorkspacePackage) (o : Option Package) → good_some (form (package_rows K)) o → good_some (form (package_rows K)) (option_map (resolved_package w) o)
 package_formed K by w None g = tt
 package_formed K by w (Some p) g = (by (resolved_package w p)).1 (subst (good_some K) (sym (metadata_stays w p)) ((by p).0 g))
 
@@ -49,7 +49,7 @@ module _ (K W V : Kind Data) (package_by : PackageByMetadata K) (workspace_by : 
   stays_well_formed m n w g k h =
       let parts = (manifest_by m).0 g in
       let lints = lints_formed w.lints m.lints ((workspace_by w).0 k).1 parts.3 (λ r x. h.accepted r (inr (inr (inr (inr (inr x)))))) in
-      let formed : well_formed K W (resolved m w) = (manifest_by (resolved m w)).1 (package_formed K package_by (lent_fields w) m.«package» parts.0, parts.1, parts.2, lints) in
+      let formed : well_formed K W (resolved m w) = (manifest_by (resolved m w)).1 (package_formed K package_by w.«package» m.«package» parts.0, parts.1, parts.2, lints) in
       subst (well_formed K W) (sym h.becomes) formed
 
 -- COMPLETION keeps what resolving looks at

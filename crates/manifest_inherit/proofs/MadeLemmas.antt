@@ -1,17 +1,17 @@
 -- What is made beside a manifest is what it becomes.
-use Rattle.std.proofs.Common.{inl, inr, refl, option_map}
+use Rattle.std.proofs.Common.{inl, inr, refl, Some, option_map}
 use Rattle.manifest_schema.specs.Contents.{Manifest, Workspace}
 use Rattle.manifest_value.specs.Entries.{entries_content}
 use Rattle.manifest_parts.specs.Records.{platform_content}
 use Rattle.manifest_tables.specs.Tables.{dependencies_content, workspace_package_content}
 use Rattle.manifest_inherit.specs.Fields.{lendable}
-use Rattle.manifest_inherit.specs.Resolved.{resolved_package, resolved_dependencies, resolved_platforms, resolved_lints, lent_fields, lent_dependencies, resolved}
+use Rattle.manifest_inherit.specs.Resolved.{resolved_package, resolved_dependencies, resolved_platforms, resolved_lints, lent_dependencies, resolved}
 use Rattle.manifest_inherit.specs.Refused.{NoneHolds, refuses_fields, refuses_dependencies, refuses_platforms, refuses_lints, refuses_some, refuses}
 use Rattle.manifest_inherit.specs.ForProofs.{Accepted, tools_content, with_made}
 use Rattle.manifest_inherit.specs.declared.resolution.Made.{Made}
 
 module _ (m : Manifest) (w : Workspace) where
-  none_holds : NoneHolds (refuses_some (refuses_fields lendable (lent_fields w)) m.«package»)
+  none_holds : NoneHolds (refuses_some (refuses_fields lendable w.«package») m.«package»)
       → NoneHolds (refuses_some (refuses_dependencies (lent_dependencies w)) m.dependencies)
       → NoneHolds (refuses_some (refuses_dependencies (lent_dependencies w)) m.dev_dependencies)
       → NoneHolds (refuses_some (refuses_dependencies (lent_dependencies w)) m.build_dependencies)
@@ -26,7 +26,7 @@ module _ (m : Manifest) (w : Workspace) where
   none_holds a b c d e f r (inr (inr (inr (inr (inr x))))) = f r x
 
   pub manifest_made : (made : Made)
-      → Accepted (refuses_some (refuses_fields lendable (lent_fields w)) m.«package») (option_map (resolved_package (lent_fields w)) m.«package») (option_map (resolved_package (workspace_package_content made.fields)) m.«package»)
+      → Accepted (refuses_some (refuses_fields lendable w.«package») m.«package») (option_map (resolved_package w.«package») m.«package») (option_map (resolved_package (Some (workspace_package_content made.fields))) m.«package»)
       → Accepted (refuses_some (refuses_dependencies (lent_dependencies w)) m.dependencies) (option_map (resolved_dependencies (lent_dependencies w)) m.dependencies) (option_map dependencies_content made.dependencies)
       → Accepted (refuses_some (refuses_dependencies (lent_dependencies w)) m.dev_dependencies) (option_map (resolved_dependencies (lent_dependencies w)) m.dev_dependencies) (option_map dependencies_content made.dev_dependencies)
       → Accepted (refuses_some (refuses_dependencies (lent_dependencies w)) m.build_dependencies) (option_map (resolved_dependencies (lent_dependencies w)) m.build_dependencies) (option_map dependencies_content made.build_dependencies)

@@ -5,7 +5,7 @@ use Rattle.manifest_schema.specs.Kinds.{Entries}
 use Rattle.manifest_schema.specs.Contents.{InheritedDependency, DependencyDetail, Dependency, simple, by_workspace, detailed, Lint, Lints, Platform, Workspace, Manifest}
 use Rattle.manifest_parts.specs.Queries.{says_more, simplify}
 use Rattle.manifest_inherit.specs.Fields.{lendable}
-use Rattle.manifest_inherit.specs.Resolved.{resolved_package, lender, version_alone, lent_by, joined, with_lent, resolved_dependency, resolved_entries, resolved_dependencies, resolved_platform, resolved_platforms, resolved_lints_by, resolved_lints, lent_fields, lent_dependencies, resolved}
+use Rattle.manifest_inherit.specs.Resolved.{resolved_package, lender, version_alone, lent_by, joined, with_lent, resolved_dependency, resolved_entries, resolved_dependencies, resolved_platform, resolved_platforms, resolved_lints_by, resolved_lints, lent_dependencies, resolved}
 use Rattle.manifest_inherit.specs.Refused.{Refusals, NoneHolds, not_in_workspace, inherited_in_workspace, refuses_fields, refuses_lender, refuses_dependency, refuses_entries, refuses_dependencies, refuses_platform, refuses_platforms, refuses_lints_by, refuses_lints, refuses_some, refuses}
 use Rattle.manifest_inherit.specs.Own.{AreOwn, IsOwnDependency, AllValues, AreOwnDependencies, IsOwnPlatform, AreOwnPlatforms, AreOwnLints, IfThere, InheritsNothing}
 use Rattle.manifest_inherit.specs.Laws.{ResolvedIsSettled, OwnIsSettled}
@@ -117,7 +117,7 @@ module _ (m : Manifest) (w : Workspace) where
   inherits_nothing h =
       let lent = lent_dependencies w in
       record {
-        fields = some_own (refuses_fields lendable (lent_fields w)) (AreOwn lendable) (resolved_package (lent_fields w)) (package_own (lent_fields w)) m.«package» (λ r x. h r (inl x));
+        fields = some_own (refuses_fields lendable w.«package») (AreOwn lendable) (resolved_package w.«package») (package_own w.«package») m.«package» (λ r x. h r (inl x));
         dependencies = some_own (refuses_dependencies lent) AreOwnDependencies (resolved_dependencies lent) (dependencies_own lent) m.dependencies (λ r x. h r (inr (inl x)));
         dev_dependencies = some_own (refuses_dependencies lent) AreOwnDependencies (resolved_dependencies lent) (dependencies_own lent) m.dev_dependencies (λ r x. h r (inr (inr (inl x))));
         build_dependencies = some_own (refuses_dependencies lent) AreOwnDependencies (resolved_dependencies lent) (dependencies_own lent) m.build_dependencies (λ r x. h r (inr (inr (inr (inl x)))));
@@ -130,7 +130,7 @@ module _ (m : Manifest) (w : Workspace) where
   own_same h =
       let lent = lent_dependencies w in
       rw (
-        some_same (AreOwn lendable) (resolved_package (lent_fields w)) (package_same (lent_fields w)) m.«package» h.fields,
+        some_same (AreOwn lendable) (resolved_package w.«package») (package_same w.«package») m.«package» h.fields,
         some_same AreOwnDependencies (resolved_dependencies lent) (dependencies_same lent) m.dependencies h.dependencies,
         some_same AreOwnDependencies (resolved_dependencies lent) (dependencies_same lent) m.dev_dependencies h.dev_dependencies,
         some_same AreOwnDependencies (resolved_dependencies lent) (dependencies_same lent) m.build_dependencies h.build_dependencies,
@@ -140,7 +140,7 @@ module _ (m : Manifest) (w : Workspace) where
 
   own_accepted : InheritsNothing m → NoneHolds (refuses m w)
   unfolding refuses
-  own_accepted h r (inl x) = some_accepted (refuses_fields lendable (lent_fields w)) (AreOwn lendable) (package_accepted (lent_fields w)) m.«package» h.fields r x
+  own_accepted h r (inl x) = some_accepted (refuses_fields lendable w.«package») (AreOwn lendable) (package_accepted w.«package») m.«package» h.fields r x
   own_accepted h r (inr (inl x)) = some_accepted (refuses_dependencies (lent_dependencies w)) AreOwnDependencies (dependencies_accepted (lent_dependencies w)) m.dependencies h.dependencies r x
   own_accepted h r (inr (inr (inl x))) = some_accepted (refuses_dependencies (lent_dependencies w)) AreOwnDependencies (dependencies_accepted (lent_dependencies w)) m.dev_dependencies h.dev_dependencies r x
   own_accepted h r (inr (inr (inr (inl x)))) = some_accepted (refuses_dependencies (lent_dependencies w)) AreOwnDependencies (dependencies_accepted (lent_dependencies w)) m.build_dependencies h.build_dependencies r x

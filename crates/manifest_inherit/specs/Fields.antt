@@ -1,15 +1,16 @@
 -- The fields of a package that a workspace may lend.
 use Rattle.std.specs.Prelude.{Option, codes}
+use Rattle.std.specs.Option.{option_and_then}
 use Rattle.manifest_schema.specs.Paths.{Text}
 use Rattle.manifest_schema.specs.Kinds.{Inheritable}
 use Rattle.manifest_schema.specs.Contents.{Package, WorkspacePackage}
 
--- a field: its key, its content in a package, what a workspace lends for it, and the package with another content of it
+-- a field: its key, its content in a package, what a workspace lends for it by its `package`, where it has one, and the package with another content of it
 pub record Field : Type 1 where
   pub content : Type 0
   pub key : Text
   pub own : Package → Option (Inheritable content)
-  pub lent : WorkspacePackage → Option content
+  pub lent : Option WorkspacePackage → Option content
   pub with_content : Package → Option (Inheritable content) → Package
 
 infixr 40 ◌⨾◌
@@ -23,7 +24,7 @@ field {A = A} key own lent with_content = record {
   content = A;
   key = key;
   own = own;
-  lent = lent;
+  lent = option_and_then lent;
   with_content = with_content;
 }
 

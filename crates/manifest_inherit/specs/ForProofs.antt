@@ -1,16 +1,14 @@
 -- What the contracts of single steps cite. What a manifest becomes needs none of it: who reads for that may pass over this file.
-use Rattle.std.specs.Prelude.{◌≡◌, ℕ, suc, [], Option, option_map, unwrap_or, String}
+use Rattle.std.specs.Prelude.{◌≡◌, ℕ, suc, [], Option, Some, option_map, unwrap_or, String}
 use Rattle.std.specs.declared.alloc.Global.{Global}
 use Rattle.std.specs.BTreeMap.{BTreeMap}
 use Rattle.manifest_schema.specs.Kinds.{Entries}
 use Rattle.manifest_schema.specs.Contents.{Dependency, Lint, Package, WorkspacePackage, Manifest}
-use Rattle.manifest_schema.specs.Defaults.{no_workspace_package}
 use Rattle.manifest_value.specs.Entries.{entries_content}
 use Rattle.manifest_parts.specs.Records.{platform_content, lint_content}
 use Rattle.manifest_parts.specs.declared.dependency.Dependency.{Dependency as DependencyOfCode}
 use Rattle.manifest_parts.specs.declared.lints.Lint.{Lint as LintOfCode}
 use Rattle.manifest_tables.specs.Tables.{dependencies_content, workspace_package_content}
-use Rattle.manifest_tables.specs.declared.workspace.WorkspacePackage.{WorkspacePackage as WorkspacePackageOfCode}
 use Rattle.manifest_inherit.specs.Fields.{Fields, ◌⨾◌}
 use Rattle.manifest_inherit.specs.Resolved.{resolved_field, resolved_package, resolved_lints}
 use Rattle.manifest_inherit.specs.Refused.{Refusals, NoneHolds, refuses_field}
@@ -19,10 +17,6 @@ use Rattle.manifest_inherit.specs.declared.resolution.Made.{Made}
 -- none of these refusals holds, and what is made is what it has to become
 abbrev pub Accepted : {A : Type 0} → Refusals → A → A → Type 0
 Accepted refuses becomes made = NoneHolds refuses × (made ≡ becomes)
-
--- the fields that are lent, where there are any
-abbrev pub fields_of : Option WorkspacePackageOfCode → WorkspacePackage
-fields_of lent = unwrap_or (option_map workspace_package_content lent) no_workspace_package
 
 -- what a map of dependencies lends, where there is one
 abbrev pub lent_by_map : Option (BTreeMap (String Global) DependencyOfCode) → Entries Dependency
@@ -33,7 +27,7 @@ abbrev pub tools_content : BTreeMap (String Global) (BTreeMap (String Global) Li
 tools_content m = entries_content (λ l. entries_content lint_content l.entries) m.entries
 
 -- the first n fields are made: with them a package becomes what it becomes with those that are lent
-abbrev pub first_made : ℕ → Fields → Package → WorkspacePackage → WorkspacePackage → Type 0
+abbrev pub first_made : ℕ → Fields → Package → Option WorkspacePackage → Option WorkspacePackage → Type 0
 first_made (suc n) (f ⨾ fs) p w made =
     Accepted (refuses_field f.key (f.own p) (f.lent w))
     (resolved_field (f.own p) (f.lent w)) (resolved_field (f.own p) (f.lent made))
@@ -43,7 +37,7 @@ first_made _ _ p w made = Unit {0}
 -- a manifest with what is made in the place of what it inherits
 abbrev pub with_made : Made → Manifest → Manifest
 with_made made m = record m {
-  «package» = option_map (resolved_package (workspace_package_content made.fields)) m.«package»;
+  «package» = option_map (resolved_package (Some (workspace_package_content made.fields))) m.«package»;
   dependencies = option_map dependencies_content made.dependencies;
   dev_dependencies = option_map dependencies_content made.dev_dependencies;
   build_dependencies = option_map dependencies_content made.build_dependencies;

@@ -5,7 +5,7 @@ use Rattle.manifest_schema.specs.Kinds.{Inheritable, inherited, Entries}
 use Rattle.manifest_schema.specs.Forms.{none_named}
 use Rattle.manifest_schema.specs.Contents.{Dependency, by_workspace, Lint, Lints, Platform, Package, WorkspacePackage, Workspace, Manifest}
 use Rattle.manifest_inherit.specs.Fields.{Fields, no_more, ◌⨾◌, lendable}
-use Rattle.manifest_inherit.specs.Resolved.{lender, lent_fields, lent_dependencies}
+use Rattle.manifest_inherit.specs.Resolved.{lender, lent_dependencies}
 
 pub data Refusal : Type 0 where
   -- the workspace lends no field or dependency of this name, or no `lints`
@@ -30,7 +30,7 @@ abbrev pub refuses_field : {A : Type 0} → Text → Option (Inheritable A) → 
 refuses_field key (Some inherited) None r = r ≡ not_in_workspace key
 refuses_field key own lent r = ⊥
 
-abbrev pub refuses_fields : Fields → WorkspacePackage → Package → Refusals
+abbrev pub refuses_fields : Fields → Option WorkspacePackage → Package → Refusals
 refuses_fields no_more w p r = ⊥
 refuses_fields (f ⨾ fs) w p r = refuses_field f.key (f.own p) (f.lent w) r ⊎ refuses_fields fs w p r
 
@@ -87,7 +87,7 @@ refuses_some refuses (Some x) r = refuses x r
 -- ALL REFUSALS OF A MANIFEST over a workspace
 unfoldable pub refuses : Manifest → Workspace → Refusals
 refuses m w r =
-    refuses_some (refuses_fields lendable (lent_fields w)) m.«package» r
+    refuses_some (refuses_fields lendable w.«package») m.«package» r
     ⊎ refuses_some (refuses_dependencies (lent_dependencies w)) m.dependencies r
     ⊎ refuses_some (refuses_dependencies (lent_dependencies w)) m.dev_dependencies r
     ⊎ refuses_some (refuses_dependencies (lent_dependencies w)) m.build_dependencies r

@@ -7,7 +7,6 @@ use Rattle.std.specs.Str.{bytes_eq}
 use Rattle.manifest_schema.specs.Paths.{Text}
 use Rattle.manifest_schema.specs.Kinds.{Inheritable, inherited, local, Entries}
 use Rattle.manifest_schema.specs.Contents.{InheritedDependency, DependencyDetail, Dependency, simple, by_workspace, detailed, Lint, Lints, Platform, Package, WorkspacePackage, Workspace, Manifest}
-use Rattle.manifest_schema.specs.Defaults.{no_detail, no_workspace_package}
 use Rattle.manifest_parts.specs.Queries.{simplify}
 use Rattle.manifest_inherit.specs.Fields.{Fields, no_more, ◌⨾◌, lendable}
 
@@ -16,12 +15,12 @@ abbrev pub resolved_field : {A : Type 0} → Option (Inheritable A) → Option A
 resolved_field (Some inherited) (Some x) = Some (local x)
 resolved_field own lent = own
 
-abbrev pub resolved_fields : Fields → WorkspacePackage → Package → Package
+abbrev pub resolved_fields : Fields → Option WorkspacePackage → Package → Package
 resolved_fields no_more w p = p
 resolved_fields (f ⨾ fs) w p = f.with_content (resolved_fields fs w p) (resolved_field (f.own p) (f.lent w))
 
 -- A PACKAGE: its sixteen fields, and nothing else
-unfoldable pub resolved_package : WorkspacePackage → Package → Package
+unfoldable pub resolved_package : Option WorkspacePackage → Package → Package
 resolved_package w p = resolved_fields lendable w p
 
 -- A DEPENDENCY
@@ -31,7 +30,20 @@ lender lent name = lookup (bytes_eq name) lent
 
 -- a version alone is a detail that says no more
 abbrev pub version_alone : Text → DependencyDetail
-version_alone v = record no_detail { version = Some v }
+version_alone v = record {
+  version = Some v;
+  registry = None;
+  registry_index = None;
+  path = None;
+  git = None;
+  branch = None;
+  tag = None;
+  rev = None;
+  features = None;
+  «optional» = None;
+  default_features = None;
+  «package» = None;
+}
 
 -- the detail that it lends; what the workspace itself inherits it cannot lend
 abbrev pub lent_by : Option Dependency → Option DependencyDetail
@@ -95,17 +107,14 @@ resolved_lints_by inherits lent own = own
 abbrev pub resolved_lints : Option (Entries (Entries Lint)) → Lints → Lints
 resolved_lints lent own = resolved_lints_by own.workspace lent own
 
--- WHAT A WORKSPACE LENDS: the fields and the dependencies that it has
-abbrev pub lent_fields : Workspace → WorkspacePackage
-lent_fields w = unwrap_or w.«package» no_workspace_package
-
+-- the dependencies that a workspace lends
 abbrev pub lent_dependencies : Workspace → Entries Dependency
 lent_dependencies w = unwrap_or w.dependencies []
 
 -- THE RESOLVED MANIFEST; its `patch`, its own `workspace` and all else stay
 unfoldable pub resolved : Manifest → Workspace → Manifest
 resolved m w = record m {
-  «package» = option_map (resolved_package (lent_fields w)) m.«package»;
+  «package» = option_map (resolved_package w.«package») m.«package»;
   dependencies = option_map (resolved_dependencies (lent_dependencies w)) m.dependencies;
   dev_dependencies = option_map (resolved_dependencies (lent_dependencies w)) m.dev_dependencies;
   build_dependencies = option_map (resolved_dependencies (lent_dependencies w)) m.build_dependencies;

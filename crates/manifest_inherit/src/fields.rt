@@ -1,6 +1,6 @@
 //! The fields of a package that a workspace may lend.
 
-ghost use Rattle.std.specs.Prelude.{◌≡◌, OnOk, IfErr, option_map};
+ghost use Rattle.std.specs.Prelude.{◌≡◌, OnOk, IfErr, Some, option_map};
 ghost use Rattle.manifest_parts.specs.Parts.{inh_content};
 ghost use Rattle.manifest_tables.specs.Tables.{workspace_package_content, package_of};
 ghost use Rattle.manifest_inherit.specs.Fields.{lendable};
@@ -59,10 +59,11 @@ fn make_described<M: Metadata>(
     made: &mut WorkspacePackage,
 ) -> Result<(), ResolveError>
     ensures ok { let p = package_of M.kind M.content own.now in
-        let w = workspace_package_content lent.now in
-        OnOk result (first_made 8 lendable p w (workspace_package_content made.new)) }
+        let w = Some (workspace_package_content lent.now) in
+        OnOk result (first_made 8 lendable p w (Some (workspace_package_content made.new))) }
     ensures refused { let p = package_of M.kind M.content own.now in
-        IfErr result (RefusedIn (refuses_fields lendable (workspace_package_content lent.now) p)) }
+        let w = Some (workspace_package_content lent.now) in
+        IfErr result (RefusedIn (refuses_fields lendable w p)) }
 {
     make_field(
         alloc,
@@ -126,11 +127,12 @@ fn make_licensed<M: Metadata>(
     made: &mut WorkspacePackage,
 ) -> Result<(), ResolveError>
     ensures ok { let p = package_of M.kind M.content own.now in
-        let w = workspace_package_content lent.now in
-        OnOk result (first_made 8 lendable p w (workspace_package_content made.old)
-        → first_made 16 lendable p w (workspace_package_content made.new)) }
+        let w = Some (workspace_package_content lent.now) in
+        OnOk result (first_made 8 lendable p w (Some (workspace_package_content made.old))
+        → first_made 16 lendable p w (Some (workspace_package_content made.new))) }
     ensures refused { let p = package_of M.kind M.content own.now in
-        IfErr result (RefusedIn (refuses_fields lendable (workspace_package_content lent.now) p)) }
+        let w = Some (workspace_package_content lent.now) in
+        IfErr result (RefusedIn (refuses_fields lendable w p)) }
 {
     make_field(
         alloc,
@@ -199,11 +201,12 @@ pub(crate) fn make_fields<M: Metadata>(
     made: &mut WorkspacePackage,
 ) -> Result<(), ResolveError>
     ensures ok { let p = package_of M.kind M.content own.now in
-        let w = workspace_package_content lent.now in
+        let w = Some (workspace_package_content lent.now) in
         OnOk result (Accepted (refuses_fields lendable w p) (resolved_package w p)
-        (resolved_package (workspace_package_content made.new) p)) }
+        (resolved_package (Some (workspace_package_content made.new)) p)) }
     ensures refused { let p = package_of M.kind M.content own.now in
-        IfErr result (RefusedIn (refuses_fields lendable (workspace_package_content lent.now) p)) }
+        let w = Some (workspace_package_content lent.now) in
+        IfErr result (RefusedIn (refuses_fields lendable w p)) }
 {
     make_described(alloc, own, lent, made)?;
     make_licensed(alloc, own, lent, made)?;
@@ -231,7 +234,8 @@ fn put_field<T: Schema>(place: &mut Option<MaybeInherited<T>>, lent: Option<T>)
 #[tactic(auto, unfolding(crate::specs::Resolved::resolved_package, crate::specs::Fields::lendable))]
 pub(crate) fn put_fields<M: Metadata>(own: &mut Package<M>, lent: WorkspacePackage)
     ensures { package_of M.kind M.content own.new
-        ≡ resolved_package (workspace_package_content lent) (package_of M.kind M.content own.old) }
+        ≡ resolved_package (Some (workspace_package_content lent))
+        (package_of M.kind M.content own.old) }
 {
     let WorkspacePackage {
         edition,

@@ -1,13 +1,13 @@
 //! Resolving a manifest over the workspace that it belongs to.
 
-ghost use Rattle.std.specs.Prelude.{◌≡◌, OnOk, OnErr, IfOk, IfErr, option_map};
+ghost use Rattle.std.specs.Prelude.{◌≡◌, OnOk, OnErr, IfOk, IfErr, Some, option_map};
 ghost use Rattle.manifest_tables.specs.Tables.{workspace_package_content, package_of, workspace_of};
 ghost use Rattle.cargo_manifest.specs.Whole.{manifest_of};
 ghost use Rattle.manifest_inherit.specs.Fields.{lendable};
 ghost use Rattle.manifest_inherit.specs.Resolved.{resolved_package, resolved};
 ghost use Rattle.manifest_inherit.specs.Refused.{refuses_fields, refuses_some, refuses};
 ghost use Rattle.manifest_inherit.specs.Answers.{RefusedIn, Resolves};
-ghost use Rattle.manifest_inherit.specs.ForProofs.{Accepted, fields_of, with_made};
+ghost use Rattle.manifest_inherit.specs.ForProofs.{Accepted, with_made};
 
 use crate::error::ResolveError;
 use crate::fields::{make_fields, put_fields};
@@ -51,12 +51,12 @@ fn make_package<M: Metadata>(
     lent: &Option<WorkspacePackage>,
     made: &mut WorkspacePackage,
 ) -> Result<(), ResolveError>
-    ensures ok { let w = fields_of lent.now in
+    ensures ok { let w = option_map workspace_package_content lent.now in
         let o = option_map (package_of M.kind M.content) own.now in
         OnOk result (Accepted (refuses_some (refuses_fields lendable w) o)
         (option_map (resolved_package w) o)
-        (option_map (resolved_package (workspace_package_content made.new)) o)) }
-    ensures refused { let w = fields_of lent.now in
+        (option_map (resolved_package (Some (workspace_package_content made.new))) o)) }
+    ensures refused { let w = option_map workspace_package_content lent.now in
         let o = option_map (package_of M.kind M.content) own.now in
         IfErr result (RefusedIn (refuses_some (refuses_fields lendable w) o)) }
 {

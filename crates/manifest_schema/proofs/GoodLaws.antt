@@ -9,7 +9,6 @@ use Rattle.manifest_schema.specs.Choices.{edition, resolver, level, status, stri
 use Rattle.manifest_schema.specs.Contents.{Package, Workspace, Manifest, Profile, Profiles}
 use Rattle.manifest_schema.specs.PartForms.{texts, text_or_flag, publish, codegen, lint, inherited_rows, detailed_rows, dependency_table, dependency, product_rows, badge_rows, maintenance_rows, badges_rows, profile_rows, profiles_rows, lints_rows, platform_rows}
 use Rattle.manifest_schema.specs.ManifestForms.{package_rows, workspace_package_rows, workspace_rows, manifest_rows}
-use Rattle.manifest_schema.proofs.Exactly.{exactly_both}
 
 -- EVERYTHING OF THE KIND is well-formed
 pub record IsGood {A : Type 0} (K : Kind A) : Type 0 where
@@ -181,37 +180,6 @@ pub workspace_metadata_good : (K : Kind Data) (w : Workspace) → (form (workspa
 unfolding workspace_rows
 workspace_metadata_good K w g = assumption
 
--- A PROFILE is well-formed exactly if its kept values and its units of code generation are
-pub profile_good : (p : Profile) → good_some kept p.opt_level → good_some kept p.debug → good_some kept p.lto → good_some codegen p.codegen_units → good_entries kept p.«package» → good_some kept p.build_override → (form profile_rows).good p
-unfolding profile_rows
-profile_good p a b c u e d = search (some_good, text_good, flag_good, strip_good)
-
-pub profile_parts_good : (p : Profile) → (form profile_rows).good p
-    → good_some kept p.opt_level × good_some kept p.debug × good_some kept p.lto × good_entries kept p.«package» × good_some kept p.build_override
-unfolding profile_rows
-profile_parts_good p g = assumption
-
--- the same by two tests
-pub profile_exactly : (p : Profile) (settings overrides : Bool) → good_some codegen p.codegen_units
-    → (IsTrue settings ↔ ((good_some kept p.opt_level × good_some kept p.debug) × good_some kept p.lto))
-    → (IsTrue overrides ↔ (good_entries kept p.«package» × good_some kept p.build_override))
-    → (IsTrue (settings && overrides) ↔ (form profile_rows).good p)
-profile_exactly p settings overrides u s o = (
-  λ h. let (((a, b), l), (v, d)) = (exactly_both settings overrides s o).0 h in profile_good p a b l u v d,
-  λ g. let (a, b, l, v, d) = profile_parts_good p g in (exactly_both settings overrides s o).1 (((a, b), l), (v, d)),
-)
-
--- PROFILES are well-formed exactly if each that Cargo names is, and the others are, none of them named so
-pub profiles_exactly : (p : Profiles) (named customs : Bool)
-    → (IsTrue named ↔ (good_some (form profile_rows) p.release × good_some (form profile_rows) p.dev × good_some (form profile_rows) p.test × good_some (form profile_rows) p.bench × good_some (form profile_rows) p.doc))
-    → (IsTrue customs ↔ (IsTrue (none_named (codes "release" ∷ codes "dev" ∷ codes "test" ∷ codes "bench" ∷ codes "doc" ∷ []) p.custom) × good_entries (form profile_rows) p.custom))
-    → (IsTrue (named && customs) ↔ (form profiles_rows).good p)
-unfolding profiles_rows
-profiles_exactly p named customs n o = (
-  λ h. assumption ((exactly_both named customs n o).0 h),
-  λ g. (exactly_both named customs n o).1 assumption,
-)
-
 -- A MANIFEST is well-formed exactly if its package, its workspace, its profiles and its lints are
 pub manifest_good : (K W : Kind Data) (m : Manifest) → good_some (form (package_rows K)) m.«package» → good_some (form (workspace_rows W)) m.workspace → good_some (form profiles_rows) m.profile → good_some (form lints_rows) m.lints → (form (manifest_rows K W)).good m
 unfolding manifest_rows
@@ -221,13 +189,3 @@ pub manifest_parts_good : (K W : Kind Data) (m : Manifest) → (form (manifest_r
     → good_some (form (package_rows K)) m.«package» × good_some (form (workspace_rows W)) m.workspace × good_some (form profiles_rows) m.profile × good_some (form lints_rows) m.lints
 unfolding manifest_rows
 manifest_parts_good K W m g = assumption
-
--- the same by two tests
-pub manifest_exactly : (K W : Kind Data) (m : Manifest) (tables settings : Bool)
-    → (IsTrue tables ↔ (good_some (form (package_rows K)) m.«package» × good_some (form (workspace_rows W)) m.workspace))
-    → (IsTrue settings ↔ (good_some (form profiles_rows) m.profile × good_some (form lints_rows) m.lints))
-    → (IsTrue (tables && settings) ↔ (form (manifest_rows K W)).good m)
-manifest_exactly K W m tables settings t s = (
-  λ h. let ((a, b), (c, d)) = (exactly_both tables settings t s).0 h in manifest_good K W m a b c d,
-  λ g. let (a, b, c, d) = manifest_parts_good K W m g in (exactly_both tables settings t s).1 ((a, b), (c, d)),
-)

@@ -12,5 +12,4 @@ pub mod PartLaws
 pub mod ManifestLaws
 pub mod MeaningLaws
 pub mod GoodLaws
-pub mod Exactly
 pub mod FormerLaws

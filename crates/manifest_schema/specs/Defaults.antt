@@ -1,7 +1,7 @@
--- The records with nothing in them, and the product that a target begins as.
-use Rattle.std.specs.Prelude.{true, false, [], Some, None}
+-- The records with nothing in them that the worked examples are made of.
+use Rattle.std.specs.Prelude.{[], None}
 use Rattle.manifest_schema.specs.Paths.{Text}
-use Rattle.manifest_schema.specs.Contents.{InheritedDependency, DependencyDetail, e2015, Product, no_status, Badges, Profiles, Package, WorkspacePackage, Workspace, Manifest}
+use Rattle.manifest_schema.specs.Contents.{InheritedDependency, DependencyDetail, no_status, Badges, Package, Workspace, Manifest}
 
 -- a dependency that the workspace lends, and nothing else
 abbrev pub lent : InheritedDependency
@@ -24,23 +24,6 @@ no_detail = record {
   «package» = None;
 }
 
--- a target that is tested, benched and documented, of the edition 2015
-abbrev pub default_product : Product
-default_product = record {
-  path = None;
-  name = None;
-  test = true;
-  doctest = true;
-  bench = true;
-  doc = true;
-  plugin = false;
-  proc_macro = false;
-  harness = true;
-  edition = Some e2015;
-  required_features = [];
-  crate_type = None;
-}
-
 -- no badge, and no status
 abbrev pub no_badges : Badges
 no_badges = record {
@@ -53,17 +36,6 @@ no_badges = record {
   is_it_maintained_issue_resolution = None;
   is_it_maintained_open_issues = None;
   maintenance = record { status = no_status };
-}
-
--- profiles without any profile
-abbrev pub no_profiles : Profiles
-no_profiles = record {
-  release = None;
-  dev = None;
-  test = None;
-  bench = None;
-  doc = None;
-  custom = [];
 }
 
 -- a package of this name, and nothing else
@@ -97,27 +69,6 @@ named n = record {
   autobenches = None;
   publish = None;
   resolver = None;
-}
-
--- no field for a workspace to lend
-abbrev pub no_workspace_package : WorkspacePackage
-no_workspace_package = record {
-  edition = None;
-  version = None;
-  authors = None;
-  description = None;
-  homepage = None;
-  documentation = None;
-  readme = None;
-  keywords = None;
-  categories = None;
-  license = None;
-  license_file = None;
-  repository = None;
-  rust_version = None;
-  exclude = None;
-  include = None;
-  publish = None;
 }
 
 -- a workspace without members

@@ -1,16 +1,16 @@
 //! The package of a manifest.
 #![tactic(auto, unfolding(manifest_schema::specs::ManifestForms::package_rows))]
 
-ghost use Rattle.std.specs.Prelude.{◌≡◌, IfOk, IfErr, Some, string_bytes};
-ghost use Rattle.toml.specs.Data.{Data};
-ghost use Rattle.manifest_schema.specs.Kinds.{tree_of, local};
-ghost use Rattle.manifest_schema.specs.Defaults.{named};
+ghost use Rattle.std.specs.Prelude.{◌≡◌, IfOk, IfErr, Some, string_bytes, codes};
+ghost use Rattle.toml.specs.Data.{Data, string, no_members, member};
+ghost use Rattle.manifest_schema.specs.Kinds.{tree_of, kept};
+ghost use Rattle.manifest_schema.specs.Forms.{form};
 ghost use Rattle.manifest_schema.specs.Contents;
 ghost use Rattle.manifest_schema.specs.ManifestForms.{package_rows};
 ghost use Rattle.manifest_schema.proofs.KindLaws.{tree_lawful};
 ghost use Rattle.manifest_schema.proofs.ManifestLaws.{package_lawful};
 ghost use Rattle.manifest_value.specs.Faults.{FaultIn};
-ghost use Rattle.manifest_value.specs.Reading.{data_of, Reads};
+ghost use Rattle.manifest_value.specs.Reading.{data_of, Reads, IsOfTable};
 ghost use Rattle.manifest_parts.specs.Parts.{inh_content};
 ghost use Rattle.manifest_parts.specs.Queries.{version_of};
 ghost use Rattle.manifest_tables.specs.Tables.{package_content, package_of, package_form};
@@ -96,8 +96,9 @@ impl<M> Package<M> {
     /// ```
     pub fn new(name: String, version: String) -> Package<M>
         ensures { (f : M → Data)
-            → package_content f result
-            ≡ record (named (string_bytes name)) { version = Some (local (string_bytes version)) } }
+            → IsOfTable (package_rows kept) (package_content f)
+            (member (codes "name") (string (string_bytes name))
+            (member (codes "version") (string (string_bytes version)) no_members)) result }
     {
         Package {
             version: Some(MaybeInherited::Local(version)),
@@ -125,7 +126,9 @@ impl<M> Package<M> {
 
 /// A package of this name, and nothing else.
 fn named<M>(name: String) -> Package<M>
-    ensures { (f : M → Data) → package_content f result ≡ named (string_bytes name) }
+    ensures { (f : M → Data)
+        → IsOfTable (package_rows kept) (package_content f)
+        (member (codes "name") (string (string_bytes name)) no_members) result }
 {
     Package {
         name,

@@ -1,15 +1,15 @@
 //! The profiles of a manifest.
 #![tactic(auto, unfolding(manifest_schema::specs::PartForms::profiles_rows), using(manifest_value::proofs::Behind::form_refuses))]
 
-ghost use Rattle.std.specs.Prelude.{◌≡◌, IfOk, IfErr};
+ghost use Rattle.std.specs.Prelude.{IfOk, IfErr};
 ghost use Rattle.manifest_schema.specs.Forms.{form};
 ghost use Rattle.manifest_schema.specs.Contents;
-ghost use Rattle.manifest_schema.specs.Defaults.{no_profiles};
 ghost use Rattle.manifest_schema.specs.PartForms.{profiles_rows};
 ghost use Rattle.manifest_schema.proofs.PartLaws.{profiles_lawful};
 ghost use Rattle.manifest_value.specs.Faults.{FaultIn};
-ghost use Rattle.manifest_value.specs.Reading.{data_of, Reads};
+ghost use Rattle.manifest_value.specs.Reading.{data_of, Reads, IsOfTable};
 ghost use Rattle.manifest_tables.specs.Tables.{profiles_content};
+ghost use Rattle.toml.specs.Data.{no_members};
 
 use manifest_parts::Profile;
 use manifest_value::entries::map_of_entries;
@@ -49,7 +49,7 @@ impl Profiles {
     /// let profiles = Profiles::default(alloc);
     /// ```
     pub fn default(alloc: Global) -> Profiles
-        ensures { profiles_content result ≡ no_profiles }
+        ensures { IsOfTable profiles_rows profiles_content no_members result }
     {
         Profiles {
             release: None,

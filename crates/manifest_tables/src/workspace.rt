@@ -1,16 +1,15 @@
 //! The workspace of a manifest, and the package fields that members can inherit from it.
 #![tactic(auto, unfolding(manifest_schema::specs::ManifestForms::workspace_package_rows, manifest_schema::specs::ManifestForms::workspace_rows))]
 
-ghost use Rattle.std.specs.Prelude.{◌≡◌};
-ghost use Rattle.toml.specs.Data.{Data};
+ghost use Rattle.toml.specs.Data.{Data, no_members};
 ghost use Rattle.manifest_schema.specs.Forms.{form};
-ghost use Rattle.manifest_schema.specs.Kinds.{tree_of};
+ghost use Rattle.manifest_schema.specs.Kinds.{tree_of, kept};
 ghost use Rattle.manifest_schema.specs.Contents;
-ghost use Rattle.manifest_schema.specs.Defaults.{no_workspace_package, empty_workspace};
 ghost use Rattle.manifest_schema.specs.ManifestForms.{workspace_package_rows, workspace_rows};
 ghost use Rattle.manifest_schema.proofs.KindLaws.{tree_lawful};
 ghost use Rattle.manifest_schema.proofs.ManifestLaws.{workspace_package_lawful, workspace_lawful};
 ghost use Rattle.manifest_tables.specs.Tables.{workspace_package_content, workspace_content, workspace_of};
+ghost use Rattle.manifest_value.specs.Reading.{IsOfTable};
 
 use manifest_parts::{DepsSet, Edition, LintsSet, Publish, Resolver, StringOrBool};
 use manifest_value::form::{RowPut, RowRead, Rowed, Word};
@@ -119,7 +118,7 @@ impl Form for WorkspacePackage {
 
 /// No field at all.
 impl Default for WorkspacePackage {
-    ghost is_default = { λ x. workspace_package_content x ≡ no_workspace_package };
+    ghost is_default = { IsOfTable workspace_package_rows workspace_package_content no_members };
 
     fn default() -> WorkspacePackage {
         WorkspacePackage {
@@ -172,7 +171,8 @@ impl<M> Workspace<M> {
     /// let workspace = Workspace::<Value>::default(alloc);
     /// ```
     pub fn default(alloc: Global) -> Workspace<M>
-        ensures { (f : M → Data) → workspace_content f result ≡ empty_workspace }
+        ensures { (f : M → Data)
+            → IsOfTable (workspace_rows kept) (workspace_content f) no_members result }
     {
         Workspace {
             members: Vec::new(alloc),

@@ -2,10 +2,11 @@
 use Rattle.std.specs.Prelude.{String}
 use Rattle.std.specs.BTreeMap.{BTreeMap}
 use Rattle.std.specs.declared.alloc.Global.{Global}
-use Rattle.toml.specs.Data.{Data, table}
+use Rattle.toml.specs.Data.{Data, table, Members}
 use Rattle.toml.specs.View.{table_view}
 use Rattle.toml.specs.declared.value.Value.{Value}
 use Rattle.manifest_schema.specs.Kinds.{Kind}
+use Rattle.manifest_schema.specs.Forms.{Rows, form}
 
 -- the data that a table is
 abbrev pub data_of : BTreeMap (String Global) Value → Data
@@ -18,3 +19,7 @@ written_as K content x = K.written (content x)
 -- what x holds is what this kind reads of the data
 abbrev pub Reads : {X A : Type 0} → Kind A → (X → A) → Data → X → Type 0
 Reads K content d x = K.reads d (content x)
+
+-- what x holds is what this table means by these rows
+abbrev pub IsOfTable : {X A : Type 0} → Rows A → (X → A) → Members → X → Type 0
+IsOfTable rows content ms x = Reads (form rows) content (table ms) x
