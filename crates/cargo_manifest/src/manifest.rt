@@ -20,7 +20,7 @@ use manifest_parts::{
 use manifest_tables::{Package, Profiles, Workspace};
 use manifest_value::form::{RowPut, RowRead, Rowed, Word, write_form};
 use manifest_value::row_slots::RowSlot;
-use manifest_value::{Form, Metadata, Spellings, good_row_of, names_of_rows, put_row_of, read_row_of};
+use manifest_value::{Form, Metadata, Spellings, empty_of, good_row_of, names_of_rows, put_row_of, read_row_of};
 use std::alloc::{AllocError, Global};
 use toml::{Table, Value};
 
@@ -64,39 +64,6 @@ pub struct Manifest<P = Value, W = Value> {
     pub lints: Option<MaybeInheritedLintsSet>,
 }
 
-impl<P, W> Manifest<P, W> {
-    /// A manifest with nothing in it: every option is `None`, and every list is empty.
-    ///
-    /// ```ignore
-    /// let mut manifest = Manifest::<Value, Value>::default(alloc);
-    /// manifest.package = Some(package);
-    /// ```
-    pub fn default(alloc: Global) -> Manifest<P, W>
-        ensures { (f : P → Data) (g : W → Data)
-            → IsOfTable (manifest_rows kept kept) (manifest_content f g) no_members result }
-    {
-        Manifest {
-            package: None,
-            cargo_features: None,
-            workspace: None,
-            dependencies: None,
-            dev_dependencies: None,
-            build_dependencies: None,
-            target: None,
-            features: None,
-            bin: Vec::new(alloc),
-            bench: Vec::new(alloc),
-            test: Vec::new(alloc),
-            example: Vec::new(alloc),
-            patch: None,
-            lib: None,
-            profile: None,
-            badges: None,
-            lints: None,
-        }
-    }
-}
-
 /// The rows of a manifest.
 macro_rules! manifest {
     ($make:ident $given:tt) => {
@@ -123,6 +90,21 @@ macro_rules! manifest {
 }
 
 static MANIFEST: &[Spellings] = manifest!(names_of_rows());
+
+impl<P, W> Manifest<P, W> {
+    /// A manifest with nothing in it: every option is `None`, and every list is empty.
+    ///
+    /// ```ignore
+    /// let mut manifest = Manifest::<Value, Value>::default(alloc);
+    /// manifest.package = Some(package);
+    /// ```
+    pub fn default(alloc: Global) -> Manifest<P, W>
+        ensures { (f : P → Data) (g : W → Data)
+            → IsOfTable (manifest_rows kept kept) (manifest_content f g) no_members result }
+    {
+        manifest!(empty_of(Manifest, alloc, ()))
+    }
+}
 
 impl<P: Metadata, W: Metadata> Rowed for Manifest<P, W> {
     ghost Content = { Contents.Manifest };

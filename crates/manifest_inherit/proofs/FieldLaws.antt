@@ -1,13 +1,13 @@
 -- The fields of a package that a workspace may lend, by their table.
-use Rattle.std.proofs.Common.{◌≡◌, inl, inr, refl, sym, subst, Option, Some, None}
+use Rattle.std.proofs.Common.{◌≡◌, ℕ, zero, suc, inl, inr, refl, sym, subst, Option, Some, None}
 use Rattle.manifest_schema.specs.Paths.{Text}
 use Rattle.manifest_schema.specs.Kinds.{Inheritable, inherited, local}
 use Rattle.manifest_schema.specs.Contents.{Package, WorkspacePackage}
 use Rattle.manifest_inherit.specs.Fields.{Fields, no_more, ◌⨾◌, lendable}
 use Rattle.manifest_inherit.specs.Resolved.{resolved_field, resolved_fields, resolved_package}
-use Rattle.manifest_inherit.specs.Refused.{NoneHolds, not_in_workspace, refuses_field, refuses_fields}
+use Rattle.manifest_inherit.specs.Refused.{Refusal, NoneHolds, not_in_workspace, refuses_field, refuses_fields}
 use Rattle.manifest_inherit.specs.Own.{IsOwn, AreOwn}
-use Rattle.manifest_inherit.specs.ForProofs.{Accepted, first_made}
+use Rattle.manifest_inherit.specs.ForProofs.{how_many, refuses_at, first_lent}
 
 -- A FIELD
 field_own : {A : Type 0} (key : Text) (own : Option (Inheritable A)) (lent : Option A) → NoneHolds (refuses_field key own lent) → IsOwn (resolved_field own lent)
@@ -68,21 +68,21 @@ package_same = fields_same lendable all_kept
 pub package_accepted : (w : Option WorkspacePackage) (p : Package) → AreOwn lendable p → NoneHolds (refuses_fields lendable w p)
 package_accepted = fields_accepted lendable
 
--- WHAT IS MADE of the fields
-abbrev AllMade : Fields → Package → Option WorkspacePackage → Option WorkspacePackage → Type 0
-AllMade no_more p w made = Unit {0}
-AllMade (f ⨾ fs) p w made =
-    Accepted (refuses_field f.key (f.own p) (f.lent w)) (resolved_field (f.own p) (f.lent w)) (resolved_field (f.own p) (f.lent made)) × AllMade fs p w made
+-- WHAT IS LENT: one more field
+pub one_lent : (fs : Fields) (i : ℕ) (w : Option WorkspacePackage) (p : Package) → first_lent i fs w p → NoneHolds (refuses_at i fs w p) → first_lent (suc i) fs w p
+one_lent no_more i w p h n = tt
+one_lent (f ⨾ fs) zero w p h n = (n, tt)
+one_lent (f ⨾ fs) (suc i) w p h n = (h.0, one_lent fs i w p h.1 n)
 
-made_accepted : (fs : Fields) (p : Package) (w made : Option WorkspacePackage) → AllMade fs p w made → NoneHolds (refuses_fields fs w p)
-made_accepted no_more p w made h r x = x
-made_accepted (f ⨾ fs) p w made h r (inl x) = h.0.0 r x
-made_accepted (f ⨾ fs) p w made h r (inr x) = made_accepted fs p w made h.1 r x
+-- where what all fields inherit is lent, nothing is refused
+pub none_refused : (fs : Fields) (w : Option WorkspacePackage) (p : Package) → first_lent (how_many fs) fs w p → NoneHolds (refuses_fields fs w p)
+none_refused no_more w p h r x = x
+none_refused (f ⨾ fs) w p h r (inl x) = h.0 r x
+none_refused (f ⨾ fs) w p h r (inr x) = none_refused fs w p h.1 r x
 
-made_same : (fs : Fields) (p : Package) (w made : Option WorkspacePackage) → AllMade fs p w made → resolved_fields fs made p ≡ resolved_fields fs w p
-made_same no_more p w made h = refl
-made_same (f ⨾ fs) p w made h = rw (made_same fs p w made h.1, h.0.1) refl
-
-pub package_made : (p : Package) (w made : Option WorkspacePackage) → first_made 16 lendable p w made → Accepted (refuses_fields lendable w p) (resolved_package w p) (resolved_package made p)
-unfolding lendable resolved_package
-package_made p w made h = (made_accepted lendable p w made h, made_same lendable p w made h)
+-- what refuses a field refuses the package
+pub field_refused : (fs : Fields) (i : ℕ) (w : Option WorkspacePackage) (p : Package) (r : Refusal) → refuses_at i fs w p r → refuses_fields fs w p r
+field_refused no_more zero w p r x = x
+field_refused no_more (suc i) w p r x = x
+field_refused (f ⨾ fs) zero w p r x = inl x
+field_refused (f ⨾ fs) (suc i) w p r x = inr (field_refused fs i w p r x)

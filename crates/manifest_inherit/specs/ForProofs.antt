@@ -1,5 +1,5 @@
 -- What the contracts of single steps cite. What a manifest becomes needs none of it: who reads for that may pass over this file.
-use Rattle.std.specs.Prelude.{◌≡◌, ℕ, suc, [], Option, Some, option_map, unwrap_or, String}
+use Rattle.std.specs.Prelude.{◌≡◌, ℕ, zero, suc, [], Option, Some, option_map, unwrap_or, String}
 use Rattle.std.specs.declared.alloc.Global.{Global}
 use Rattle.std.specs.BTreeMap.{BTreeMap}
 use Rattle.manifest_schema.specs.Kinds.{Entries}
@@ -9,7 +9,7 @@ use Rattle.manifest_parts.specs.Records.{platform_content, lint_content}
 use Rattle.manifest_parts.specs.declared.dependency.Dependency.{Dependency as DependencyOfCode}
 use Rattle.manifest_parts.specs.declared.lints.Lint.{Lint as LintOfCode}
 use Rattle.manifest_tables.specs.Tables.{dependencies_content, workspace_package_content}
-use Rattle.manifest_inherit.specs.Fields.{Fields, ◌⨾◌}
+use Rattle.manifest_inherit.specs.Fields.{Fields, no_more, ◌⨾◌}
 use Rattle.manifest_inherit.specs.Resolved.{resolved_field, resolved_package, resolved_lints}
 use Rattle.manifest_inherit.specs.Refused.{Refusals, NoneHolds, refuses_field}
 use Rattle.manifest_inherit.specs.declared.resolution.Made.{Made}
@@ -26,13 +26,21 @@ lent_by_map lent = unwrap_or (option_map dependencies_content lent) []
 abbrev pub tools_content : BTreeMap (String Global) (BTreeMap (String Global) LintOfCode) → Entries (Entries Lint)
 tools_content m = entries_content (λ l. entries_content lint_content l.entries) m.entries
 
--- the first n fields are made: with them a package becomes what it becomes with those that are lent
-abbrev pub first_made : ℕ → Fields → Package → Option WorkspacePackage → Option WorkspacePackage → Type 0
-first_made (suc n) (f ⨾ fs) p w made =
-    Accepted (refuses_field f.key (f.own p) (f.lent w))
-    (resolved_field (f.own p) (f.lent w)) (resolved_field (f.own p) (f.lent made))
-    × first_made n fs p w made
-first_made _ _ p w made = Unit {0}
+-- how many fields there are
+abbrev pub how_many : Fields → ℕ
+how_many no_more = zero
+how_many (f ⨾ fs) = suc (how_many fs)
+
+-- the field at this place is inherited, and the workspace does not have it
+abbrev pub refuses_at : ℕ → Fields → Option WorkspacePackage → Package → Refusals
+refuses_at zero (f ⨾ fs) w p = refuses_field f.key (f.own p) (f.lent w)
+refuses_at (suc i) (f ⨾ fs) w p = refuses_at i fs w p
+refuses_at _ _ w p r = ⊥
+
+-- what the first n fields inherit is lent
+abbrev pub first_lent : ℕ → Fields → Option WorkspacePackage → Package → Type 0
+first_lent (suc n) (f ⨾ fs) w p = NoneHolds (refuses_field f.key (f.own p) (f.lent w)) × first_lent n fs w p
+first_lent _ _ w p = Unit {0}
 
 -- a manifest with what is made in the place of what it inherits
 abbrev pub with_made : Made → Manifest → Manifest

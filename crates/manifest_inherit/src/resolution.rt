@@ -10,7 +10,7 @@ ghost use Rattle.manifest_inherit.specs.Answers.{RefusedIn, Resolves};
 ghost use Rattle.manifest_inherit.specs.ForProofs.{Accepted, with_made};
 
 use crate::error::ResolveError;
-use crate::fields::{make_fields, put_fields};
+use crate::fields::{check_fields, put_fields};
 use crate::lints::{make_lints, put_lints};
 use crate::maps::make_map;
 use cargo_manifest::{
@@ -60,18 +60,19 @@ fn make_package<M: Metadata>(
         let o = option_map (package_of M.kind M.content) own.now in
         IfErr result (RefusedIn (refuses_some (refuses_fields lendable w) o)) }
 {
-    match own {
-        Some(own) => match lent {
-            Some(lent) => make_fields(alloc, own, lent, made),
-            None => {
-                let nothing = WorkspacePackage::default();
-                let answer = make_fields(alloc, own, &nothing, made);
-                drop(nothing);
-                answer
+    if let Some(own) = own {
+        match lent {
+            Some(lent) => {
+                check_fields(alloc, own, lent)?;
+                *made = copy_of(lent)?;
             }
-        },
-        None => Ok(()),
+            None => {
+                *made = WorkspacePackage::default();
+                check_fields(alloc, own, made)?;
+            }
+        }
     }
+    Ok(())
 }
 
 /// Puts everything that the manifest inherits, as it becomes, into its place.

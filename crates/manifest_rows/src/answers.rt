@@ -144,11 +144,7 @@ fn value_answer<T: Schema>(alloc: Global, text: &str) -> Result<String, Fail> {
 }
 
 /// Asserts of each row how its text is answered as a `T`.
-pub fn assert_values<T: Schema>(
-    rt: &impl Abort,
-    alloc: Global,
-    rows: &[Row],
-) -> Result<(), Fail> {
+pub fn assert_values<T: Schema>(rt: &impl Abort, alloc: Global, rows: &[Row]) -> Result<(), Fail> {
     for (text, answer) in rows {
         let expected = expected_of(alloc, *answer)?;
         assert_is(rt, value_answer::<T>(alloc, text), expected.as_str(), text)?;

@@ -185,11 +185,7 @@ fn others(
 type Refusal<'a> = (&'a str, &'a str, &'a str);
 
 /// What a form's entries are answered with: by the call of the type, or at a place of a document.
-fn answer<T: Schema>(
-    alloc: Global,
-    place: Option<&Place>,
-    entries: &str,
-) -> Result<String, Fail> {
+fn answer<T: Schema>(alloc: Global, place: Option<&Place>, entries: &str) -> Result<String, Fail> {
     match place {
         Some(place) => {
             let head = place.head;
@@ -318,12 +314,7 @@ impl Form<'_> {
     }
 
     /// Every trial of a row.
-    fn assert_row<T: Schema>(
-        &self,
-        rt: &impl Abort,
-        alloc: Global,
-        row: &Row,
-    ) -> Result<(), Fail> {
+    fn assert_row<T: Schema>(&self, rt: &impl Abort, alloc: Global, row: &Row) -> Result<(), Fail> {
         for (value, answer) in &cases_of(alloc, row.holds)? {
             self.assert_value::<T>(rt, alloc, row, row.key, value, *answer)?;
             if !row.second.is_empty() {
@@ -334,11 +325,7 @@ impl Form<'_> {
     }
 
     /// All rows, each with a value that is written.
-    fn assert_filled<T: Schema>(
-        &self,
-        rt: &impl Abort,
-        alloc: Global,
-    ) -> Result<(), Fail> {
+    fn assert_filled<T: Schema>(&self, rt: &impl Abort, alloc: Global) -> Result<(), Fail> {
         let mut entries = Entries::new(alloc);
         for line in self.rows {
             let row = row_of(line);
@@ -356,11 +343,7 @@ impl Form<'_> {
     }
 
     /// Keys that no row has, with a value of each kind: they are ignored.
-    fn assert_ignored<T: Schema>(
-        &self,
-        rt: &impl Abort,
-        alloc: Global,
-    ) -> Result<(), Fail> {
+    fn assert_ignored<T: Schema>(&self, rt: &impl Abort, alloc: Global) -> Result<(), Fail> {
         for value in VALUES {
             let mut entries = others(alloc, self.rows, "", self.besides())?;
             for line in self.rows {
@@ -371,11 +354,7 @@ impl Form<'_> {
         Ok(())
     }
 
-    fn assert_all<T: Schema>(
-        &self,
-        rt: &impl Abort,
-        alloc: Global,
-    ) -> Result<(), Fail> {
+    fn assert_all<T: Schema>(&self, rt: &impl Abort, alloc: Global) -> Result<(), Fail> {
         let mut has_map = false;
         for line in self.rows {
             let row = row_of(line);

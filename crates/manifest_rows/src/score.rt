@@ -9,7 +9,8 @@ use manifest_value::fault::here;
 use manifest_value::form::{RowPut, RowRead, Rowed, Word};
 use manifest_value::row_slots::RowSlot;
 use manifest_value::{
-    Cause, Form, Metadata, ReadFault, Schema, Source, Spellings, good_row_of, names_of_rows, put_row_of, read_row_of,
+    Cause, Form, Metadata, ReadFault, Schema, Source, Spellings, good_row_of, names_of_rows,
+    put_row_of, read_row_of,
 };
 use std::alloc::{AllocError, Global};
 use toml::{Table, Value};

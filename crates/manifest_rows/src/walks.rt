@@ -1,12 +1,12 @@
 //! A walk over a table, and the readers of its rows, by their names.
 use crate::answers::{assert_is, told};
+use manifest_value::entries::Key;
 use manifest_value::error::refusal;
-use manifest_value::entries::map_of_entries;
+use manifest_value::maps::map_of_entries;
 use manifest_value::row_readers::{
     read_default, read_lenient, read_lenient_default, read_optional, read_required, read_tree,
 };
-use manifest_value::row_slots::{RowSlot, slots_of};
-use manifest_value::{Schema, Slot, Source, Spellings, TableSource, spelled, walk};
+use manifest_value::{RowSlot, Schema, Source, Spellings, TableSource, Walk, spelled, walk};
 use std::alloc::Global;
 use std::process::Abort;
 use std::test::Fail;
@@ -17,39 +17,6 @@ static ROWS: [Spellings; 3] = spelled!["a-b" | "a_b", "c", "d"];
 
 /// A table that has both spellings of the first row, the second row, and a key that no row has.
 const ENTRIES: &str = "a-b = 1\na_b = 2\nz = 3\nc = 4";
-
-/// What stands in the slots, in their order.
-fn found(alloc: Global, slots: &[Slot<'_>]) -> Result<String, Fail> {
-    let mut text = String::new(alloc);
-    for slot in slots {
-        match slot {
-            Slot::Absent => text.push_str("absent;")?,
-            Slot::One { spelling, value } => {
-                text.push_str(spelling)?;
-                text.push_str(match value {
-                    Value::Integer(4) => " is 4;",
-                    _ => " is something else;",
-                })?;
-            }
-            Slot::Clash => text.push_str("clash;")?,
-        }
-    }
-    Ok(text)
-}
-
-const FOUND: &str = "clash;c is 4;absent;";
-
-#[test]
-fn a_walk_finds_the_rows_and_the_rest(rt: HostRuntime) -> Result<(), Fail> {
-    let alloc = rt.alloc();
-    let table = toml::table_from_str(alloc, ENTRIES)?;
-    let walk = walk(alloc, &table, &ROWS)?;
-    assert_is(&rt, found(alloc, walk.slots.as_slice()), FOUND, ENTRIES)?;
-    assert_eq!(rt; walk.rest.len(), 1);
-    assert_eq!(rt; walk.rest[0].0, "z");
-    assert!(rt; matches!(walk.rest[0].1, Value::Integer(3)));
-    Ok(())
-}
 
 /// What stands in the slots of rows, in their order, and whether it is lent or taken.
 fn slots_text(alloc: Global, slots: &[RowSlot<'_>]) -> Result<String, Fail> {
@@ -71,17 +38,35 @@ fn slots_text(alloc: Global, slots: &[RowSlot<'_>]) -> Result<String, Fail> {
     Ok(text)
 }
 
+/// Asserts what a walk finds of `ENTRIES`.
+fn assert_found(rt: &impl Abort, alloc: Global, walk: &Walk<'_>, slots: &str) -> Result<(), Fail> {
+    assert_is(rt, slots_text(alloc, walk.slots.as_slice()), slots, ENTRIES)?;
+    assert_eq!(rt; walk.rest.len(), 1);
+    let (key, value) = &walk.rest[0];
+    assert_eq!(rt; key.as_str(), "z");
+    assert!(rt; matches!(value.value(), Value::Integer(3)));
+    Ok(())
+}
+
 #[test]
-fn slots_of_a_table_that_is_taken_or_lent(rt: HostRuntime) -> Result<(), Fail> {
+fn a_walk_finds_the_rows_and_the_rest(rt: HostRuntime) -> Result<(), Fail> {
     let alloc = rt.alloc();
     let table = toml::table_from_str(alloc, ENTRIES)?;
-    let lent = slots_of(alloc, TableSource::Lent(&table), &ROWS)?;
-    let text = slots_text(alloc, lent.as_slice());
-    assert_is(&rt, text, "clash;c is a lent 4;absent;", ENTRIES)?;
+    let lent = walk(alloc, TableSource::Lent(&table), &ROWS)?;
+    assert_found(&rt, alloc, &lent, "clash;c is a lent 4;absent;")?;
     drop(lent);
-    let taken = slots_of(alloc, TableSource::Taken(table), &ROWS)?;
-    let text = slots_text(alloc, taken.as_slice());
-    assert_is(&rt, text, "clash;c is a taken 4;absent;", ENTRIES)
+    let taken = walk(alloc, TableSource::Taken(table), &ROWS)?;
+    assert_found(&rt, alloc, &taken, "clash;c is a taken 4;absent;")
+}
+
+#[test]
+fn a_key_that_is_lent_or_taken(rt: HostRuntime) -> Result<(), Fail> {
+    let alloc = rt.alloc();
+    let taken = Key::Taken(String::from_str(alloc, "serde")?);
+    assert_eq!(rt; taken.as_str(), "serde");
+    assert_eq!(rt; taken.into_string(alloc)?.as_str(), "serde");
+    assert_eq!(rt; Key::Lent("serde").into_string(alloc)?.as_str(), "serde");
+    Ok(())
 }
 
 #[test]
@@ -182,8 +167,8 @@ fn each_lenient_reader_passes_over_what_does_not_fit(rt: HostRuntime) -> Result<
 fn the_rest_of_a_walk_is_read_as_a_map(rt: HostRuntime) -> Result<(), Fail> {
     let alloc = rt.alloc();
     let table = toml::table_from_str(alloc, READ_FROM)?;
-    let walk = walk(alloc, &table, &READ)?;
-    match map_of_entries::<bool>(alloc, walk.rest.as_slice()) {
+    let walk = walk(alloc, TableSource::Lent(&table), &READ)?;
+    match map_of_entries::<bool>(alloc, walk.rest) {
         Ok(map) => {
             assert_eq!(rt; map.len(), 1);
             assert_eq!(rt; map.get("other").copied(), Some(true));

@@ -19,7 +19,7 @@ use manifest_parts::{Edition, MaybeInherited, Publish, Resolver, StringOrBool};
 use manifest_value::form::{RowPut, RowRead, Rowed, Word, read_form};
 use manifest_value::row_slots::RowSlot;
 use manifest_value::{
-    Form, Metadata, ReadFault, Spellings, TableSource, good_row_of, names_of_rows, put_row_of, read_row_of,
+    Form, Metadata, ReadFault, Spellings, TableSource, empty_of, good_row_of, names_of_rows, put_row_of, read_row_of,
 };
 use std::alloc::Global;
 use toml::{Table, Value};
@@ -87,6 +87,44 @@ pub struct Package<M = Value> {
     pub resolver: Option<Resolver>,
 }
 
+/// The rows of a package.
+macro_rules! package {
+    ($make:ident $given:tt) => {
+        $make! { $given
+            name: required "name";
+            edition: optional "edition";
+            version: optional "version";
+            build: optional "build";
+            workspace: optional "workspace";
+            authors: optional "authors";
+            links: optional "links";
+            description: optional "description";
+            homepage: optional "homepage";
+            documentation: optional "documentation";
+            readme: optional "readme";
+            keywords: optional "keywords";
+            categories: optional "categories";
+            license: optional "license";
+            license_file: optional "license-file";
+            repository: optional "repository";
+            metadata: tree "metadata";
+            rust_version: optional "rust-version";
+            exclude: optional "exclude";
+            include: optional "include";
+            default_run: optional "default-run";
+            autolib: optional "autolib";
+            autobins: optional "autobins";
+            autoexamples: optional "autoexamples";
+            autotests: optional "autotests";
+            autobenches: optional "autobenches";
+            publish: optional "publish";
+            resolver: optional "resolver";
+        }
+    };
+}
+
+static PACKAGE: &[Spellings] = package!(names_of_rows());
+
 impl<M> Package<M> {
     /// A package of this name and this version of its own, and nothing else.
     ///
@@ -130,75 +168,8 @@ fn named<M>(name: String) -> Package<M>
         → IsOfTable (package_rows kept) (package_content f)
         (member (codes "name") (string (string_bytes name)) no_members) result }
 {
-    Package {
-        name,
-        edition: None,
-        version: None,
-        build: None,
-        workspace: None,
-        authors: None,
-        links: None,
-        description: None,
-        homepage: None,
-        documentation: None,
-        readme: None,
-        keywords: None,
-        categories: None,
-        license: None,
-        license_file: None,
-        repository: None,
-        metadata: None,
-        rust_version: None,
-        exclude: None,
-        include: None,
-        default_run: None,
-        autolib: None,
-        autobins: None,
-        autoexamples: None,
-        autotests: None,
-        autobenches: None,
-        publish: None,
-        resolver: None,
-    }
+    package!(empty_of(Package, (), name))
 }
-
-/// The rows of a package.
-macro_rules! package {
-    ($make:ident $given:tt) => {
-        $make! { $given
-            name: required "name";
-            edition: optional "edition";
-            version: optional "version";
-            build: optional "build";
-            workspace: optional "workspace";
-            authors: optional "authors";
-            links: optional "links";
-            description: optional "description";
-            homepage: optional "homepage";
-            documentation: optional "documentation";
-            readme: optional "readme";
-            keywords: optional "keywords";
-            categories: optional "categories";
-            license: optional "license";
-            license_file: optional "license-file";
-            repository: optional "repository";
-            metadata: tree "metadata";
-            rust_version: optional "rust-version";
-            exclude: optional "exclude";
-            include: optional "include";
-            default_run: optional "default-run";
-            autolib: optional "autolib";
-            autobins: optional "autobins";
-            autoexamples: optional "autoexamples";
-            autotests: optional "autotests";
-            autobenches: optional "autobenches";
-            publish: optional "publish";
-            resolver: optional "resolver";
-        }
-    };
-}
-
-static PACKAGE: &[Spellings] = package!(names_of_rows());
 
 /// Reads a package from a table: the one reading of the table by the form of a package, as of a value that is this table.
 ///

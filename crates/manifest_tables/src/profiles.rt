@@ -7,19 +7,22 @@ ghost use Rattle.manifest_schema.specs.Contents;
 ghost use Rattle.manifest_schema.specs.PartForms.{profiles_rows};
 ghost use Rattle.manifest_schema.proofs.PartLaws.{profiles_lawful};
 ghost use Rattle.manifest_value.specs.Faults.{FaultIn};
-ghost use Rattle.manifest_value.specs.Reading.{data_of, Reads, IsOfTable};
+ghost use Rattle.manifest_value.specs.Reading.{Reads, IsOfTable};
+ghost use Rattle.manifest_value.specs.Sources.{table_source};
 ghost use Rattle.manifest_tables.specs.Tables.{profiles_content};
 ghost use Rattle.toml.specs.Data.{no_members};
 
 use manifest_parts::Profile;
-use manifest_value::entries::map_of_entries;
 use manifest_value::form::{
     RowPut, RowRead, Rowed, Word, put_rows, read_open, rows_are_well_formed,
 };
-use manifest_value::maps::entries_table;
+use manifest_value::maps::{entries_table, map_of_entries};
 use manifest_value::row_slots::RowSlot;
 use manifest_value::well_formed::{none_is_named, values_are_well_formed};
-use manifest_value::{ReadFault, Schema, Source, Spellings, good_row_of, names_of_rows, put_row_of, read_row_of, table};
+use manifest_value::{
+    ReadFault, Schema, Source, Spellings, TableSource, good_row_of, names_of_rows, put_row_of,
+    read_row_of,
+};
 use std::alloc::{AllocError, Global};
 use std::collections::BTreeMap;
 use toml::{Table, Value};
@@ -106,12 +109,14 @@ impl Rowed for Profiles {
 }
 
 /// Reads the profiles of a table: those that Cargo names, and of all other keys the custom ones.
-fn profiles_from(alloc: Global, table: &Table) -> Result<Profiles, ReadFault>
-    ensures ok { IfOk result (Reads (form profiles_rows) profiles_content (data_of table.now)) }
-    ensures fault { IfErr result (FaultIn ((form profiles_rows).faulty (data_of table.now))) }
+fn profiles_from(alloc: Global, table: TableSource<'_>) -> Result<Profiles, ReadFault>
+    ensures ok { IfOk result
+        (Reads (form profiles_rows) profiles_content (table_source table.entry)) }
+    ensures fault { IfErr result
+        (FaultIn ((form profiles_rows).faulty (table_source table.entry))) }
 {
     let (mut x, rest) = read_open::<Profiles>(alloc, table)?;
-    match map_of_entries(alloc, rest.as_slice()) {
+    match map_of_entries(alloc, rest) {
         Ok(custom) => {
             x.custom = custom;
             Ok(x)
@@ -128,7 +133,7 @@ impl Schema for Profiles {
     ghost kind = { form profiles_rows };
 
     fn read(alloc: Global, source: Source<'_>) -> Result<Profiles, ReadFault> {
-        profiles_from(alloc, table(alloc, source.value())?)
+        profiles_from(alloc, source.into_table(alloc)?)
     }
 
     fn to_value(&self, alloc: Global) -> Result<Value, AllocError> {

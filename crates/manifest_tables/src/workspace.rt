@@ -14,7 +14,7 @@ ghost use Rattle.manifest_value.specs.Reading.{IsOfTable};
 use manifest_parts::{DepsSet, Edition, LintsSet, Publish, Resolver, StringOrBool};
 use manifest_value::form::{RowPut, RowRead, Rowed, Word};
 use manifest_value::row_slots::RowSlot;
-use manifest_value::{Form, Metadata, Spellings, good_row_of, names_of_rows, put_row_of, read_row_of};
+use manifest_value::{Form, Metadata, Spellings, empty_of, good_row_of, names_of_rows, put_row_of, read_row_of};
 use std::alloc::Global;
 use toml::{Table, Value};
 
@@ -121,24 +121,7 @@ impl Default for WorkspacePackage {
     ghost is_default = { IsOfTable workspace_package_rows workspace_package_content no_members };
 
     fn default() -> WorkspacePackage {
-        WorkspacePackage {
-            edition: None,
-            version: None,
-            authors: None,
-            description: None,
-            homepage: None,
-            documentation: None,
-            readme: None,
-            keywords: None,
-            categories: None,
-            license: None,
-            license_file: None,
-            repository: None,
-            rust_version: None,
-            exclude: None,
-            include: None,
-            publish: None,
-        }
+        workspace_package!(empty_of(WorkspacePackage, (), ()))
     }
 }
 
@@ -164,29 +147,6 @@ pub struct Workspace<M = Value> {
     pub lints: Option<LintsSet>,
 }
 
-impl<M> Workspace<M> {
-    /// A workspace with nothing in it: no members, and every option is `None`.
-    ///
-    /// ```ignore
-    /// let workspace = Workspace::<Value>::default(alloc);
-    /// ```
-    pub fn default(alloc: Global) -> Workspace<M>
-        ensures { (f : M → Data)
-            → IsOfTable (workspace_rows kept) (workspace_content f) no_members result }
-    {
-        Workspace {
-            members: Vec::new(alloc),
-            default_members: None,
-            exclude: None,
-            resolver: None,
-            dependencies: None,
-            package: None,
-            metadata: None,
-            lints: None,
-        }
-    }
-}
-
 /// The rows of a workspace.
 macro_rules! workspace {
     ($make:ident $given:tt) => {
@@ -204,6 +164,20 @@ macro_rules! workspace {
 }
 
 static WORKSPACE: &[Spellings] = workspace!(names_of_rows());
+
+impl<M> Workspace<M> {
+    /// A workspace with nothing in it: no members, and every option is `None`.
+    ///
+    /// ```ignore
+    /// let workspace = Workspace::<Value>::default(alloc);
+    /// ```
+    pub fn default(alloc: Global) -> Workspace<M>
+        ensures { (f : M → Data)
+            → IsOfTable (workspace_rows kept) (workspace_content f) no_members result }
+    {
+        workspace!(empty_of(Workspace, alloc, ()))
+    }
+}
 
 impl<M: Metadata> Rowed for Workspace<M> {
     ghost Content = { Contents.Workspace };

@@ -1,17 +1,17 @@
 -- Entries that are read of the first members of a table: their keys ascend as the table's do.
-use Rattle.std.proofs.Common.{◌≡◌, Bool, true, false, List, [], ◌∷◌, String, Global, Less, nat_cmp, string_bytes, if◌then◌else◌, subst, ◌++◌, map, length, suc, ap, refl, inl, inr}
+use Rattle.std.proofs.Common.{◌≡◌, Bool, true, false, List, [], ◌∷◌, String, Global, Less, nat_cmp, string_bytes, if◌then◌else◌, subst, ◌++◌, map, length, Some, refl, inl, inr}
 use Rattle.std.specs.Cmp.Lexicographic.{slice_cmp}
 use Rattle.std.specs.List.{AllByRecursion}
 use Rattle.std.specs.List.Sorted.{IsStrictlySortedBy}
 use Rattle.std.specs.Map.{keys_of}
 use Rattle.std.specs.String.{string_cmp}
-use Rattle.toml.specs.Data.{Data, Members, no_members, member}
+use Rattle.toml.specs.Data.{Data, Items, no_items, item, get_item, Members, no_members, member}
 use Rattle.toml.specs.declared.value.Value.{Value}
-use Rattle.toml.specs.View.{view, items_view, members_view}
+use Rattle.toml.specs.View.{members_view}
 use Rattle.manifest_schema.specs.Paths.{Text}
 use Rattle.manifest_schema.specs.Slots.{is_among, without}
 use Rattle.manifest_schema.specs.Kinds.{Kind, Entries, has_entry, reads_items, reads_entries}
-use Rattle.manifest_value.specs.Entries.{entries_content, reads_first}
+use Rattle.manifest_value.specs.Entries.{entries_content, reads_first, reads_first_items}
 use Rattle.manifest_value.specs.Walks.{IsBelow, Ascend}
 
 -- one more entry is read
@@ -28,19 +28,22 @@ next_within K no_members (e ∷ es) k d rest h = absurd h
 next_within K (member l c ms) (e ∷ es) k d rest h = inr (next_within K ms es k d rest h.2)
 
 -- one more item is read
-pub items_more : {A X : Type 0} (K : Kind A) (f : X → A) (vs : List Value) (xs : List X) (v : Value) (x : X)
-    → reads_items K (items_view vs) (map f xs) → K.reads (view v) (f x) → reads_items K (items_view (vs ++ v ∷ [])) (map f (xs ++ x ∷ []))
-items_more K f [] [] v x h r = (r, tt)
-items_more K f [] (y ∷ xs) v x h r = absurd h
-items_more K f (w ∷ vs) [] v x h r = absurd h
-items_more K f (w ∷ vs) (y ∷ xs) v x h r = (h.0, items_more K f vs xs v x h.1 r)
+pub items_more : {A X : Type 0} (K : Kind A) (f : X → A) (ds : Items) (xs : List X) (x : X) (d : Data) (rest : Items)
+    → reads_first_items K ds (map f xs) (item d rest) → K.reads d (f x) → reads_first_items K ds (map f (xs ++ x ∷ [])) rest
+items_more K f ds [] x d rest h r = rw h (r, refl)
+items_more K f no_items (y ∷ xs) x d rest h r = absurd h
+items_more K f (item c ds) (y ∷ xs) x d rest h r = (h.0, items_more K f ds xs x d rest h.1 r)
 
--- as many are read as there are items
-pub items_many : {A X : Type 0} (K : Kind A) (f : X → A) (vs : List Value) (xs : List X) → reads_items K (items_view vs) (map f xs) → length vs ≡ length xs
-items_many K f [] [] h = refl
-items_many K f [] (y ∷ xs) h = absurd h
-items_many K f (w ∷ vs) [] h = absurd h
-items_many K f (w ∷ vs) (y ∷ xs) h = ap suc (items_many K f vs xs h.1)
+-- the next of those that are left stands behind those that are read
+pub next_item : {A X : Type 0} (K : Kind A) (f : X → A) (ds : Items) (xs : List X) (d : Data) (rest : Items) → reads_first_items K ds (map f xs) (item d rest) → get_item (length xs) ds ≡ Some d
+next_item K f ds [] d rest h = rw h refl
+next_item K f no_items (y ∷ xs) d rest h = absurd h
+next_item K f (item c ds) (y ∷ xs) d rest h = next_item K f ds xs d rest h.1
+
+pub no_item_left : {A : Type 0} (K : Kind A) (ds : Items) (xs : List A) → reads_first_items K ds xs no_items → reads_items K ds xs
+no_item_left K ds [] h = rw h tt
+no_item_left K no_items (x ∷ xs) h = absurd h
+no_item_left K (item d ds) (x ∷ xs) h = (h.0, no_item_left K ds xs h.1)
 
 -- where nothing is left, all are read
 pub none_left : {A : Type 0} (K : Kind A) (ms : Members) (es : Entries A) → reads_first K ms es no_members → reads_entries K ms es

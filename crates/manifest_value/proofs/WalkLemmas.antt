@@ -1,31 +1,23 @@
 -- A table with one more entry at its end, and what is found in it.
-use Rattle.std.proofs.Common.{◌≡◌, ℕ, zero, suc, Bool, true, false, not, ◌||◌, ◌⊎◌, if◌then◌else◌, List, [], ◌∷◌, Option, Some, None, Ordering, Less, Equal, Greater, nat_cmp, refl, sym, ap, ◌∙◌, subst, true≢false, inl, inr, ◌++◌, map, length, get_or, slice_set, bytes_eq, String, Global, string_bytes, Bor, ◌<◌, arith, ◌+◌, drop, drop-cons, add-one}
+use Rattle.std.proofs.Common.{◌≡◌, ℕ, zero, suc, Bool, true, false, not, ◌||◌, ◌⊎◌, if◌then◌else◌, List, [], ◌∷◌, Option, Some, None, Ordering, Less, Equal, Greater, nat_cmp, refl, sym, ap, ◌∙◌, subst, true≢false, inl, inr, ◌++◌, map, length, get_or, slice_set, bytes_eq, Bor, ◌<◌, arith, ◌+◌, drop, drop-cons, add-one}
 use Rattle.std.proofs.lemmas.Bool.{and_parts, or_parts, not-true, cases_Bool}
 use Rattle.std.specs.Cmp.Lexicographic.{slice_cmp}
 use Rattle.std.specs.Ordering.{match_ordering, ordering_reverse}
 use Rattle.std.proofs.lemmas.Cmp.{nat_list_cmp_total}
 use Rattle.std.proofs.lemmas.Map.Text.{is_eq-slice_cmp}
 use Rattle.std.proofs.lemmas.Slice.Eq.{bytes_eq-Decides}
-use Rattle.std.specs.List.Sorted.{IsStrictlySortedBy}
-use Rattle.std.specs.List.{AllByRecursion}
-use Rattle.std.specs.Map.{keys_of}
-use Rattle.std.specs.String.{string_cmp}
-use Rattle.toml.specs.View.{view, members_view}
-use Rattle.toml.specs.declared.value.Value.{Value}
 use Rattle.toml.specs.Data.{Data, Members, no_members, member, get_member, same_key}
-use Rattle.toml.proofs.Views.{Entry, with_last}
+use Rattle.toml.proofs.Views.{with_last}
 use Rattle.manifest_schema.specs.Paths.{Text}
 use Rattle.manifest_schema.specs.Slots.{Spellings, Slot, only, both, absent, slot_of_two, at, is_among, without}
 use Rattle.manifest_schema.specs.Forms.{spell, differ}
 use Rattle.manifest_schema.specs.ForProofs.{spellings_of}
 use Rattle.manifest_schema.proofs.TableLaws.{same_key-true, turned, get-member_other, get-member_same}
-use Rattle.manifest_value.specs.Walks.{spellings_view, all_words, distinct_words, slots_at, rest_view, filled, filled_at, is_word_at}
+use Rattle.manifest_value.specs.Walks.{spellings_view, all_words, distinct_words, slots_at, filled, filled_at, is_word_at, IsBelow, Ascend}
+use Rattle.manifest_value.specs.Sources.{key_view, source_view, rest_view}
+use Rattle.manifest_value.specs.declared.entries.Key.{Key}
+use Rattle.manifest_value.specs.declared.source.Source.{Source}
 use Rattle.manifest_value.specs.declared.spellings.Spellings.{Spellings as CodeSpellings}
-
-key_below : {X : Type 0} (first : String Global × X) (es : List (String Global × X)) (e : String Global × X) (more : List (String Global × X))
-    → AllByRecursion (λ y. string_cmp first.0 y ≡ Less) (keys_of (es ++ e ∷ more)) → string_cmp first.0 e.0 ≡ Less
-key_below first [] e more h = h.0
-key_below first (x ∷ es) e more h = key_below first es e more h.1
 
 -- ONE KEY
 pub get-last_other : (j k : Text) (d : Data) (ms : Members) → same_key j k ≡ false → get_member j (with_last ms k d) ≡ get_member j ms
@@ -208,19 +200,9 @@ without-last_other names k d (member l e ms) h = at_test (is_among names l) (wit
     at_test true ih = ih
     at_test false ih = ap (member l e) ih
 
--- THE REST OF A LIST
-abbrev pub Found : Type 0
-Found = Bor Text × Bor Value
-
-pub rest-drop : (es : List Found) (i : ℕ) (e : Found) → i < length es → rest_view (drop i es) ≡ member (get_or es i e).0.now (view (get_or es i e).1.now) (rest_view (drop (i + 1) es))
-rest-drop es i e h = rw (add-one, drop-cons es i e h) refl
-
-pub rest-drop_is : (es : List Found) (i : ℕ) (e : Found) → i < length es → e ≡ get_or es i e → rest_view (drop i es) ≡ member e.0.now (view e.1.now) (rest_view (drop (i + 1) es))
-rest-drop_is es i e h is = subst (λ x. rest_view (drop i es) ≡ member x.0.now (view x.1.now) (rest_view (drop (i + 1) es))) (sym is) (rest-drop es i e h)
-
-pub rest-last : (es : List (Bor Text × Bor Value)) (e : Bor Text × Bor Value) → rest_view (es ++ e ∷ []) ≡ with_last (rest_view es) e.0.now (view e.1.now)
+pub rest-last : (es : List (Key × Source)) (e : Key × Source) → rest_view (es ++ e ∷ []) ≡ with_last (rest_view es) (key_view e.0) (source_view e.1)
 rest-last [] e = refl
-rest-last (x ∷ es) e = ap (member x.0.now (view x.1.now)) (rest-last es e)
+rest-last (x ∷ es) e = ap (member (key_view x.0) (source_view x.1)) (rest-last es e)
 
 -- THE SLOTS OF A LIST
 pub filled_at-set : {X : Type 0} (f : X → Slot) (i : ℕ) (xs : List X) (x d0 : X) (k : Text) (d : Data) → f x ≡ filled (f (get_or xs i d0)) k d → i < length xs → map f (slice_set xs i x) ≡ filled_at i k d (map f xs)
@@ -235,20 +217,31 @@ drop-set zero (y ∷ xs) x = refl
 drop-set (suc i) (y ∷ xs) x = drop-set i xs x
 
 -- A KEY THAT IS ABOVE ALL BEFORE
-pub not_before : (done : List Entry) (e : Entry) (more : List Entry) → IsStrictlySortedBy string_cmp (keys_of (done ++ e ∷ more)) → get_member (string_bytes e.0) (members_view done) ≡ None
-unfolding IsStrictlySortedBy
-not_before [] e more h = refl
-not_before (x ∷ done) e more h =
-    let above : slice_cmp nat_cmp (string_bytes e.0) (string_bytes x.0) ≡ Greater = nat_list_cmp_total.antisymm (string_bytes e.0) (string_bytes x.0) ∙ ap ordering_reverse (key_below x done e more h.0) in
-    rw above (not_before done e more h.1)
+-- some members, and then others
+abbrev pub joined : Members → Members → Members
+joined no_members ns = ns
+joined (member k d ms) ns = member k d (joined ms ns)
+
+pub joined-none : (ms : Members) → joined ms no_members ≡ ms
+joined-none no_members = refl
+joined-none (member k d ms) = ap (member k d) (joined-none ms)
+
+pub joined-last : (ms : Members) (k : Text) (d : Data) (ns : Members) → joined (with_last ms k d) ns ≡ joined ms (member k d ns)
+joined-last no_members k d ns = refl
+joined-last (member l e ms) k d ns = ap (member l e) (joined-last ms k d ns)
+
+below_next : (l : Text) (done : Members) (k : Text) (d : Data) (more : Members) → IsBelow l (joined done (member k d more)) → slice_cmp nat_cmp l k ≡ Less
+below_next l no_members k d more h = h.0
+below_next l (member j e done) k d more h = below_next l done k d more h.1
+
+pub not_before : (done : Members) (k : Text) (d : Data) (more : Members) → Ascend (joined done (member k d more)) → get_member k done ≡ None
+not_before no_members k d more h = refl
+not_before (member l e done) k d more h =
+    let above : slice_cmp nat_cmp k l ≡ Greater = nat_list_cmp_total.antisymm k l ∙ ap ordering_reverse (below_next l done k d more h.0) in
+    rw above (not_before done k d more h.1)
 
 -- NAMES
 -- the first of the names from a place on, and the later ones
 pub among_at : (ns : List (Bor Text)) (i : ℕ) (n : Bor Text) (k : Text) → i < length ns
     → is_among (map (λ n. n.now) (drop i ns)) k ≡ (bytes_eq (get_or ns i n).now k || is_among (map (λ n. n.now) (drop (i + 1) ns)) k)
 among_at ns i n k h = rw (add-one, drop-cons ns i n, ← is_eq-slice_cmp (get_or ns i n).now k) refl
-
--- all entries are other entries, where no key is named
-pub without-none : (ms : Members) → without [] ms ≡ ms
-without-none no_members = refl
-without-none (member k d ms) = ap (member k d) (without-none ms)

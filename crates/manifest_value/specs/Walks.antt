@@ -1,18 +1,14 @@
 -- What a walk over a table finds, as the definitions see it.
 use Rattle.std.specs.Prelude.{◌≡◌, ℕ, zero, suc, Bool, true, false, ◌&&◌, List, [], ◌∷◌, Option, Some, None, option_copied}
-use Rattle.std.specs.Borrow.{Bor}
 use Rattle.std.specs.Cmp.Lexicographic.{slice_cmp}
 use Rattle.std.specs.Ordering.{nat_cmp}
 use Rattle.std.specs.declared.cmp.Ordering.TheVariants.{Less}
 use Rattle.toml.specs.Data.{Data, Members, no_members, member}
-use Rattle.toml.specs.declared.value.Value.{Value}
-use Rattle.toml.specs.View.{view}
 use Rattle.manifest_schema.specs.Paths.{Text}
 use Rattle.manifest_schema.specs.Slots.{Spellings, Slot, absent, one, clash, at, is_among}
 use Rattle.manifest_schema.specs.Forms.{Rows, ◌⨾◌, spell, differ}
 use Rattle.manifest_schema.specs.ForProofs.{spellings_of}
 use Rattle.manifest_value.specs.declared.spellings.Spellings.{Spellings as CodeSpellings}
-use Rattle.manifest_value.specs.declared.walked.Found.{Found}
 
 -- SPELLINGS
 -- the spellings of a row, as the definitions have them
@@ -41,16 +37,6 @@ is_word_at zero (s ∷ ss) k = is_among (spell s []) k
 is_word_at (suc i) (s ∷ ss) k = is_word_at i ss k
 
 -- SLOTS
--- what stands under the spellings of a row, as the definitions have it
-abbrev pub found_view : {V : Type 0} → (V → Data) → Found V → Slot
-found_view f Found.Absent = absent
-found_view f (Found.One s v) = one s.now (f v)
-found_view f Found.Clash = clash
-
--- the same, where the value is borrowed
-abbrev pub slot_view : Found (Bor Value) → Slot
-slot_view = found_view (λ v. view v.now)
-
 -- what a table holds for each row
 abbrev pub slots_at : List Spellings → Members → List Slot
 slots_at [] ms = []
@@ -73,12 +59,7 @@ filled_at i k d [] = []
 filled_at zero k d (s ∷ ss) = filled s k d ∷ ss
 filled_at (suc i) k d (s ∷ ss) = s ∷ filled_at i k d ss
 
--- THE REST
--- entries that are borrowed from a table
-abbrev pub rest_view : List (Bor Text × Bor Value) → Members
-rest_view [] = no_members
-rest_view (e ∷ es) = member e.0.now (view e.1.now) (rest_view es)
-
+-- THE ORDER OF KEYS
 -- the key is below each key of the members
 abbrev pub IsBelow : Text → Members → Type 0
 IsBelow k no_members = Unit {0}

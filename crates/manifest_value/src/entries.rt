@@ -1,59 +1,85 @@
-//! Maps of the entries that a walk left over.
+//! The entries of a table that is read, one after the other, whether it is lent or taken apart.
 
-ghost use Rattle.std.specs.Prelude.{◌≡◌, IfOk, IfErr};
-ghost use Rattle.toml.specs.Data.{no_members};
-ghost use Rattle.manifest_schema.specs.Kinds.{reads_entries, faulty_entry};
-ghost use Rattle.manifest_value.specs.Faults.{FaultIn};
-ghost use Rattle.manifest_value.specs.Entries.{entries_content, reads_first};
-ghost use Rattle.manifest_value.specs.Walks.{rest_view, Ascend};
+ghost use Rattle.std.specs.Prelude.{◌≡◌, IfOk, string_bytes};
+ghost use Rattle.std.specs.Iterator.{at_most};
+ghost use Rattle.manifest_value.specs.Sources.{key_view, entries_view, how_many, gives_entry};
 
-use crate::fault::ReadFault;
-use crate::maps::map_of_list;
-use crate::schema::Schema;
 use crate::source::Source;
-use crate::taken::read_entry;
-use std::alloc::Global;
-use std::collections::BTreeMap;
+use std::alloc::{AllocError, Global};
+use std::collections::btree_map::{IntoIter, Iter};
+use std::vec;
 use toml::Value;
 
-/// What is read of entries, in their order: the first fault is told where it is met.
-fn list_of_entries<T: Schema>(
-    alloc: Global,
-    rest: &[(&str, &Value)],
-) -> Result<Vec<(String, T)>, ReadFault>
-    ensures ok { IfOk result
-        (λ v. reads_first T.kind (rest_view rest.now) (entries_content T.content v.items)
-        no_members) }
-    ensures fault { IfErr result (FaultIn (faulty_entry T.kind (rest_view rest.now))) }
-{
-    let mut all = Vec::with_capacity(alloc, rest.len())?;
-    for i in 0..rest.len() {
-        let found = &rest[i];
-        let name = String::from_str(alloc, found.0)?;
-        match read_entry(alloc, name, Source::Lent(found.1)) {
-            Ok(entry) => all.push(entry)?,
-            Err(fault) => return Err(fault),
-        }
-    }
-    Ok(all)
+/// A key of a table that is read.
+#[derive(Drop)]
+pub enum Key<'t> {
+    /// The table stays where it is: the key is copied where it is kept.
+    Lent(&'t str),
+    /// The table is wanted by nobody else: the key is moved.
+    Taken(String),
 }
 
-/// The map of entries whose keys ascend, each value of one kind. The fault of the first entry that does not fit is told,
-/// with its key before the path. A key, an answer or the map that finds no room is want of memory.
-///
-/// ```ignore
-/// let rest = walk(alloc, table, &spelled!["release", "dev"])?.rest;
-/// let custom: BTreeMap<String, Profile> = map_of_entries(alloc, rest.as_slice())?;
-/// ```
-pub fn map_of_entries<T: Schema>(
-    alloc: Global,
-    rest: &[(&str, &Value)],
-) -> Result<BTreeMap<String, T>, ReadFault>
-    requires { Ascend (rest_view rest.now) }
-    ensures ok { IfOk result
-        (λ m. reads_entries T.kind (rest_view rest.now) (entries_content T.content m.entries)) }
-    ensures fault { IfErr result (FaultIn (faulty_entry T.kind (rest_view rest.now))) }
-{
-    let all = list_of_entries(alloc, rest)?;
-    Ok(map_of_list(alloc, all)?)
+impl Key<'_> {
+    /// The text of the key.
+    #[inline(always)]
+    pub fn as_str(&self) -> &str
+        ensures { result.now ≡ key_view self.now }
+    {
+        match self {
+            Key::Lent(text) => *text,
+            Key::Taken(text) => text.as_str(),
+        }
+    }
+
+    /// The key as a text of its own. It fails where the copy of a lent one finds no room, and only there.
+    ///
+    /// ```ignore
+    /// let name = Key::Lent("serde").into_string(alloc)?; // "serde"
+    /// ```
+    #[inline(always)]
+    pub fn into_string(self, alloc: Global) -> Result<String, AllocError>
+        ensures { IfOk result (λ s. string_bytes s ≡ key_view self.entry) }
+    {
+        match self {
+            Key::Lent(text) => String::from_str(alloc, text),
+            Key::Taken(text) => Ok(text),
+        }
+    }
+}
+
+/// A key of a table that is read, and its value.
+pub type Entry<'t> = (Key<'t>, Source<'t>);
+
+/// The entries of a table that is read, in the order of their keys.
+#[derive(Drop)]
+pub(crate) enum Entries<'t> {
+    /// All entries of a table that stays where it is.
+    Lent(Iter<'t, String, Value>),
+    /// All entries of a table that is taken apart.
+    Taken(IntoIter<String, Value, Global>),
+    /// Those that a walk left over.
+    Rest(vec::IntoIter<Entry<'t>, Global>),
+}
+
+impl<'t> Iterator for Entries<'t> {
+    type Item = Entry<'t>;
+
+    ghost next_gives = { gives_entry };
+
+    ghost remaining = { λ s. at_most (how_many (entries_view s)) };
+
+    #[inline(always)]
+    fn next(&mut self) -> Option<Entry<'t>> {
+        match self {
+            Entries::Lent(entries) => match entries.next() {
+                Some((key, value)) => Some((Key::Lent(key.as_str()), Source::Lent(value))),
+                None => None,
+            },
+            Entries::Taken(entries) => match entries.next() {
+                Some((key, value)) => Some((Key::Taken(key), Source::Taken(value))),
+                None => None,
+            },
+            Entries::Rest(entries) => entries.next(),
+        }
+    }
 }

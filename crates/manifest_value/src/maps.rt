@@ -1,21 +1,22 @@
 //! Maps by a text.
-ghost use Rattle.std.specs.Prelude.{◌≡◌, IfOk, IfErr};
+ghost use Rattle.std.specs.Prelude.{◌≡◌, IfOk, IfErr, string_bytes};
 ghost use Rattle.std.specs.List.Sorted.{IsStrictlySortedBy};
 ghost use Rattle.std.specs.Map.{keys_of};
 ghost use Rattle.std.specs.String.{string_cmp};
+ghost use Rattle.toml.specs.Data.{no_members};
 ghost use Rattle.toml.specs.View.{table_view};
 ghost use Rattle.manifest_value.specs.Faults.{FaultIn};
-ghost use Rattle.manifest_value.specs.Entries.{entries_content};
-ghost use Rattle.manifest_value.specs.Sources.{members_of};
-ghost use Rattle.manifest_schema.specs.Kinds.{Entries, map_of, reads_entries, written_entries, faulty_entry};
+ghost use Rattle.manifest_value.specs.Entries.{entries_content, reads_first};
+ghost use Rattle.manifest_value.specs.Sources.{source_view, members_of, key_view, rest_view, entries_view};
+ghost use Rattle.manifest_value.specs.Walks.{Ascend};
+ghost use Rattle.manifest_schema.specs.Paths.{behind, key as key_step};
+ghost use Rattle.manifest_schema.specs.Kinds.{Entries as Contents, map_of, reads_entries, written_entries, faulty_entry};
 ghost use Rattle.manifest_schema.proofs.KindLaws.{map_lawful};
 
-use crate::entries::map_of_entries;
+use crate::entries::{Entries, Entry, Key};
 use crate::fault::ReadFault;
 use crate::schema::Schema;
-use crate::source::{Source, TableSource};
-use crate::taken::taken_map;
-use crate::walking::walk;
+use crate::source::{Source, TableSource, source_under};
 use crate::well_formed::values_are_well_formed;
 use crate::writers::entries_by;
 use std::alloc::{AllocError, Global};
@@ -38,13 +39,75 @@ pub fn map_of_list<X: Drop>(
     BTreeMap::from_iter(alloc, all)
 }
 
-/// The entries of a table that stays where it is, each of one kind.
-fn lent_map<T: Schema>(alloc: Global, table: &Table) -> Result<BTreeMap<String, T>, ReadFault>
-    ensures ok { IfOk result
-        (λ m. reads_entries T.kind (table_view table.now) (entries_content T.content m.entries)) }
-    ensures fault { IfErr result (FaultIn (faulty_entry T.kind (table_view table.now))) }
+/// The key, and what is read of the value, with the key before the path of a fault.
+#[inline(always)]
+fn read_entry<T: Schema>(
+    alloc: Global,
+    key: Key<'_>,
+    source: Source<'_>,
+) -> Result<(String, T), ReadFault>
+    ensures ok { IfOk result (λ e. (string_bytes e.0 ≡ key_view key.entry)
+        × T.kind.reads (source_view source.entry) (T.content e.1)) }
+    ensures fault { IfErr result (FaultIn
+        (behind (key_step (key_view key.entry)) (T.kind.faulty (source_view source.entry)))) }
 {
-    map_of_entries(alloc, walk(alloc, table, &[])?.rest.as_slice())
+    let name = key.into_string(alloc)?;
+    let x = source_under(alloc, source, name.as_str())?;
+    Ok((name, x))
+}
+
+/// What is read of entries, in their order: the first fault is told where it is met.
+fn list_of_entries<T: Schema>(
+    alloc: Global,
+    room: usize,
+    entries: Entries<'_>,
+) -> Result<Vec<(String, T)>, ReadFault>
+    ensures ok { IfOk result (λ v. reads_first T.kind (entries_view entries.entry)
+        (entries_content T.content v.items) no_members) }
+    ensures fault { IfErr result (FaultIn (faulty_entry T.kind (entries_view entries.entry))) }
+{
+    let mut all = Vec::with_capacity(alloc, room)?;
+    for (key, source) in entries {
+        match read_entry(alloc, key, source) {
+            Ok(entry) => all.push(entry)?,
+            Err(fault) => return Err(fault),
+        }
+    }
+    Ok(all)
+}
+
+/// The map of entries whose keys ascend, each value of one kind.
+fn map_read<T: Schema>(
+    alloc: Global,
+    room: usize,
+    entries: Entries<'_>,
+) -> Result<BTreeMap<String, T>, ReadFault>
+    requires { Ascend (entries_view entries) }
+    ensures ok { IfOk result (λ m. reads_entries T.kind (entries_view entries.entry)
+        (entries_content T.content m.entries)) }
+    ensures fault { IfErr result (FaultIn (faulty_entry T.kind (entries_view entries.entry))) }
+{
+    let all = list_of_entries(alloc, room, entries)?;
+    Ok(map_of_list(alloc, all)?)
+}
+
+/// The map of entries whose keys ascend, each value of one kind. The fault of the first entry that does not fit is told,
+/// with its key before the path. A key, an answer or the map that finds no room is want of memory.
+///
+/// ```ignore
+/// let rest = walk(alloc, table, &spelled!["release", "dev"])?.rest;
+/// let custom: BTreeMap<String, Profile> = map_of_entries(alloc, rest)?;
+/// ```
+pub fn map_of_entries<T: Schema>(
+    alloc: Global,
+    rest: Vec<Entry<'_>>,
+) -> Result<BTreeMap<String, T>, ReadFault>
+    requires { Ascend (rest_view rest.items) }
+    ensures ok { IfOk result (λ m. reads_entries T.kind (rest_view rest.entry.items)
+        (entries_content T.content m.entries)) }
+    ensures fault { IfErr result (FaultIn (faulty_entry T.kind (rest_view rest.entry.items))) }
+{
+    map_read(alloc, rest.len(), Entries::Rest(rest.into_iter()))
 }
 
 /// The entries of a table, each of one kind.
@@ -56,10 +119,8 @@ fn map_from<T: Schema>(
         (entries_content T.content m.entries)) }
     ensures fault { IfErr result (FaultIn (faulty_entry T.kind (members_of table.entry))) }
 {
-    match table {
-        TableSource::Lent(table) => lent_map(alloc, table),
-        TableSource::Taken(table) => taken_map(alloc, table),
-    }
+    let room = table.table().len();
+    map_read(alloc, room, table.entries())
 }
 
 /// The table of a map.
@@ -78,7 +139,7 @@ pub fn entries_table<T: Schema>(
 }
 
 impl<T: Schema> Schema for BTreeMap<String, T> {
-    ghost Content = { Entries T.Content };
+    ghost Content = { Contents T.Content };
 
     ghost content = { λ m. entries_content T.content m.entries };
 

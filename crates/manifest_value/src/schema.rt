@@ -10,12 +10,11 @@ ghost use Rattle.manifest_value.specs.Reading.{Reads};
 ghost use Rattle.manifest_value.specs.Refusals.{RefusedIn, TellsSchema};
 ghost use Rattle.manifest_value.specs.Sources.{source_view};
 
-use crate::closures::list_of;
 use crate::error::{Error, refusal};
 use crate::fault::{Cause, ReadFault, here};
+use crate::items::{Items, read_items};
 use crate::readers::{boolean, text};
 use crate::source::Source;
-use crate::taken::taken_items;
 use crate::well_formed::items_are_well_formed;
 use crate::writers::{write_list, write_text};
 use std::alloc::{AllocError, Global};
@@ -130,9 +129,13 @@ impl<T: Schema> Schema for Vec<T> {
 
     fn read(alloc: Global, source: Source<'_>) -> Result<Vec<T>, ReadFault> {
         match source {
-            Source::Taken(Value::Array(items)) => taken_items(alloc, items),
-            Source::Taken(_) => Err(here(alloc, Cause::WrongKind)),
-            Source::Lent(value) => list_of(alloc, value, |item| T::read(alloc, Source::Lent(item))),
+            Source::Lent(Value::Array(items)) => {
+                read_items(alloc, items.len(), Items::Lent(items.iter()))
+            }
+            Source::Taken(Value::Array(items)) => {
+                read_items(alloc, items.len(), Items::Taken(items.into_iter()))
+            }
+            _ => Err(here(alloc, Cause::WrongKind)),
         }
     }
 

@@ -5,8 +5,10 @@ ghost use Rattle.toml.specs.View.{view};
 ghost use Rattle.manifest_schema.specs.Paths.{behind, key};
 ghost use Rattle.manifest_value.specs.Faults.{FaultIn, no_table};
 ghost use Rattle.manifest_value.specs.Reading.{Reads, data_of};
-ghost use Rattle.manifest_value.specs.Sources.{source_view, table_source};
+ghost use Rattle.manifest_value.specs.Sources.{source_view, members_of, table_source, entries_view};
+ghost use Rattle.manifest_value.specs.Walks.{Ascend};
 
+use crate::entries::Entries;
 use crate::fault::{Cause, ReadFault, here, under_key};
 use crate::schema::Schema;
 use std::alloc::Global;
@@ -26,7 +28,7 @@ pub enum Source<'t> {
 pub enum TableSource<'t> {
     /// It stays where it is: what its values hold is copied.
     Lent(&'t Table),
-    /// It is wanted by nobody else: what its values hold is moved, and every key that no row names is dropped.
+    /// It is wanted by nobody else: what its keys and values hold is moved.
     Taken(Table),
 }
 
@@ -70,6 +72,18 @@ impl<'t> TableSource<'t> {
         match self {
             TableSource::Lent(table) => *table,
             TableSource::Taken(table) => table,
+        }
+    }
+
+    /// The entries of the table, in the order of their keys.
+    #[inline(always)]
+    pub(crate) fn entries(self) -> Entries<'t>
+        ensures all { entries_view result ≡ members_of self.entry }
+        ensures in_order { Ascend (members_of self.entry) }
+    {
+        match self {
+            TableSource::Lent(table) => Entries::Lent(table.iter()),
+            TableSource::Taken(table) => Entries::Taken(table.into_iter()),
         }
     }
 }

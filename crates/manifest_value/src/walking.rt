@@ -1,16 +1,16 @@
 //! One walk over a table.
 
 ghost use Rattle.std.specs.Prelude.{◌≡◌, ◌<◌, true, false, [], IsTrue, map, length, IfOk, MatchOption};
-ghost use Rattle.toml.specs.Data.{Data, no_members};
-ghost use Rattle.toml.specs.View.{table_view};
+ghost use Rattle.toml.specs.Data.{no_members};
 ghost use Rattle.manifest_schema.specs.Slots.{is_among, without};
 ghost use Rattle.manifest_schema.specs.Forms.{spell};
-ghost use Rattle.manifest_value.specs.Walks.{spellings_view, all_words, distinct_words, is_word_at, found_view, slot_view, slots_at, filled, filled_at, rest_view, Ascend};
+ghost use Rattle.manifest_value.specs.Sources.{source_view, members_of, row_view, rest_view};
+ghost use Rattle.manifest_value.specs.Walks.{spellings_view, all_words, distinct_words, is_word_at, slots_at, filled, filled_at, Ascend};
 
+use crate::row_slots::{RowSlot, Walk};
+use crate::source::{Source, TableSource};
 use crate::spellings::Spellings;
-use crate::walked::{Found, Walk};
 use std::alloc::{AllocError, Global};
-use toml::Table;
 
 /// The spelling that the key is, if it is one of the row.
 #[inline(always)]
@@ -44,75 +44,73 @@ pub(crate) fn row_of(rows: &[Spellings], key: &str) -> Option<(usize, &'static s
 }
 
 /// Slots in which nothing is found yet.
-pub(crate) fn empty_slots<V: Drop>(
-    alloc: Global,
-    rows: &[Spellings],
-) -> Result<Vec<Found<V>>, AllocError>
-    ensures views { IfOk result (λ v. (f : V → Data) → map (found_view f) v.items
-        ≡ slots_at (map spellings_view rows.now) no_members) }
+fn empty_slots<'t>(alloc: Global, rows: &[Spellings]) -> Result<Vec<RowSlot<'t>>, AllocError>
+    ensures views { IfOk result
+        (λ v. map row_view v.items ≡ slots_at (map spellings_view rows.now) no_members) }
     ensures many { IfOk result (λ v. length v.items ≡ length rows.now) }
 {
     let mut slots = Vec::with_capacity(alloc, rows.len())?;
     for _row in rows {
-        slots.push(Found::Absent)?;
+        slots.push(RowSlot::Absent)?;
     }
     Ok(slots)
 }
 
 /// A slot in which one more value is found: a second one clashes with the first.
 #[inline(always)]
-fn filled<V: Drop>(slot: &Found<V>, spelling: &'static str, value: V) -> Found<V>
-    ensures { (f : V → Data) → found_view f result
-        ≡ filled (found_view f slot.now) spelling.now (f value) }
+fn filled<'t>(slot: &RowSlot<'t>, spelling: &'static str, value: Source<'t>) -> RowSlot<'t>
+    ensures { row_view result ≡ filled (row_view slot.now) spelling.now (source_view value.entry) }
 {
     match slot {
-        Found::Absent => Found::One { spelling, value },
-        Found::One { .. } => Found::Clash,
-        Found::Clash => Found::Clash,
+        RowSlot::Absent => RowSlot::One { spelling, value },
+        RowSlot::One { .. } => RowSlot::Clash,
+        RowSlot::Clash => RowSlot::Clash,
     }
 }
 
 /// Finds one more value in a slot of a list.
 #[inline(always)]
-pub(crate) fn fill_slot<V: Drop>(
-    slots: &mut Vec<Found<V>>,
-    i: usize,
-    spelling: &'static str,
-    value: V,
-)
+fn fill_slot<'t>(slots: &mut Vec<RowSlot<'t>>, i: usize, spelling: &'static str, value: Source<'t>)
     requires { i < length slots.now.items }
-    ensures views { (f : V → Data) → map (found_view f) slots.new.items
-        ≡ filled_at i spelling.now (f value) (map (found_view f) slots.old.items) }
+    ensures views { map row_view slots.new.items
+        ≡ filled_at i spelling.now (source_view value.entry) (map row_view slots.old.items) }
     ensures many { length slots.new.items ≡ length slots.old.items }
 {
     slots[i] = filled(&slots[i], spelling, value);
 }
 
-/// Walks once over a table: what it holds under the spellings of each row, and all other keys. Nothing of the table is
-/// copied, and the values are not looked at.
+/// Walks once over a table: what it holds under the spellings of each row, and all other keys. Nothing of a table that is
+/// lent is copied, what one that is taken holds is moved, and the values are not looked at.
 ///
 /// All spellings of the rows have to differ, which asks nothing where there is no row. It fails where the slots or the
 /// list of the other keys find no room, and only there.
 ///
 /// ```ignore
-/// let walk = walk(alloc, table, &spelled!["name", "proc-macro" | "proc_macro"])?;
-/// let is_there = matches!(walk.slots[0], Slot::One { .. });
+/// let rows = spelled!["name", "proc-macro" | "proc_macro"];
+/// let walk = walk(alloc, TableSource::Lent(table), &rows)?;
+/// let is_there = matches!(walk.slots[0], RowSlot::One { .. });
 /// ```
-pub fn walk<'a>(alloc: Global, table: &'a Table, rows: &[Spellings]) -> Result<Walk<'a>, AllocError>
+pub fn walk<'t>(
+    alloc: Global,
+    table: TableSource<'t>,
+    rows: &[Spellings],
+) -> Result<Walk<'t>, AllocError>
     requires { IsTrue (distinct_words (map spellings_view rows.now)) }
-    ensures slots { IfOk result (λ w. map slot_view w.slots.items
-        ≡ slots_at (map spellings_view rows.now) (table_view table.now)) }
+    ensures slots { IfOk result (λ w. map row_view w.slots.items
+        ≡ slots_at (map spellings_view rows.now) (members_of table.entry)) }
     ensures rest { IfOk result (λ w. rest_view w.rest.items
-        ≡ without (all_words (map spellings_view rows.now)) (table_view table.now)) }
+        ≡ without (all_words (map spellings_view rows.now)) (members_of table.entry)) }
     ensures in_order { IfOk result (λ w. Ascend (rest_view w.rest.items)) }
 {
-    let _ascending = table.len();
     let mut slots = empty_slots(alloc, rows)?;
     let mut rest = Vec::new(alloc);
-    for (key, value) in table.iter() {
+    for (key, value) in table.entries() {
         match row_of(rows, key.as_str()) {
-            Some((i, spelling)) => fill_slot(&mut slots, i, spelling, value),
-            None => rest.push((key.as_str(), value))?,
+            Some((i, spelling)) => {
+                fill_slot(&mut slots, i, spelling, value);
+                drop(key);
+            }
+            None => rest.push((key, value))?,
         }
     }
     Ok(Walk { slots, rest })

@@ -1,4 +1,4 @@
-use Rattle.std.proofs.Common.{◌≡◌, ◌<◌, IsTrue, false, refl, arith, add-one, subst}
+use Rattle.std.proofs.Common.{◌≡◌, IsTrue, false, refl, arith, add-one, subst}
 use Rattle.manifest_value.specs.FormRows.{many, first_good}
 use Rattle.manifest_value.proofs.FormLemmas.{as_many, one_good, row_good}
 use Rattle.manifest_value.proofs.form.rows_are_well_formed.Goals as goal
@@ -10,9 +10,9 @@ row_is_well_formed-requires g c =
 
 pub returns-then-not-row_is_well_formed : goal.returns-then-not-row_is_well_formed
 returns-then-not-row_is_well_formed g c = (
-      λ e. absurd (never e),
-      λ all. c.if-not-row_is_well_formed.ensures.1 (row_good g.T.Rowed.rows c.loop-i.i (g.T.Rowed.content c.args.x.now) all),
-    )
+  λ e. absurd (never e),
+  λ all. c.if-not-row_is_well_formed.ensures.1 (row_good g.T.Rowed.rows c.loop-i.i (g.T.Rowed.content c.args.x.now) all),
+)
   where
     never : IsTrue false → ⊥
     never e = cc

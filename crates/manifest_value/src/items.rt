@@ -1,0 +1,83 @@
+//! The items of a list that is read, one after the other, whether it is lent or taken apart.
+
+ghost use Rattle.std.specs.Prelude.{map, IfOk, IfErr};
+ghost use Rattle.std.specs.Iterator.{YieldsFirstBy, item_count};
+ghost use Rattle.toml.specs.View.{items_view};
+ghost use Rattle.manifest_schema.specs.Kinds.{reads_items, faulty_item};
+ghost use Rattle.manifest_schema.specs.Paths.{behind, index};
+ghost use Rattle.manifest_value.specs.Faults.{FaultIn};
+ghost use Rattle.manifest_value.specs.Reading.{Reads};
+ghost use Rattle.manifest_value.specs.Sources.{source_value, source_view, items_left};
+
+use crate::fault::{ReadFault, Step, prefixed};
+use crate::schema::Schema;
+use crate::source::Source;
+use std::alloc::Global;
+use std::{slice, vec};
+use toml::Value;
+
+/// The items of a list that is read, in their order.
+#[derive(Drop)]
+pub(crate) enum Items<'t> {
+    /// Those of a list that stays where it is.
+    Lent(slice::Iter<'t, Value>),
+    /// Those of a list that is taken apart: each value is gone once it is read.
+    Taken(vec::IntoIter<Value, Global>),
+}
+
+impl<'t> Iterator for Items<'t> {
+    type Item = Source<'t>;
+
+    ghost next_gives = { YieldsFirstBy source_value items_left };
+
+    ghost remaining = { item_count items_left };
+
+    #[inline(always)]
+    fn next(&mut self) -> Option<Source<'t>> {
+        match self {
+            Items::Lent(items) => match items.next() {
+                Some(value) => Some(Source::Lent(value)),
+                None => None,
+            },
+            Items::Taken(items) => match items.next() {
+                Some(value) => Some(Source::Taken(value)),
+                None => None,
+            },
+        }
+    }
+}
+
+/// What is read of an item, with its index before the path of a fault.
+#[inline(always)]
+#[tactic(auto, using(crate::proofs::Behind::fault_behind))]
+fn read_item<T: Schema>(alloc: Global, source: Source<'_>, i: usize) -> Result<T, ReadFault>
+    ensures ok { IfOk result (Reads T.kind T.content (source_view source.entry)) }
+    ensures fault { IfErr result
+        (FaultIn (behind (index i) (T.kind.faulty (source_view source.entry)))) }
+{
+    match T::read(alloc, source) {
+        Ok(x) => Ok(x),
+        Err(fault) => Err(prefixed(Step::Index(i), fault)),
+    }
+}
+
+/// What is read of items, in their order: the first fault is told where it is met.
+pub(crate) fn read_items<T: Schema>(
+    alloc: Global,
+    room: usize,
+    items: Items<'_>,
+) -> Result<Vec<T>, ReadFault>
+    ensures ok { IfOk result
+        (λ v. reads_items T.kind (items_view (items_left items.entry)) (map T.content v.items)) }
+    ensures fault { IfErr result
+        (FaultIn (faulty_item T.kind (items_view (items_left items.entry)))) }
+{
+    let mut all = Vec::with_capacity(alloc, room)?;
+    for source in items {
+        match read_item(alloc, source, all.len()) {
+            Ok(x) => all.push(x)?,
+            Err(fault) => return Err(fault),
+        }
+    }
+    Ok(all)
+}
