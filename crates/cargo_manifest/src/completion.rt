@@ -9,9 +9,11 @@ ghost use Rattle.cargo_manifest.specs.Completes.{Completes};
 ghost use Rattle.cargo_manifest.specs.Whole.{manifest_kept};
 
 use crate::manifest::Manifest;
-use manifest_completion::{AbstractFilesystem, CompletedTargets, DeclaredTargets, complete, discovers, is_legacy};
-use manifest_value::{Error, Metadata};
+use manifest_completion::{
+    AbstractFilesystem, CompletedTargets, DeclaredTargets, complete, discovers, is_legacy,
+};
 use manifest_tables::Package;
+use manifest_value::{Error, Metadata};
 use std::alloc::Global;
 use toml::Value;
 

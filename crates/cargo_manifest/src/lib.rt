@@ -14,6 +14,7 @@
 #![tactic(auto)]
 
 mod completion;
+pub mod copies;
 mod files;
 pub mod laws;
 pub mod manifest;
@@ -22,10 +23,16 @@ mod writing;
 
 pub use manifest::Manifest;
 pub use manifest_completion::{AbstractFilesystem, Filesystem, Listing, Listings};
-pub use manifest_parts::{Badge, Badges, Dependency, DependencyDetail, DepsSet, Edition, FeatureSet, InheritedDependencyDetail, Lint, LintConfig, LintLevel, LintsSet, Maintenance, MaintenanceStatus, MaybeInherited, MaybeInheritedLintsSet, PatchSet, Product, Profile, Publish, Resolver, StringOrBool, StripSetting, Target, TargetDepsSet, ToolLintsSet, True};
+pub use manifest_parts::{
+    Badge, Badges, Dependency, DependencyDetail, DepsSet, Edition, FeatureSet,
+    InheritedDependencyDetail, Lint, LintConfig, LintLevel, LintsSet, Maintenance,
+    MaintenanceStatus, MaybeInherited, MaybeInheritedLintsSet, PatchSet, Product, Profile, Publish,
+    Resolver, StringOrBool, StripSetting, Target, TargetDepsSet, ToolLintsSet, True,
+};
 pub use manifest_tables::{Package, Profiles, Workspace, WorkspacePackage};
 pub use manifest_value::{
-    Cause, Error, KeyPath, Metadata, ParseFault, Plain, ReadFault, Schema, SchemaFault, Step, Unread,
+    Cause, Error, KeyPath, Metadata, ParseFault, Plain, ReadFault, Schema, SchemaFault, Step,
+    Unread,
 };
 pub use toml::Value;
 pub use writing::INVALID_DATE;

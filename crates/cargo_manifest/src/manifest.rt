@@ -14,9 +14,7 @@ ghost use Rattle.manifest_schema.proofs.ManifestLaws.{manifest_lawful};
 ghost use Rattle.cargo_manifest.specs.Whole.{manifest_content, manifest_of};
 ghost use Rattle.manifest_value.specs.Reading.{IsOfTable};
 
-use manifest_parts::{
-    Badges, DepsSet, FeatureSet, MaybeInheritedLintsSet, PatchSet, Product, TargetDepsSet,
-};
+use manifest_parts::{Badges, DepsSet, FeatureSet, MaybeInheritedLintsSet, PatchSet, Product, TargetDepsSet};
 use manifest_tables::{Package, Profiles, Workspace};
 use manifest_value::form::{RowPut, RowRead, Rowed, Word, write_form};
 use manifest_value::row_slots::RowSlot;
@@ -26,7 +24,7 @@ use toml::{Table, Value};
 
 /// What a `Cargo.toml` says; `P` and `W` are the types of the metadata of its package and of its workspace. See the
 /// [Cargo reference](https://doc.rust-lang.org/cargo/reference/manifest.html).
-#[derive(Debug, PartialEq, Drop)]
+#[derive(Clone, Debug, PartialEq, Drop)]
 pub struct Manifest<P = Value, W = Value> {
     /// The package; `None` in a virtual workspace.
     pub package: Option<Package<P>>,

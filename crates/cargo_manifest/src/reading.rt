@@ -11,13 +11,13 @@ ghost use Rattle.cargo_manifest.specs.Whole.{manifest_content, manifest_of, mani
 ghost use Rattle.cargo_manifest.specs.Answers.{IsDocumentOf, Refuses, RefusesText};
 
 use crate::manifest::Manifest;
-use manifest_value::error::refusal;
-use manifest_value::{Error, Metadata, ParseFault, ReadFault, TableSource};
 use manifest_tables::Package;
 use manifest_tables::package::package_from;
+use manifest_value::error::refusal;
 use manifest_value::form::read_form;
 use manifest_value::readers::find;
 use manifest_value::rows::read_under;
+use manifest_value::{Error, Metadata, ParseFault, ReadFault, TableSource};
 use std::alloc::Global;
 use std::rc::Rc;
 use toml::{Table, Value};

@@ -15,23 +15,6 @@ pub fn copied(alloc: Global, text: Option<&str>) -> Result<Option<String>, Alloc
     }
 }
 
-/// A copy of a text that may be absent.
-pub fn copied_text(alloc: Global, text: &Option<String>) -> Result<Option<String>, AllocError>
-    ensures { IfOk result (λ o. option_map string_bytes o ≡ option_map string_bytes text.now) }
-{
-    match text {
-        Some(text) => Ok(Some(String::from_str(alloc, text.as_str())?)),
-        None => Ok(None),
-    }
-}
-
-/// A copy of a list of texts.
-pub fn copied_texts(texts: &Vec<String>) -> Result<Vec<String>, AllocError>
-    ensures { IfOk result (λ v. map string_bytes v.items ≡ map string_bytes texts.now.items) }
-{
-    texts.clone()
-}
-
 /// A list of one text.
 pub fn one_text(alloc: Global, text: &str) -> Result<Vec<String>, AllocError>
     ensures { IfOk result (λ v. map string_bytes v.items ≡ text.now ∷ []) }

@@ -7,10 +7,11 @@ ghost use Rattle.manifest_completion.specs.Targets.{paths_of, pathed, found, add
 ghost use Rattle.manifest_completion.specs.Index.{paths_in, SamePaths};
 ghost use Rattle.manifest_completion.specs.Outcome.{find_content, finds_content, defaults_content};
 
-use crate::copies::{copied, copied_text, copied_texts, one_text};
+use crate::copies::{copied, one_text};
 use crate::finds::FoundTarget;
 use crate::index::{IndexedFinds, take_path};
 use manifest_parts::{Edition, Product};
+use manifest_value::copy_of;
 use std::alloc::{AllocError, Global};
 use std::collections::BTreeSet;
 
@@ -65,7 +66,7 @@ pub fn crate_type_of(
         (option_map (λ t. t.now ∷ []) default.entry)) }
 {
     match own {
-        Some(types) => Ok(Some(copied_texts(types)?)),
+        Some(types) => Ok(Some(copy_of(types)?)),
         None => match default {
             Some(text) => Ok(Some(one_text(alloc, text)?)),
             None => Ok(None),
@@ -84,8 +85,8 @@ fn filled_target<'a>(
         IfOk result (λ p. product_content p ≡ with_defaults (defaults_content defaults) filled) }
 {
     let path = copied(alloc, path_of(target, finds).or(defaults.path))?;
-    let name = copied_text(alloc, &target.name)?;
-    let required_features = copied_texts(&target.required_features)?;
+    let name = copy_of(&target.name)?;
+    let required_features = copy_of(&target.required_features)?;
     let crate_type = crate_type_of(alloc, &target.crate_type, defaults.crate_type)?;
     Ok(Product {
         path,

@@ -1,7 +1,6 @@
 pub mod FieldLaws
 pub mod SettledLaws
 pub mod FormedLaws
-pub mod CopyLemmas
 pub mod LenderLemmas
 pub mod FeatureLemmas
 pub mod EntryLemmas

@@ -1,65 +1,31 @@
-//! Copies of what a workspace lends.
+//! What a workspace lends is copied.
 
-ghost use Rattle.std.specs.Prelude.{◌≡◌, OnOk, IfOk, option_map};
+ghost use Rattle.std.specs.Prelude.{◌≡◌};
 
 use manifest_parts::{Edition, Publish, StringOrBool};
-use manifest_value::Plain;
-use std::alloc::{AllocError, Global};
+use manifest_value::{Copied, Plain};
 
-/// What a workspace may lend to a field.
-pub(crate) trait Lent: Plain {
-    /// A value of the same content.
-    fn copied(&self, alloc: Global) -> Result<Self, AllocError>
-        ensures { IfOk result (λ x. Self.content x ≡ Self.content self.now) };
+/// What a workspace may lend to a field: what a copy holds is the content by which it is read.
+pub(crate) trait Lent: Plain + Copied {
+    ghost agrees: { (x y : Self) → Self.held x ≡ Self.held y → Self.content x ≡ Self.content y };
 }
 
 impl Lent for String {
-    fn copied(&self, alloc: Global) -> Result<String, AllocError> {
-        String::from_str(alloc, self.as_str())
-    }
+    ghost agrees = { λ x y e. e };
 }
 
 impl Lent for Vec<String> {
-    fn copied(&self, _alloc: Global) -> Result<Vec<String>, AllocError> {
-        self.clone()
-    }
+    ghost agrees = { λ x y e. e };
 }
 
 impl Lent for Edition {
-    fn copied(&self, _alloc: Global) -> Result<Edition, AllocError> {
-        Ok(*self)
-    }
+    ghost agrees = { λ x y e. e };
 }
 
 impl Lent for StringOrBool {
-    fn copied(&self, alloc: Global) -> Result<StringOrBool, AllocError> {
-        match self {
-            StringOrBool::String(text) => Ok(StringOrBool::String(text.copied(alloc)?)),
-            StringOrBool::Bool(flag) => Ok(StringOrBool::Bool(*flag)),
-        }
-    }
+    ghost agrees = { λ x y e. e };
 }
 
 impl Lent for Publish {
-    fn copied(&self, alloc: Global) -> Result<Publish, AllocError> {
-        match self {
-            Publish::Flag(flag) => Ok(Publish::Flag(*flag)),
-            Publish::Registry(registries) => Ok(Publish::Registry(registries.copied(alloc)?)),
-        }
-    }
-}
-
-/// Copies what may be absent into another place.
-pub(crate) fn copy_some<T: Lent>(
-    alloc: Global,
-    x: &Option<T>,
-    place: &mut Option<T>,
-) -> Result<(), AllocError>
-    ensures { OnOk result (option_map T.content place.new ≡ option_map T.content x.now) }
-{
-    *place = match x {
-        Some(x) => Some(x.copied(alloc)?),
-        None => None,
-    };
-    Ok(())
+    ghost agrees = { λ x y e. e };
 }

@@ -1,6 +1,6 @@
 //! What an inherited dependency becomes.
 
-ghost use Rattle.std.specs.Prelude.{◌≡◌, OnOk, IfOk, IfErr, option_map, string_bytes};
+ghost use Rattle.std.specs.Prelude.{◌≡◌, IfOk, IfErr, option_map, string_bytes};
 ghost use Rattle.std.specs.Option.{option_or};
 ghost use Rattle.manifest_schema.specs.Contents.{detailed};
 ghost use Rattle.manifest_parts.specs.Records.{inherited_content, detail_content, dependency_content};
@@ -10,10 +10,10 @@ ghost use Rattle.manifest_inherit.specs.Refused.{refuses_dependency};
 ghost use Rattle.manifest_inherit.specs.Answers.{RefusedIn};
 ghost use Rattle.manifest_inherit.specs.ForProofs.{Accepted, lent_by_map};
 
-use crate::copies::{Lent, copy_some};
 use crate::error::{ResolveError, inherited_in_workspace, not_in_workspace};
 use crate::features::join_features;
 use manifest_parts::{Dependency, DependencyDetail, DepsSet, InheritedDependencyDetail};
+use manifest_value::copy_of;
 use std::alloc::{AllocError, Global};
 
 /// The workspace's dependency of this name.
@@ -27,42 +27,11 @@ fn lender<'a>(lent: &'a Option<DepsSet>, name: &str) -> Option<&'a Dependency>
     }
 }
 
-/// Copies a detail into another one.
-fn copy_detail(
-    alloc: Global,
-    detail: &DependencyDetail,
-    copy: &mut DependencyDetail,
-) -> Result<(), AllocError>
-    ensures { OnOk result (detail_content copy.new ≡ detail_content detail.now) }
-{
-    copy_some(alloc, &detail.version, &mut copy.version)?;
-    copy_some(alloc, &detail.registry, &mut copy.registry)?;
-    copy_some(alloc, &detail.registry_index, &mut copy.registry_index)?;
-    copy_some(alloc, &detail.path, &mut copy.path)?;
-    copy_some(alloc, &detail.git, &mut copy.git)?;
-    copy_some(alloc, &detail.branch, &mut copy.branch)?;
-    copy_some(alloc, &detail.tag, &mut copy.tag)?;
-    copy_some(alloc, &detail.rev, &mut copy.rev)?;
-    copy_some(alloc, &detail.features, &mut copy.features)?;
-    copy.optional = detail.optional;
-    copy.default_features = detail.default_features;
-    copy_some(alloc, &detail.package, &mut copy.package)?;
-    Ok(())
-}
-
-/// A detail of the same content.
-fn copied_detail(alloc: Global, detail: &DependencyDetail) -> Result<DependencyDetail, AllocError>
-    ensures { IfOk result (λ d. detail_content d ≡ detail_content detail.now) }
-{
-    let mut copy = DependencyDetail::default();
-    copy_detail(alloc, detail, &mut copy).and(Ok(copy))
-}
-
 /// A detail of a version alone.
-fn version_alone(alloc: Global, version: &String) -> Result<DependencyDetail, AllocError>
+fn version_alone(version: &String) -> Result<DependencyDetail, AllocError>
     ensures { IfOk result (λ d. detail_content d ≡ version_alone (string_bytes version.now)) }
 {
-    let version = version.copied(alloc)?;
+    let version = copy_of(version)?;
     let mut detail = DependencyDetail::default();
     detail.version = Some(version);
     Ok(detail)
@@ -109,17 +78,15 @@ pub(crate) fn resolved_dependency(
         (refuses_dependency (lent_by_map lent.now) name.now (dependency_content own.now))) }
 {
     match own {
-        Dependency::Simple(version) => Ok(Dependency::Simple(version.copied(alloc)?)),
-        Dependency::Detailed(detail) => Ok(Dependency::Detailed(copied_detail(alloc, detail)?)),
+        Dependency::Simple(version) => Ok(Dependency::Simple(copy_of(version)?)),
+        Dependency::Detailed(detail) => Ok(Dependency::Detailed(copy_of(detail)?)),
         Dependency::Inherited(own) => match lender(lent, name) {
             None => Err(not_in_workspace(alloc, name)),
             Some(Dependency::Inherited(_)) => Err(inherited_in_workspace(alloc, name)),
             Some(Dependency::Simple(version)) => {
-                Ok(joined(alloc, own, version_alone(alloc, version)?)?)
+                Ok(joined(alloc, own, version_alone(version)?)?)
             }
-            Some(Dependency::Detailed(detail)) => {
-                Ok(joined(alloc, own, copied_detail(alloc, detail)?)?)
-            }
+            Some(Dependency::Detailed(detail)) => { Ok(joined(alloc, own, copy_of(detail)?)?) }
         },
     }
 }

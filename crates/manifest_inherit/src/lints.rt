@@ -1,6 +1,6 @@
 //! The lints that a workspace lends.
 
-ghost use Rattle.std.specs.Prelude.{◌≡◌, OnOk, IfOk, IfErr, option_map};
+ghost use Rattle.std.specs.Prelude.{◌≡◌, OnOk, IfErr, option_map};
 ghost use Rattle.manifest_parts.specs.Records.{lints_content};
 ghost use Rattle.manifest_inherit.specs.Resolved.{resolved_lints};
 ghost use Rattle.manifest_inherit.specs.Refused.{refuses_lints, refuses_some};
@@ -9,16 +9,9 @@ ghost use Rattle.manifest_inherit.specs.ForProofs.{Accepted, tools_content};
 
 use crate::error::{ResolveError, not_in_workspace};
 use manifest_parts::{LintsSet, MaybeInheritedLintsSet};
-use manifest_value::spelled;
 use manifest_value::well_formed::none_is_named;
-use std::alloc::{AllocError, Global};
-
-/// Lints of the same content.
-fn copied_lints(lints: &LintsSet) -> Result<LintsSet, AllocError>
-    ensures { IfOk result (λ m. tools_content m ≡ tools_content lints.now) }
-{
-    lints.clone()
-}
+use manifest_value::{copy_of, spelled};
+use std::alloc::Global;
 
 /// Puts a copy of the workspace's lints, where the manifest's are inherited, into its place.
 pub(crate) fn make_lints(
@@ -51,7 +44,7 @@ pub(crate) fn make_lints(
             if !none_is_named(lent, &spelled!["workspace"]) {
                 return Err(ResolveError::ToolNamedWorkspace);
             }
-            *place = Some(copied_lints(lent)?);
+            *place = Some(copy_of(lent)?);
             Ok(())
         }
     }

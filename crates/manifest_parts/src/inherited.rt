@@ -56,7 +56,7 @@ impl Default for True {
 
 /// A value of the package's own, or the mark that it is inherited: the workspace's manifest then has it. See the
 /// [Cargo reference](https://doc.rust-lang.org/cargo/reference/workspaces.html#the-package-table).
-#[derive(Debug, PartialEq, Eq, Drop)]
+#[derive(Clone, Debug, PartialEq, Eq, Drop)]
 pub enum MaybeInherited<T> {
     /// Inherited from the workspace: `{ workspace = true }`, as in `version.workspace = true`.
     Inherited { workspace: True },

@@ -4,7 +4,10 @@
 
 pub mod badges;
 pub mod choices;
+pub mod compared;
 pub mod copies;
+pub mod copies_of_dependencies;
+pub mod copies_of_platforms;
 pub mod dependency;
 pub mod inherited;
 pub mod laws;

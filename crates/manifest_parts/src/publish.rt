@@ -11,7 +11,7 @@ use std::alloc::{AllocError, Global};
 use toml::Value;
 
 /// A text or a boolean, as `build` and `readme` have one.
-#[derive(Debug, PartialEq, Eq, Drop)]
+#[derive(Clone, Debug, PartialEq, Eq, Drop)]
 pub enum StringOrBool {
     /// A text: the path of a file, such as the build script or the readme.
     String(String),
@@ -53,7 +53,7 @@ impl Plain for StringOrBool {
 
 /// Whether a package may be published, or to which registries. See the
 /// [Cargo reference](https://doc.rust-lang.org/cargo/reference/manifest.html#the-publish-field).
-#[derive(Debug, PartialEq, Eq, Drop)]
+#[derive(Clone, Debug, PartialEq, Eq, Drop)]
 pub enum Publish {
     /// Whether the package may be published: true to any registry, which is Cargo's default, false to none.
     Flag(bool),

@@ -652,16 +652,23 @@ fn full(alloc: Global, row: &Row) -> Result<String, AllocError> {
     Ok(text)
 }
 
+/// The entries of a manifest in which every row of every form is filled.
+pub fn filled(alloc: Global) -> Result<String, AllocError> {
+    let mut text = String::new(alloc);
+    for line in bench_keys::MANIFEST {
+        let row = row_of(line);
+        let value = full(alloc, &row)?;
+        write_entry(&mut text, row.key, value.as_str())?;
+    }
+    Ok(text)
+}
+
 /// Every row of every form, in one table: it is written as it is read.
 #[test]
 fn all_forms_at_once(rt: HostRuntime) -> Result<(), Fail> {
-    let mut entries = Entries::new(rt.alloc());
-    for line in bench_keys::MANIFEST {
-        let row = row_of(line);
-        let value = full(rt.alloc(), &row)?;
-        entries.read(row.key, value.as_str())?;
-        entries.written(row.key, value.as_str())?;
-    }
+    let read = filled(rt.alloc())?;
+    let written = filled(rt.alloc())?;
+    let entries = Entries { read, written };
     let rows = bench_keys::MANIFEST;
     let by_call = Form { rows, place: None };
     by_call.assert_answer::<Manifest<Value, Value>>(&rt, rt.alloc(), &entries, None)?;

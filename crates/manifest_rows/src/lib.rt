@@ -18,6 +18,8 @@ mod calls;
 #[cfg(test)]
 mod completed;
 #[cfg(test)]
+mod copied;
+#[cfg(test)]
 mod equal;
 #[cfg(test)]
 mod errors;

@@ -13,3 +13,4 @@ pub mod ManifestLaws
 pub mod MeaningLaws
 pub mod GoodLaws
 pub mod FormerLaws
+pub mod CopyLaws

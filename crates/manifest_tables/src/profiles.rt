@@ -20,8 +20,7 @@ use manifest_value::maps::{entries_table, map_of_entries};
 use manifest_value::row_slots::RowSlot;
 use manifest_value::well_formed::{none_is_named, values_are_well_formed};
 use manifest_value::{
-    ReadFault, Schema, Source, Spellings, TableSource, good_row_of, names_of_rows, put_row_of,
-    read_row_of,
+    ReadFault, Schema, Source, Spellings, TableSource, good_row_of, names_of_rows, put_row_of, read_row_of, table,
 };
 use std::alloc::{AllocError, Global};
 use std::collections::BTreeMap;
@@ -29,7 +28,7 @@ use toml::{Table, Value};
 
 /// The profiles of a manifest: the five that Cargo names, and those of all other names. No custom profile may have one
 /// of the five names. See the [Cargo reference](https://doc.rust-lang.org/cargo/reference/profiles.html).
-#[derive(Debug, PartialEq, Drop)]
+#[derive(Clone, Debug, PartialEq, Drop)]
 pub struct Profiles {
     /// The profile of `--release` and of `cargo install`.
     pub release: Option<Profile>,

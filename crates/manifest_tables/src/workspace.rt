@@ -20,7 +20,7 @@ use toml::{Table, Value};
 
 /// The package fields that members can inherit from a workspace, each by `{ workspace = true }`. See the
 /// [Cargo reference](https://doc.rust-lang.org/cargo/reference/workspaces.html#the-package-table).
-#[derive(Debug, PartialEq, Eq, Drop)]
+#[derive(Clone, Debug, PartialEq, Eq, Drop)]
 pub struct WorkspacePackage {
     /// The edition that members can inherit.
     pub edition: Option<Edition>,
@@ -127,7 +127,7 @@ impl Default for WorkspacePackage {
 
 /// The workspace of a manifest; `M` is the type of its metadata. See the
 /// [Cargo reference](https://doc.rust-lang.org/cargo/reference/workspaces.html#the-workspace-section).
-#[derive(Debug, PartialEq, Eq, Drop)]
+#[derive(Clone, Debug, PartialEq, Eq, Drop)]
 pub struct Workspace<M = Value> {
     /// The paths of members, or globs; not all, since the root package and path dependencies inside are members too.
     pub members: Vec<String>,

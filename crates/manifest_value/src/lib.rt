@@ -4,6 +4,7 @@
 #![tactic(auto)]
 
 pub mod closures;
+pub mod copies;
 pub mod entries;
 pub mod error;
 pub mod fault;
@@ -28,6 +29,7 @@ pub mod well_formed;
 pub mod writers;
 
 pub use closures::{list_of, map_of};
+pub use copies::{Copied, copy_of};
 pub use error::{Error, ParseFault};
 pub use fault::{Cause, KeyPath, ReadFault, SchemaFault, Step};
 pub use form::{Form, Rowed};

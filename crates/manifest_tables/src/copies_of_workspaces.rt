@@ -1,0 +1,73 @@
+//! Copies of workspaces: each holds what it is copied from, whatever tree is made of
+//! its metadata.
+
+ghost use Rattle.std.specs.Prelude.{◌≡◌, map, option_map, String, string_bytes};
+ghost use Rattle.std.proofs.Common.{ap, rules};
+ghost use Rattle.std.proofs.Math.Path.{fun_ext};
+ghost use Rattle.toml.specs.Data.{Data};
+ghost use Rattle.manifest_schema.specs.Contents;
+ghost use Rattle.manifest_schema.proofs.CopyLaws.{copy_laws, some_copied, entries_copied};
+ghost use Rattle.manifest_value.specs.Entries.{entries_content};
+ghost use Rattle.manifest_parts.specs.Parts.{resolver_content};
+ghost use Rattle.manifest_parts.specs.Records.{lint_content};
+ghost use Rattle.manifest_parts.specs.contracts.copies_of_dependencies.DependencyCopied.TheImpl.Laws.{copies-law as dependency_copied};
+ghost use Rattle.manifest_parts.specs.contracts.copies.LintCopied.TheImpl.Laws.{copies-law as lint_copied};
+ghost use Rattle.manifest_tables.specs.Tables.{workspace_package_content, workspace_content, dependencies_content};
+ghost use Rattle.manifest_tables.specs.contracts.copies.WorkspacePackageCopied.TheImpl.Laws.{copies-law as package_copied};
+
+use crate::workspace::Workspace;
+use manifest_parts::LintsSet;
+use manifest_value::Copied;
+
+impl<M: Copied> Copied for Workspace<M> {
+    ghost Held = { (M.Held → Data) → Contents.Workspace };
+
+    ghost held = { λ w see. workspace_content (λ m. see (M.held m)) w };
+
+    ghost copies = { λ x y c. fun_ext (λ see.
+        let seen : (a b : M) → M.is_clone a b → see (M.held b) ≡ see (M.held a)
+        = λ a b k. ap see (M.copies a b k) in
+        let members : map string_bytes y.members.items
+        ≡ map string_bytes x.members.items
+        = Prim.search (rules, copy_laws) in
+        let default_members : option_map (λ v. map string_bytes v.items) y.default_members
+        ≡ option_map (λ v. map string_bytes v.items) x.default_members
+        = Prim.search (rules, copy_laws) in
+        let exclude : option_map (λ v. map string_bytes v.items) y.exclude
+        ≡ option_map (λ v. map string_bytes v.items) x.exclude
+        = Prim.search (rules, copy_laws) in
+        let resolver : option_map resolver_content y.resolver
+        ≡ option_map resolver_content x.resolver
+        = Prim.search (rules, copy_laws) in
+        let dependencies : option_map dependencies_content y.dependencies
+        ≡ option_map dependencies_content x.dependencies
+        = Prim.search (rules, copy_laws, dependency_copied) in
+        let package_fields : option_map workspace_package_content y.package
+        ≡ option_map workspace_package_content x.package
+        = Prim.search (rules, copy_laws, package_copied) in
+        let metadata : option_map (λ m. see (M.held m)) y.metadata
+        ≡ option_map (λ m. see (M.held m)) x.metadata
+        = Prim.search (rules, copy_laws, seen) in
+        let lints :
+        option_map (λ m. entries_content (λ l. entries_content lint_content l.entries) m.entries)
+        y.lints
+        ≡ option_map (λ m. entries_content (λ l. entries_content lint_content l.entries) m.entries)
+        x.lints
+        = some_copied ⟦<Option<LintsSet> as Clone>⟧.is_clone
+        (λ m. entries_content (λ l. entries_content lint_content l.entries) m.entries)
+        (λ a k. k) (λ a k. k)
+        (λ a b k. entries_copied (λ l. entries_content lint_content l.entries)
+        (λ d e h. entries_copied lint_content lint_copied d.entries e.entries h)
+        a.entries b.entries k)
+        x.lints y.lints c.1.1.1.1.1.1.1 in
+        Prim.cc (
+          members,
+          default_members,
+          exclude,
+          resolver,
+          dependencies,
+          package_fields,
+          metadata,
+          lints,
+        )) };
+}
