@@ -14,11 +14,15 @@ ghost use Rattle.manifest_schema.proofs.ManifestLaws.{manifest_lawful};
 ghost use Rattle.cargo_manifest.specs.Whole.{manifest_content, manifest_of};
 ghost use Rattle.manifest_value.specs.Reading.{IsOfTable};
 
-use manifest_parts::{Badges, DepsSet, FeatureSet, MaybeInheritedLintsSet, PatchSet, Product, TargetDepsSet};
+use manifest_parts::{
+    Badges, DepsSet, FeatureSet, MaybeInheritedLintsSet, PatchSet, Product, TargetDepsSet,
+};
 use manifest_tables::{Package, Profiles, Workspace};
 use manifest_value::form::{RowPut, RowRead, Rowed, Word, write_form};
 use manifest_value::row_slots::RowSlot;
-use manifest_value::{Form, Metadata, Spellings, empty_of, good_row_of, names_of_rows, put_row_of, read_row_of};
+use manifest_value::{
+    Form, Metadata, Spellings, empty_of, good_row_of, names_of_rows, put_row_of, read_row_of,
+};
 use std::alloc::{AllocError, Global};
 use toml::{Table, Value};
 

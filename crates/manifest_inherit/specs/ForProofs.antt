@@ -1,8 +1,8 @@
 -- What the contracts of single steps cite. What a manifest becomes needs none of it: who reads for that may pass over this file.
-use Rattle.std.specs.Prelude.{◌≡◌, ℕ, zero, suc, [], Option, Some, option_map, unwrap_or, String}
+use Rattle.std.specs.Prelude.{◌≡◌, ℕ, zero, suc, [], Option, Some, None, option_map, unwrap_or, String}
 use Rattle.std.specs.declared.alloc.Global.{Global}
 use Rattle.std.specs.BTreeMap.{BTreeMap}
-use Rattle.manifest_schema.specs.Kinds.{Entries}
+use Rattle.manifest_schema.specs.Kinds.{Entries, Inheritable, inherited}
 use Rattle.manifest_schema.specs.Contents.{Dependency, Lint, Package, WorkspacePackage, Manifest}
 use Rattle.manifest_value.specs.Entries.{entries_content}
 use Rattle.manifest_parts.specs.Records.{platform_content, lint_content}
@@ -10,7 +10,7 @@ use Rattle.manifest_parts.specs.declared.dependency.Dependency.{Dependency as De
 use Rattle.manifest_parts.specs.declared.lints.Lint.{Lint as LintOfCode}
 use Rattle.manifest_tables.specs.Tables.{dependencies_content, workspace_package_content}
 use Rattle.manifest_inherit.specs.Fields.{Fields, no_more, ◌⨾◌}
-use Rattle.manifest_inherit.specs.Resolved.{resolved_field, resolved_package, resolved_lints}
+use Rattle.manifest_inherit.specs.Resolved.{resolved_package, resolved_lints}
 use Rattle.manifest_inherit.specs.Refused.{Refusals, NoneHolds, refuses_field}
 use Rattle.manifest_inherit.specs.declared.resolution.Made.{Made}
 
@@ -33,13 +33,24 @@ how_many (f ⨾ fs) = suc (how_many fs)
 
 -- the field at this place is inherited, and the workspace does not have it
 abbrev pub refuses_at : ℕ → Fields → Option WorkspacePackage → Package → Refusals
-refuses_at zero (f ⨾ fs) w p = refuses_field f.key (f.own p) (f.lent w)
-refuses_at (suc i) (f ⨾ fs) w p = refuses_at i fs w p
+refuses_at zero (f ⨾ fs) w p r = refuses_field f.key (f.own p) (f.lent w) r
+refuses_at (suc i) (f ⨾ fs) w p r = refuses_at i fs w p r
 refuses_at _ _ w p r = ⊥
+
+-- what a field inherits is lent
+abbrev pub IsLent : {A : Type 0} → Option (Inheritable A) → Option A → Type 0
+IsLent (Some inherited) None = ⊥
+IsLent own lent = Unit {0}
+
+-- what the field at this place inherits is lent
+abbrev pub lent_at : ℕ → Fields → Option WorkspacePackage → Package → Type 0
+lent_at zero (f ⨾ fs) w p = IsLent (f.own p) (f.lent w)
+lent_at (suc i) (f ⨾ fs) w p = lent_at i fs w p
+lent_at _ _ w p = Unit {0}
 
 -- what the first n fields inherit is lent
 abbrev pub first_lent : ℕ → Fields → Option WorkspacePackage → Package → Type 0
-first_lent (suc n) (f ⨾ fs) w p = NoneHolds (refuses_field f.key (f.own p) (f.lent w)) × first_lent n fs w p
+first_lent (suc n) (f ⨾ fs) w p = IsLent (f.own p) (f.lent w) × first_lent n fs w p
 first_lent _ _ w p = Unit {0}
 
 -- a manifest with what is made in the place of what it inherits

@@ -7,7 +7,7 @@ ghost use Rattle.manifest_inherit.specs.Fields.{lendable};
 ghost use Rattle.manifest_inherit.specs.Resolved.{resolved_field, resolved_package};
 ghost use Rattle.manifest_inherit.specs.Refused.{NoneHolds, refuses_field, refuses_fields};
 ghost use Rattle.manifest_inherit.specs.Answers.{RefusedIn};
-ghost use Rattle.manifest_inherit.specs.ForProofs.{how_many, refuses_at};
+ghost use Rattle.manifest_inherit.specs.ForProofs.{how_many, refuses_at, IsLent, lent_at};
 
 use crate::error::{ResolveError, not_in_workspace};
 use manifest_parts::MaybeInherited;
@@ -23,7 +23,7 @@ fn check_field<T: Schema>(
     lent: &Option<T>,
 ) -> Result<(), ResolveError>
     ensures ok { let o = option_map (inh_content T.content) own.now in
-        OnOk result (NoneHolds (refuses_field key.now o (option_map T.content lent.now))) }
+        OnOk result (IsLent o (option_map T.content lent.now)) }
     ensures refused { let o = option_map (inh_content T.content) own.now in
         IfErr result (RefusedIn (refuses_field key.now o (option_map T.content lent.now))) }
 {
@@ -80,6 +80,7 @@ macro_rules! put_of {
 static KEYS: &[&str] = lendable!(keys_of());
 
 /// As many keys as there are fields.
+#[tactic(auto, unfolding(crate::specs::Fields::lendable))]
 fn keys() -> &'static [&'static str]
     ensures { length result.now ≡ how_many lendable }
 {
@@ -94,9 +95,10 @@ fn check_at<M: Metadata>(
     lent: &WorkspacePackage,
     i: usize,
 ) -> Result<(), ResolveError>
+    requires { i < how_many lendable }
     ensures ok { let p = package_of M.kind M.content own.now in
         let w = Some (workspace_package_content lent.now) in
-        OnOk result (NoneHolds (refuses_at i lendable w p)) }
+        OnOk result (lent_at i lendable w p) }
     ensures refused { let p = package_of M.kind M.content own.now in
         let w = Some (workspace_package_content lent.now) in
         IfErr result (RefusedIn (refuses_at i lendable w p)) }

@@ -2,7 +2,6 @@
 //! `docs/INHERITING.md` says how to read the definitions.
 #![tactic(auto)]
 
-mod copies;
 mod dependency;
 mod error;
 mod features;

@@ -16,7 +16,9 @@ use crate::maps::make_map;
 use cargo_manifest::{
     DepsSet, LintsSet, Manifest, Metadata, Package, TargetDepsSet, Workspace, WorkspacePackage,
 };
+use manifest_value::copy_of;
 use std::alloc::Global;
+use std::mem;
 
 /// What is made beside a manifest, to be put into it when nothing can fail any more: the fields that are lent to it, its
 /// maps of dependencies as they become, and the lints that are lent to it.
@@ -60,19 +62,22 @@ fn make_package<M: Metadata>(
         let o = option_map (package_of M.kind M.content) own.now in
         IfErr result (RefusedIn (refuses_some (refuses_fields lendable w) o)) }
 {
-    if let Some(own) = own {
-        match lent {
+    match own {
+        Some(own) => match lent {
             Some(lent) => {
                 check_fields(alloc, own, lent)?;
-                *made = copy_of(lent)?;
+                drop(mem::replace(made, copy_of(lent)?));
+                Ok(())
             }
             None => {
-                *made = WorkspacePackage::default();
-                check_fields(alloc, own, made)?;
+                let nothing = WorkspacePackage::default();
+                let answer = check_fields(alloc, own, &nothing);
+                drop(mem::replace(made, nothing));
+                answer
             }
-        }
+        },
+        None => Ok(()),
     }
-    Ok(())
 }
 
 /// Puts everything that the manifest inherits, as it becomes, into its place.

@@ -29,6 +29,9 @@ ghost use Rattle.manifest_parts.specs.Records.{
   lints_content,
   profile_content,
 };
+ghost use Rattle.manifest_schema.specs.PartForms.{detailed_rows, profile_rows, badges_rows};
+ghost use Rattle.manifest_schema.proofs.PartLaws.{detailed_built, profile_built, badges_built};
+ghost use Rattle.manifest_value.proofs.FormLemmas.{by_rows};
 
 use crate::badges::{Badge, Badges, Maintenance};
 use crate::choices::{Edition, LintLevel, MaintenanceStatus, Resolver};
@@ -166,48 +169,8 @@ impl Copied for DependencyDetail {
 
     ghost held = { detail_content };
 
-    ghost copies = { λ x y c.
-        let version : option_map string_bytes y.version ≡ option_map string_bytes x.version
-        = Prim.search (rules, copy_laws) in
-        let registry : option_map string_bytes y.registry ≡ option_map string_bytes x.registry
-        = Prim.search (rules, copy_laws) in
-        let registry_index : option_map string_bytes y.registry_index
-        ≡ option_map string_bytes x.registry_index
-        = Prim.search (rules, copy_laws) in
-        let path : option_map string_bytes y.path ≡ option_map string_bytes x.path
-        = Prim.search (rules, copy_laws) in
-        let git : option_map string_bytes y.git ≡ option_map string_bytes x.git
-        = Prim.search (rules, copy_laws) in
-        let branch : option_map string_bytes y.branch ≡ option_map string_bytes x.branch
-        = Prim.search (rules, copy_laws) in
-        let tag : option_map string_bytes y.tag ≡ option_map string_bytes x.tag
-        = Prim.search (rules, copy_laws) in
-        let rev : option_map string_bytes y.rev ≡ option_map string_bytes x.rev
-        = Prim.search (rules, copy_laws) in
-        let features : option_map (λ v. map string_bytes v.items) y.features
-        ≡ option_map (λ v. map string_bytes v.items) x.features
-        = Prim.search (rules, copy_laws) in
-        let is_optional : option_map (λ b. b) y.«optional» ≡ option_map (λ b. b) x.«optional»
-        = Prim.search (rules, copy_laws) in
-        let default_features : option_map (λ b. b) y.default_features
-        ≡ option_map (λ b. b) x.default_features
-        = Prim.search (rules, copy_laws) in
-        let the_package : option_map string_bytes y.package ≡ option_map string_bytes x.package
-        = Prim.search (rules, copy_laws) in
-        Prim.cc (
-          version,
-          registry,
-          registry_index,
-          path,
-          git,
-          branch,
-          tag,
-          rev,
-          features,
-          is_optional,
-          default_features,
-          the_package,
-        ) };
+    ghost copies = { λ x y c. by_rows detailed_rows detailed_built (detail_content y) (detail_content x)
+        (unfold detailed_rows in Prim.search (rules, copy_laws)) };
 }
 
 impl Copied for Badges {
@@ -215,38 +178,8 @@ impl Copied for Badges {
 
     ghost held = { badges_content };
 
-    ghost copies = { λ x y c.
-        let appveyor : option_map badge_content y.appveyor ≡ option_map badge_content x.appveyor
-        = Prim.search (rules, copy_laws) in
-        let circle_ci : option_map badge_content y.circle_ci ≡ option_map badge_content x.circle_ci
-        = Prim.search (rules, copy_laws) in
-        let gitlab : option_map badge_content y.gitlab ≡ option_map badge_content x.gitlab
-        = Prim.search (rules, copy_laws) in
-        let travis_ci : option_map badge_content y.travis_ci ≡ option_map badge_content x.travis_ci
-        = Prim.search (rules, copy_laws) in
-        let codecov : option_map badge_content y.codecov ≡ option_map badge_content x.codecov
-        = Prim.search (rules, copy_laws) in
-        let coveralls : option_map badge_content y.coveralls ≡ option_map badge_content x.coveralls
-        = Prim.search (rules, copy_laws) in
-        let issue_resolution : option_map badge_content y.is_it_maintained_issue_resolution
-        ≡ option_map badge_content x.is_it_maintained_issue_resolution
-        = Prim.search (rules, copy_laws) in
-        let open_issues : option_map badge_content y.is_it_maintained_open_issues
-        ≡ option_map badge_content x.is_it_maintained_open_issues
-        = Prim.search (rules, copy_laws) in
-        let maintenance : maintenance_content y.maintenance ≡ maintenance_content x.maintenance
-        = Prim.search (rules, copy_laws) in
-        Prim.cc (
-          appveyor,
-          circle_ci,
-          gitlab,
-          travis_ci,
-          codecov,
-          coveralls,
-          issue_resolution,
-          open_issues,
-          maintenance,
-        ) };
+    ghost copies = { λ x y c. by_rows badges_rows badges_built (badges_content y) (badges_content x)
+        (unfold badges_rows in Prim.search (rules, copy_laws)) };
 }
 
 impl Copied for Profile {
@@ -254,55 +187,8 @@ impl Copied for Profile {
 
     ghost held = { profile_content };
 
-    ghost copies = { λ x y c.
-        let opt_level : option_map view y.opt_level ≡ option_map view x.opt_level
-        = Prim.search (rules, copy_laws) in
-        let debug : option_map view y.debug ≡ option_map view x.debug
-        = Prim.search (rules, copy_laws) in
-        let rpath : option_map (λ b. b) y.rpath ≡ option_map (λ b. b) x.rpath
-        = Prim.search (rules, copy_laws) in
-        let inherits : option_map string_bytes y.inherits ≡ option_map string_bytes x.inherits
-        = Prim.search (rules, copy_laws) in
-        let lto : option_map view y.lto ≡ option_map view x.lto
-        = Prim.search (rules, copy_laws) in
-        let debug_assertions : option_map (λ b. b) y.debug_assertions
-        ≡ option_map (λ b. b) x.debug_assertions
-        = Prim.search (rules, copy_laws) in
-        let codegen_units : option_map pos y.codegen_units ≡ option_map pos x.codegen_units
-        = Prim.search (rules, copy_laws) in
-        let panic : option_map string_bytes y.panic ≡ option_map string_bytes x.panic
-        = Prim.search (rules, copy_laws) in
-        let incremental : option_map (λ b. b) y.incremental ≡ option_map (λ b. b) x.incremental
-        = Prim.search (rules, copy_laws) in
-        let overflow_checks : option_map (λ b. b) y.overflow_checks
-        ≡ option_map (λ b. b) x.overflow_checks
-        = Prim.search (rules, copy_laws) in
-        let strip : option_map strip_content y.strip ≡ option_map strip_content x.strip
-        = Prim.search (rules, copy_laws) in
-        let the_package : entries_content view y.package.entries
-        ≡ entries_content view x.package.entries
-        = Prim.search (rules, copy_laws) in
-        let split_debuginfo : option_map string_bytes y.split_debuginfo
-        ≡ option_map string_bytes x.split_debuginfo
-        = Prim.search (rules, copy_laws) in
-        let build_override : option_map view y.build_override ≡ option_map view x.build_override
-        = Prim.search (rules, copy_laws) in
-        Prim.cc (
-          opt_level,
-          debug,
-          rpath,
-          inherits,
-          lto,
-          debug_assertions,
-          codegen_units,
-          panic,
-          incremental,
-          overflow_checks,
-          strip,
-          the_package,
-          split_debuginfo,
-          build_override,
-        ) };
+    ghost copies = { λ x y c. by_rows profile_rows profile_built (profile_content y) (profile_content x)
+        (unfold profile_rows in Prim.search (rules, copy_laws)) };
 }
 
 impl<T: Copied> Copied for MaybeInherited<T> {

@@ -71,5 +71,5 @@ fn each_case_of_a_type_is_copied(rt: HostRuntime) -> Result<(), Fail> {
         alloc,
         &["{ workspace = true }", "{ a = { b = 'warn' } }"],
     )?;
-    assert_all_copied::<Value>(&rt, alloc, &["1.5", "{ a = [1, 'b', 1979-05-27] }"])
+    assert_all_copied::<Value>(&rt, alloc, &["1", "{ a = [1, 'b', 1979-05-27] }"])
 }

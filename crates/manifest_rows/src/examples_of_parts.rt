@@ -7,7 +7,7 @@ use cargo_manifest::{
 };
 use manifest_parts::inherited::{has_workspace, says_workspace};
 use manifest_value::error::refusal;
-use manifest_value::text;
+use manifest_value::{Schema, text};
 use std::alloc::Global;
 use std::process::Abort;
 use std::test::Fail;

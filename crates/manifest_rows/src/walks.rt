@@ -1,9 +1,11 @@
 //! A walk over a table, and the readers of its rows, by their names.
 use crate::answers::{assert_is, told};
-use manifest_value::entries::{Key, map_of_entries};
+use manifest_value::entries::Key;
 use manifest_value::error::refusal;
 use manifest_value::maps::map_of_entries;
-use manifest_value::row_readers::{read_default, read_lenient, read_lenient_default, read_optional, read_required, read_tree};
+use manifest_value::row_readers::{
+    read_default, read_lenient, read_lenient_default, read_optional, read_required, read_tree,
+};
 use manifest_value::{RowSlot, Schema, Source, Spellings, TableSource, Walk, spelled, walk};
 use std::alloc::Global;
 use std::process::Abort;

@@ -12,7 +12,7 @@ use Rattle.manifest_schema.proofs.RowLaws.{row_laws, row_totals}
 use Rattle.manifest_schema.proofs.PartLaws.{dependencies_lawful, dependencies_total, lint_maps_lawful, lint_maps_total, product_lawful, product_total, products_lawful, products_total, badges_lawful, badges_total, profiles_lawful, profiles_total, lints_lawful, lints_total, platforms_lawful, platforms_total, features_lawful, features_total, patch_lawful, patch_total}
 
 -- PACKAGE
-package_built : (K : Kind Data) → IsBuilt (package_rows K)
+pub package_built : (K : Kind Data) → IsBuilt (package_rows K)
 unfolding package_rows
 package_built K = built (package_rows K) (λ F m. hlevel turned) (λ x. refl) (λ t. refl)
 
@@ -25,7 +25,7 @@ unfolding package_rows
 package_total K t = form_total (package_rows K) (package_built K) (search row_totals)
 
 -- THE PACKAGE FIELDS OF A WORKSPACE
-workspace_package_built : IsBuilt workspace_package_rows
+pub workspace_package_built : IsBuilt workspace_package_rows
 unfolding workspace_package_rows
 workspace_package_built = built workspace_package_rows (λ F m. hlevel turned) (λ x. refl) (λ t. refl)
 
@@ -38,7 +38,7 @@ unfolding workspace_package_rows
 workspace_package_total = form_total workspace_package_rows workspace_package_built (search row_totals)
 
 -- WORKSPACE
-workspace_built : (K : Kind Data) → IsBuilt (workspace_rows K)
+pub workspace_built : (K : Kind Data) → IsBuilt (workspace_rows K)
 unfolding workspace_rows
 workspace_built K = built (workspace_rows K) (λ F m. hlevel turned) (λ x. refl) (λ t. refl)
 
@@ -51,7 +51,7 @@ unfolding workspace_rows
 workspace_total K t = form_total (workspace_rows K) (workspace_built K) (search (row_totals, dependencies_total, workspace_package_total, lint_maps_total))
 
 -- MANIFEST
-manifest_built : (K W : Kind Data) → IsBuilt (manifest_rows K W)
+pub manifest_built : (K W : Kind Data) → IsBuilt (manifest_rows K W)
 unfolding manifest_rows
 manifest_built K W = built (manifest_rows K W) (λ F m. hlevel turned) (λ x. refl) (λ t. refl)
 

@@ -17,7 +17,7 @@ use Rattle.manifest_schema.proofs.ChoiceLaws.{level_lawful, level_total}
 use Rattle.manifest_schema.proofs.RowLaws.{row_laws, row_totals, texts_lawful, texts_total}
 
 -- INHERITED DEPENDENCY
-inherited_built : IsBuilt inherited_rows
+pub inherited_built : IsBuilt inherited_rows
 unfolding inherited_rows
 inherited_built = record {
   build = λ (workspace, (features, («optional», (default_features, end)))). record { features = features; «optional» = «optional»; default_features = default_features };
@@ -34,7 +34,7 @@ unfolding inherited_rows
 inherited_total = form_total inherited_rows inherited_built (search row_totals)
 
 -- DETAILED DEPENDENCY
-detailed_built : IsBuilt detailed_rows
+pub detailed_built : IsBuilt detailed_rows
 unfolding detailed_rows
 detailed_built = built detailed_rows (λ F m. hlevel turned) (λ x. refl) (λ t. refl)
 
@@ -100,7 +100,7 @@ pub dependencies_total : IsTotal (map_of dependency)
 dependencies_total = map_total dependency_total
 
 -- LINT
-lint_built : IsBuilt lint_rows
+pub lint_built : IsBuilt lint_rows
 unfolding lint_rows
 lint_built = built lint_rows (λ F m. hlevel turned) (λ x. refl) (λ t. refl)
 
@@ -149,7 +149,7 @@ pub lint_maps_total : IsTotal (map_of (map_of lint))
 lint_maps_total = map_total lint_map_total
 
 -- PRODUCT
-product_built : IsBuilt product_rows
+pub product_built : IsBuilt product_rows
 unfolding product_rows
 product_built = built product_rows (λ F m. hlevel turned) (λ x. refl) (λ t. refl)
 
@@ -168,7 +168,7 @@ pub products_total : IsTotal (list_of (form product_rows))
 products_total = list_total product_total
 
 -- BADGES
-badge_built : IsBuilt badge_rows
+pub badge_built : IsBuilt badge_rows
 unfolding badge_rows
 badge_built = built badge_rows (λ F m. hlevel turned) (λ x. refl) (λ t. refl)
 
@@ -180,7 +180,7 @@ pub badge_total : IsTotal (form badge_rows)
 unfolding badge_rows
 badge_total = form_total badge_rows badge_built (search row_totals)
 
-maintenance_built : IsBuilt maintenance_rows
+pub maintenance_built : IsBuilt maintenance_rows
 unfolding maintenance_rows
 maintenance_built = built maintenance_rows (λ F m. hlevel turned) (λ x. refl) (λ t. refl)
 
@@ -196,7 +196,7 @@ maintenance_good : (form maintenance_rows).good (record { status = no_status })
 unfolding maintenance_rows
 maintenance_good = (tt, tt)
 
-badges_built : IsBuilt badges_rows
+pub badges_built : IsBuilt badges_rows
 unfolding badges_rows
 badges_built = built badges_rows (λ F m. hlevel turned) (λ x. refl) (λ t. refl)
 
@@ -209,7 +209,7 @@ unfolding badges_rows
 badges_total = form_total badges_rows badges_built (search (row_totals, badge_lawful, badge_total, maintenance_lawful, maintenance_total))
 
 -- PROFILES
-profile_built : IsBuilt profile_rows
+pub profile_built : IsBuilt profile_rows
 unfolding profile_rows
 profile_built = built profile_rows (λ F m. hlevel turned) (λ x. refl) (λ t. refl)
 
@@ -221,7 +221,7 @@ pub profile_total : IsTotal (form profile_rows)
 unfolding profile_rows
 profile_total = form_total profile_rows profile_built (search row_totals)
 
-profiles_built : IsBuilt profiles_rows
+pub profiles_built : IsBuilt profiles_rows
 unfolding profiles_rows
 profiles_built = built profiles_rows (λ F m. hlevel turned) (λ x. refl) (λ t. refl)
 
@@ -234,7 +234,7 @@ unfolding profiles_rows
 profiles_total = form_total profiles_rows profiles_built (search (row_totals, profile_total))
 
 -- LINTS OF A MANIFEST
-lints_built : IsBuilt lints_rows
+pub lints_built : IsBuilt lints_rows
 unfolding lints_rows
 lints_built = built lints_rows (λ F m. hlevel turned) (λ x. refl) (λ t. refl)
 
@@ -247,7 +247,7 @@ unfolding lints_rows
 lints_total = form_total lints_rows lints_built (search (row_totals, lint_map_total))
 
 -- PLATFORM
-platform_built : IsBuilt platform_rows
+pub platform_built : IsBuilt platform_rows
 unfolding platform_rows
 platform_built = built platform_rows (λ F m. hlevel turned) (λ x. refl) (λ t. refl)
 

@@ -6,6 +6,10 @@ ghost use Rattle.std.proofs.Common.{ap, rules};
 ghost use Rattle.std.proofs.Math.Path.{fun_ext};
 ghost use Rattle.toml.specs.Data.{Data};
 ghost use Rattle.manifest_schema.specs.Contents;
+ghost use Rattle.manifest_schema.specs.Kinds.{kept};
+ghost use Rattle.manifest_schema.specs.ManifestForms.{workspace_rows};
+ghost use Rattle.manifest_schema.proofs.ManifestLaws.{workspace_built};
+ghost use Rattle.manifest_value.proofs.FormLemmas.{by_rows};
 ghost use Rattle.manifest_schema.proofs.CopyLaws.{copy_laws, some_copied, entries_copied};
 ghost use Rattle.manifest_value.specs.Entries.{entries_content};
 ghost use Rattle.manifest_parts.specs.Parts.{resolver_content};
@@ -27,27 +31,9 @@ impl<M: Copied> Copied for Workspace<M> {
     ghost copies = { λ x y c. fun_ext (λ see.
         let seen : (a b : M) → M.is_clone a b → see (M.held b) ≡ see (M.held a)
         = λ a b k. ap see (M.copies a b k) in
-        let members : map string_bytes y.members.items
-        ≡ map string_bytes x.members.items
-        = Prim.search (rules, copy_laws) in
-        let default_members : option_map (λ v. map string_bytes v.items) y.default_members
-        ≡ option_map (λ v. map string_bytes v.items) x.default_members
-        = Prim.search (rules, copy_laws) in
-        let exclude : option_map (λ v. map string_bytes v.items) y.exclude
-        ≡ option_map (λ v. map string_bytes v.items) x.exclude
-        = Prim.search (rules, copy_laws) in
-        let resolver : option_map resolver_content y.resolver
-        ≡ option_map resolver_content x.resolver
-        = Prim.search (rules, copy_laws) in
-        let dependencies : option_map dependencies_content y.dependencies
-        ≡ option_map dependencies_content x.dependencies
-        = Prim.search (rules, copy_laws, dependency_copied) in
-        let package_fields : option_map workspace_package_content y.package
-        ≡ option_map workspace_package_content x.package
-        = Prim.search (rules, copy_laws, package_copied) in
-        let metadata : option_map (λ m. see (M.held m)) y.metadata
-        ≡ option_map (λ m. see (M.held m)) x.metadata
-        = Prim.search (rules, copy_laws, seen) in
+        let content = workspace_content (λ m. see (M.held m)) in
+        by_rows (workspace_rows kept) (workspace_built kept) (content y) (content x)
+        (unfold workspace_rows in (
         let lints :
         option_map (λ m. entries_content (λ l. entries_content lint_content l.entries) m.entries)
         y.lints
@@ -60,14 +46,5 @@ impl<M: Copied> Copied for Workspace<M> {
         (λ d e h. entries_copied lint_content lint_copied d.entries e.entries h)
         a.entries b.entries k)
         x.lints y.lints c.1.1.1.1.1.1.1 in
-        Prim.cc (
-          members,
-          default_members,
-          exclude,
-          resolver,
-          dependencies,
-          package_fields,
-          metadata,
-          lints,
-        )) };
+        Prim.search (rules, copy_laws, dependency_copied, package_copied, seen, lints)))) };
 }

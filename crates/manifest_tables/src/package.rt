@@ -19,7 +19,8 @@ use manifest_parts::{Edition, MaybeInherited, Publish, Resolver, StringOrBool};
 use manifest_value::form::{RowPut, RowRead, Rowed, Word, read_form};
 use manifest_value::row_slots::RowSlot;
 use manifest_value::{
-    Form, Metadata, ReadFault, Spellings, TableSource, empty_of, good_row_of, names_of_rows, put_row_of, read_row_of,
+    Form, Metadata, ReadFault, Spellings, TableSource, empty_of, good_row_of, names_of_rows,
+    put_row_of, read_row_of,
 };
 use std::alloc::Global;
 use toml::{Table, Value};

@@ -20,7 +20,8 @@ use manifest_value::maps::{entries_table, map_of_entries};
 use manifest_value::row_slots::RowSlot;
 use manifest_value::well_formed::{none_is_named, values_are_well_formed};
 use manifest_value::{
-    ReadFault, Schema, Source, Spellings, TableSource, good_row_of, names_of_rows, put_row_of, read_row_of, table,
+    ReadFault, Schema, Source, Spellings, TableSource, good_row_of, names_of_rows, put_row_of,
+    read_row_of, table,
 };
 use std::alloc::{AllocError, Global};
 use std::collections::BTreeMap;

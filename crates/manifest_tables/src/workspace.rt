@@ -14,7 +14,9 @@ ghost use Rattle.manifest_value.specs.Reading.{IsOfTable};
 use manifest_parts::{DepsSet, Edition, LintsSet, Publish, Resolver, StringOrBool};
 use manifest_value::form::{RowPut, RowRead, Rowed, Word};
 use manifest_value::row_slots::RowSlot;
-use manifest_value::{Form, Metadata, Spellings, empty_of, good_row_of, names_of_rows, put_row_of, read_row_of};
+use manifest_value::{
+    Form, Metadata, Spellings, empty_of, good_row_of, names_of_rows, put_row_of, read_row_of,
+};
 use std::alloc::Global;
 use toml::{Table, Value};
 

@@ -1,42 +1,37 @@
-use Rattle.std.proofs.Common.{◌≡◌, Result, Ok, Err, Some, None, OnOk, IfErr, ap, subst, rules}
-use Rattle.toml.specs.Data.{table, no_members}
-use Rattle.manifest_schema.specs.Forms.{form}
-use Rattle.manifest_schema.specs.Contents.{WorkspacePackage}
-use Rattle.manifest_schema.specs.ManifestForms.{workspace_package_rows}
-use Rattle.manifest_schema.proofs.ManifestLaws.{workspace_package_lawful}
+use Rattle.std.proofs.Common.{◌≡◌, Result, Ok, Err, Some, None, OnOk, IfErr, refl, ap}
 use Rattle.manifest_tables.specs.Tables.{workspace_package_content, package_of}
 use Rattle.manifest_inherit.specs.Fields.{lendable}
 use Rattle.manifest_inherit.specs.Resolved.{resolved_package}
-use Rattle.manifest_inherit.specs.Refused.{Refusals, refuses_fields}
+use Rattle.manifest_inherit.specs.Refused.{Refusal, Refusals, NoneHolds, refuses_fields}
 use Rattle.manifest_inherit.specs.Answers.{RefusedIn}
 use Rattle.manifest_inherit.specs.ForProofs.{Accepted}
+use Rattle.manifest_inherit.specs.declared.error.ResolveError.{ResolveError}
+use Rattle.manifest_inherit.proofs.EntryLemmas.{refused_weaker}
+use Rattle.manifest_inherit.proofs.FieldLaws.{nothing_resolved, nothing_refused, none_holds}
 use Rattle.manifest_inherit.proofs.resolution.make_package.Goals as goal
 
-accepted_some : {E A : Type 0} (refuses : Refusals) (becomes made : A) (r : Result (Unit {0}) E) → OnOk r (Accepted refuses becomes made) → OnOk r (Accepted refuses (Some becomes) (Some made))
-accepted_some refuses becomes made (Ok u) h = (h.0, ap Some h.1)
-accepted_some refuses becomes made (Err e) h = tt
+accepted : {E A : Type 0} (R S : Refusals) (becomes made : A) (r : Result (Unit {0}) E) → (NoneHolds R → NoneHolds S) → made ≡ becomes → OnOk r (NoneHolds R) → OnOk r (Accepted S (Some becomes) (Some made))
+accepted R S becomes made (Ok u) w e h = (w h, ap Some e)
+accepted R S becomes made (Err f) w e h = tt
 
--- what the empty table means
-nothing : WorkspacePackage
-nothing = record { edition = None; version = None; authors = None; description = None; homepage = None; documentation = None; readme = None; keywords = None; categories = None; license = None; license_file = None; repository = None; rust_version = None; exclude = None; include = None; publish = None }
+refused : {T : Type 0} (R S : Refusals) (r : Result T ResolveError) → ((x : Refusal) → R x → S x) → IfErr r (RefusedIn R) → IfErr r (RefusedIn S)
+refused R S (Ok u) w h = tt
+refused R S (Err e) w h = refused_weaker R S e w h
 
-is_nothing : (w : WorkspacePackage) → (form workspace_package_rows).reads (table no_members) w → w ≡ nothing
-unfolding workspace_package_rows nothing
-is_nothing w h = workspace_package_lawful.single (table no_members) w nothing h (search rules)
+pub returns-in_ok-copy_of-in-Some-lent-clause-ok : goal.returns-in_ok-copy_of-in-Some-lent-clause-ok
+returns-in_ok-copy_of-in-Some-lent-clause-ok g c =
+    rw (c.in-Some.is, c.in-Some-lent.is, c.replace.ensures.after, c.in_ok-copy_of-in-Some-lent.ensures) (c.in_ok-check_fields-in-Some-lent.ensures.ok, refl)
 
 pub returns-in-None-lent-clause-ok : goal.returns-in-None-lent-clause-ok
-unfolding lendable resolved_package nothing
 returns-in-None-lent-clause-ok g c =
     let p = package_of g.M.Schema.kind g.M.Schema.content c.in-Some.own in
-    let made = resolved_package (Some (workspace_package_content c.make_fields-answer.new.made)) p in
-    let answer = c.make_fields-answer.result in
-    let same = is_nothing (workspace_package_content c.default-nothing.result) c.default-nothing.ensures in
-    let told = subst (λ (w : WorkspacePackage). OnOk answer (Accepted (refuses_fields lendable (Some w) p) (resolved_package (Some w) p) made)) same c.make_fields-answer.ensures.ok in
-    rw (c.in-Some.is, c.in-None-lent.is) (accepted_some _ _ made answer told)
+    let w = workspace_package_content c.default-nothing.result in
+    let is = c.default-nothing.ensures in
+    rw (c.in-Some.is, c.in-None-lent.is, c.replace-in-None-lent.ensures.after)
+    (accepted (refuses_fields lendable (Some w) p) (refuses_fields lendable None p) (resolved_package None p) (resolved_package (Some w) p) c.check_fields-answer.result (none_holds w is p) (nothing_resolved w is p) c.check_fields-answer.ensures.ok)
 
 pub returns-in-None-lent-clause-refused : goal.returns-in-None-lent-clause-refused
-unfolding lendable nothing
 returns-in-None-lent-clause-refused g c =
     let p = package_of g.M.Schema.kind g.M.Schema.content c.in-Some.own in
-    let same = is_nothing (workspace_package_content c.default-nothing.result) c.default-nothing.ensures in
-    rw (c.in-Some.is, c.in-None-lent.is) (subst (λ (w : WorkspacePackage). IfErr c.make_fields-answer.result (RefusedIn (refuses_fields lendable (Some w) p))) same c.make_fields-answer.ensures.refused)
+    let w = workspace_package_content c.default-nothing.result in
+    rw (c.in-Some.is, c.in-None-lent.is) (refused (refuses_fields lendable (Some w) p) (refuses_fields lendable None p) c.check_fields-answer.result (nothing_refused w c.default-nothing.ensures p) c.check_fields-answer.ensures.refused)
