@@ -106,7 +106,7 @@ fn check_at<M: Metadata>(
     lendable!(check_of(alloc, own, lent, i))
 }
 
-/// Whether all that a package inherits is lent. It refuses with the key of the first field that is not.
+/// Whether all that a package inherits is lent. It refuses with the key of a field that is not.
 pub(crate) fn check_fields<M: Metadata>(
     alloc: Global,
     own: &Package<M>,

@@ -42,6 +42,7 @@ impl Edition {
     }
 }
 
+/// It is read of one of its texts. A value that is no text is refused with `WrongKind`, another text with `NotAChoice`.
 impl Schema for Edition {
     ghost Content = { Contents.Edition };
 
@@ -113,6 +114,7 @@ impl Resolver {
     }
 }
 
+/// It is read of one of its texts. A value that is no text is refused with `WrongKind`, another text with `NotAChoice`.
 impl Schema for Resolver {
     ghost Content = { Contents.Resolver };
 
@@ -185,6 +187,7 @@ impl LintLevel {
     }
 }
 
+/// It is read of one of its texts. A value that is no text is refused with `WrongKind`, another text with `NotAChoice`.
 impl Schema for LintLevel {
     ghost Content = { Contents.Level };
 
@@ -270,6 +273,7 @@ fn status_of(text: &str) -> Option<MaintenanceStatus>
     }
 }
 
+/// It is read of one of its texts. A value that is no text is refused with `WrongKind`, another text with `NotAChoice`.
 impl Schema for MaintenanceStatus {
     ghost Content = { Contents.Status };
 

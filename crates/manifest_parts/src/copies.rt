@@ -169,7 +169,8 @@ impl Copied for DependencyDetail {
 
     ghost held = { detail_content };
 
-    ghost copies = { λ x y c. by_rows detailed_rows detailed_built (detail_content y) (detail_content x)
+    ghost copies = { λ x y c. by_rows detailed_rows detailed_built
+        (detail_content y) (detail_content x)
         (unfold detailed_rows in Prim.search (rules, copy_laws)) };
 }
 
@@ -187,7 +188,8 @@ impl Copied for Profile {
 
     ghost held = { profile_content };
 
-    ghost copies = { λ x y c. by_rows profile_rows profile_built (profile_content y) (profile_content x)
+    ghost copies = { λ x y c. by_rows profile_rows profile_built
+        (profile_content y) (profile_content x)
         (unfold profile_rows in Prim.search (rules, copy_laws)) };
 }
 

@@ -20,6 +20,7 @@ use toml::{Table, Value};
 #[derive(Clone, Debug, PartialEq, Eq, Drop)]
 pub struct True;
 
+/// It is read of the boolean true. False is refused with `NotTrue`, another value with `WrongKind`.
 impl Schema for True {
     ghost Content = { Unit {0} };
 
@@ -93,6 +94,8 @@ pub fn has_workspace(table: &Table) -> bool
     }
 }
 
+/// A table whose `workspace` is the boolean true is read as `Inherited`, whatever else it has; another table is refused with
+/// `WrongKind`, and any other value is read by the type itself.
 impl<T: Plain> Schema for MaybeInherited<T> {
     ghost Content = { Inheritable T.Content };
 

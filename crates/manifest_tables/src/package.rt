@@ -28,6 +28,8 @@ use toml::{Table, Value};
 /// The package of a manifest; `M` is the type of its metadata. What is `MaybeInherited` may be inherited: then it
 /// stands in the workspace's manifest alone. See the
 /// [Cargo reference](https://doc.rust-lang.org/cargo/reference/manifest.html#the-package-section).
+///
+/// It is well-formed where its metadata is absent or well-formed; a float in metadata of the type `Value` is not.
 #[derive(Clone, Debug, PartialEq, Drop)]
 pub struct Package<M = Value> {
     /// The name, from which its library and its main binary take theirs by default; it may have capital letters.

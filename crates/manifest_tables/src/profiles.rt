@@ -29,6 +29,8 @@ use toml::{Table, Value};
 
 /// The profiles of a manifest: the five that Cargo names, and those of all other names. No custom profile may have one
 /// of the five names. See the [Cargo reference](https://doc.rust-lang.org/cargo/reference/profiles.html).
+///
+/// They are well-formed where each is, and no custom one is named `release`, `dev`, `test`, `bench` or `doc`.
 #[derive(Clone, Debug, PartialEq, Drop)]
 pub struct Profiles {
     /// The profile of `--release` and of `cargo install`.

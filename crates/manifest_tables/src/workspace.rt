@@ -129,6 +129,8 @@ impl Default for WorkspacePackage {
 
 /// The workspace of a manifest; `M` is the type of its metadata. See the
 /// [Cargo reference](https://doc.rust-lang.org/cargo/reference/workspaces.html#the-workspace-section).
+///
+/// It is well-formed where its metadata is absent or well-formed.
 #[derive(Clone, Debug, PartialEq, Eq, Drop)]
 pub struct Workspace<M = Value> {
     /// The paths of members, or globs; not all, since the root package and path dependencies inside are members too.

@@ -62,7 +62,7 @@ pub trait Schema: Sized + Drop {
     fn to_value(&self, alloc: Global) -> Result<Value, AllocError>
         ensures { IfOk result (λ v. view v ≡ kind.written (content self.now)) };
 
-    /// Whether what is written is read back as the same.
+    /// Whether the value is well-formed: then what is written of it is read back as the same.
     fn is_well_formed(&self) -> bool
         ensures { IsTrue result ↔ kind.good (content self.now) };
 
