@@ -1,11 +1,11 @@
 -- What each answer of the calls says of the bytes that were read. The kinds K and W are those of the metadata of the package and of the workspace.
-use Rattle.std.specs.Prelude.{◌≡◌, ℕ, List, false, Some, None, IsUtf8, codes, string_bytes}
-use Rattle.toml.specs.Data.{Data, Members, members_have_valid_dates}
+use Rattle.std.specs.Prelude.{◌≡◌, ◌≤◌, ℕ, List, true, false, Some, None, IsUtf8, codes, string_bytes}
+use Rattle.toml.specs.Data.{Data, Members, members_depth, members_have_valid_dates}
 use Rattle.toml.specs.Parse.{parse_document}
 use Rattle.toml.specs.Errors.{IsMemory, IsWithin}
 use Rattle.manifest_schema.specs.Kinds.{Kind, tree_of}
 use Rattle.manifest_schema.specs.Contents.{Manifest}
-use Rattle.manifest_schema.specs.Meaning.{means, unmeant, rewritten}
+use Rattle.manifest_schema.specs.Meaning.{means, unmeant, rewritten, well_formed, is_headed}
 use Rattle.manifest_value.specs.declared.fault.SchemaFault.{SchemaFault}
 use Rattle.manifest_value.specs.Faults.{IsOneOf}
 use Rattle.manifest_value.specs.declared.error.Error.{Error}
@@ -44,6 +44,12 @@ abbrev pub written_of : {P W A B : Type 0}
     → Kind A → Kind B → (P → A) → (W → B) → ManifestOfCode P W → Members
 written_of K W p w m =
     rewritten (tree_of K) (tree_of W) (manifest_content (λ x. K.written (p x)) (λ x. W.written (w x)) m)
+
+-- a text that is read as the manifest: where that is well-formed, has a package or a workspace, and its table is at most 80 deep
+abbrev pub ReadsAs : Kind Data → Kind Data → Manifest → List ℕ → Type 0
+ReadsAs K W m text =
+    well_formed K W m → is_headed m ≡ true → members_depth (rewritten K W m) ≤ 80
+    → IsDocumentOf K W text m
 
 -- the refusal to print a table: it has a date-time that TOML cannot write, or memory ran out
 abbrev pub RefusesToPrint : Members → Error → Type 0

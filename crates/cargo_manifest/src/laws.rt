@@ -3,13 +3,15 @@
 //! Each function returns at once: it is there for its contract, a law of the definitions.
 
 ghost use Rattle.manifest_schema.specs.Kinds.{kept, tree_of};
-ghost use Rattle.manifest_schema.specs.Meaning.{MeansOne, WrittenIsRead, AcceptedIsWellFormed, RewrittenMeansTheSame, SameExactly, FaultyMeansNothing, AcceptedOrFaulty};
+ghost use Rattle.manifest_schema.specs.Meaning.{MeansOne, WrittenIsRead, AcceptedIsWellFormed, WrittenMeansTheSame, RewrittenMeansTheSame, RewrittenTwiceIsOnce, SameExactly, SameWrittenIsSame, FaultyMeansNothing, AcceptedOrFaulty};
 ghost use Rattle.manifest_schema.specs.Former.{OldWrittenIsRead};
 ghost use Rattle.manifest_completion.specs.Laws.{CompletedIsFixed};
 ghost use Rattle.cargo_manifest.specs.Completes.{StoredDecides};
 ghost use Rattle.cargo_manifest.specs.WellFormed.{PackageByMetadata, WorkspaceByParts, ManifestByParts};
 
-pub use manifest_completion::laws::{ascending_differ, asked_decides, asked_differ};
+pub use manifest_completion::laws::{
+    ascending_differ, asked_decides, asked_differ, declared_stays, others_change_nothing,
+};
 use manifest_value::Metadata;
 
 /// A table means at most one manifest.
@@ -37,15 +39,31 @@ pub fn well_formed_by_parts<P: Metadata, W: Metadata>()
     ensures manifest { ManifestByParts (tree_of P.kind) (tree_of W.kind) }
 {}
 
+/// What is written of a well-formed manifest with a package or a workspace means that manifest.
+#[tactic(auto, using(manifest_schema::proofs::MeaningLaws::written_means_the_same, manifest_schema::proofs::KindLaws::tree_lawful))]
+pub fn written_means_the_same<P: Metadata, W: Metadata>()
+    ensures { WrittenMeansTheSame (tree_of P.kind) (tree_of W.kind) }
+{}
+
 /// The rewritten table of an accepted table means the same manifest.
 #[tactic(auto, using(manifest_schema::proofs::MeaningLaws::rewritten_means_the_same, manifest_schema::proofs::KindLaws::tree_lawful))]
 pub fn rewritten_means_the_same<P: Metadata, W: Metadata>()
     ensures { RewrittenMeansTheSame (tree_of P.kind) (tree_of W.kind) }
 {}
 
+/// What a rewritten table means is rewritten as the same table.
+pub fn rewritten_twice_is_once<P: Metadata, W: Metadata>()
+    ensures { RewrittenTwiceIsOnce (tree_of P.kind) (tree_of W.kind) }
+{}
+
 /// Two accepted tables mean one manifest exactly if their rewritten tables are equal.
 pub fn same_exactly<P: Metadata, W: Metadata>()
     ensures { SameExactly (tree_of P.kind) (tree_of W.kind) }
+{}
+
+/// Well-formed manifests of which the same is written are the same.
+pub fn same_written_is_same<P: Metadata, W: Metadata>()
+    ensures { SameWrittenIsSame (tree_of P.kind) (tree_of W.kind) }
 {}
 
 /// A table with a fault means nothing.

@@ -1,6 +1,6 @@
 //! A manifest from bytes or from a text.
 
-ghost use Rattle.std.specs.Prelude.{◌≡◌, false, codes, IfOk, IfErr, IsUtf8};
+ghost use Rattle.std.specs.Prelude.{◌≡◌, false, codes, IfOk, IfErr, OnOk, IsUtf8};
 ghost use Rattle.toml.specs.Data.{get_member};
 ghost use Rattle.toml.specs.View.{view, table_view};
 ghost use Rattle.manifest_schema.specs.Kinds.{kept, tree_of};
@@ -14,7 +14,7 @@ use crate::manifest::Manifest;
 use manifest_tables::Package;
 use manifest_tables::package::package_from;
 use manifest_value::error::refusal;
-use manifest_value::form::read_form;
+use manifest_value::form::read_form_into;
 use manifest_value::readers::find;
 use manifest_value::rows::read_under;
 use manifest_value::{Error, Metadata, ParseFault, ReadFault, TableSource};
@@ -50,48 +50,55 @@ fn read_old_package<P: Metadata>(alloc: Global, table: &Table) -> Result<Package
     }
 }
 
-/// The manifest that a table without a header means: its package is that of `project`, or else of the whole table.
+/// Reads into a manifest what a table without a header means: its package is that of `project`, or else of the whole
+/// table.
 fn read_headless<P: Metadata, W: Metadata>(
+    manifest: &mut Manifest<P, W>,
     alloc: Global,
     table: &Table,
-) -> Result<Manifest<P, W>, ReadFault>
-    ensures ok { IfOk result
-        (λ m. means_by (tree_of P.kind) (tree_of W.kind) false (table_view table.now)
-        (manifest_of P.kind W.kind P.content W.content m)) }
+) -> Result<(), ReadFault>
+    ensures ok { OnOk result
+        (means_by (tree_of P.kind) (tree_of W.kind) false (table_view table.now)
+        (manifest_of P.kind W.kind P.content W.content manifest.new)) }
     ensures fault { IfErr result
         (FaultIn (unmeant_by (tree_of P.kind) (tree_of W.kind) false (table_view table.now))) }
 {
-    let mut manifest: Manifest<P, W> = read_form(alloc, TableSource::Lent(table))?;
+    read_form_into(manifest, alloc, TableSource::Lent(table))?;
     match read_old_package(alloc, table) {
         Ok(package) => {
             manifest.package = Some(package);
-            Ok(manifest)
+            Ok(())
         }
         Err(fault) => Err(fault),
     }
 }
 
-/// The manifest that a table means, with or without a header.
+/// Reads into a manifest what a table means, with or without a header.
 fn read_table<P: Metadata, W: Metadata>(
+    manifest: &mut Manifest<P, W>,
     alloc: Global,
     table: Table,
-) -> Result<Manifest<P, W>, ReadFault>
-    ensures ok { IfOk result (λ m. means (tree_of P.kind) (tree_of W.kind) (table_view table)
-        (manifest_of P.kind W.kind P.content W.content m)) }
+) -> Result<(), ReadFault>
+    ensures ok { OnOk result (means (tree_of P.kind) (tree_of W.kind) (table_view table)
+        (manifest_of P.kind W.kind P.content W.content manifest.new)) }
     ensures fault { IfErr result
         (FaultIn (unmeant (tree_of P.kind) (tree_of W.kind) (table_view table))) }
 {
     if has_package_or_workspace(&table) {
-        read_form(alloc, TableSource::Taken(table))
+        read_form_into(manifest, alloc, TableSource::Taken(table))
     } else {
-        read_headless(alloc, &table)
+        read_headless(manifest, alloc, &table)
     }
 }
 
-/// The manifest that a text means.
-fn from_text<P: Metadata, W: Metadata>(alloc: Global, text: &str) -> Result<Manifest<P, W>, Error>
-    ensures ok { IfOk result (λ m. IsDocumentOf (tree_of P.kind) (tree_of W.kind) text.now
-        (manifest_of P.kind W.kind P.content W.content m)) }
+/// Reads into a manifest what a text means.
+fn read_text<P: Metadata, W: Metadata>(
+    manifest: &mut Manifest<P, W>,
+    alloc: Global,
+    text: &str,
+) -> Result<(), Error>
+    ensures ok { OnOk result (IsDocumentOf (tree_of P.kind) (tree_of W.kind) text.now
+        (manifest_of P.kind W.kind P.content W.content manifest.new)) }
     ensures refused { IfErr result (RefusesText (tree_of P.kind) (tree_of W.kind) text.now) }
 {
     let table = match toml::table_from_str(alloc, text) {
@@ -101,10 +108,42 @@ fn from_text<P: Metadata, W: Metadata>(alloc: Global, text: &str) -> Result<Mani
             return Err(Error::Parse(ParseFault::Toml(shared)));
         }
     };
-    match read_table(alloc, table) {
-        Ok(manifest) => Ok(manifest),
+    match read_table(manifest, alloc, table) {
+        Ok(()) => Ok(()),
         Err(fault) => Err(refusal(fault)),
     }
+}
+
+/// Reads into a manifest what bytes mean.
+fn read_bytes<P: Metadata, W: Metadata>(
+    manifest: &mut Manifest<P, W>,
+    alloc: Global,
+    bytes: &[u8],
+) -> Result<(), Error>
+    ensures ok { OnOk result
+        (IsUtf8 bytes.now × IsDocumentOf (tree_of P.kind) (tree_of W.kind) bytes.now
+        (manifest_of P.kind W.kind P.content W.content manifest.new)) }
+    ensures refused { IfErr result (Refuses (tree_of P.kind) (tree_of W.kind) bytes.now) }
+{
+    match std::str::from_utf8(bytes) {
+        Ok(text) => read_text(manifest, alloc, text),
+        Err(fault) => Err(Error::Utf8(fault)),
+    }
+}
+
+/// A manifest that is read in its place. Each public call makes its own: a manifest takes 5 kB, which every function that
+/// hands it on would clear once more.
+macro_rules! manifest_by {
+    ($read:ident, $alloc:ident, $input:ident) => {{
+        let mut manifest = Manifest::default($alloc);
+        match $read(&mut manifest, $alloc, $input) {
+            Ok(()) => Ok(manifest),
+            Err(refused) => {
+                drop(manifest);
+                Err(refused)
+            }
+        }
+    }};
 }
 
 impl<P: Metadata, W: Metadata> Manifest<P, W> {
@@ -123,11 +162,7 @@ impl<P: Metadata, W: Metadata> Manifest<P, W> {
             (manifest_of P.kind W.kind P.content W.content m)) }
         ensures refused { IfErr result (Refuses (tree_of P.kind) (tree_of W.kind) bytes.now) }
     {
-        let text = match std::str::from_utf8(bytes) {
-            Ok(text) => text,
-            Err(fault) => return Err(Error::Utf8(fault)),
-        };
-        from_text(alloc, text)
+        manifest_by!(read_bytes, alloc, bytes)
     }
 }
 
@@ -153,7 +188,7 @@ impl<P: Metadata> Manifest<P, Value> {
             (manifest_kept P.kind P.content m)) }
         ensures refused { IfErr result (Refuses (tree_of P.kind) (tree_of kept) bytes.now) }
     {
-        Manifest::from_slice_with_both_metadata(alloc, bytes)
+        manifest_by!(read_bytes, alloc, bytes)
     }
 }
 
@@ -170,7 +205,7 @@ impl Manifest<Value, Value> {
             × IsDocumentOf (tree_of kept) (tree_of kept) bytes.now (manifest_content view view m)) }
         ensures refused { IfErr result (Refuses (tree_of kept) (tree_of kept) bytes.now) }
     {
-        Manifest::from_slice_with_metadata(alloc, bytes)
+        manifest_by!(read_bytes, alloc, bytes)
     }
 
     /// Reads the text of a `Cargo.toml`, as [`Manifest::from_slice`] does its bytes.
@@ -184,6 +219,6 @@ impl Manifest<Value, Value> {
             (manifest_content view view m)) }
         ensures refused { IfErr result (RefusesText (tree_of kept) (tree_of kept) text.now) }
     {
-        from_text(alloc, text)
+        manifest_by!(read_text, alloc, text)
     }
 }

@@ -4,7 +4,9 @@ ghost use Rattle.std.specs.Prelude.{◌≡◌, ◌≤◌, true, false, Some, IfO
 ghost use Rattle.toml.specs.Data.{members_depth, members_have_valid_dates};
 ghost use Rattle.toml.specs.Parse.{parse_document};
 ghost use Rattle.toml.specs.Text.{IsDocumentText};
-ghost use Rattle.cargo_manifest.specs.Answers.{RefusesToPrint, written_of};
+ghost use Rattle.manifest_schema.specs.Kinds.{tree_of};
+ghost use Rattle.cargo_manifest.specs.Answers.{ReadsAs, RefusesToPrint, written_of};
+ghost use Rattle.cargo_manifest.specs.Whole.{manifest_of};
 
 use crate::manifest::{Manifest, manifest_table};
 use manifest_value::{Error, Metadata};
@@ -16,7 +18,9 @@ pub const INVALID_DATE: &str = "a date-time of a kept value is not a valid date"
 impl<P: Metadata, W: Metadata> Manifest<P, W> {
     /// The text of the canonical table: the document that `toml` writes of it, at any depth.
     ///
-    /// A table that is at most 80 deep, as `toml` counts, is read back from it. Refuses a table with a date-time that
+    /// A table that is at most 80 deep, as `toml` counts, is read back from it: so of a well-formed manifest with a package
+    /// or a workspace, also one that was completed or resolved or is made by hand, [`Manifest::from_slice`] of the text
+    /// gives that manifest. Refuses a table with a date-time that
     /// `toml` counts as invalid with [`Error::Other`] of [`INVALID_DATE`], and else only for want of memory.
     ///
     /// ```ignore
@@ -28,6 +32,9 @@ impl<P: Metadata, W: Metadata> Manifest<P, W> {
             IfOk result (λ s. IsDocumentText false ms (string_bytes s)) }
         ensures reads_back { let ms = written_of P.kind W.kind P.content W.content self.now in
             IfOk result (λ s. members_depth ms ≤ 80 → parse_document (string_bytes s) ≡ Some ms) }
+        ensures reads_as_it { let K = tree_of P.kind in let L = tree_of W.kind in
+            let m = manifest_of P.kind W.kind P.content W.content self.now in
+            IfOk result (λ s. ReadsAs K L m (string_bytes s)) }
         ensures dates { let ms = written_of P.kind W.kind P.content W.content self.now in
             IfOk result (λ _. members_have_valid_dates ms ≡ true) }
         ensures refused { let ms = written_of P.kind W.kind P.content W.content self.now in

@@ -81,7 +81,7 @@ root_again (Some (a_flag true)) a e = refl
 root_again (Some (a_flag false)) a e = e
 
 -- WHAT COMPLETION COMES TO, where it refuses nothing
-record IsCalm (t : PackageTargets) (l : ListingMap) (lib : Option Product) : Type 0 where
+pub record IsCalm (t : PackageTargets) (l : ListingMap) (lib : Option Product) : Type 0 where
   pub source : source_fault l.source ≡ None
   pub library : library_of t t.lib l.source ≡ known lib
   pub memory : has_memory_fault (at l) (target_places l) ≡ false
@@ -90,7 +90,7 @@ record IsCalm (t : PackageTargets) (l : ListingMap) (lib : Option Product) : Typ
 calm_done : (t : PackageTargets) (l : ListingMap) (lib : Option Product) → IsCalm t l lib → completed_targets t l ≡ completed_to (filled t lib l)
 calm_done t l lib c = rw (c.source, c.library, c.memory, c.root) refl
 
-done_calm : (t u : PackageTargets) (l : ListingMap) → completed_targets t l ≡ completed_to u → (lib : Option Product) × IsCalm t l lib × (filled t lib l ≡ u)
+pub done_calm : (t u : PackageTargets) (l : ListingMap) → completed_targets t l ≡ completed_to u → (lib : Option Product) × IsCalm t l lib × (filled t lib l ≡ u)
 done_calm t u l h = by_source (source_fault l.source) (library t l.source) (has_memory_fault (at l) (target_places l)) (root_fault t.build l.root) refl refl refl refl h
   where
     by_source : (k : Option ErrorKind) (c : Library) (b : Bool) (r : Option ErrorKind) → source_fault l.source ≡ k → library t l.source ≡ c → has_memory_fault (at l) (target_places l) ≡ b → root_fault t.build l.root ≡ r
@@ -159,7 +159,7 @@ targets_back : (p : Package) (m : Manifest) (lib : Option Product) (l : ListingM
 unfolding filled
 targets_back p m lib l = refl
 
-completed_once : (p : Package) (m n : Manifest) (l : ListingMap) → completion_with p m (completed_targets (targets_of p m) l) ≡ completed_to n
+pub completed_once : (p : Package) (m n : Manifest) (l : ListingMap) → completion_with p m (completed_targets (targets_of p m) l) ≡ completed_to n
     → (u : PackageTargets) × (completed_targets (targets_of p m) l ≡ completed_to u) × (with_targets p m u ≡ n)
 completed_once p m n l h = by_completion (completed_targets (targets_of p m) l) refl h
   where

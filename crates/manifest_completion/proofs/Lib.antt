@@ -1,5 +1,6 @@
 pub mod TargetLaws
 pub mod CompletedLaws
+pub mod UnchangedLaws
 pub mod AskedLaws
 pub mod StoredLaws
 pub mod DecidesLaws

@@ -4,6 +4,7 @@ pub mod Targets
 pub mod Index
 pub mod Completed
 pub mod Laws
+pub mod Unchanged
 pub mod Answered
 pub mod Stored
 pub mod Asking

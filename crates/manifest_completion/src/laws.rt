@@ -3,6 +3,7 @@
 
 ghost use Rattle.manifest_schema.specs.Kinds.{tree_of};
 ghost use Rattle.manifest_completion.specs.Laws.{AskedDiffer, AscendingDiffer, AskedDecides, StoredDecides, CompletedIsFixed};
+ghost use Rattle.manifest_completion.specs.Unchanged.{DeclaredStays, OthersChangeNothing};
 
 use manifest_schema::kinds::LawfulKind;
 
@@ -37,4 +38,17 @@ pub fn stored_decides()
 /// and asks no other place.
 pub fn completed_is_fixed<P: LawfulKind, W: LawfulKind>()
     ensures { CompletedIsFixed (tree_of P.kind) (tree_of W.kind) }
+{}
+
+/// In every completion a declared target stays in its place, with its name and the path, edition and crate type that it has;
+/// but for these three nothing of it changes. A declared library keeps the same four.
+pub fn declared_stays()
+    ensures { DeclaredStays }
+{}
+
+/// An entry of a folder of targets that is no target, a file of another ending or a folder without `main.rs`, changes
+/// nothing.
+#[tactic(auto, using(crate::proofs::UnchangedLaws::others_change_nothing))]
+pub fn others_change_nothing()
+    ensures { OthersChangeNothing }
 {}

@@ -91,7 +91,7 @@ was_not_there (Some l) a same had = cc
 -- what refuses a part refuses the whole
 pub refuses_more : (P Q : Type 0) (r : Refusal) → (Q → P) → RefusesUnless P r → RefusesUnless Q r
 refuses_more P Q Listings w h = λ q. h (w q)
-refuses_more P Q Memory w h = tt
+refuses_more P Q (Memory e) w h = tt
 refuses_more P Q (Bytes e) w h = absurd h
 refuses_more P Q Untagged w h = absurd h
 refuses_more P Q (Root e) w h = absurd h

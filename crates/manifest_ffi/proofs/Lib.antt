@@ -1,3 +1,4 @@
 pub mod GivenLemmas
 pub mod MadeLemmas
+pub mod TextLemmas
 pub mod UnreadLemmas

@@ -32,7 +32,7 @@ pub unread_made : (bytes : List ℕ) (m : Manifest) (r : Result (Vec ℕ Global)
     → IfOk r (λ out. out.items ≡ encoded (written_manifest no_metadata no_metadata m)) → IfErr r IsWantOfMemory
     → IsMade (GivesUnread bytes) (RefusesUnread bytes) r
 unread_made bytes m (Ok v) is written h = (m, is, (written, ap decoded written ∙ unread_held bytes m is))
-unread_made bytes m (Err Memory) is written h = tt
+unread_made bytes m (Err (Memory e)) is written h = tt
 unread_made bytes m (Err (Bytes e)) is written h = absurd h
 unread_made bytes m (Err Untagged) is written h = absurd h
 unread_made bytes m (Err (Root e)) is written h = absurd h

@@ -1,5 +1,5 @@
 -- What a call leaves: an answer, and a text in the memory that the caller lent.
-use Rattle.std.specs.Prelude.{◌≡◌, ◌⊎◌, ℕ, ◌<◌, ◌≤◌, ◌++◌, List, length, drop, Vec, Result, Ok, Err}
+use Rattle.std.specs.Prelude.{◌≡◌, ◌⊎◌, ℕ, ◌<◌, ◌≤◌, ◌++◌, List, length, drop, Vec, Result, Ok, Err, IsUtf8}
 use Rattle.std.specs.declared.alloc.Global.{Global}
 use Rattle.manifest_schema.specs.Paths.{Text}
 use Rattle.manifest_ffi.specs.declared.making.Output.{Output}
@@ -23,10 +23,10 @@ pub record Hands (told : Told) (old new : List ℕ) (a : Answer) : Type 0 where
   pub end : a.end ≡ told.end
   pub handed : IsHanded told.text.items a.length old new
 
--- what is told of what was made: status 0 with the text, or the refusal; or that no memory was left to tell it
+-- what is told of what was made: status 0 with the text, or the refusal, whose text is UTF-8; or that no memory was left to tell it
 abbrev pub Outcome : Result (Vec ℕ Global) Refusal → Told → Type 0
 Outcome (Ok v) t = IsTold t 0 0 v.items
-Outcome (Err r) t = TellsMemory t ⊎ Tells r t
+Outcome (Err r) t = (TellsMemory t ⊎ Tells r t) × IsUtf8 t.text.items
 
 -- THE ANSWER of a call that gives one of these texts, or has one of these refusals
 pub record IsAnswered (gives : Text → Type 0) (refuses : Refusals) (old new : List ℕ) (a : Answer) : Type 0 where

@@ -73,7 +73,7 @@ Refusals = Refusal → Type 0
 
 -- no memory was left
 abbrev pub IsWantOfMemory : Refusals
-IsWantOfMemory Memory = Unit {0}
+IsWantOfMemory (Memory e) = Unit {0}
 IsWantOfMemory _ = ⊥
 
 -- folders are refused as listings only where this does not hold, and else for want of memory

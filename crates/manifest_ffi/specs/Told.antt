@@ -94,4 +94,4 @@ Tells (Resolving e) t = TellsResolving e t
 Tells Listings t = IsTold t 8 0 []
 Tells (Completion e) t = TellsError false e t
 Tells (Printing e) t = TellsPrinting e t
-Tells Memory t = TellsMemory t
+Tells (Memory e) t = TellsMemory t

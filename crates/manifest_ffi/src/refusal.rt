@@ -26,7 +26,7 @@ pub enum Refusal {
     /// The manifest's table cannot be printed.
     Printing(Error),
     /// No memory was left.
-    Memory,
+    Memory(AllocError),
 }
 
 impl From<AllocError> for Refusal {
@@ -34,8 +34,8 @@ impl From<AllocError> for Refusal {
 
     ghost from_gives = { λ _ refusal. IsWantOfMemory refusal };
 
-    fn from(_refused: AllocError) -> Refusal {
-        Refusal::Memory
+    fn from(refused: AllocError) -> Refusal {
+        Refusal::Memory(refused)
     }
 }
 
@@ -44,7 +44,7 @@ impl<T: Drop> From<AllocFailed<T>> for Refusal {
 
     ghost from_gives = { λ _ refusal. IsWantOfMemory refusal };
 
-    fn from(_refused: AllocFailed<T>) -> Refusal {
-        Refusal::Memory
+    fn from(refused: AllocFailed<T>) -> Refusal {
+        Refusal::Memory(AllocError::from(refused))
     }
 }

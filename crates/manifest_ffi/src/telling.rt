@@ -1,6 +1,7 @@
-//! A refusal in numbers and a text.
+//! A refusal in numbers and a text, which is UTF-8.
+#![tactic(auto, using(crate::proofs::TextLemmas::string_is_utf8, crate::proofs::TextLemmas::nothing_is_utf8))]
 
-ghost use Rattle.std.specs.Prelude.{◌≡◌, ◌≤◌, ◌⊎◌};
+ghost use Rattle.std.specs.Prelude.{◌≡◌, ◌≤◌, ◌⊎◌, IsUtf8, string_bytes};
 ghost use Rattle.std.specs.IoError.{error_kind};
 ghost use Rattle.manifest_value.specs.Faults.{cause_of};
 ghost use Rattle.manifest_ffi.specs.Told.{cause_number, kind_number, at_root, IsTold, TellsMemory, TellsToml, TellsSchema, TellsError, TellsResolving, TellsPrinting, Tells};
@@ -8,7 +9,7 @@ ghost use Rattle.manifest_ffi.specs.Told.{cause_number, kind_number, at_root, Is
 use crate::refusal::Refusal;
 use cargo_manifest::{Cause, Error, ParseFault, SchemaFault};
 use manifest_inherit::ResolveError;
-use std::alloc::Global;
+use std::alloc::{AllocError, Global};
 use std::io;
 use std::io::ErrorKind;
 
@@ -27,7 +28,8 @@ const OF_ROOT: u8 = 16;
 
 /// A status with a cause and a text.
 pub(crate) fn with_text(status: u8, cause: u8, text: Vec<u8>) -> Told
-    ensures { IsTold result status cause text.items }
+    ensures told { IsTold result status cause text.items }
+    ensures utf8 { IsUtf8 text.items → IsUtf8 result.text.items }
 {
     Told {
         status,
@@ -38,9 +40,18 @@ pub(crate) fn with_text(status: u8, cause: u8, text: Vec<u8>) -> Told
     }
 }
 
-/// Want of memory.
-fn memory(alloc: Global) -> Told
-    ensures { TellsMemory result }
+/// The same with the bytes of a string.
+fn with_string(status: u8, cause: u8, text: String) -> Told
+    ensures told { IsTold result status cause (string_bytes text) }
+    ensures utf8 { IsUtf8 result.text.items }
+{
+    with_text(status, cause, text.into_bytes())
+}
+
+/// Want of memory, which was met: there is none without what was refused.
+fn memory(alloc: Global, _refused: AllocError) -> Told
+    ensures told { TellsMemory result }
+    ensures utf8 { IsUtf8 result.text.items }
 {
     with_text(6, 0, Vec::new(alloc))
 }
@@ -82,10 +93,11 @@ fn at_root(is_root: bool, status: u8) -> u8
 
 /// A text that is no TOML: `toml`'s words, and where in the bytes.
 fn tell_toml(alloc: Global, fault: &toml::de::Error, is_root: bool) -> Told
-    ensures { TellsMemory result ⊎ TellsToml is_root fault.now result }
+    ensures told { TellsMemory result ⊎ TellsToml is_root fault.now result }
+    ensures utf8 { IsUtf8 result.text.items }
 {
     let Some(range) = fault.span() else {
-        return memory(alloc);
+        return memory(alloc, AllocError);
     };
     match String::from_str(alloc, fault.message()) {
         Ok(text) => Told {
@@ -95,63 +107,68 @@ fn tell_toml(alloc: Global, fault: &toml::de::Error, is_root: bool) -> Told
             end: range.end,
             text: text.into_bytes(),
         },
-        Err(_) => memory(alloc),
+        Err(refused) => memory(alloc, refused),
     }
 }
 
 /// A fault of the schema: its cause, and the text of its key path.
 fn tell_schema(alloc: Global, fault: &SchemaFault, is_root: bool) -> Told
-    ensures { TellsMemory result ⊎ TellsSchema is_root fault.now result }
+    ensures told { TellsMemory result ⊎ TellsSchema is_root fault.now result }
+    ensures utf8 { IsUtf8 result.text.items }
 {
     match fault.path.to_text(alloc) {
         Ok(text) => {
             let cause = cause_number(fault.cause);
-            with_text(at_root(is_root, 2), cause, text.into_bytes())
+            with_string(at_root(is_root, 2), cause, text)
         }
-        Err(_) => memory(alloc),
+        Err(refused) => memory(alloc, refused),
     }
 }
 
 /// An error of a manifest.
 fn tell_error(alloc: Global, error: Error, is_root: bool) -> Told
-    ensures { TellsMemory result ⊎ TellsError is_root error result }
+    ensures told { TellsMemory result ⊎ TellsError is_root error result }
+    ensures utf8 { IsUtf8 result.text.items }
 {
     match error {
         Error::Parse(ParseFault::Toml(fault)) => tell_toml(alloc, &fault, is_root),
         Error::Parse(ParseFault::Schema(fault)) => tell_schema(alloc, &fault, is_root),
         Error::Io(fault) => with_text(3, kind_number(fault), Vec::new(alloc)),
         Error::Utf8(_) => with_text(at_root(is_root, 4), 0, Vec::new(alloc)),
-        Error::Other(text) => with_text(5, 0, text.into_bytes()),
-        Error::Memory(_) => memory(alloc),
+        Error::Other(text) => with_string(5, 0, text),
+        Error::Memory(refused) => memory(alloc, refused),
     }
 }
 
 /// Why a manifest is not resolved.
 fn tell_resolving(alloc: Global, error: ResolveError) -> Told
-    ensures { TellsMemory result ⊎ TellsResolving error result }
+    ensures told { TellsMemory result ⊎ TellsResolving error result }
+    ensures utf8 { IsUtf8 result.text.items }
 {
     match error {
-        ResolveError::NotInWorkspace(key) => with_text(10, 0, key.into_bytes()),
-        ResolveError::InheritedInWorkspace(name) => with_text(11, 0, name.into_bytes()),
+        ResolveError::NotInWorkspace(key) => with_string(10, 0, key),
+        ResolveError::InheritedInWorkspace(name) => with_string(11, 0, name),
         ResolveError::MixedLints => with_text(12, 0, Vec::new(alloc)),
         ResolveError::ToolNamedWorkspace => with_text(13, 0, Vec::new(alloc)),
-        ResolveError::Memory(_) => memory(alloc),
+        ResolveError::Memory(refused) => memory(alloc, refused),
     }
 }
 
 /// Why a manifest's table is not printed.
 fn tell_printing(alloc: Global, error: Error) -> Told
-    ensures { TellsMemory result ⊎ TellsPrinting error result }
+    ensures told { TellsMemory result ⊎ TellsPrinting error result }
+    ensures utf8 { IsUtf8 result.text.items }
 {
     match error {
-        Error::Other(text) => with_text(7, 0, text.into_bytes()),
+        Error::Other(text) => with_string(7, 0, text),
         error => tell_error(alloc, error, false),
     }
 }
 
 /// The numbers and the text of a refusal.
 pub(crate) fn tell(alloc: Global, refusal: Refusal) -> Told
-    ensures { TellsMemory result ⊎ Tells refusal result }
+    ensures told { TellsMemory result ⊎ Tells refusal result }
+    ensures utf8 { IsUtf8 result.text.items }
 {
     match refusal {
         Refusal::Bytes(error) => tell_error(alloc, error, false),
@@ -163,6 +180,6 @@ pub(crate) fn tell(alloc: Global, refusal: Refusal) -> Told
         Refusal::Listings => with_text(8, 0, Vec::new(alloc)),
         Refusal::Completion(error) => tell_error(alloc, error, false),
         Refusal::Printing(error) => tell_printing(alloc, error),
-        Refusal::Memory => memory(alloc),
+        Refusal::Memory(refused) => memory(alloc, refused),
     }
 }

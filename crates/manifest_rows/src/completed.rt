@@ -346,10 +346,10 @@ fn binaries_of_each_number(rt: HostRuntime) -> Result<(), Fail> {
     Ok(())
 }
 
-/// Whether completing a package over listings is refused for a folder that is not there.
-fn is_not_found(alloc: Global, folders: &str) -> Result<bool, Fail> {
+/// Whether completing the package of a document over listings is refused for a folder that is not there.
+fn is_not_found(alloc: Global, document: &str, folders: &str) -> Result<bool, Fail> {
     let listings = listings(alloc, folders)?;
-    let mut manifest = Manifest::from_str(alloc, PACKAGE)?;
+    let mut manifest = Manifest::from_str(alloc, document)?;
     let answer = manifest.complete_from_abstract_filesystem(alloc, &listings);
     drop(manifest);
     Ok(matches!(&answer, Err(Error::Io(fault)) if fault.kind() == ErrorKind::NotFound))
@@ -357,7 +357,10 @@ fn is_not_found(alloc: Global, folders: &str) -> Result<bool, Fail> {
 
 #[test]
 fn a_folder_of_the_manifest_that_is_not_there(rt: HostRuntime) -> Result<(), Fail> {
-    assert!(rt; is_not_found(rt.alloc(), "elsewhere")?);
+    for document in [PACKAGE, "[package]\nname = 'p'\nedition = '2021'"] {
+        assert!(rt; is_not_found(rt.alloc(), document, "elsewhere")?);
+    }
+    assert!(rt; !is_not_found(rt.alloc(), PACKAGE, ".")?);
     Ok(())
 }
 

@@ -89,7 +89,18 @@ const BEHIND_A_PACKAGE: &[Row] = &[
         "[dependencies]\nb = { workspace = 'x' }",
         Ok("[dependencies]\nb = {}"),
     ),
+    // inherited at each place for dependencies
+    (
+        "[dependencies]\na.workspace = true\n[dev-dependencies]\nb.workspace = true\n[build-dependencies]\nc.workspace = true\n[target.t]\ndependencies = { d = { workspace = true } }\ndev-dependencies = { e = { workspace = true } }\nbuild-dependencies = { f = { workspace = true } }\n[patch.x]\ng.workspace = true\n[workspace.dependencies]\nh.workspace = true",
+        Ok(
+            "[dependencies]\na = { workspace = true }\n[dev-dependencies]\nb = { workspace = true }\n[build-dependencies]\nc = { workspace = true }\n[target.t]\ndependencies = { d = { workspace = true } }\ndev-dependencies = { e = { workspace = true } }\nbuild-dependencies = { f = { workspace = true } }\n[patch.x]\ng = { workspace = true }\n[workspace]\nmembers = []\ndependencies = { h = { workspace = true } }",
+        ),
+    ),
     // second spellings
+    (
+        "[dependencies]\na = { registry_index = 'y' }",
+        Ok("[dependencies]\na = { registry-index = 'y' }"),
+    ),
     (
         "[dependencies]\na = { registry_index = 'y', default_features = false }",
         Ok("[dependencies]\na = { registry-index = 'y', default-features = false }"),
@@ -121,6 +132,16 @@ const BEHIND_A_PACKAGE: &[Row] = &[
     (
         "[badges]\ncodecov = 1",
         Ok("[badges]\nmaintenance = { status = 'none' }"),
+    ),
+    (
+        "[badges]\nappveyor = {}\ncircle-ci = { branch = 'b' }\ngitlab = { repository = 1 }\ntravis-ci = 'r'\ncodecov = {}\ncoveralls = { id = 'i' }\nis-it-maintained-issue-resolution = {}\nis-it-maintained-open-issues = []",
+        Ok("[badges]\nmaintenance = { status = 'none' }"),
+    ),
+    (
+        "[badges]\nappveyor = { repository = 'a' }\ncircle-ci = { repository = 'b' }\ngitlab = { repository = 'c' }\ntravis-ci = { repository = 'd' }\ncodecov = { repository = 'e' }\ncoveralls = { repository = 'f' }\nis-it-maintained-issue-resolution = { repository = 'g' }\nis-it-maintained-open-issues = { repository = 'h' }",
+        Ok(
+            "[badges]\nappveyor = { repository = 'a', branch = 'master' }\ncircle-ci = { repository = 'b', branch = 'master' }\ngitlab = { repository = 'c', branch = 'master' }\ntravis-ci = { repository = 'd', branch = 'master' }\ncodecov = { repository = 'e', branch = 'master' }\ncoveralls = { repository = 'f', branch = 'master' }\nis-it-maintained-issue-resolution = { repository = 'g', branch = 'master' }\nis-it-maintained-open-issues = { repository = 'h', branch = 'master' }\nmaintenance = { status = 'none' }",
+        ),
     ),
     (
         "[badges]\ngitlab = { repository = 'r', project_name = 'a' }\nmaintenance = { status = 'as-is' }",

@@ -148,11 +148,11 @@ fn each_lenient_reader_passes_over_what_does_not_fit(rt: HostRuntime) -> Result<
     let alloc = rt.alloc();
     let mut place: Option<bool> = Some(true);
     let mut unfit = slot_of(Value::Integer(1));
-    assert!(rt; read_lenient(alloc, "a", &mut unfit, &mut place).is_ok());
+    assert!(rt; read_lenient(alloc, &mut unfit, &mut place).is_ok());
     assert_eq!(rt; place, None);
     let mut flag = false;
     let mut unfit = slot_of(Value::Integer(1));
-    assert!(rt; read_lenient_default(alloc, "a", &mut unfit, &mut flag, true).is_ok());
+    assert!(rt; read_lenient_default(alloc, &mut unfit, &mut flag, true).is_ok());
     assert!(rt; flag);
     Ok(())
 }

@@ -9,7 +9,7 @@ use Rattle.manifest_schema.specs.Forms.{form, fits}
 use Rattle.manifest_schema.specs.Lawful.{IsLawful, IsTotal, ReadOrFaulty}
 use Rattle.manifest_schema.specs.Contents.{Package, Manifest}
 use Rattle.manifest_schema.specs.ManifestForms.{package_rows, workspace_rows, manifest_rows}
-use Rattle.manifest_schema.specs.Meaning.{well_formed, reads_manifest, rewritten, has_header, old_package, means_by, faulty_old, unmeant_by, is_headed, MeansOne, WrittenIsRead, AcceptedIsWellFormed, RewrittenMeansTheSame, SameExactly, FaultyMeansNothing, AcceptedOrFaulty}
+use Rattle.manifest_schema.specs.Meaning.{well_formed, reads_manifest, rewritten, has_header, old_package, means_by, faulty_old, unmeant_by, is_headed, MeansOne, WrittenIsRead, AcceptedIsWellFormed, WrittenMeansTheSame, SameWrittenIsSame, RewrittenTwiceIsOnce, RewrittenMeansTheSame, SameExactly, FaultyMeansNothing, AcceptedOrFaulty}
 use Rattle.manifest_schema.proofs.ManifestLaws.{package_lawful, package_total, manifest_lawful, manifest_total}
 
 -- the value that old headers take the package from
@@ -57,11 +57,23 @@ module _ {K W : Kind Data} (k : IsLawful K) (w : IsLawful W) where
   pub accepted_is_well_formed : AcceptedIsWellFormed K W
   accepted_is_well_formed ms m a = (means_by_well k w (has_header ms) ms m a, means_by_headed K W (has_header ms) ms m refl a)
 
+  pub written_means_the_same : WrittenMeansTheSame K W
+  written_means_the_same m good headed =
+      let back : fits (manifest_rows K W) (rewritten K W m) m = written_is_read k w m good in
+      rw (headers K W (rewritten K W m) m back, headed) back
+
   pub rewritten_means_the_same : RewrittenMeansTheSame K W
   rewritten_means_the_same ms m a =
       let (good, headed) = accepted_is_well_formed ms m a in
-      let back : fits (manifest_rows K W) (rewritten K W m) m = written_is_read k w m good in
-      rw (headers K W (rewritten K W m) m back, headed) back
+      written_means_the_same m good headed
+
+  pub same_written_is_same : SameWrittenIsSame K W
+  same_written_is_same m n g h e =
+      (manifest_lawful K W k w).single (table (rewritten K W m)) m n (written_is_read k w m g) (rw e (written_is_read k w n h))
+
+  pub rewritten_twice_is_once : RewrittenTwiceIsOnce K W
+  rewritten_twice_is_once ms m n a b =
+      ap (rewritten K W) (means_one k w (rewritten K W m) n m b (rewritten_means_the_same ms m a))
 
   pub same_exactly : SameExactly K W
   same_exactly ms ns m n a b = (ap (rewritten K W), λ e. means_one k w (rewritten K W m) m n (rewritten_means_the_same ms m a) (rw e (rewritten_means_the_same ns n b)))

@@ -79,6 +79,23 @@ is_headed m = is_some m.package || is_some m.workspace
 abbrev pub AcceptedIsWellFormed : Kind Data → Kind Data → Type 0
 AcceptedIsWellFormed K W = (ms : Members) (m : Manifest) → means K W ms m → well_formed K W m × (is_headed m ≡ true)
 
+-- what is written of a well-formed manifest with a package or a workspace means that manifest
+abbrev pub WrittenMeansTheSame : Kind Data → Kind Data → Type 0
+WrittenMeansTheSame K W =
+    (m : Manifest) → well_formed K W m → is_headed m ≡ true → means K W (rewritten K W m) m
+
+-- well-formed manifests of which the same is written are the same
+abbrev pub SameWrittenIsSame : Kind Data → Kind Data → Type 0
+SameWrittenIsSame K W =
+    (m n : Manifest) → well_formed K W m → well_formed K W n
+    → rewritten K W m ≡ rewritten K W n → m ≡ n
+
+-- rewriting a rewritten table changes nothing
+abbrev pub RewrittenTwiceIsOnce : Kind Data → Kind Data → Type 0
+RewrittenTwiceIsOnce K W =
+    (ms : Members) (m n : Manifest) → means K W ms m → means K W (rewritten K W m) n
+    → rewritten K W n ≡ rewritten K W m
+
 -- the rewritten table of an accepted table means the same manifest
 abbrev pub RewrittenMeansTheSame : Kind Data → Kind Data → Type 0
 RewrittenMeansTheSame K W = (ms : Members) (m : Manifest) → means K W ms m → means K W (rewritten K W m) m

@@ -4,7 +4,7 @@
 //! its contract, a law of the definitions.
 
 ghost use Rattle.manifest_schema.specs.Kinds.{tree_of};
-ghost use Rattle.manifest_schema.specs.Meaning.{MeansOne, WrittenIsRead, AcceptedIsWellFormed, RewrittenMeansTheSame, SameExactly, FaultyMeansNothing, AcceptedOrFaulty};
+ghost use Rattle.manifest_schema.specs.Meaning.{MeansOne, WrittenIsRead, AcceptedIsWellFormed, WrittenMeansTheSame, RewrittenMeansTheSame, RewrittenTwiceIsOnce, SameExactly, SameWrittenIsSame, FaultyMeansNothing, AcceptedOrFaulty};
 ghost use Rattle.manifest_schema.specs.Former.{OldWrittenIsRead};
 
 use crate::kinds::{LawfulKind, TotalKind};
@@ -26,15 +26,31 @@ pub fn accepted_is_well_formed<P: LawfulKind, W: LawfulKind>()
     ensures { AcceptedIsWellFormed (tree_of P.kind) (tree_of W.kind) }
 {}
 
+/// What is written of a well-formed manifest with a package or a workspace means that manifest.
+#[tactic(auto, using(crate::proofs::MeaningLaws::written_means_the_same, crate::proofs::KindLaws::tree_lawful))]
+pub fn written_means_the_same<P: LawfulKind, W: LawfulKind>()
+    ensures { WrittenMeansTheSame (tree_of P.kind) (tree_of W.kind) }
+{}
+
 /// The rewritten table of an accepted table means the same manifest.
 #[tactic(auto, using(crate::proofs::MeaningLaws::rewritten_means_the_same, crate::proofs::KindLaws::tree_lawful))]
 pub fn rewritten_means_the_same<P: LawfulKind, W: LawfulKind>()
     ensures { RewrittenMeansTheSame (tree_of P.kind) (tree_of W.kind) }
 {}
 
+/// What a rewritten table means is rewritten as the same table.
+pub fn rewritten_twice_is_once<P: LawfulKind, W: LawfulKind>()
+    ensures { RewrittenTwiceIsOnce (tree_of P.kind) (tree_of W.kind) }
+{}
+
 /// Two accepted tables mean one manifest exactly if their rewritten tables are equal.
 pub fn same_exactly<P: LawfulKind, W: LawfulKind>()
     ensures { SameExactly (tree_of P.kind) (tree_of W.kind) }
+{}
+
+/// Well-formed manifests of which the same is written are the same.
+pub fn same_written_is_same<P: LawfulKind, W: LawfulKind>()
+    ensures { SameWrittenIsSame (tree_of P.kind) (tree_of W.kind) }
 {}
 
 /// A table with a fault means nothing.

@@ -1,7 +1,10 @@
 //! What a walk over a table finds.
 
+ghost use Rattle.std.specs.Prelude.{◌≡◌};
+
 use crate::entries::Entry;
 use crate::source::Source;
+use std::mem;
 
 /// What a table holds under the spellings of a row.
 #[derive(Drop)]
@@ -17,6 +20,20 @@ pub enum RowSlot<'t> {
     },
     /// Both spellings.
     Clash,
+}
+
+impl<'t> RowSlot<'t> {
+    /// What the slot holds. What is there is moved out, and nothing is moved where it is absent, as most are.
+    #[inline(always)]
+    pub(crate) fn take(&mut self) -> RowSlot<'t>
+        ensures { result ≡ self.old }
+    {
+        match self {
+            RowSlot::Absent => RowSlot::Absent,
+            RowSlot::One { .. } => mem::replace(self, RowSlot::Absent),
+            RowSlot::Clash => RowSlot::Clash,
+        }
+    }
 }
 
 /// What a walk finds: a slot for each row, and all other keys with their values, in byte order.

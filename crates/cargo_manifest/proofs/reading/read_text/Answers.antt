@@ -1,7 +1,7 @@
 use Rattle.toml.specs.View.{table_view}
 use Rattle.manifest_schema.proofs.KindLaws.{tree_lawful}
 use Rattle.cargo_manifest.proofs.FaultLemmas.{refuses_text}
-use Rattle.cargo_manifest.proofs.reading.from_text.Goals as goal
+use Rattle.cargo_manifest.proofs.reading.read_text.Goals as goal
 
 pub returns-in-Err-read_table-clause-refused : goal.returns-in-Err-read_table-clause-refused
 returns-in-Err-read_table-clause-refused g c =
