@@ -11,10 +11,21 @@ use Rattle.manifest_value.specs.declared.fault.ReadFault.{ReadFault}
 use Rattle.manifest_value.specs.declared.fault.ReadFault.TheVariants as read
 use Rattle.manifest_value.specs.Refusals.{IsRefusal}
 use Rattle.manifest_value.specs.declared.error.Error.{Error}
-use Rattle.cargo_manifest.specs.Answers.{RefusesText}
+use Rattle.manifest_value.specs.declared.error.Error.TheVariants.{Parse, Io, Utf8, Other, Memory}
+use Rattle.manifest_value.specs.declared.error.ParseFault.TheVariants.{Toml, Schema}
+use Rattle.cargo_manifest.specs.Answers.{RefusesTable, RefusesText}
 
-pub refuses_text : {K W : Kind Data} (k : IsLawful K) (w : IsLawful W) (text : List ℕ) (ms : Members) (f : ReadFault) (e : Error)
-    → parse_document text ≡ Some ms → FaultIn (unmeant K W ms) f → IsRefusal f e → RefusesText K W text e
-refuses_text k w text ms (read.Schema f) e parsed h is =
-    rw is (record { document = ms; parsed = parsed; stands = h; nothing = λ m. faulty_means_nothing k w ms (path_of f.path) (cause_of f.cause) m h })
-refuses_text k w text ms (read.Memory r) e parsed h is = rw is tt
+pub refuses_table : {K W : Kind Data} (k : IsLawful K) (w : IsLawful W) (ms : Members) (f : ReadFault) (e : Error)
+    → FaultIn (unmeant K W ms) f → IsRefusal f e → RefusesTable K W ms e
+refuses_table k w ms (read.Schema f) e h is =
+    rw is (record { stands = h; nothing = λ m. faulty_means_nothing k w ms (path_of f.path) (cause_of f.cause) m h })
+refuses_table k w ms (read.Memory r) e h is = rw is tt
+
+pub refuses_text : (K W : Kind Data) (text : List ℕ) (ms : Members) (e : Error)
+    → parse_document text ≡ Some ms → RefusesTable K W ms e → RefusesText K W text e
+refuses_text K W text ms (Parse (Schema f)) parsed h = record { document = ms; parsed = parsed; refused = h }
+refuses_text K W text ms (Parse (Toml e)) parsed h = absurd h
+refuses_text K W text ms (Memory e) parsed h = tt
+refuses_text K W text ms (Io e) parsed h = absurd h
+refuses_text K W text ms (Utf8 e) parsed h = absurd h
+refuses_text K W text ms (Other e) parsed h = absurd h

@@ -20,17 +20,27 @@ pub record IsDocumentOf (K W : Kind Data) (bytes : List ℕ) (m : Manifest) : Ty
   pub parsed : parse_document bytes ≡ Some document
   pub meant : means K W document m
 
--- the bytes are a document of a table with this fault, which means no manifest
-pub record HasFault (K W : Kind Data) (bytes : List ℕ) (f : SchemaFault) : Type 0 where
-  pub document : Members
-  pub parsed : parse_document bytes ≡ Some document
+-- the table has this fault, and means no manifest
+pub record IsFaulty (K W : Kind Data) (document : Members) (f : SchemaFault) : Type 0 where
   pub stands : IsOneOf (unmeant K W document) f
   pub nothing : (m : Manifest) → means K W document m → ⊥
 
--- the refusal of a text: by `toml` with a place within the text, and, memory aside, only where it is no document; by the schema only with a fault that stands there; else want of memory
+-- the refusal of a table: by the schema only with a fault that stands there; else out of memory
+abbrev pub RefusesTable : Kind Data → Kind Data → Members → Error → Type 0
+RefusesTable K W document (Parse (Schema f)) = IsFaulty K W document f
+RefusesTable K W document (Memory e) = Unit {0}
+RefusesTable K W document _ = ⊥
+
+-- the bytes are a document of a table that is refused so
+pub record RefusesDocument (K W : Kind Data) (bytes : List ℕ) (e : Error) : Type 0 where
+  pub document : Members
+  pub parsed : parse_document bytes ≡ Some document
+  pub refused : RefusesTable K W document e
+
+-- the refusal of a text: by `toml` with a place within the text, and, memory aside, only where it is no document; by the schema as its table is; else out of memory
 abbrev pub RefusesText : Kind Data → Kind Data → List ℕ → Error → Type 0
 RefusesText K W text (Parse (Toml e)) = IsWithin text e.value × (¬ IsMemory e.value → parse_document text ≡ None)
-RefusesText K W text (Parse (Schema f)) = HasFault K W text f
+RefusesText K W text (Parse (Schema f)) = RefusesDocument K W text (Parse (Schema f))
 RefusesText K W text (Memory e) = Unit {0}
 RefusesText K W text _ = ⊥
 

@@ -8,7 +8,7 @@ ghost use Rattle.manifest_schema.specs.Meaning.{has, has_header, old_package, fa
 ghost use Rattle.manifest_value.specs.Faults.{FaultIn};
 ghost use Rattle.manifest_tables.specs.Tables.{package_of, package_form};
 ghost use Rattle.cargo_manifest.specs.Whole.{manifest_content, manifest_of, manifest_kept};
-ghost use Rattle.cargo_manifest.specs.Answers.{IsDocumentOf, Refuses, RefusesText};
+ghost use Rattle.cargo_manifest.specs.Answers.{IsDocumentOf, Refuses, RefusesTable, RefusesText};
 
 use crate::manifest::Manifest;
 use manifest_tables::Package;
@@ -91,6 +91,23 @@ fn read_table<P: Metadata, W: Metadata>(
     }
 }
 
+/// Reads into a manifest what the table of a document means.
+fn read_document<P: Metadata, W: Metadata>(
+    manifest: &mut Manifest<P, W>,
+    alloc: Global,
+    table: Table,
+) -> Result<(), Error>
+    ensures ok { OnOk result (means (tree_of P.kind) (tree_of W.kind) (table_view table)
+        (manifest_of P.kind W.kind P.content W.content manifest.new)) }
+    ensures refused { IfErr result
+        (RefusesTable (tree_of P.kind) (tree_of W.kind) (table_view table)) }
+{
+    match read_table(manifest, alloc, table) {
+        Ok(()) => Ok(()),
+        Err(fault) => Err(refusal(fault)),
+    }
+}
+
 /// Reads into a manifest what a text means.
 fn read_text<P: Metadata, W: Metadata>(
     manifest: &mut Manifest<P, W>,
@@ -108,9 +125,9 @@ fn read_text<P: Metadata, W: Metadata>(
             return Err(Error::Parse(ParseFault::Toml(shared)));
         }
     };
-    match read_table(manifest, alloc, table) {
+    match read_document(manifest, alloc, table) {
         Ok(()) => Ok(()),
-        Err(fault) => Err(refusal(fault)),
+        Err(refused) => Err(refused),
     }
 }
 
@@ -163,6 +180,29 @@ impl<P: Metadata, W: Metadata> Manifest<P, W> {
         ensures refused { IfErr result (Refuses (tree_of P.kind) (tree_of W.kind) bytes.now) }
     {
         manifest_by!(read_bytes, alloc, bytes)
+    }
+
+    /// Reads the table of a document, as [`Manifest::from_slice_with_both_metadata`] does where it has parsed the bytes. So
+    /// a caller can look at the table first, as at its [`depth`](crate::depth).
+    ///
+    /// Refuses a table that means no manifest with `Error::Parse(ParseFault::Schema(..))`, which tells a key path and a
+    /// cause that stand there, and else only where it is out of memory.
+    ///
+    /// ```ignore
+    /// let table = toml::table_from_str(alloc, "name = 'a'")?;
+    /// let manifest: Manifest = Manifest::from_table_with_both_metadata(alloc, table)?;
+    /// ```
+    pub fn from_table_with_both_metadata(
+        alloc: Global,
+        table: Table,
+    ) -> Result<Manifest<P, W>, Error>
+        ensures ok { IfOk result
+            (λ m. means (tree_of P.kind) (tree_of W.kind) (table_view table)
+            (manifest_of P.kind W.kind P.content W.content m)) }
+        ensures refused { IfErr result
+            (RefusesTable (tree_of P.kind) (tree_of W.kind) (table_view table)) }
+    {
+        manifest_by!(read_document, alloc, table)
     }
 }
 

@@ -4,5 +4,6 @@ pub mod Resolved
 pub mod Refused
 pub mod Own
 pub mod Answers
+pub mod Finished
 pub mod Laws
 pub mod ForProofs

@@ -28,6 +28,32 @@ pub enum ResolveError {
     Memory(AllocError),
 }
 
+/// What [`finish`](crate::finish) refuses with, and what a program refuses with that reads manifests, finishes them and
+/// prints them.
+#[derive(Debug, Drop, Error)]
+pub enum FinishError {
+    /// A manifest is not read, completed or printed.
+    #[error("{0}")]
+    Manifest(cargo_manifest::Error),
+    /// The root has no workspace.
+    #[error("no workspace")]
+    NoWorkspace,
+    /// What the manifest inherits is refused.
+    #[error("{0}")]
+    Resolve(ResolveError),
+}
+
+impl From<cargo_manifest::Error> for FinishError {
+    ghost use Rattle.std.specs.Prelude.{◌≡◌};
+    ghost use Rattle.manifest_inherit.specs.declared.error.FinishError.TheVariants.{Manifest};
+
+    ghost from_gives = { λ error refused. refused ≡ Manifest error };
+
+    fn from(error: cargo_manifest::Error) -> FinishError {
+        FinishError::Manifest(error)
+    }
+}
+
 impl From<AllocError> for ResolveError {
     ghost use Rattle.std.specs.Prelude.{◌≡◌};
     ghost use Rattle.manifest_inherit.specs.declared.error.ResolveError.TheVariants.{Memory};

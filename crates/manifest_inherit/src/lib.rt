@@ -9,7 +9,9 @@ mod fields;
 pub mod laws;
 mod lints;
 mod maps;
+mod pipeline;
 mod resolution;
 
-pub use error::ResolveError;
+pub use error::{FinishError, ResolveError};
+pub use pipeline::finish;
 pub use resolution::resolve;

@@ -1,0 +1,54 @@
+-- What is made of a manifest: with what it inherits from the workspace of a root, where there is one, and completed over a filesystem, where there is one.
+use Rattle.std.specs.Prelude.{◌≡◌, ◌⊎◌, Option, Some, None, option_map}
+use Rattle.std.specs.Borrow.{Bor}
+use Rattle.toml.specs.View.{view}
+use Rattle.toml.specs.declared.value.Value.{Value}
+use Rattle.manifest_schema.specs.Paths.{Text}
+use Rattle.manifest_schema.specs.Contents.{Workspace, Manifest}
+use Rattle.manifest_completion.specs.Listings.{Answer}
+use Rattle.manifest_completion.specs.Completed.{completed_to}
+use Rattle.cargo_manifest.specs.Completes.{ComesTo, RefusesToComplete as RefusesOver}
+use Rattle.cargo_manifest.specs.Whole.{manifest_content}
+use Rattle.cargo_manifest.specs.declared.manifest.Manifest.{Manifest as ManifestOfCode}
+use Rattle.manifest_inherit.specs.Answers.{ResolvesTo, RefusedIn}
+use Rattle.manifest_inherit.specs.Refused.{refuses}
+use Rattle.manifest_inherit.specs.declared.error.FinishError.{FinishError}
+use Rattle.manifest_inherit.specs.declared.error.FinishError.TheVariants.{Manifest as Incomplete, NoWorkspace, Resolve}
+
+-- the manifest of a root, where there is one
+abbrev pub root_of : Option (Bor (ManifestOfCode Value Value)) → Option Manifest
+root_of root = option_map (λ r. manifest_content view view r.now) root
+
+-- WITH WHAT IT INHERITS from the workspace of the root; without a root it stays as it is
+abbrev pub Inherits : Option Manifest → Manifest → Manifest → Type 0
+Inherits None m n = n ≡ m
+Inherits (Some root) m n = (w : Workspace) × (root.workspace ≡ Some w) × ResolvesTo m w n
+
+-- the refusal: the root has no workspace, or what is inherited from its workspace is refused; the manifest stays as it is
+abbrev pub RefusesToInherit : Option Manifest → Manifest → Manifest → FinishError → Type 0
+RefusesToInherit (Some root) m n NoWorkspace = (root.workspace ≡ None) × (n ≡ m)
+RefusesToInherit (Some root) m n (Resolve e) =
+    (w : Workspace) × (root.workspace ≡ Some w) × RefusedIn (refuses m w) e × (n ≡ m)
+RefusesToInherit _ m n _ = ⊥
+
+module _ {F : Type 0} (allows : F → Text → Answer → Type 0) where
+  -- COMPLETED over what the filesystem allows; without a filesystem it stays as it is
+  abbrev pub CompletedOver : Option (Bor F) → Manifest → Manifest → Type 0
+  CompletedOver None m n = n ≡ m
+  CompletedOver (Some folders) m n = ComesTo (allows folders.now) m (completed_to n)
+
+  -- the refusal to complete it; the manifest stays as it is
+  abbrev pub RefusesToComplete : Option (Bor F) → Manifest → Manifest → FinishError → Type 0
+  RefusesToComplete (Some folders) m n (Incomplete e) = RefusesOver (allows folders.now) m e × (n ≡ m)
+  RefusesToComplete _ m n _ = ⊥
+
+  -- THE MANIFEST IS FINISHED: with what it inherits, and then completed
+  abbrev pub Finishes : Option Manifest → Option (Bor F) → Manifest → Manifest → Type 0
+  Finishes root folders old new =
+      (m : Manifest) × Inherits root old m × CompletedOver folders m new
+
+  -- the refusal of one of the two steps, with the manifest as it is left
+  abbrev pub RefusesToFinish : Option Manifest → Option (Bor F) → Manifest → Manifest → FinishError → Type 0
+  RefusesToFinish root folders old new e =
+      RefusesToInherit root old new e
+      ⊎ ((m : Manifest) × Inherits root old m × RefusesToComplete folders m new e)
