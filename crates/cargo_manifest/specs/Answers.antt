@@ -1,7 +1,8 @@
 -- What each answer of the calls says of the bytes that were read. The kinds K and W are those of the metadata of the package and of the workspace.
-use Rattle.std.specs.Prelude.{◌≡◌, ◌≤◌, ℕ, List, true, false, Some, None, IsUtf8, codes, string_bytes}
+use Rattle.std.specs.Prelude.{◌≡◌, ◌<◌, ◌≤◌, ◌⊎◌, ℕ, List, length, true, false, Some, None, IsUtf8, codes, string_bytes}
 use Rattle.toml.specs.Data.{Data, Members, members_depth, members_have_valid_dates}
 use Rattle.toml.specs.Parse.{parse_document}
+use Rattle.toml.specs.Text.{IsDocumentText}
 use Rattle.toml.specs.Errors.{IsMemory, IsWithin}
 use Rattle.manifest_schema.specs.Kinds.{Kind, tree_of}
 use Rattle.manifest_schema.specs.Contents.{Manifest}
@@ -11,6 +12,7 @@ use Rattle.manifest_value.specs.Faults.{IsOneOf}
 use Rattle.manifest_value.specs.declared.error.Error.{Error}
 use Rattle.manifest_value.specs.declared.error.Error.TheVariants.{Parse, Utf8, Other, Memory}
 use Rattle.manifest_value.specs.declared.error.ParseFault.TheVariants.{Toml, Schema}
+use Rattle.cargo_manifest.specs.Printed.{printed_bound}
 use Rattle.cargo_manifest.specs.Whole.{manifest_content}
 use Rattle.cargo_manifest.specs.declared.manifest.Manifest.{Manifest as ManifestOfCode}
 
@@ -66,3 +68,14 @@ abbrev pub RefusesToPrint : Members → Error → Type 0
 RefusesToPrint t (Other s) = (members_have_valid_dates t ≡ false) × (string_bytes s ≡ codes "a date-time of a kept value is not a valid date")
 RefusesToPrint t (Memory e) = Unit {0}
 RefusesToPrint t _ = ⊥
+
+-- the text of the table could take more bytes than this: the bound of it does, or such a text
+abbrev pub IsOver : ℕ → Members → Type 0
+IsOver most t =
+    (most < printed_bound t) ⊎ ((text : List ℕ) × IsDocumentText false t text × (most < length text))
+
+-- the text is that of the table, and takes at most so many bytes
+pub record IsTextWithin (most : ℕ) (t : Members) (text : List ℕ) : Type 0 where
+  pub document : IsDocumentText false t text
+  pub reads_back : members_depth t ≤ 80 → parse_document text ≡ Some t
+  pub within : length text ≤ most

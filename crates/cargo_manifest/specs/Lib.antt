@@ -7,3 +7,4 @@ pub mod Answers
 pub mod Completes
 pub mod Folders
 pub mod Canonical
+pub mod Printed

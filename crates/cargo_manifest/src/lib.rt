@@ -18,6 +18,8 @@ pub mod copies;
 mod files;
 pub mod laws;
 pub mod manifest;
+mod nesting;
+mod printed;
 mod reading;
 mod writing;
 
@@ -34,5 +36,7 @@ pub use manifest_value::{
     Cause, Error, KeyPath, Metadata, ParseFault, Plain, ReadFault, Schema, SchemaFault, Step,
     Unread,
 };
+pub use nesting::depth;
+pub use printed::printed_bound;
 pub use toml::Value;
 pub use writing::INVALID_DATE;

@@ -1,19 +1,41 @@
 //! The text of a manifest.
 
-ghost use Rattle.std.specs.Prelude.{◌≡◌, ◌≤◌, true, false, Some, IfOk, IfErr, string_bytes};
+ghost use Rattle.std.specs.Prelude.{◌≡◌, ◌≤◌, true, false, Some, IfOk, IfErr, IfSome, IfNone, string_bytes};
 ghost use Rattle.toml.specs.Data.{members_depth, members_have_valid_dates};
 ghost use Rattle.toml.specs.Parse.{parse_document};
 ghost use Rattle.toml.specs.Text.{IsDocumentText};
+ghost use Rattle.toml.specs.View.{table_view};
 ghost use Rattle.manifest_schema.specs.Kinds.{tree_of};
-ghost use Rattle.cargo_manifest.specs.Answers.{ReadsAs, RefusesToPrint, written_of};
+ghost use Rattle.cargo_manifest.specs.Answers.{IsOver, IsTextWithin, ReadsAs, RefusesToPrint, written_of};
 ghost use Rattle.cargo_manifest.specs.Whole.{manifest_of};
 
 use crate::manifest::{Manifest, manifest_table};
+use crate::printed::printed_bound;
 use manifest_value::{Error, Metadata};
 use std::alloc::{AllocError, Global};
+use toml::Table;
 
 /// What is told of a table with a date-time that TOML cannot write.
 pub const INVALID_DATE: &str = "a date-time of a kept value is not a valid date";
+
+/// The text of a table.
+fn table_text(alloc: Global, table: &Table) -> Result<String, Error>
+    ensures text { let ms = table_view table.now in
+        IfOk result (λ s. IsDocumentText false ms (string_bytes s)) }
+    ensures reads_back { let ms = table_view table.now in
+        IfOk result (λ s. members_depth ms ≤ 80 → parse_document (string_bytes s) ≡ Some ms) }
+    ensures dates { IfOk result (λ _. members_have_valid_dates (table_view table.now) ≡ true) }
+    ensures refused { IfErr result (RefusesToPrint (table_view table.now)) }
+{
+    match toml::table_to_string(alloc, table) {
+        Ok(text) => Ok(text),
+        Err(toml::ser::Error::DateInvalid) => {
+            let text = String::from_str(alloc, INVALID_DATE)?;
+            Err(Error::Other(text))
+        }
+        Err(toml::ser::Error::OutOfMemory) => Err(Error::Memory(AllocError)),
+    }
+}
 
 impl<P: Metadata, W: Metadata> Manifest<P, W> {
     /// The text of the canonical table: the document that `toml` writes of it, at any depth.
@@ -41,13 +63,43 @@ impl<P: Metadata, W: Metadata> Manifest<P, W> {
             IfErr result (RefusesToPrint ms) }
     {
         let table = manifest_table(alloc, self)?;
-        match toml::table_to_string(alloc, &table) {
+        match table_text(alloc, &table) {
             Ok(text) => Ok(text),
-            Err(toml::ser::Error::DateInvalid) => {
-                let text = String::from_str(alloc, INVALID_DATE)?;
-                Err(Error::Other(text))
-            }
-            Err(toml::ser::Error::OutOfMemory) => Err(Error::Memory(AllocError)),
+            Err(refused) => Err(refused),
         }
+    }
+
+    /// The same text, where it takes no more than so many bytes; `None` where it could take more, by
+    /// [`printed_bound`](crate::printed_bound) of its table, which is counted before anything is printed. So a small manifest
+    /// that prints as a large text is refused without the text.
+    ///
+    /// Refuses as [`Manifest::to_toml_string`] does.
+    ///
+    /// ```ignore
+    /// let manifest = Manifest::from_str(alloc, "name = 'a'")?;
+    /// let text = manifest.to_toml_string_within(alloc, 8)?; // `None`
+    /// ```
+    pub fn to_toml_string_within(&self, alloc: Global, most: usize) -> Result<Option<String>, Error>
+        ensures text { let ms = written_of P.kind W.kind P.content W.content self.now in
+            IfOk result (λ text. IfSome text (λ s. IsTextWithin most ms (string_bytes s))) }
+        ensures over { let ms = written_of P.kind W.kind P.content W.content self.now in
+            IfOk result (λ text. IfNone text (IsOver most ms)) }
+        ensures refused { let ms = written_of P.kind W.kind P.content W.content self.now in
+            IfErr result (RefusesToPrint ms) }
+    {
+        let table = manifest_table(alloc, self)?;
+        if let Some(bound) = printed_bound(&table) {
+            if bound > most {
+                return Ok(None);
+            }
+        }
+        let text = match table_text(alloc, &table) {
+            Ok(text) => text,
+            Err(refused) => return Err(refused),
+        };
+        if text.len() > most {
+            return Ok(None);
+        }
+        Ok(Some(text))
     }
 }

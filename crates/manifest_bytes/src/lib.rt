@@ -1,8 +1,10 @@
 //! Values as tagged bytes, for readers that want values and no text. `docs/LIBRARY.md` has the layout.
 #![tactic(auto)]
 
+mod error;
 pub mod laws;
 mod reading;
 mod values;
 
+pub use error::DecodeError;
 pub use values::{value_bytes, value_of_bytes};

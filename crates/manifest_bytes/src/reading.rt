@@ -1,13 +1,16 @@
 //! The value that some bytes may hold: the way back from `values`. What is read here is only sought, and `value_of_bytes`
 //! keeps it where its bytes are those that were read.
 
-use std::alloc::{AllocError, Global};
+ghost use Rattle.std.specs.Prelude.{◌≡◌, ◌+◌, IfOk};
+
+use crate::error::DecodeError;
+use std::alloc::Global;
 use std::num::f64_from_bits_with_nan;
 use toml::{Table, Value};
 use toml_datetime::{Date, Datetime, Offset, Time};
 
-/// What is read, or nothing where the bytes hold none; and an error where there was no memory for it.
-type Read<T> = Result<Option<T>, AllocError>;
+/// What is read, or nothing where the bytes hold none; and an error where it nests too deep or there is no memory for it.
+type Read<T> = Result<Option<T>, DecodeError>;
 
 /// Bytes that are read from the front.
 #[derive(Drop)]
@@ -146,22 +149,30 @@ fn read_text(alloc: Global, reader: &mut Reader<'_>) -> Read<String> {
     }
 }
 
-/// A value that nests less than so deep.
-#[cycle(reading)]
-pub(crate) fn read_value(alloc: Global, deep: usize, reader: &mut Reader<'_>) -> Read<Value> {
-    if deep == 0 {
-        return Ok(None);
+/// How deep the values may nest that stand in an array or a table.
+fn inside(deepest: usize) -> Result<usize, DecodeError>
+    ensures { IfOk result (λ inside. inside + 1 ≡ deepest) }
+{
+    if deepest == 0 {
+        Err(DecodeError::TooDeep)
+    } else {
+        Ok(deepest - 1)
     }
+}
+
+/// A value whose arrays and tables nest at most so deep.
+#[cycle(reading)]
+pub(crate) fn read_value(alloc: Global, deepest: usize, reader: &mut Reader<'_>) -> Read<Value> {
     match reader.byte() {
         Some(1) => match read_text(alloc, reader)? {
             Some(text) => Ok(Some(Value::String(text))),
             None => Ok(None),
         },
-        Some(7) => match read_items(alloc, deep - 1, reader)? {
+        Some(7) => match read_items(alloc, inside(deepest)?, reader)? {
             Some(items) => Ok(Some(Value::Array(items))),
             None => Ok(None),
         },
-        Some(8) => match read_members(alloc, deep - 1, reader)? {
+        Some(8) => match read_members(alloc, inside(deepest)?, reader)? {
             Some(members) => Ok(Some(Value::Table(members))),
             None => Ok(None),
         },
@@ -172,13 +183,13 @@ pub(crate) fn read_value(alloc: Global, deep: usize, reader: &mut Reader<'_>) ->
 
 /// How many items there are, and the items.
 #[cycle(reading)]
-fn read_items(alloc: Global, deep: usize, reader: &mut Reader<'_>) -> Read<Vec<Value>> {
+fn read_items(alloc: Global, deepest: usize, reader: &mut Reader<'_>) -> Read<Vec<Value>> {
     let mut items = Vec::new(alloc);
     let Some(count) = reader.number() else {
         return Ok(None);
     };
     for _ in 0..count {
-        match read_value(alloc, deep, reader)? {
+        match read_value(alloc, deepest, reader)? {
             Some(item) => items.push(item)?,
             None => return Ok(None),
         }
@@ -188,7 +199,7 @@ fn read_items(alloc: Global, deep: usize, reader: &mut Reader<'_>) -> Read<Vec<V
 
 /// How many members there are, and the members.
 #[cycle(reading)]
-fn read_members(alloc: Global, deep: usize, reader: &mut Reader<'_>) -> Read<Table> {
+fn read_members(alloc: Global, deepest: usize, reader: &mut Reader<'_>) -> Read<Table> {
     let mut members = Table::new(alloc);
     let Some(count) = reader.number() else {
         return Ok(None);
@@ -197,7 +208,7 @@ fn read_members(alloc: Global, deep: usize, reader: &mut Reader<'_>) -> Read<Tab
         let Some(key) = read_text(alloc, reader)? else {
             return Ok(None);
         };
-        match read_value(alloc, deep, reader)? {
+        match read_value(alloc, deepest, reader)? {
             Some(member) => {
                 let _former = members.insert(key, member)?;
             }

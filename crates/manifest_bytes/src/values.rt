@@ -5,6 +5,7 @@ ghost use Rattle.toml.specs.View.{view, array_view, table_view};
 ghost use Rattle.manifest_bytes.specs.Numbers.{number_bytes};
 ghost use Rattle.manifest_bytes.specs.Encoded.{text_bytes, integer_bytes, part_bytes, date_bytes, second_bytes, time_bytes, offset_bytes, datetime_bytes, item_count, member_count, encoded, items_bytes, members_bytes};
 
+use crate::error::DecodeError;
 use crate::reading::{Reader, read_value};
 use std::alloc::{AllocError, Global};
 use std::num::f64_to_bits_with_nan;
@@ -224,16 +225,22 @@ pub fn value_bytes(alloc: Global, value: &Value) -> Result<Vec<u8>, AllocError>
 }
 
 /// The value whose bytes these are: what is read of them is kept where its bytes are the same again. None where they are
-/// the bytes of no value, as where a text is not UTF-8, or the keys of a table do not ascend.
+/// the bytes of no value, as where a text is not UTF-8, or the keys of a table do not ascend. The stack that it takes grows
+/// with `deepest` alone: bytes of a value whose arrays and tables nest deeper are refused with [`DecodeError::TooDeep`],
+/// unless they are found to be none before.
 ///
 /// ```ignore
-/// let value = value_of_bytes(alloc, &[7, 2, 5, 2, 172, 2])?; // `[true, 300]`
+/// let value = value_of_bytes(alloc, 128, &[7, 2, 5, 2, 172, 2])?; // `[true, 300]`
 /// ```
-pub fn value_of_bytes(alloc: Global, bytes: &[u8]) -> Result<Option<Value>, AllocError>
+pub fn value_of_bytes(
+    alloc: Global,
+    deepest: usize,
+    bytes: &[u8],
+) -> Result<Option<Value>, DecodeError>
     ensures { IfOk result (λ value. IfSome value (λ v. bytes.now ≡ encoded (view v))) }
 {
     let mut reader = Reader { left: bytes };
-    let Some(value) = read_value(alloc, bytes.len(), &mut reader)? else {
+    let Some(value) = read_value(alloc, deepest, &mut reader)? else {
         return Ok(None);
     };
     let again = value_bytes(alloc, &value)?;

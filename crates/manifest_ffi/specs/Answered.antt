@@ -2,12 +2,13 @@
 use Rattle.std.specs.Prelude.{◌≡◌, ◌⊎◌, ℕ, ◌<◌, ◌≤◌, ◌++◌, List, length, drop, Vec, Result, Ok, Err, IsUtf8}
 use Rattle.std.specs.declared.alloc.Global.{Global}
 use Rattle.manifest_schema.specs.Paths.{Text}
+use Rattle.manifest_schema.specs.Contents.{Manifest}
 use Rattle.manifest_ffi.specs.declared.making.Output.{Output}
 use Rattle.manifest_ffi.specs.declared.refusal.Refusal.{Refusal}
 use Rattle.manifest_ffi.specs.declared.telling.Told.{Told}
 use Rattle.manifest_ffi.specs.declared.answer.Answer.{Answer}
 use Rattle.manifest_ffi.specs.Told.{IsTold, TellsMemory, Tells}
-use Rattle.manifest_ffi.specs.Made.{Makes, Gives, Refusals, OrOutput, IsMade}
+use Rattle.manifest_ffi.specs.Made.{Gives, Refusals, OrOutput, IsMade}
 
 -- the text stands at the front where there is room for it, and what is behind it is as it was; else all is as it was
 pub record IsHanded (text : List ℕ) (size : ℕ) (old new : List ℕ) : Type 0 where
@@ -36,6 +37,7 @@ pub record IsAnswered (gives : Text → Type 0) (refuses : Refusals) (old new : 
   pub outcome : Outcome made told
   pub hands : Hands told old new a
 
--- the answer of a call that makes these manifests, has these refusals on the way, and is asked for this of one of them
-abbrev pub Answers : Output → Makes → Refusals → List ℕ → List ℕ → Answer → Type 0
-Answers output makes refuses = IsAnswered (Gives output makes) (OrOutput output makes refuses)
+-- the answer of a call that makes these manifests, has these refusals on the way, and is asked for this of one of them, in at most so many bytes
+abbrev pub Answers : Output → ℕ → (Manifest → Type 0) → Refusals → List ℕ → List ℕ → Answer → Type 0
+Answers output most makes refuses =
+    IsAnswered (Gives output most makes) (OrOutput output most makes refuses)

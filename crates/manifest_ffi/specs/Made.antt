@@ -1,149 +1,152 @@
--- What is made of the bytes, step by step, and why it is not.
-use Rattle.std.specs.Prelude.{◌≡◌, ◌⊎◌, ℕ, List, Some, None, Vec, Result, Ok, Err}
+-- What a call makes of bytes, what it writes of that, and why it does not.
+use Rattle.std.specs.Prelude.{◌≡◌, ◌⊎◌, ℕ, ◌<◌, ◌≤◌, List, length, Option, Some, None, option_map, Vec, Result, Ok, Err}
+use Rattle.std.specs.Borrow.{Bor}
 use Rattle.std.specs.declared.alloc.Global.{Global}
 use Rattle.manifest_schema.specs.Paths.{Text}
-use Rattle.manifest_schema.specs.Contents.{Workspace, Manifest}
-use Rattle.manifest_schema.specs.Meaning.{reads_manifest, faulty_manifest}
+use Rattle.manifest_schema.specs.Contents.{Manifest}
 use Rattle.manifest_completion.specs.Listings.{Answer}
 use Rattle.manifest_completion.specs.Completed.{completed, completed_to}
 use Rattle.manifest_completion.specs.Stored.{stored_map}
 use Rattle.manifest_completion.specs.Outcome.{IsRefusalOf}
-use Rattle.cargo_manifest.specs.Answers.{Refuses, RefusesToPrint}
-use Rattle.cargo_manifest.specs.Canonical.{metadata, rewritten, Means, IsTextOf}
-use Rattle.manifest_value.specs.Refusals.{RefusedIn as RefusedAs}
-use Rattle.manifest_value.specs.declared.error.Error.{Error}
-use Rattle.manifest_inherit.specs.Answers.{ResolvesTo, RefusedIn}
-use Rattle.manifest_inherit.specs.Refused.{refuses}
-use Rattle.toml.specs.Data.{Data, table}
+use Rattle.cargo_manifest.specs.Answers.{IsOver, RefusesToPrint}
+use Rattle.cargo_manifest.specs.Canonical.{rewritten, IsTextOf}
+use Rattle.manifest_inherit.specs.Finished.{Inherits, RefusesToInherit}
+use Rattle.manifest_inherit.specs.declared.error.FinishError.{FinishError}
+use Rattle.manifest_inherit.specs.declared.error.FinishError.TheVariants.{Manifest as Incomplete}
+use Rattle.toml.specs.Data.{table}
 use Rattle.manifest_bytes.specs.Encoded.{encoded}
 use Rattle.manifest_bytes.specs.Decoded.{decoded}
-use Rattle.manifest_ffi.specs.declared.making.Input.{Input}
-use Rattle.manifest_ffi.specs.declared.making.Input.TheVariants.{Toml, Tagged}
+use Rattle.manifest_ffi.specs.declared.folders.Folder.{Folder}
+use Rattle.manifest_ffi.specs.declared.folders.GivenFolders.{GivenFolders}
+use Rattle.manifest_ffi.specs.declared.reading.Input.{Input}
 use Rattle.manifest_ffi.specs.declared.making.Output.{Output}
 use Rattle.manifest_ffi.specs.declared.making.Output.TheVariants.{CanonicalText, TaggedTable}
+use Rattle.manifest_ffi.specs.declared.refusal.InputError.{InputError}
 use Rattle.manifest_ffi.specs.declared.refusal.Refusal.{Refusal}
-use Rattle.manifest_ffi.specs.declared.refusal.Refusal.TheVariants.{Bytes, Untagged, Root, UntaggedRoot, NoWorkspace, Resolving, Listings, Completion, Printing, Memory}
+use Rattle.manifest_ffi.specs.declared.refusal.Refusal.TheVariants.{Bytes, Root, Listings, Finishing, Printing, TooLong, Memory}
+use Rattle.manifest_ffi.specs.Given.{given, given_by, AreListings}
+use Rattle.manifest_ffi.specs.Read.{Are, RefusesToRead}
 
--- MANIFESTS that are told by this are made; a step makes them of those of the step before
-abbrev pub Makes : Type 1
-Makes = Manifest → Type 0
+-- REFUSALS are told by this
+abbrev pub Refusals : Type 1
+Refusals = Refusal → Type 0
 
--- THE BYTES ARE A MANIFEST: the text of one, or the tagged bytes of a table that the form of a manifest reads as one
-pub record IsTagged (bytes : List ℕ) (m : Manifest) : Type 0 where
-  pub value : Data
-  pub tagged : bytes ≡ encoded value
-  pub read : reads_manifest metadata metadata value m
+-- no memory was left
+abbrev pub IsOutOfMemory : Refusals
+IsOutOfMemory (Memory e) = Unit {0}
+IsOutOfMemory _ = ⊥
 
-abbrev pub Are : Input → List ℕ → Makes
-Are Toml bytes = Means bytes
-Are Tagged bytes = IsTagged bytes
+-- the bytes are refused as they are read
+abbrev pub OfBytes : (InputError → Type 0) → Refusals
+OfBytes refuses (Bytes e) = refuses e
+OfBytes refuses _ = ⊥
 
--- there, the manifests of the one, each completed over what is stored for the paths
-abbrev pub Completed : (Text → Answer) → Makes → Makes
-Completed stored makes n = (m : Manifest) × makes m × (completed m (stored_map stored) ≡ completed_to n)
+-- ONE STEP: completed over what is stored for the paths, where anything is
+abbrev pub Completes : Option (Text → Answer) → Manifest → Manifest → Type 0
+Completes None m n = n ≡ m
+Completes (Some stored) m n = completed m (stored_map stored) ≡ completed_to n
 
--- the manifest is resolved to the other one over the workspace of the manifest that the root's bytes are
-pub record IsLent (input : Input) (root : List ℕ) (m n : Manifest) : Type 0 where
-  pub manifest : Manifest
-  pub lends : Workspace
-  pub read : Are input root manifest
-  pub has : manifest.workspace ≡ Some lends
-  pub resolves : ResolvesTo m lends n
+abbrev pub RefusesToComplete : Option (Text → Answer) → Manifest → FinishError → Type 0
+RefusesToComplete (Some stored) m (Incomplete e) = IsRefusalOf (completed m (stored_map stored)) e
+RefusesToComplete _ m _ = ⊥
 
-abbrev pub Resolved : Input → List ℕ → Makes → Makes
-Resolved input root makes n = (m : Manifest) × makes m × IsLent input root m n
+-- BOTH STEPS: with what is inherited from the root's workspace, where there is a root, and then completed
+abbrev pub Finishes : Option Manifest → Option (Text → Answer) → Manifest → Manifest → Type 0
+Finishes root stored m n = (o : Manifest) × Inherits root m o × Completes stored o n
 
--- WHAT IS ASKED FOR of a manifest: its canonical text, or the tagged bytes of its table
-abbrev pub Writes : Output → Manifest → Text → Type 0
-Writes CanonicalText m text = IsTextOf m text
-Writes TaggedTable m text = text ≡ encoded (table (rewritten m))
+abbrev pub RefusesToFinish : Option Manifest → Option (Text → Answer) → Manifest → Refusals
+RefusesToFinish root stored m (Finishing e) =
+    ((n : Manifest) × RefusesToInherit root m n e)
+    ⊎ ((n : Manifest) × Inherits root m n × RefusesToComplete stored n e)
+RefusesToFinish root stored m _ = ⊥
+
+-- THE ROOT is what its bytes are, where there are any
+abbrev pub IsRoot : Input → Option (List ℕ) → Option Manifest → Type 0
+IsRoot input None None = Unit {0}
+IsRoot input (Some bytes) (Some root) = Are input bytes root
+IsRoot input _ _ = ⊥
+
+abbrev pub RefusesRoot : Input → Option (List ℕ) → Refusals
+RefusesRoot input (Some bytes) (Root e) = RefusesToRead input bytes e
+RefusesRoot input _ _ = ⊥
+
+abbrev pub FinishesByBytes : Input → Option (List ℕ) → Option (Text → Answer) → Manifest → Manifest → Type 0
+FinishesByBytes input root stored m n = (r : Option Manifest) × IsRoot input root r × Finishes r stored m n
+
+abbrev pub RefusesByBytes : Input → Option (List ℕ) → Option (Text → Answer) → Manifest → Refusals
+RefusesByBytes input root stored m e =
+    RefusesRoot input root e
+    ⊎ ((r : Option Manifest) × IsRoot input root r × RefusesToFinish r stored m e)
+
+-- THE MANIFESTS THAT ARE MADE of the bytes, over what is stored for the paths
+abbrev pub MakesOver : Input → List ℕ → Option (List ℕ) → Option (Text → Answer) → Manifest → Type 0
+MakesOver input bytes root stored n =
+    (m : Manifest) × Are input bytes m × FinishesByBytes input root stored m n
+
+abbrev pub RefusesOver : Input → List ℕ → Option (List ℕ) → Option (Text → Answer) → Refusals
+RefusesOver input bytes root stored e =
+    OfBytes (RefusesToRead input bytes) e
+    ⊎ ((m : Manifest) × Are input bytes m × RefusesByBytes input root stored m e)
+
+-- folders are listings, where there are any
+abbrev pub AreAllListings : Option (List Folder) → Type 0
+AreAllListings None = Unit {0}
+AreAllListings (Some folders) = AreListings folders
+
+-- folders are refused as listings only where this does not hold, and else where memory ran out
+abbrev pub RefusesUnless : Type 0 → Refusals
+RefusesUnless P Listings = ¬ P
+RefusesUnless P e = IsOutOfMemory e
+
+-- THE MANIFESTS THAT A CALL MAKES of its bytes, its root and its folders
+abbrev pub Makes : Input → List ℕ → Option (List ℕ) → Option (List Folder) → Manifest → Type 0
+Makes input bytes root folders m =
+    AreAllListings folders × MakesOver input bytes root (option_map given folders) m
+
+abbrev pub RefusesToMake : Input → List ℕ → Option (List ℕ) → Option (List Folder) → Refusals
+RefusesToMake input bytes root folders e =
+    RefusesUnless (AreAllListings folders) e
+    ⊎ RefusesOver input bytes root (option_map given folders) e
+
+-- TAGGED BYTES that take at most so many bytes; they are refused where they take more, and else where memory ran out
+abbrev pub AreWithin : ℕ → List ℕ → Text → Type 0
+AreWithin most tagged text = (text ≡ tagged) × (length text ≤ most)
+
+abbrev pub RefusesTagged : ℕ → List ℕ → Refusals
+RefusesTagged most tagged TooLong = most < length tagged
+RefusesTagged most tagged e = IsOutOfMemory e
+
+-- WHAT IS ASKED FOR of a manifest, in at most so many bytes: its canonical text, or the tagged bytes of its table
+abbrev pub Writes : Output → ℕ → Manifest → Text → Type 0
+Writes CanonicalText most m text = IsTextOf m text × (length text ≤ most)
+Writes TaggedTable most m text = AreWithin most (encoded (table (rewritten m))) text
 
 -- such bytes hold the table
 abbrev pub Holds : Output → Manifest → Text → Type 0
 Holds CanonicalText m text = Unit {0}
 Holds TaggedTable m text = decoded text ≡ Some (table (rewritten m))
 
--- the text is what is asked for of one of the manifests
-abbrev pub Gives : Output → Makes → Text → Type 0
-Gives output makes text = (m : Manifest) × makes m × Writes output m text × Holds output m text
-
--- REFUSALS of each step
-abbrev pub Refusals : Type 1
-Refusals = Refusal → Type 0
-
--- no memory was left
-abbrev pub IsWantOfMemory : Refusals
-IsWantOfMemory (Memory e) = Unit {0}
-IsWantOfMemory _ = ⊥
-
--- folders are refused as listings only where this does not hold, and else for want of memory
-abbrev pub RefusesUnless : Type 0 → Refusals
-RefusesUnless P Listings = ¬ P
-RefusesUnless P r = IsWantOfMemory r
-
--- tagged bytes are refused for a fault that the value has which they hold
-pub record HasFault (bytes : List ℕ) (e : Error) : Type 0 where
-  pub value : Data
-  pub tagged : bytes ≡ encoded value
-  pub stands : RefusedAs (faulty_manifest metadata metadata value) e
-
--- the error of the reading
-abbrev pub RefusesToRead : Input → List ℕ → Error → Type 0
-RefusesToRead Toml bytes e = Refuses metadata metadata bytes e
-RefusesToRead Tagged bytes e = HasFault bytes e
-
--- the bytes hold no value that can be told from its bytes
-abbrev pub AreUntagged : Input → List ℕ → Type 0
-AreUntagged Toml bytes = ⊥
-AreUntagged Tagged bytes = Unit {0}
-
--- the bytes are refused as they are read
-abbrev pub RefusesBytes : Input → List ℕ → Refusals
-RefusesBytes input bytes (Bytes e) = RefusesToRead input bytes e
-RefusesBytes input bytes Untagged = AreUntagged input bytes
-RefusesBytes input bytes r = IsWantOfMemory r
-
--- so are those of the root
-abbrev pub RefusesRoot : Input → List ℕ → Refusals
-RefusesRoot input root (Root e) = RefusesToRead input root e
-RefusesRoot input root UntaggedRoot = AreUntagged input root
-RefusesRoot input root r = IsWantOfMemory r
-
--- the root has no workspace, or its workspace does not lend what the manifest inherits
-abbrev pub IsNotLent : Input → List ℕ → Manifest → Refusals
-IsNotLent input root m NoWorkspace = (r : Manifest) × Are input root r × (r.workspace ≡ None)
-IsNotLent input root m (Resolving e) =
-    (r : Manifest) × Are input root r
-    × (w : Workspace) × (r.workspace ≡ Some w) × RefusedIn (refuses m w) e
-IsNotLent input root m _ = ⊥
-
--- the root is refused as it is read, or it does not lend
-abbrev pub RefusesToLend : Input → List ℕ → Manifest → Refusals
-RefusesToLend input root m r = RefusesRoot input root r ⊎ IsNotLent input root m r
-
--- the manifest is not completed over what is stored for the paths
-abbrev pub RefusesToComplete : (Text → Answer) → Manifest → Refusals
-RefusesToComplete stored m (Completion e) = IsRefusalOf (completed m (stored_map stored)) e
-RefusesToComplete stored m _ = ⊥
-
--- what is asked for of the manifest is not had: its table is not printed, or there is no memory for the bytes
-abbrev pub RefusesText : Manifest → Refusals
-RefusesText m (Printing e) = RefusesToPrint (rewritten m) e
-RefusesText m _ = ⊥
-
-abbrev pub RefusesOutput : Output → Manifest → Refusals
-RefusesOutput CanonicalText m = RefusesText m
-RefusesOutput TaggedTable m = IsWantOfMemory
-
--- one of the manifests is refused at the next step
-abbrev pub Then : Makes → (Manifest → Refusals) → Refusals
-Then makes next r = (m : Manifest) × makes m × next m r
-
--- a refusal of the steps that make the manifests, or of what is asked for of one of them
-abbrev pub OrOutput : Output → Makes → Refusals → Refusals
-OrOutput output makes refuses r = refuses r ⊎ Then makes (RefusesOutput output) r
+-- it is not had: the table is not printed, or what is asked for could take more bytes; or there is no memory for the bytes
+abbrev pub RefusesOutput : Output → ℕ → Manifest → Refusals
+RefusesOutput CanonicalText most m (Printing e) = RefusesToPrint (rewritten m) e
+RefusesOutput CanonicalText most m TooLong = IsOver most (rewritten m)
+RefusesOutput CanonicalText most m _ = ⊥
+RefusesOutput TaggedTable most m e = RefusesTagged most (encoded (table (rewritten m))) e
 
 -- THE OUTCOME of the steps is one of these texts, or one of these refusals
 abbrev pub IsMade : (Text → Type 0) → Refusals → Result (Vec ℕ Global) Refusal → Type 0
 IsMade gives refuses (Ok v) = gives v.items
-IsMade gives refuses (Err r) = refuses r
+IsMade gives refuses (Err e) = refuses e
+
+-- the text is what is asked for of one of these manifests
+abbrev pub Gives : Output → ℕ → (Manifest → Type 0) → Text → Type 0
+Gives output most makes text = (m : Manifest) × makes m × Writes output most m text × Holds output m text
+
+-- a refusal of the steps that make the manifests, or of what is asked for of one of them
+abbrev pub OrOutput : Output → ℕ → (Manifest → Type 0) → Refusals → Refusals
+OrOutput output most makes refuses e =
+    refuses e ⊎ ((m : Manifest) × makes m × RefusesOutput output most m e)
+
+-- in the code: what is stored by the folders that are given
+abbrev pub stored_by : Option (Bor GivenFolders) → Option (Text → Answer)
+stored_by folders = option_map (λ f. given_by f.now) folders

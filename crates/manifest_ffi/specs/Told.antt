@@ -15,7 +15,11 @@ use Rattle.manifest_value.specs.declared.error.ParseFault.TheVariants.{Toml, Sch
 use Rattle.manifest_inherit.specs.declared.error.ResolveError.{ResolveError}
 use Rattle.manifest_inherit.specs.declared.error.ResolveError.TheVariants as unresolved
 use Rattle.manifest_ffi.specs.declared.refusal.Refusal.{Refusal}
-use Rattle.manifest_ffi.specs.declared.refusal.Refusal.TheVariants.{Bytes, Untagged, Root, UntaggedRoot, NoWorkspace, Resolving, Listings, Completion, Printing, Memory}
+use Rattle.manifest_inherit.specs.declared.error.FinishError.{FinishError}
+use Rattle.manifest_inherit.specs.declared.error.FinishError.TheVariants as unfinished
+use Rattle.manifest_ffi.specs.declared.refusal.InputError.{InputError}
+use Rattle.manifest_ffi.specs.declared.refusal.InputError.TheVariants as unread
+use Rattle.manifest_ffi.specs.declared.refusal.Refusal.TheVariants.{Bytes, Root, Listings, Finishing, Printing, TooLong, Memory}
 use Rattle.manifest_ffi.specs.declared.telling.Told.{Told}
 
 -- THE NUMBER of a cause
@@ -83,15 +87,24 @@ TellsResolving unresolved.MixedLints t = IsTold t 12 0 []
 TellsResolving unresolved.ToolNamedWorkspace t = IsTold t 13 0 []
 TellsResolving (unresolved.Memory e) t = TellsMemory t
 
+-- why bytes are no manifest
+abbrev pub TellsInput : Bool → InputError → Told → Type 0
+TellsInput is_root (unread.Manifest e) t = TellsError is_root e t
+TellsInput is_root unread.Untagged t = IsTold t (at_root is_root 14) 0 []
+TellsInput is_root unread.TooDeep t = IsTold t (at_root is_root 15) 0 []
+
+-- why a manifest is not finished
+abbrev pub TellsFinishing : FinishError → Told → Type 0
+TellsFinishing (unfinished.Manifest e) t = TellsError false e t
+TellsFinishing unfinished.NoWorkspace t = IsTold t 9 0 []
+TellsFinishing (unfinished.Resolve e) t = TellsResolving e t
+
 -- EACH REFUSAL
 abbrev pub Tells : Refusal → Told → Type 0
-Tells (Bytes e) t = TellsError false e t
-Tells Untagged t = IsTold t 14 0 []
-Tells (Root e) t = TellsError true e t
-Tells UntaggedRoot t = IsTold t 30 0 []
-Tells NoWorkspace t = IsTold t 9 0 []
-Tells (Resolving e) t = TellsResolving e t
+Tells (Bytes e) t = TellsInput false e t
+Tells (Root e) t = TellsInput true e t
 Tells Listings t = IsTold t 8 0 []
-Tells (Completion e) t = TellsError false e t
+Tells (Finishing e) t = TellsFinishing e t
 Tells (Printing e) t = TellsPrinting e t
+Tells TooLong t = IsTold t 32 0 []
 Tells (Memory e) t = TellsMemory t

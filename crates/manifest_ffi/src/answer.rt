@@ -1,7 +1,12 @@
 //! What a call answers, and how its text comes into memory that the caller lent.
 
-ghost use Rattle.manifest_ffi.specs.Answered.{IsHanded, Outcome, Hands};
+ghost use Rattle.std.specs.Prelude.{option_copied};
+ghost use Rattle.manifest_ffi.specs.Answered.{IsHanded, Outcome, Hands, Answers};
+ghost use Rattle.manifest_ffi.specs.Made.{Makes, RefusesToMake};
 
+use crate::folders::Folder;
+use crate::making::{Output, finished, make};
+use crate::reading::Input;
 use crate::refusal::Refusal;
 use crate::telling::{Told, tell, with_text};
 use std::alloc::Global;
@@ -58,4 +63,33 @@ pub(crate) fn handed(told: &Told, out: &mut [u8]) -> Answer
         start: told.start,
         end: told.end,
     }
+}
+
+/// What the bytes of a call are, what is asked for of the manifest that is made of them, and the most bytes that it may take.
+#[derive(Debug, Clone, Copy)]
+pub(crate) struct Asked {
+    pub input: Input,
+    pub output: Output,
+    pub most: usize,
+}
+
+/// The answer of a call: what is asked for of the manifest that is made of the bytes, the root and the folders.
+pub(crate) fn answer(
+    alloc: Global,
+    asked: Asked,
+    bytes: &[u8],
+    root: Option<&[u8]>,
+    folders: Option<&[Folder<'_>]>,
+    out: &mut [u8],
+) -> Answer
+    ensures { Answers asked.output asked.most
+        (Makes asked.input bytes.now (option_copied root.entry) (option_copied folders.entry))
+        (RefusesToMake asked.input bytes.now
+        (option_copied root.entry) (option_copied folders.entry))
+        out.old out.new result }
+{
+    let made = make(alloc, asked.input, bytes, root, folders);
+    let text = finished(alloc, asked.output, asked.most, made);
+    let told = outcome(alloc, text);
+    handed(&told, out)
 }

@@ -1,38 +1,68 @@
 //! Why a call has no text.
 
 use cargo_manifest::Error;
-use manifest_inherit::ResolveError;
+use manifest_inherit::FinishError;
 use std::alloc::{AllocError, AllocFailed};
+
+/// Why bytes are no manifest.
+#[derive(Debug, Drop)]
+pub enum InputError {
+    /// They are no document, or it means no manifest.
+    Manifest(Error),
+    /// They are no tagged table.
+    Untagged,
+    /// They nest too deep.
+    TooDeep,
+}
+
+impl From<AllocError> for InputError {
+    ghost use Rattle.std.specs.Prelude.{◌≡◌};
+    ghost use Rattle.manifest_value.specs.declared.error.Error.TheVariants.{Memory};
+    ghost use Rattle.manifest_ffi.specs.declared.refusal.InputError.TheVariants.{Manifest};
+
+    ghost from_gives = { λ refused error. error ≡ Manifest (Memory refused) };
+
+    fn from(refused: AllocError) -> InputError {
+        InputError::Manifest(Error::Memory(refused))
+    }
+}
+
+impl<T: Drop> From<AllocFailed<T>> for InputError {
+    ghost use Rattle.std.specs.Prelude.{◌≡◌};
+    ghost use Rattle.std.specs.declared.alloc.AllocError.{AllocError};
+    ghost use Rattle.manifest_value.specs.declared.error.Error.TheVariants.{Memory};
+    ghost use Rattle.manifest_ffi.specs.declared.refusal.InputError.TheVariants.{Manifest};
+
+    ghost from_gives = { λ _ error. (refused : AllocError) × (error ≡ Manifest (Memory refused)) };
+
+    fn from(refused: AllocFailed<T>) -> InputError {
+        InputError::Manifest(Error::Memory(AllocError::from(refused)))
+    }
+}
 
 /// Why a call has no text, by the step that refused.
 #[derive(Debug, Drop)]
 pub enum Refusal {
     /// The bytes are no manifest.
-    Bytes(Error),
-    /// The bytes are no tagged table.
-    Untagged,
+    Bytes(InputError),
     /// The bytes of the workspace's root are no manifest.
-    Root(Error),
-    /// The bytes of the workspace's root are no tagged table.
-    UntaggedRoot,
-    /// The root has no workspace.
-    NoWorkspace,
-    /// The workspace does not lend what the manifest inherits.
-    Resolving(ResolveError),
+    Root(InputError),
     /// The folders are no listings.
     Listings,
-    /// The manifest is not completed over the listings.
-    Completion(Error),
+    /// What the manifest inherits is refused, or its completion.
+    Finishing(FinishError),
     /// The manifest's table cannot be printed.
     Printing(Error),
+    /// What is asked for takes more bytes than is wanted.
+    TooLong,
     /// No memory was left.
     Memory(AllocError),
 }
 
 impl From<AllocError> for Refusal {
-    ghost use Rattle.manifest_ffi.specs.Made.{IsWantOfMemory};
+    ghost use Rattle.manifest_ffi.specs.Made.{IsOutOfMemory};
 
-    ghost from_gives = { λ _ refusal. IsWantOfMemory refusal };
+    ghost from_gives = { λ _ refusal. IsOutOfMemory refusal };
 
     fn from(refused: AllocError) -> Refusal {
         Refusal::Memory(refused)
@@ -40,9 +70,9 @@ impl From<AllocError> for Refusal {
 }
 
 impl<T: Drop> From<AllocFailed<T>> for Refusal {
-    ghost use Rattle.manifest_ffi.specs.Made.{IsWantOfMemory};
+    ghost use Rattle.manifest_ffi.specs.Made.{IsOutOfMemory};
 
-    ghost from_gives = { λ _ refusal. IsWantOfMemory refusal };
+    ghost from_gives = { λ _ refusal. IsOutOfMemory refusal };
 
     fn from(refused: AllocFailed<T>) -> Refusal {
         Refusal::Memory(AllocError::from(refused))

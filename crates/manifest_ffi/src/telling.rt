@@ -4,11 +4,11 @@
 ghost use Rattle.std.specs.Prelude.{◌≡◌, ◌≤◌, ◌⊎◌, IsUtf8, string_bytes};
 ghost use Rattle.std.specs.IoError.{error_kind};
 ghost use Rattle.manifest_value.specs.Faults.{cause_of};
-ghost use Rattle.manifest_ffi.specs.Told.{cause_number, kind_number, at_root, IsTold, TellsMemory, TellsToml, TellsSchema, TellsError, TellsResolving, TellsPrinting, Tells};
+ghost use Rattle.manifest_ffi.specs.Told.{cause_number, kind_number, at_root, IsTold, TellsMemory, TellsToml, TellsSchema, TellsError, TellsInput, TellsResolving, TellsFinishing, TellsPrinting, Tells};
 
-use crate::refusal::Refusal;
+use crate::refusal::{InputError, Refusal};
 use cargo_manifest::{Cause, Error, ParseFault, SchemaFault};
-use manifest_inherit::ResolveError;
+use manifest_inherit::{FinishError, ResolveError};
 use std::alloc::{AllocError, Global};
 use std::io;
 use std::io::ErrorKind;
@@ -140,6 +140,18 @@ fn tell_error(alloc: Global, error: Error, is_root: bool) -> Told
     }
 }
 
+/// Why bytes are no manifest.
+fn tell_input(alloc: Global, error: InputError, is_root: bool) -> Told
+    ensures told { TellsMemory result ⊎ TellsInput is_root error result }
+    ensures utf8 { IsUtf8 result.text.items }
+{
+    match error {
+        InputError::Manifest(error) => tell_error(alloc, error, is_root),
+        InputError::Untagged => with_text(at_root(is_root, 14), 0, Vec::new(alloc)),
+        InputError::TooDeep => with_text(at_root(is_root, 15), 0, Vec::new(alloc)),
+    }
+}
+
 /// Why a manifest is not resolved.
 fn tell_resolving(alloc: Global, error: ResolveError) -> Told
     ensures told { TellsMemory result ⊎ TellsResolving error result }
@@ -151,6 +163,18 @@ fn tell_resolving(alloc: Global, error: ResolveError) -> Told
         ResolveError::MixedLints => with_text(12, 0, Vec::new(alloc)),
         ResolveError::ToolNamedWorkspace => with_text(13, 0, Vec::new(alloc)),
         ResolveError::Memory(refused) => memory(alloc, refused),
+    }
+}
+
+/// Why a manifest is not finished.
+fn tell_finishing(alloc: Global, error: FinishError) -> Told
+    ensures told { TellsMemory result ⊎ TellsFinishing error result }
+    ensures utf8 { IsUtf8 result.text.items }
+{
+    match error {
+        FinishError::Manifest(error) => tell_error(alloc, error, false),
+        FinishError::NoWorkspace => with_text(9, 0, Vec::new(alloc)),
+        FinishError::Resolve(error) => tell_resolving(alloc, error),
     }
 }
 
@@ -171,15 +195,12 @@ pub(crate) fn tell(alloc: Global, refusal: Refusal) -> Told
     ensures utf8 { IsUtf8 result.text.items }
 {
     match refusal {
-        Refusal::Bytes(error) => tell_error(alloc, error, false),
-        Refusal::Untagged => with_text(14, 0, Vec::new(alloc)),
-        Refusal::Root(error) => tell_error(alloc, error, true),
-        Refusal::UntaggedRoot => with_text(30, 0, Vec::new(alloc)),
-        Refusal::NoWorkspace => with_text(9, 0, Vec::new(alloc)),
-        Refusal::Resolving(error) => tell_resolving(alloc, error),
+        Refusal::Bytes(error) => tell_input(alloc, error, false),
+        Refusal::Root(error) => tell_input(alloc, error, true),
         Refusal::Listings => with_text(8, 0, Vec::new(alloc)),
-        Refusal::Completion(error) => tell_error(alloc, error, false),
+        Refusal::Finishing(error) => tell_finishing(alloc, error),
         Refusal::Printing(error) => tell_printing(alloc, error),
+        Refusal::TooLong => with_text(32, 0, Vec::new(alloc)),
         Refusal::Memory(refused) => memory(alloc, refused),
     }
 }

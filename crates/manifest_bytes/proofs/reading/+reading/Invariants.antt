@@ -2,10 +2,10 @@ use Rattle.std.proofs.Common.{ℕ, ◌+◌, ◌*◌}
 use Rattle.manifest_bytes.proofs.reading.+reading.Given as goal
 
 abbrev pub decreases-read_items : goal.decreases-read_items
-decreases-read_items l = 2 * l.deep + 1
+decreases-read_items l = 2 * l.deepest + 1
 
 abbrev pub decreases-read_members : goal.decreases-read_members
-decreases-read_members l = 2 * l.deep + 1
+decreases-read_members l = 2 * l.deepest + 1
 
 abbrev pub decreases-read_value : goal.decreases-read_value
-decreases-read_value l = 2 * l.deep
+decreases-read_value l = 2 * l.deepest

@@ -1,0 +1,24 @@
+//! Why bytes are not read.
+
+use std::alloc::{AllocError, AllocFailed};
+
+/// Why [`value_of_bytes`](crate::value_of_bytes) does not say whether the bytes are those of a value.
+#[derive(Debug, Drop)]
+pub enum DecodeError {
+    /// The value nests deeper than it may.
+    TooDeep,
+    /// No memory was left.
+    Memory(AllocError),
+}
+
+impl From<AllocError> for DecodeError {
+    fn from(refused: AllocError) -> DecodeError {
+        DecodeError::Memory(refused)
+    }
+}
+
+impl<T: Drop> From<AllocFailed<T>> for DecodeError {
+    fn from(refused: AllocFailed<T>) -> DecodeError {
+        DecodeError::Memory(AllocError::from(refused))
+    }
+}

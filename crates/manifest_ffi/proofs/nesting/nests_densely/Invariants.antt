@@ -1,0 +1,7 @@
+use Rattle.std.proofs.Common.{◌≡◌, ◌-◌, length}
+use Rattle.manifest_ffi.specs.Nesting.{scan, start}
+use Rattle.manifest_ffi.proofs.nesting.nests_densely.Given as goal
+
+-- what is left to scan of the text comes to what all of it comes to
+abbrev pub invariant-loop-turn : goal.invariant-loop-turn
+invariant-loop-turn l = scan (length l.text - l.turn) l.nesting l.rest ≡ scan (length l.text) start l.text

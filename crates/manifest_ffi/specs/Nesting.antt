@@ -1,0 +1,60 @@
+-- How deep a text may nest what it says, counted before it is parsed.
+use Rattle.std.specs.Prelude.{◌≡◌, ℕ, zero, suc, ◌+◌, ◌-◌, ◌*◌, max, Bool, true, false, ◌&&◌, ◌||◌, ◌==◌, nat_lt, if◌then◌else◌, List, length, drop, Option, Some, None, option_map, unwrap_or}
+use Rattle.std.specs.Borrow.{Bor}
+use Rattle.toml_parser.specs.Lexical.{line_feed, hash, comma, dot, equals, left_bracket, right_bracket, left_brace, right_brace, first, skip_blank}
+use Rattle.toml_parser.specs.Strings.{starts_string, quoted}
+use Rattle.manifest_schema.specs.Paths.{Text}
+use Rattle.manifest_ffi.specs.declared.nesting.Nesting.{Nesting}
+
+-- COUNTED are, up to 512, the brackets that are open and the dots since a key began, and the most of both so far
+abbrev pub more : ℕ → ℕ
+more n = if nat_lt n 512 then n + 1 else n
+
+abbrev pub start : Nesting
+start = record { open = 0; dots = 0; most_open = 0; most_dots = 0 }
+
+-- behind an opening bracket, a closing one, a dot, and the end of a key
+abbrev pub opened : Nesting → Nesting
+opened n = record n { open = more n.open; dots = 0; most_open = max n.most_open (more n.open) }
+
+abbrev pub closed : Nesting → Nesting
+closed n = record n { open = n.open - 1 }
+
+abbrev pub dotted : Nesting → Nesting
+dotted n = record n { dots = more n.dots; most_dots = max n.most_dots (more n.dots) }
+
+abbrev pub ended : Nesting → Nesting
+ended n = record n { dots = 0 }
+
+-- behind a byte that stands in no string and no comment
+abbrev pub counted : ℕ → Nesting → Nesting
+counted c n =
+    if c == left_bracket || c == left_brace then opened n
+    else if c == right_bracket || c == right_brace then closed n
+    else if c == dot then dotted n
+    else if (c == comma || c == equals) || c == line_feed then ended n
+    else n
+
+-- behind the next string, comment or byte, where there is one that TOML can have
+abbrev pub step : Nesting → Text → Option (Nesting × Text)
+step n text =
+    if starts_string text then option_map (λ r. (n, r.1)) (quoted text)
+    else if first text == hash then Some (ended n, skip_blank text)
+    else if first text == 0 || nat_lt 127 (first text) then None
+    else Some (counted (first text) n, drop 1 text)
+
+-- behind so many steps, or as many as there are
+unfoldable pub scan : ℕ → Nesting → Text → Nesting
+scan zero n text = n
+scan (suc k) n text = unwrap_or (option_map (λ r. scan k r.0 r.1) (step n text)) n
+
+-- IT NESTS DENSELY: with each bracket in the others, each behind a key of the most dots, and a header of an array of tables and a key of as many dots before them
+abbrev pub is_dense : Nesting → Bool
+is_dense n = nat_lt 512 ((n.most_open + 3) * (n.most_dots + 1))
+
+abbrev pub nests_densely : Text → Bool
+nests_densely text = is_dense (scan (length text) start text)
+
+-- in the code: what one step comes to
+abbrev pub Steps : Nesting → Text → Option (Nesting × Bor Text) → Type 0
+Steps n text r = option_map (λ p. (p.0, p.1.now)) r ≡ step n text

@@ -1,0 +1,84 @@
+-- What the bytes of a call are, and why they are refused.
+use Rattle.std.specs.Prelude.{◌≡◌, ◌⊎◌, ℕ, ◌<◌, ◌≤◌, List, Some, None, true, false, IsUtf8}
+use Rattle.toml.specs.Data.{Data, Members, members_depth}
+use Rattle.toml.specs.Parse.{parse_document}
+use Rattle.toml.specs.Errors.{IsMemory, IsWithin}
+use Rattle.manifest_schema.specs.Paths.{Text}
+use Rattle.manifest_schema.specs.Kinds.{Kind}
+use Rattle.manifest_schema.specs.Contents.{Manifest}
+use Rattle.manifest_schema.specs.Meaning.{means, reads_manifest, faulty_manifest}
+use Rattle.manifest_value.specs.Refusals.{RefusedIn as RefusedAs, IsWantOfMemory}
+use Rattle.manifest_value.specs.declared.error.Error.{Error}
+use Rattle.manifest_value.specs.declared.error.Error.TheVariants.{Parse, Utf8, Memory}
+use Rattle.manifest_value.specs.declared.error.ParseFault.TheVariants.{Toml as NoToml, Schema}
+use Rattle.cargo_manifest.specs.Answers.{IsFaulty}
+use Rattle.cargo_manifest.specs.Canonical.{metadata}
+use Rattle.manifest_bytes.specs.Encoded.{encoded}
+use Rattle.manifest_ffi.specs.declared.reading.Input.{Input}
+use Rattle.manifest_ffi.specs.declared.reading.Input.TheVariants.{Toml, Tagged}
+use Rattle.manifest_ffi.specs.declared.refusal.InputError.{InputError}
+use Rattle.manifest_ffi.specs.declared.refusal.InputError.TheVariants.{Manifest as NoManifest, Untagged, TooDeep}
+use Rattle.manifest_ffi.specs.Nesting.{nests_densely}
+
+-- THE BYTES ARE THE DOCUMENT of the table: it does not nest densely, and its table nests at most 128 deep
+pub record IsDocument (bytes : Text) (document : Members) : Type 0 where
+  pub utf8 : IsUtf8 bytes
+  pub sparse : nests_densely bytes ≡ false
+  pub parsed : parse_document bytes ≡ Some document
+  pub shallow : members_depth document ≤ 128
+
+-- the bytes nest too deep: densely, or they are a document of a table that nests deeper
+abbrev pub AreTooDeep : Text → Type 0
+AreTooDeep bytes =
+    (nests_densely bytes ≡ true)
+    ⊎ ((document : Members) × (parse_document bytes ≡ Some document) × (128 < members_depth document))
+
+-- the text is no such document: it nests densely, or it is none, memory aside, with a place within the text; else out of memory
+abbrev pub RefusesToParse : Text → InputError → Type 0
+RefusesToParse text TooDeep = AreTooDeep text
+RefusesToParse text (NoManifest (Parse (NoToml e))) =
+    IsWithin text e.value × (¬ IsMemory e.value → parse_document text ≡ None)
+RefusesToParse text (NoManifest (Memory e)) = Unit {0}
+RefusesToParse text _ = ⊥
+
+-- the bytes are no such document: they are not UTF-8, or as above
+abbrev pub RefusesDocument : Text → InputError → Type 0
+RefusesDocument bytes (NoManifest (Utf8 e)) = ¬ IsUtf8 bytes
+RefusesDocument bytes e = RefusesToParse bytes e
+
+-- THE BYTES ARE A TEXT OF THE MANIFEST: a document of a table that means it. K and W are the kinds of metadata
+pub record IsSourceOf (K W : Kind Data) (bytes : Text) (m : Manifest) : Type 0 where
+  pub document : Members
+  pub is_document : IsDocument bytes document
+  pub meant : means K W document m
+
+-- they are none: a document of a table with this fault, or no document
+abbrev pub RefusesText : Kind Data → Kind Data → Text → InputError → Type 0
+RefusesText K W bytes (NoManifest (Parse (Schema f))) =
+    (document : Members) × IsDocument bytes document × IsFaulty K W document f
+RefusesText K W bytes e = RefusesDocument bytes e
+
+-- THE BYTES ARE TAGGED BYTES OF THE MANIFEST: those of a table that the form of a manifest reads as it
+pub record IsTaggedOf (bytes : Text) (m : Manifest) : Type 0 where
+  pub value : Data
+  pub tagged : bytes ≡ encoded value
+  pub read : reads_manifest metadata metadata value m
+
+-- the bytes are those of a value that has this fault
+abbrev pub HoldFault : Text → Error → Type 0
+HoldFault bytes e =
+    (value : Data) × (bytes ≡ encoded value) × RefusedAs (faulty_manifest metadata metadata value) e
+
+-- they are none: those of a faulty value, or out of memory; else no tagged bytes, or of a value that nests too deep, of which nothing is promised
+abbrev pub RefusesTagged : Text → InputError → Type 0
+RefusesTagged bytes (NoManifest e) = IsWantOfMemory e ⊎ HoldFault bytes e
+RefusesTagged bytes _ = Unit {0}
+
+-- THE BYTES ARE THE MANIFEST, one way or the other
+abbrev pub Are : Input → Text → Manifest → Type 0
+Are Toml = IsSourceOf metadata metadata
+Are Tagged = IsTaggedOf
+
+abbrev pub RefusesToRead : Input → Text → InputError → Type 0
+RefusesToRead Toml = RefusesText metadata metadata
+RefusesToRead Tagged = RefusesTagged

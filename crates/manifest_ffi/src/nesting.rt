@@ -1,0 +1,153 @@
+//! How deep a text may nest what it says, found before it is parsed. `toml` parses, and gives up on, a text by calls that go
+//! no deeper than that.
+
+ghost use Rattle.std.specs.Prelude.{◌≡◌, IfOk};
+ghost use Rattle.manifest_ffi.specs.Nesting.{more, opened, closed, dotted, ended, counted, scan, is_dense, nests_densely, Steps};
+
+use std::alloc::{AllocError, Global};
+use toml_parser::text::{first, skip, skip_blank};
+use toml_parser::{ParseError, quoted, starts_string};
+
+/// How much nesting is parsed: brackets and dots are counted up to it.
+const MOST_NESTING: u16 = 512;
+
+/// The brackets that are open and the dots of the key that is read, at a place of a text, and the most of both so far.
+#[derive(Debug, Clone, Copy)]
+pub(crate) struct Nesting {
+    pub open: u16,
+    pub dots: u16,
+    pub most_open: u16,
+    pub most_dots: u16,
+}
+
+/// Nothing has been read.
+const START: Nesting = Nesting {
+    open: 0,
+    dots: 0,
+    most_open: 0,
+    most_dots: 0,
+};
+
+/// One more.
+fn more(count: u16) -> u16
+    ensures { result ≡ more count }
+{
+    if count < MOST_NESTING { count + 1 } else { count }
+}
+
+/// Behind an opening bracket.
+fn opened(nesting: Nesting) -> Nesting
+    ensures { result ≡ opened nesting }
+{
+    let open = more(nesting.open);
+    Nesting {
+        open,
+        dots: 0,
+        most_open: nesting.most_open.max(open),
+        most_dots: nesting.most_dots,
+    }
+}
+
+/// Behind a closing bracket.
+fn closed(nesting: Nesting) -> Nesting
+    ensures { result ≡ closed nesting }
+{
+    Nesting {
+        open: nesting.open.saturating_sub(1),
+        dots: nesting.dots,
+        most_open: nesting.most_open,
+        most_dots: nesting.most_dots,
+    }
+}
+
+/// Behind a dot.
+fn dotted(nesting: Nesting) -> Nesting
+    ensures { result ≡ dotted nesting }
+{
+    let dots = more(nesting.dots);
+    Nesting {
+        open: nesting.open,
+        dots,
+        most_open: nesting.most_open,
+        most_dots: nesting.most_dots.max(dots),
+    }
+}
+
+/// Behind the end of a key.
+fn ended(nesting: Nesting) -> Nesting
+    ensures { result ≡ ended nesting }
+{
+    Nesting {
+        open: nesting.open,
+        dots: 0,
+        most_open: nesting.most_open,
+        most_dots: nesting.most_dots,
+    }
+}
+
+/// Behind a byte outside strings and comments.
+fn counted(byte: u8, nesting: Nesting) -> Nesting
+    ensures { result ≡ counted byte nesting }
+{
+    match byte {
+        b'[' => opened(nesting),
+        b'{' => opened(nesting),
+        b']' => closed(nesting),
+        b'}' => closed(nesting),
+        b'.' => dotted(nesting),
+        b',' => ended(nesting),
+        b'=' => ended(nesting),
+        b'\n' => ended(nesting),
+        _ => nesting,
+    }
+}
+
+/// Behind the next string, comment or byte; `None` at the end of the text, or where it is no TOML from here on.
+fn step<'t>(
+    alloc: Global,
+    nesting: Nesting,
+    text: &'t str,
+) -> Result<Option<(Nesting, &'t str)>, AllocError>
+    ensures { IfOk result (Steps nesting text.now) }
+{
+    let byte = first(text);
+    if starts_string(text) {
+        match quoted(alloc, text) {
+            Ok((_, rest)) => Ok(Some((nesting, rest))),
+            Err(ParseError::OutOfMemory) => Err(AllocError),
+            Err(_) => Ok(None),
+        }
+    } else if byte == b'#' {
+        Ok(Some((ended(nesting), skip_blank(text, true))))
+    } else if byte == 0 || byte >= 128 {
+        Ok(None)
+    } else {
+        Ok(Some((counted(byte, nesting), skip(text, 1))))
+    }
+}
+
+/// Whether so many brackets in one another, each behind a key of so many dots, would be too much nesting.
+fn is_dense(nesting: Nesting) -> bool
+    ensures { result ≡ is_dense nesting }
+{
+    (u64::from(nesting.most_open) + 3) * (u64::from(nesting.most_dots) + 1)
+        > u64::from(MOST_NESTING)
+}
+
+/// Whether the brackets and dotted keys of a text could nest tables and arrays deeper than is parsed.
+pub(crate) fn nests_densely(alloc: Global, text: &str) -> Result<bool, AllocError>
+    ensures { IfOk result (λ dense. dense ≡ nests_densely text.now) }
+{
+    let mut nesting = START;
+    let mut rest = text;
+    for turn in 0..text.len() {
+        match step(alloc, nesting, rest)? {
+            Some((behind, left)) => {
+                nesting = behind;
+                rest = left;
+            }
+            None => return Ok(is_dense(nesting)),
+        }
+    }
+    Ok(is_dense(nesting))
+}
