@@ -1,3 +1,5 @@
 pub mod FaultLemmas
 pub mod StoredLaws
 pub mod WellFormedLaws
+pub mod CountLemmas
+pub mod PrintedLemmas

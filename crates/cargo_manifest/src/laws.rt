@@ -7,6 +7,7 @@ ghost use Rattle.manifest_schema.specs.Meaning.{MeansOne, WrittenIsRead, Accepte
 ghost use Rattle.manifest_schema.specs.Former.{OldWrittenIsRead};
 ghost use Rattle.manifest_completion.specs.Laws.{CompletedIsFixed};
 ghost use Rattle.cargo_manifest.specs.Completes.{StoredDecides};
+ghost use Rattle.cargo_manifest.specs.Printed.{PrintedIsBounded};
 ghost use Rattle.cargo_manifest.specs.WellFormed.{PackageByMetadata, WorkspaceByParts, ManifestByParts};
 
 pub use manifest_completion::laws::{
@@ -94,4 +95,11 @@ pub fn stored_decides()
 /// and asks no other place.
 pub fn completed_is_fixed<P: Metadata, W: Metadata>()
     ensures { CompletedIsFixed (tree_of P.kind) (tree_of W.kind) }
+{}
+
+/// The document that `toml` writes of a table without a float is no longer than the bound that
+/// [`printed_bound`](crate::printed_bound) counts.
+#[tactic(auto, using(crate::proofs::PrintedLemmas::printed_is_bounded))]
+pub fn printed_is_bounded()
+    ensures { PrintedIsBounded }
 {}

@@ -18,7 +18,7 @@ use Rattle.manifest_completion.specs.Listings.{Answer}
 use Rattle.manifest_ffi.specs.declared.folders.Folder.{Folder}
 use Rattle.manifest_ffi.specs.declared.folders.Listed.{Listed}
 use Rattle.manifest_ffi.specs.declared.refusal.Refusal.{Refusal}
-use Rattle.manifest_ffi.specs.declared.refusal.Refusal.TheVariants.{Bytes, Untagged, Root, UntaggedRoot, NoWorkspace, Resolving, Listings, Completion, Printing, Memory}
+use Rattle.manifest_ffi.specs.declared.refusal.Refusal.TheVariants.{Bytes, Root, Listings, Finishing, Printing, TooLong, Memory}
 use Rattle.manifest_ffi.specs.Made.{RefusesUnless}
 use Rattle.manifest_ffi.specs.Given.{texts, AreInOrder, AreNames, AreListings, IsLeast, goes_before, folder_answer, folder_at, listed_answer, listed_at}
 
@@ -93,10 +93,7 @@ pub refuses_more : (P Q : Type 0) (r : Refusal) → (Q → P) → RefusesUnless 
 refuses_more P Q Listings w h = λ q. h (w q)
 refuses_more P Q (Memory e) w h = tt
 refuses_more P Q (Bytes e) w h = absurd h
-refuses_more P Q Untagged w h = absurd h
 refuses_more P Q (Root e) w h = absurd h
-refuses_more P Q UntaggedRoot w h = absurd h
-refuses_more P Q NoWorkspace w h = absurd h
-refuses_more P Q (Resolving e) w h = absurd h
-refuses_more P Q (Completion e) w h = absurd h
+refuses_more P Q (Finishing e) w h = absurd h
 refuses_more P Q (Printing e) w h = absurd h
+refuses_more P Q TooLong w h = absurd h

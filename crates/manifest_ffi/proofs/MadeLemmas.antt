@@ -1,5 +1,5 @@
 -- Each manifest that is made is well-formed, so that the tagged bytes of its table hold it; and what is written of it is the last step of each call.
-use Rattle.std.proofs.Common.{◌≡◌, ℕ, List, Vec, Global, Result, Ok, Err, IfOk, inl, inr, ap, sym, subst, ◌∙◌}
+use Rattle.std.proofs.Common.{◌≡◌, ℕ, List, Option, Some, None, Vec, Global, Result, Ok, Err, IfOk, inl, inr, ap, sym, subst, ◌∙◌}
 use Rattle.std.specs.Prelude.{IfErr}
 use Rattle.manifest_bytes.specs.Decoded.{decoded}
 use Rattle.manifest_bytes.specs.Laws.{IsFloatless}
@@ -19,68 +19,77 @@ use Rattle.manifest_completion.specs.Stored.{stored_map}
 use Rattle.manifest_completion.proofs.CompletedLaws.{completed_fixed}
 use Rattle.cargo_manifest.specs.Canonical.{metadata}
 use Rattle.cargo_manifest.proofs.WellFormedLaws.{package_by_metadata, workspace_by_parts, manifest_by_parts}
+use Rattle.manifest_inherit.specs.Finished.{Inherits}
 use Rattle.manifest_inherit.proofs.FormedLaws.{stays_well_formed}
 use Rattle.manifest_ffi.specs.declared.folders.Folder.{Folder}
-use Rattle.manifest_ffi.specs.declared.making.Input.{Input}
-use Rattle.manifest_ffi.specs.declared.making.Input.TheVariants.{Toml, Tagged}
+use Rattle.manifest_ffi.specs.declared.reading.Input.{Input}
+use Rattle.manifest_ffi.specs.declared.reading.Input.TheVariants.{Toml, Tagged}
 use Rattle.manifest_ffi.specs.declared.making.Output.{Output}
 use Rattle.manifest_ffi.specs.declared.making.Output.TheVariants.{CanonicalText, TaggedTable}
 use Rattle.manifest_ffi.specs.declared.refusal.Refusal.{Refusal}
-use Rattle.manifest_ffi.specs.Made.{Makes, Are, Completed, Resolved, Refusals, Writes, Holds, Gives, RefusesOutput, OrOutput, IsMade}
-use Rattle.manifest_ffi.specs.Given.{given}
-use Rattle.manifest_ffi.specs.Calls.{MakesCompleted, MakesResolved, MakesResolvedCompleted}
+use Rattle.manifest_ffi.specs.Read.{Are}
+use Rattle.manifest_ffi.specs.Made.{Completes, IsRoot, Makes, Refusals, Writes, Holds, Gives, RefusesOutput, OrOutput, IsMade}
 
--- all that is made is well-formed
-abbrev pub Forms : Makes → Type 0
-Forms makes = (m : Manifest) → makes m → well_formed metadata metadata m
+abbrev IsFormed : Manifest → Type 0
+IsFormed m = well_formed metadata metadata m
 
-pub read_formed : (input : Input) (bytes : List ℕ) → Forms (Are input bytes)
+abbrev AreFormed : Option Manifest → Type 0
+AreFormed None = Unit {0}
+AreFormed (Some m) = IsFormed m
+
+-- WHAT IS READ is well-formed
+read_formed : (input : Input) (bytes : List ℕ) (m : Manifest) → Are input bytes m → IsFormed m
 read_formed Toml bytes m is =
     let kept_tree = tree_lawful kept_lawful in
-    (accepted_is_well_formed kept_tree kept_tree is.1.document m is.1.meant).0
+    (accepted_is_well_formed kept_tree kept_tree is.document m is.meant).0
 read_formed Tagged bytes m is =
     let kept_tree = tree_lawful kept_lawful in
     (manifest_lawful metadata metadata kept_tree kept_tree).well is.value m is.read
 
-completed_formed : (stored : Text → Listed) (makes : Makes) → Forms makes → Forms (Completed stored makes)
-completed_formed stored makes formed n (m, is, becomes) =
-    let kept_tree = tree_lawful kept_lawful in
-    (completed_fixed metadata metadata kept_tree kept_tree m n (stored_map stored) (formed m is) becomes).formed
+root_formed : (input : Input) (bytes : Option (List ℕ)) (root : Option Manifest) → IsRoot input bytes root → AreFormed root
+root_formed input None None is = tt
+root_formed input None (Some r) is = absurd is
+root_formed input (Some b) None is = absurd is
+root_formed input (Some b) (Some r) is = read_formed input b r is
 
-lent_formed : (input : Input) (root : List ℕ) (makes : Makes) → Forms makes → Forms (Resolved input root makes)
-lent_formed input root makes formed n (m, is, lent) =
+-- EACH STEP keeps it so
+inherits_formed : (root : Option Manifest) (m n : Manifest) → AreFormed root → IsFormed m → Inherits root m n → IsFormed n
+inherits_formed None m n root formed same = subst IsFormed (sym same) formed
+inherits_formed (Some r) m n root formed (w, has, resolves) =
     let by_manifest = manifest_by_parts metadata metadata in
-    let of_root = ((by_manifest lent.manifest).0 (read_formed input root lent.manifest lent.read)).1 in
-    let lends = subst (good_some (form (workspace_rows metadata))) lent.has of_root in
-    stays_well_formed metadata metadata metadata (package_by_metadata metadata) (workspace_by_parts metadata) by_manifest m n lent.lends (formed m is) lends lent.resolves
+    let lends = subst (good_some (form (workspace_rows metadata))) has ((by_manifest r).0 root).1 in
+    stays_well_formed metadata metadata metadata (package_by_metadata metadata) (workspace_by_parts metadata) by_manifest m n w formed lends resolves
 
-pub made_formed : (input : Input) (bytes : List ℕ) (folders : List Folder) → Forms (MakesCompleted input bytes folders)
-made_formed input bytes folders n (listings, is) = completed_formed (given folders) (Are input bytes) (read_formed input bytes) n is
+completes_formed : (stored : Option (Text → Listed)) (m n : Manifest) → IsFormed m → Completes stored m n → IsFormed n
+completes_formed None m n formed same = subst IsFormed (sym same) formed
+completes_formed (Some s) m n formed becomes =
+    let kept_tree = tree_lawful kept_lawful in
+    (completed_fixed metadata metadata kept_tree kept_tree m n (stored_map s) formed becomes).formed
 
-pub resolved_formed : (input : Input) (bytes root : List ℕ) → Forms (MakesResolved input bytes root)
-resolved_formed input bytes root = lent_formed input root (Are input bytes) (read_formed input bytes)
-
-pub resolved_made_formed : (input : Input) (bytes root : List ℕ) (folders : List Folder) → Forms (MakesResolvedCompleted input bytes root folders)
-resolved_made_formed input bytes root folders n (listings, is) = completed_formed (given folders) (MakesResolved input bytes root) (resolved_formed input bytes root) n is
+made_formed : (input : Input) (bytes : List ℕ) (root : Option (List ℕ)) (folders : Option (List Folder)) (m : Manifest) → Makes input bytes root folders m → IsFormed m
+made_formed input bytes root folders m (listings, (n, is, (r, is_root, (o, inherits, completes)))) =
+    completes_formed _ o m (inherits_formed r n o (root_formed input root r is_root) (read_formed input bytes n is) inherits) completes
 
 -- THE LAST STEP
 -- metadata that is kept is written without floats
 kept_is_floatless : IsFloatless metadata
 kept_is_floatless = let kept_tree = tree_floatless kept_floatless in kept_tree.writes
 
-held : (output : Output) (m : Manifest) (text : Text) → well_formed metadata metadata m → Writes output m text → Holds output m text
-held CanonicalText m text g written = tt
-held TaggedTable m text g written = ap decoded written ∙ table_is_decoded metadata metadata kept_is_floatless kept_is_floatless m g
+held : (output : Output) (most : ℕ) (m : Manifest) (text : Text) → IsFormed m → Writes output most m text → Holds output m text
+held CanonicalText most m text g written = tt
+held TaggedTable most m text g written = ap decoded written.0 ∙ table_is_decoded metadata metadata kept_is_floatless kept_is_floatless m g
 
-given_of : (output : Output) (makes : Makes) (refuses : Refusals) (m : Manifest) (r : Result (Vec ℕ Global) Refusal) → makes m → well_formed metadata metadata m
-    → IsMade (Writes output m) (RefusesOutput output m) r → IsMade (Gives output makes) (OrOutput output makes refuses) r
-given_of output makes refuses m (Ok v) is g h = (m, is, h, held output m v.items g h)
-given_of output makes refuses m (Err e) is g h = inr (m, is, h)
+given_of : (output : Output) (most : ℕ) (makes : Manifest → Type 0) (refuses : Refusals) (m : Manifest) (r : Result (Vec ℕ Global) Refusal) → makes m → IsFormed m
+    → IsMade (Writes output most m) (RefusesOutput output most m) r → IsMade (Gives output most makes) (OrOutput output most makes refuses) r
+given_of output most makes refuses m (Ok v) is g h = (m, is, h, held output most m v.items g h)
+given_of output most makes refuses m (Err e) is g h = inr (m, is, h)
 
 -- of what was made, or why nothing was, comes what a call gives, or one of its refusals
-pub finished : {X : Type 0} (content : X → Manifest) (output : Output) (makes : Makes) (refuses : Refusals) (made : Result X Refusal) (r : Result (Vec ℕ Global) Refusal)
-    → Forms makes → IfOk made (λ x. makes (content x)) → IfErr made refuses
-    → IfOk made (λ x. IsMade (Writes output (content x)) (RefusesOutput output (content x)) r) → IfErr made (λ e. r ≡ Err e)
-    → IsMade (Gives output makes) (OrOutput output makes refuses) r
-finished content output makes refuses (Ok x) r formed is refused writes kept = given_of output makes refuses (content x) r is (formed (content x) is) writes
-finished content output makes refuses (Err e) r formed is refused writes kept = subst (IsMade (Gives output makes) (OrOutput output makes refuses)) (sym kept) (inl refused)
+pub finished : {X : Type 0} (content : X → Manifest) (output : Output) (most : ℕ) (input : Input) (bytes : List ℕ) (root : Option (List ℕ)) (folders : Option (List Folder)) (refuses : Refusals) (made : Result X Refusal) (r : Result (Vec ℕ Global) Refusal)
+    → IfOk made (λ x. Makes input bytes root folders (content x)) → IfErr made refuses
+    → IfOk made (λ x. IsMade (Writes output most (content x)) (RefusesOutput output most (content x)) r) → IfErr made (λ e. r ≡ Err e)
+    → IsMade (Gives output most (Makes input bytes root folders)) (OrOutput output most (Makes input bytes root folders) refuses) r
+finished content output most input bytes root folders refuses (Ok x) r is refused writes kept =
+    given_of output most (Makes input bytes root folders) refuses (content x) r is (made_formed input bytes root folders (content x) is) writes
+finished content output most input bytes root folders refuses (Err e) r is refused writes kept =
+    subst (IsMade (Gives output most (Makes input bytes root folders)) (OrOutput output most (Makes input bytes root folders) refuses)) (sym kept) (inl refused)

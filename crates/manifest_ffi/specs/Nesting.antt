@@ -11,14 +11,14 @@ abbrev pub more : ℕ → ℕ
 more n = if nat_lt n 512 then n + 1 else n
 
 abbrev pub start : Nesting
-start = record { open = 0; dots = 0; most_open = 0; most_dots = 0 }
+start = record { brackets = 0; dots = 0; most_brackets = 0; most_dots = 0 }
 
 -- behind an opening bracket, a closing one, a dot, and the end of a key
 abbrev pub opened : Nesting → Nesting
-opened n = record n { open = more n.open; dots = 0; most_open = max n.most_open (more n.open) }
+opened n = record n { brackets = more n.brackets; dots = 0; most_brackets = max n.most_brackets (more n.brackets) }
 
 abbrev pub closed : Nesting → Nesting
-closed n = record n { open = n.open - 1 }
+closed n = record n { brackets = n.brackets - 1 }
 
 abbrev pub dotted : Nesting → Nesting
 dotted n = record n { dots = more n.dots; most_dots = max n.most_dots (more n.dots) }
@@ -50,7 +50,7 @@ scan (suc k) n text = unwrap_or (option_map (λ r. scan k r.0 r.1) (step n text)
 
 -- IT NESTS DENSELY: with each bracket in the others, each behind a key of the most dots, and a header of an array of tables and a key of as many dots before them
 abbrev pub is_dense : Nesting → Bool
-is_dense n = nat_lt 512 ((n.most_open + 3) * (n.most_dots + 1))
+is_dense n = nat_lt 512 ((n.most_brackets + 3) * (n.most_dots + 1))
 
 abbrev pub nests_densely : Text → Bool
 nests_densely text = is_dense (scan (length text) start text)

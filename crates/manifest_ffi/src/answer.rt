@@ -74,7 +74,7 @@ pub(crate) struct Asked {
 }
 
 /// The answer of a call: what is asked for of the manifest that is made of the bytes, the root and the folders.
-pub(crate) fn answer(
+pub(crate) fn respond(
     alloc: Global,
     asked: Asked,
     bytes: &[u8],

@@ -23,7 +23,7 @@ ghost use Rattle.manifest_ffi.specs.Answered.{Answers, IsAnswered};
 ghost use Rattle.manifest_ffi.specs.Unread.{GivesUnread, RefusesUnread, GivesDocument, RefusesDocument};
 
 pub use answer::Answer;
-use answer::{Asked, answer, handed, outcome};
+use answer::{Asked, handed, outcome, respond};
 pub use folders::Folder;
 use making::Output;
 use reading::Input;
@@ -49,7 +49,7 @@ pub extern "C" fn manifest_canonical(
         output: Output::CanonicalText,
         most,
     };
-    answer(alloc, asked, bytes, None, None, out)
+    respond(alloc, asked, bytes, None, None, out)
 }
 
 /// The same of the manifest completed over the folders: a path that none of them has is not there, and what is not asked
@@ -74,7 +74,7 @@ pub extern "C" fn manifest_completed(
         output: Output::CanonicalText,
         most,
     };
-    answer(alloc, asked, bytes, None, Some(folders), out)
+    respond(alloc, asked, bytes, None, Some(folders), out)
 }
 
 /// The same of the manifest with what it inherits from the workspace of `root`, the bytes of another `Cargo.toml`.
@@ -98,7 +98,7 @@ pub extern "C" fn manifest_resolved(
         output: Output::CanonicalText,
         most,
     };
-    answer(alloc, asked, bytes, Some(root), None, out)
+    respond(alloc, asked, bytes, Some(root), None, out)
 }
 
 /// The same, resolved and then completed.
@@ -123,7 +123,7 @@ pub extern "C" fn manifest_resolved_completed(
         output: Output::CanonicalText,
         most,
     };
-    answer(alloc, asked, bytes, Some(root), Some(folders), out)
+    respond(alloc, asked, bytes, Some(root), Some(folders), out)
 }
 
 /// Reads the bytes of a `Cargo.toml`, and writes the table of its manifest as tagged bytes. `docs/LIBRARY.md` has the
@@ -133,12 +133,7 @@ pub extern "C" fn manifest_resolved_completed(
 /// let answer = manifest_table(alloc, b"name = 'a'", usize::MAX, &mut out); // status 0, and 20 bytes in `out`
 /// ```
 #[unsafe(no_mangle)]
-pub extern "C" fn manifest_table(
-    alloc: Global,
-    bytes: &[u8],
-    most: usize,
-    out: &mut [u8],
-) -> Answer
+pub extern "C" fn manifest_table(alloc: Global, bytes: &[u8], most: usize, out: &mut [u8]) -> Answer
     ensures { Answers TaggedTable most (Makes Toml bytes.now None None)
         (RefusesToMake Toml bytes.now None None) out.old out.new result }
 {
@@ -147,7 +142,7 @@ pub extern "C" fn manifest_table(
         output: Output::TaggedTable,
         most,
     };
-    answer(alloc, asked, bytes, None, None, out)
+    respond(alloc, asked, bytes, None, None, out)
 }
 
 /// The same of the manifest completed over the folders, as by [`manifest_completed`].
@@ -171,7 +166,7 @@ pub extern "C" fn manifest_completed_table(
         output: Output::TaggedTable,
         most,
     };
-    answer(alloc, asked, bytes, None, Some(folders), out)
+    respond(alloc, asked, bytes, None, Some(folders), out)
 }
 
 /// The same of the manifest with what it inherits, as by [`manifest_resolved`].
@@ -195,7 +190,7 @@ pub extern "C" fn manifest_resolved_table(
         output: Output::TaggedTable,
         most,
     };
-    answer(alloc, asked, bytes, Some(root), None, out)
+    respond(alloc, asked, bytes, Some(root), None, out)
 }
 
 /// The same, resolved and then completed, as by [`manifest_resolved_completed`].
@@ -220,7 +215,7 @@ pub extern "C" fn manifest_resolved_completed_table(
         output: Output::TaggedTable,
         most,
     };
-    answer(alloc, asked, bytes, Some(root), Some(folders), out)
+    respond(alloc, asked, bytes, Some(root), Some(folders), out)
 }
 
 /// The same as [`manifest_table`], but that the metadata of the package and of the workspace is not looked at: where there
@@ -286,7 +281,7 @@ pub extern "C" fn manifest_canonical_of_table(
         output: Output::CanonicalText,
         most,
     };
-    answer(alloc, asked, bytes, None, None, out)
+    respond(alloc, asked, bytes, None, None, out)
 }
 
 /// The tagged bytes of the table of the manifest completed over the folders, as by [`manifest_completed`], of the tagged
@@ -311,7 +306,7 @@ pub extern "C" fn manifest_completed_of_table(
         output: Output::TaggedTable,
         most,
     };
-    answer(alloc, asked, bytes, None, Some(folders), out)
+    respond(alloc, asked, bytes, None, Some(folders), out)
 }
 
 /// The tagged bytes of the table of the manifest with what it inherits, as by [`manifest_resolved`], of the tagged bytes of
@@ -336,7 +331,7 @@ pub extern "C" fn manifest_resolved_of_tables(
         output: Output::TaggedTable,
         most,
     };
-    answer(alloc, asked, bytes, Some(root), None, out)
+    respond(alloc, asked, bytes, Some(root), None, out)
 }
 
 /// The version of these calls and of the tagged bytes. A program compares it with the one that it was written for.

@@ -14,17 +14,17 @@ const MOST_NESTING: u16 = 512;
 /// The brackets that are open and the dots of the key that is read, at a place of a text, and the most of both so far.
 #[derive(Debug, Clone, Copy)]
 pub(crate) struct Nesting {
-    pub open: u16,
+    pub brackets: u16,
     pub dots: u16,
-    pub most_open: u16,
+    pub most_brackets: u16,
     pub most_dots: u16,
 }
 
 /// Nothing has been read.
 const START: Nesting = Nesting {
-    open: 0,
+    brackets: 0,
     dots: 0,
-    most_open: 0,
+    most_brackets: 0,
     most_dots: 0,
 };
 
@@ -32,18 +32,22 @@ const START: Nesting = Nesting {
 fn more(count: u16) -> u16
     ensures { result ≡ more count }
 {
-    if count < MOST_NESTING { count + 1 } else { count }
+    if count < MOST_NESTING {
+        count + 1
+    } else {
+        count
+    }
 }
 
 /// Behind an opening bracket.
 fn opened(nesting: Nesting) -> Nesting
     ensures { result ≡ opened nesting }
 {
-    let open = more(nesting.open);
+    let brackets = more(nesting.brackets);
     Nesting {
-        open,
+        brackets,
         dots: 0,
-        most_open: nesting.most_open.max(open),
+        most_brackets: nesting.most_brackets.max(brackets),
         most_dots: nesting.most_dots,
     }
 }
@@ -53,9 +57,9 @@ fn closed(nesting: Nesting) -> Nesting
     ensures { result ≡ closed nesting }
 {
     Nesting {
-        open: nesting.open.saturating_sub(1),
+        brackets: nesting.brackets.saturating_sub(1),
         dots: nesting.dots,
-        most_open: nesting.most_open,
+        most_brackets: nesting.most_brackets,
         most_dots: nesting.most_dots,
     }
 }
@@ -66,9 +70,9 @@ fn dotted(nesting: Nesting) -> Nesting
 {
     let dots = more(nesting.dots);
     Nesting {
-        open: nesting.open,
+        brackets: nesting.brackets,
         dots,
-        most_open: nesting.most_open,
+        most_brackets: nesting.most_brackets,
         most_dots: nesting.most_dots.max(dots),
     }
 }
@@ -78,9 +82,9 @@ fn ended(nesting: Nesting) -> Nesting
     ensures { result ≡ ended nesting }
 {
     Nesting {
-        open: nesting.open,
+        brackets: nesting.brackets,
         dots: 0,
-        most_open: nesting.most_open,
+        most_brackets: nesting.most_brackets,
         most_dots: nesting.most_dots,
     }
 }
@@ -130,7 +134,7 @@ fn step<'t>(
 fn is_dense(nesting: Nesting) -> bool
     ensures { result ≡ is_dense nesting }
 {
-    (u64::from(nesting.most_open) + 3) * (u64::from(nesting.most_dots) + 1)
+    (u64::from(nesting.most_brackets) + 3) * (u64::from(nesting.most_dots) + 1)
         > u64::from(MOST_NESTING)
 }
 

@@ -1,7 +1,7 @@
 //! What the bytes of a call are: a document, or the tagged bytes of a table, that nests no deeper than the limit; and the
 //! manifest that it means.
 
-ghost use Rattle.std.specs.Prelude.{◌≡◌, ◌×◌, Some, false, IfOk, IfErr};
+ghost use Rattle.std.specs.Prelude.{◌≡◌, Some, false, IfOk, IfErr};
 ghost use Rattle.toml.specs.Parse.{parse_document};
 ghost use Rattle.toml.specs.View.{view, table_view};
 ghost use Rattle.manifest_schema.specs.Kinds.{tree_of};
@@ -43,9 +43,7 @@ fn parse(alloc: Global, text: &str) -> Result<Table, InputError>
         Ok(table) => Ok(table),
         Err(fault) => {
             let shared = Rc::new(alloc, fault)?;
-            Err(InputError::Manifest(Error::Parse(ParseFault::Toml(
-                shared,
-            ))))
+            Err(InputError::Manifest(Error::Parse(ParseFault::Toml(shared))))
         }
     }
 }

@@ -32,11 +32,7 @@ fn table_of_unread(
 }
 
 /// The tagged bytes of the table of the manifest that the bytes mean.
-pub(crate) fn unread_table(
-    alloc: Global,
-    bytes: &[u8],
-    most: usize,
-) -> Result<Vec<u8>, Refusal>
+pub(crate) fn unread_table(alloc: Global, bytes: &[u8], most: usize) -> Result<Vec<u8>, Refusal>
     ensures { IsMade (GivesUnread most bytes.now) (RefusesUnread most bytes.now) result }
 {
     let manifest: Manifest<Unread, Unread> = match from_text(alloc, bytes) {
@@ -49,11 +45,7 @@ pub(crate) fn unread_table(
 }
 
 /// The tagged bytes of the document that the bytes are.
-pub(crate) fn document_table(
-    alloc: Global,
-    bytes: &[u8],
-    most: usize,
-) -> Result<Vec<u8>, Refusal>
+pub(crate) fn document_table(alloc: Global, bytes: &[u8], most: usize) -> Result<Vec<u8>, Refusal>
     ensures { IsMade (GivesDocument most bytes.now) (RefusesDocument most bytes.now) result }
 {
     let value = match document(alloc, bytes) {

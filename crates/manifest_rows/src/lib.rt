@@ -10,6 +10,8 @@ mod bench_keys;
 #[cfg(test)]
 mod bench_kinds;
 #[cfg(test)]
+mod bounds;
+#[cfg(test)]
 mod by_name;
 #[cfg(test)]
 mod bytes;

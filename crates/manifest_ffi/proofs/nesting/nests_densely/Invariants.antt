@@ -1,7 +1,11 @@
 use Rattle.std.proofs.Common.{◌≡◌, ◌-◌, length}
+use denote.Text.{Utf8}
+use denote.Shadow.{shadow}
 use Rattle.manifest_ffi.specs.Nesting.{scan, start}
 use Rattle.manifest_ffi.proofs.nesting.nests_densely.Given as goal
 
 -- what is left to scan of the text comes to what all of it comes to
 abbrev pub invariant-loop-turn : goal.invariant-loop-turn
-invariant-loop-turn l = scan (length l.text - l.turn) l.nesting l.rest ≡ scan (length l.text) start l.text
+invariant-loop-turn l =
+    shadow (Utf8 l.rest)
+    × (scan (length l.text - l.turn) l.nesting l.rest ≡ scan (length l.text) start l.text)

@@ -1,4 +1,0 @@
-use Rattle.manifest_ffi.proofs.making.read.Goals as goal
-
-pub returns-in-Ok-from_tagged-clause-ok : goal.returns-in-Ok-from_tagged-clause-ok
-returns-in-Ok-from_tagged-clause-ok c = rw c.in-Tagged.is c.in-Ok-from_tagged.ensures.ok
