@@ -1,4 +1,5 @@
 pub mod GivenLemmas
 pub mod MadeLemmas
+pub mod StoredLemmas
 pub mod TextLemmas
 pub mod UnreadLemmas
