@@ -1,15 +1,18 @@
 -- What a run of the program leaves.
-use Rattle.std.specs.Prelude.{◌≡◌, ◌≢◌, ℕ, ◌⊎◌, List, [], ◌∷◌, ◌++◌, map, Option, Some, String, string_bytes, codes}
+use Rattle.std.specs.Prelude.{◌≡◌, ◌≢◌, ℕ, ◌⊎◌, List, [], ◌∷◌, ◌++◌, map, Option, Some, None, String, string_bytes, codes}
 use Rattle.std.specs.declared.alloc.Global.{Global}
+use Rattle.std.specs.Borrow.{Bor}
 use Rattle.std.specs.Io.KnownBytes.{Appends, Keeps}
 use Rattle.manifest_schema.specs.Paths.{Text}
-use Rattle.manifest_schema.specs.Contents.{Workspace, Manifest}
+use Rattle.manifest_schema.specs.Contents.{Manifest}
 use Rattle.manifest_value.specs.declared.error.Error.{Error}
 use Rattle.manifest_value.specs.declared.error.Error.TheVariants.{Io}
 use Rattle.cargo_manifest.specs.Answers.{Refuses, RefusesToPrint}
 use Rattle.cargo_manifest.specs.Canonical.{metadata, rewritten, Means, IsTextOf}
-use Rattle.cargo_manifest.specs.Folders.{CompletedIn, IsOfPath}
-use Rattle.manifest_inherit.specs.Answers.{ResolvesTo}
+use Rattle.cargo_manifest.specs.Completes.{ComesTo}
+use Rattle.manifest_completion.specs.Listings.{AnyAscending}
+use Rattle.manifest_completion.specs.Completed.{completed_to}
+use Rattle.manifest_inherit.specs.Finished.{Inherits}
 
 -- WORDS that ask to print the manifest of standard input: `canon -`, or none
 abbrev pub IsCanonInput : List (String Global) → Type 0
@@ -44,25 +47,22 @@ AreWrong words = ¬ IsCanonInput words × ((a : Asked) → ¬ Asks a words)
 abbrev pub IsFileOf : Manifest → Type 0
 IsFileOf m = (bytes : List ℕ) × Means bytes m
 
--- a member and what it is resolved to, over the workspace of some file's manifest
-pub record IsLent (member resolved : Manifest) : Type 0 where
-  pub root : Manifest
-  pub lends : Workspace
-  pub is_read : IsFileOf root
-  pub has : root.workspace ≡ Some lends
-  pub resolves : ResolvesTo member lends resolved
+-- a manifest and what it is finished to: with what it inherits from the workspace of a root, where there is one, and then completed by some map of listings
+abbrev pub IsFinished : Option Manifest → Manifest → Manifest → Type 0
+IsFinished root m n =
+    (resolved : Manifest) × Inherits root m resolved × ComesTo AnyAscending resolved (completed_to n)
 
--- a member and what it is resolved and then completed to
-abbrev pub IsFinished : Manifest → Manifest → Type 0
-IsFinished member m =
-    (resolved : Manifest) × IsLent member resolved
-    × (folder : Option Text) × CompletedIn folder resolved m
+-- the same, where the root's file is named or not
+abbrev pub IsFinishedBy : Option (Bor Text) → Manifest → Manifest → Type 0
+IsFinishedBy None m n = IsFinished None m n
+IsFinishedBy (Some root) m n = (r : Manifest) × IsFileOf r × IsFinished (Some r) m n
 
 -- the manifests that may be printed where it is asked for
 abbrev pub Gives : Asked → Manifest → Type 0
 Gives canon_file m = IsFileOf m
-Gives complete_file m = (folder : Option Text) × IsOfPath metadata metadata folder m
-Gives complete_member m = (member : Manifest) × IsFileOf member × IsFinished member m
+Gives complete_file m = (read : Manifest) × IsFileOf read × IsFinished None read m
+Gives complete_member m =
+    (read : Manifest) × IsFileOf read × (root : Manifest) × IsFileOf root × IsFinished (Some root) read m
 
 -- OUTPUT: known bytes grow by a beginning of the text
 pub record Begins (old new : Option (List ℕ)) (text : List ℕ) : Type 0 where

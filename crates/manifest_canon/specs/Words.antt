@@ -1,5 +1,6 @@
 -- What the code takes the words for, and what it does then.
 use Rattle.std.specs.Prelude.{◌≡◌, ℕ, List, Option, Some, None, IfSome, String, codes}
+use Rattle.std.specs.Borrow.{Bor}
 use Rattle.std.specs.declared.alloc.Global.{Global}
 use Rattle.manifest_canon.specs.declared.words.Request.{Request}
 use Rattle.manifest_canon.specs.declared.words.Request.TheVariants.{CanonInput, CanonFile, CompleteFile, CompleteMember}
@@ -11,6 +12,11 @@ asked_by CanonInput = None
 asked_by (CanonFile f) = Some canon_file
 asked_by (CompleteFile f) = Some complete_file
 asked_by (CompleteMember f r) = Some complete_member
+
+-- what is asked for where a manifest is completed, by its root's file or without one
+abbrev pub completes_by : Option (Bor (List ℕ)) → Asked
+completes_by None = complete_file
+completes_by (Some root) = complete_member
 
 -- the words ask for it, or for standard input
 abbrev pub AskFor : Option Asked → List (String Global) → Type 0

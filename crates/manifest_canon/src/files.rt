@@ -3,16 +3,17 @@
 ghost use Rattle.std.specs.Prelude.{IfOk, OnOk, OnErr};
 ghost use Rattle.toml.specs.View.{view};
 ghost use Rattle.cargo_manifest.specs.Whole.{manifest_content};
-ghost use Rattle.manifest_canon.specs.Run.{canon_file, complete_file, complete_member, Gives, IsFileOf, IsLent, IsFinished, PrintsOne, BeginsOne};
+ghost use Rattle.manifest_inherit.specs.Finished.{root_of};
+ghost use Rattle.manifest_canon.specs.Run.{canon_file, Gives, IsFileOf, IsFinished, IsFinishedBy, PrintsOne, BeginsOne};
+ghost use Rattle.manifest_canon.specs.Words.{completes_by};
 
 use crate::printing::print_manifest;
-use crate::refusal::Refusal;
-use cargo_manifest::{Error, Manifest};
-use manifest_inherit::resolve;
-use std::fs;
+use cargo_manifest::{Error, Filesystem, Manifest};
+use manifest_inherit::{FinishError, finish};
 use std::io::Write;
 use std::path::Path;
 use std::rt::Files;
+use std::{fs, io};
 
 /// Reads the manifest of a file.
 fn read_manifest<H: Files + AllocGlobal>(rt: &H, file: &str) -> Result<Manifest, Error>
@@ -22,12 +23,75 @@ fn read_manifest<H: Files + AllocGlobal>(rt: &H, file: &str) -> Result<Manifest,
     Manifest::from_slice(rt.alloc(), bytes.as_slice())
 }
 
+/// Finishes a manifest by its root, where there is one, and by the folder that FILE stands in.
+fn finish_in<H: Files + AllocGlobal + Clone + Drop>(
+    rt: &H,
+    file: &str,
+    root: Option<&Manifest>,
+    manifest: &mut Manifest,
+) -> Result<(), FinishError>
+    ensures { OnOk result (IsFinished (root_of root.entry)
+        (manifest_content view view manifest.old) (manifest_content view view manifest.new)) }
+{
+    match Path::new(file).parent() {
+        Some(folder) => {
+            let folders = Filesystem::new(rt, folder);
+            finish(rt.alloc(), manifest, root, Some(&folders))
+        }
+        None => Err(FinishError::Manifest(Error::Io(io::Error::other("the path has no parent")))),
+    }
+}
+
+/// The same with the root's file.
+fn finish_at<H: Files + AllocGlobal + Clone + Drop>(
+    rt: &H,
+    file: &str,
+    root: Option<&str>,
+    manifest: &mut Manifest,
+) -> Result<(), FinishError>
+    ensures { OnOk result (IsFinishedBy root.entry
+        (manifest_content view view manifest.old) (manifest_content view view manifest.new)) }
+{
+    match root {
+        Some(root) => match read_manifest(rt, root) {
+            Ok(root) => {
+                let finished = finish_in(rt, file, Some(&root), manifest);
+                drop(root);
+                finished
+            }
+            Err(refused) => Err(FinishError::Manifest(refused)),
+        },
+        None => finish_in(rt, file, None, manifest),
+    }
+}
+
+/// Reads the manifest of FILE and finishes it.
+fn finished_manifest<H: Files + AllocGlobal + Clone + Drop>(
+    rt: &H,
+    file: &str,
+    root: Option<&str>,
+) -> Result<Manifest, FinishError>
+    ensures { IfOk result (λ m. Gives (completes_by root.entry) (manifest_content view view m)) }
+{
+    let mut manifest = match read_manifest(rt, file) {
+        Ok(manifest) => manifest,
+        Err(refused) => return Err(FinishError::Manifest(refused)),
+    };
+    match finish_at(rt, file, root, &mut manifest) {
+        Ok(()) => Ok(manifest),
+        Err(refused) => {
+            drop(manifest);
+            Err(refused)
+        }
+    }
+}
+
 /// Prints the canonical text of the manifest that a file holds.
 pub fn canon_at<H: Files + AllocGlobal, W: Write>(
     rt: &H,
     file: &str,
     output: &mut W,
-) -> Result<(), Refusal>
+) -> Result<(), FinishError>
     ensures ok { OnOk result
         (PrintsOne (Gives canon_file) (W.contents output.old) (W.contents output.new)) }
     ensures refused { OnErr result
@@ -35,88 +99,29 @@ pub fn canon_at<H: Files + AllocGlobal, W: Write>(
 {
     let manifest = match read_manifest(rt, file) {
         Ok(manifest) => manifest,
-        Err(refused) => return Err(Refusal::Manifest(refused)),
+        Err(refused) => return Err(FinishError::Manifest(refused)),
     };
     print_manifest(rt.alloc(), manifest, output)?;
     Ok(())
 }
 
-/// Prints the canonical text of the manifest that a file holds, completed over the folder that it stands in.
+/// Prints the canonical text of the manifest that FILE holds, with what it inherits from the workspace of ROOT, where there
+/// is one, and completed over the folder that FILE stands in.
 pub fn complete_at<H: Files + AllocGlobal + Clone + Drop, W: Write>(
     rt: &H,
     file: &str,
+    root: Option<&str>,
     output: &mut W,
-) -> Result<(), Refusal>
-    ensures ok { OnOk result
-        (PrintsOne (Gives complete_file) (W.contents output.old) (W.contents output.new)) }
-    ensures refused { OnErr result
-        (BeginsOne (Gives complete_file) (W.contents output.old) (W.contents output.new)) }
+) -> Result<(), FinishError>
+    ensures ok { OnOk result (PrintsOne (Gives (completes_by root.entry))
+        (W.contents output.old) (W.contents output.new)) }
+    ensures refused { OnErr result (BeginsOne (Gives (completes_by root.entry))
+        (W.contents output.old) (W.contents output.new)) }
 {
-    let manifest = match Manifest::from_path(rt, Path::new(file)) {
+    let manifest = match finished_manifest(rt, file, root) {
         Ok(manifest) => manifest,
-        Err(refused) => return Err(Refusal::Manifest(refused)),
+        Err(refused) => return Err(refused),
     };
     print_manifest(rt.alloc(), manifest, output)?;
     Ok(())
-}
-
-/// Puts into a member what the workspace of ROOT lends it.
-fn lend<H: Files + AllocGlobal>(rt: &H, root: &str, member: &mut Manifest) -> Result<(), Refusal>
-    ensures { OnOk result
-        (IsLent (manifest_content view view member.old) (manifest_content view view member.new)) }
-{
-    let root = match read_manifest(rt, root) {
-        Ok(root) => root,
-        Err(refused) => return Err(Refusal::Manifest(refused)),
-    };
-    let lent = match &root.workspace {
-        Some(workspace) => resolve(rt.alloc(), member, workspace).map_err(Refusal::Resolve),
-        None => Err(Refusal::NoWorkspace),
-    };
-    drop(root);
-    lent
-}
-
-/// Puts into a member what the workspace of ROOT lends it, and completes it over the folder that FILE stands in.
-fn finish<H: Files + AllocGlobal + Clone + Drop>(
-    rt: &H,
-    file: &str,
-    root: &str,
-    member: &mut Manifest,
-) -> Result<(), Refusal>
-    ensures { OnOk result (IsFinished
-        (manifest_content view view member.old) (manifest_content view view member.new)) }
-{
-    lend(rt, root, member)?;
-    member.complete_from_path(rt, Path::new(file))?;
-    Ok(())
-}
-
-/// Prints the canonical text of the manifest that FILE holds, with what the workspace of ROOT lends it put in, and
-/// completed over the folder that FILE stands in.
-pub fn member_at<H: Files + AllocGlobal + Clone + Drop, W: Write>(
-    rt: &H,
-    file: &str,
-    root: &str,
-    output: &mut W,
-) -> Result<(), Refusal>
-    ensures ok { OnOk result
-        (PrintsOne (Gives complete_member) (W.contents output.old) (W.contents output.new)) }
-    ensures refused { OnErr result
-        (BeginsOne (Gives complete_member) (W.contents output.old) (W.contents output.new)) }
-{
-    let mut member = match read_manifest(rt, file) {
-        Ok(member) => member,
-        Err(refused) => return Err(Refusal::Manifest(refused)),
-    };
-    match finish(rt, file, root, &mut member) {
-        Ok(()) => {
-            print_manifest(rt.alloc(), member, output)?;
-            Ok(())
-        }
-        Err(refused) => {
-            drop(member);
-            Err(refused)
-        }
-    }
 }

@@ -4,31 +4,9 @@ ghost use Rattle.std.specs.Prelude.{◌≡◌, IfOk, string_bytes};
 ghost use Rattle.manifest_schema.specs.PathTexts.{key_text};
 
 use cargo_manifest::{Error, KeyPath, ParseFault, Step};
-use manifest_inherit::ResolveError;
+use manifest_inherit::{FinishError, ResolveError};
 use std::alloc::{AllocError, Global};
 use std::io::Write;
-
-/// Why nothing is printed.
-#[derive(Debug, Drop)]
-pub enum Refusal {
-    /// A manifest cannot be read, completed or printed.
-    Manifest(Error),
-    /// ROOT has no workspace.
-    NoWorkspace,
-    /// The workspace does not lend what the member inherits.
-    Resolve(ResolveError),
-}
-
-impl From<Error> for Refusal {
-    ghost use Rattle.std.specs.Prelude.{◌≡◌};
-    ghost use Rattle.manifest_canon.specs.declared.refusal.Refusal.TheVariants.{Manifest};
-
-    ghost from_gives = { λ e r. r ≡ Manifest e };
-
-    fn from(error: Error) -> Refusal {
-        Refusal::Manifest(error)
-    }
-}
 
 /// The line that tells an error of a manifest.
 fn error_line(alloc: Global, error: &Error) -> Result<String, AllocError> {
@@ -71,16 +49,16 @@ fn resolve_line(alloc: Global, refused: &ResolveError) -> Result<String, AllocEr
 }
 
 /// The line that tells a refusal.
-fn line_of(alloc: Global, refusal: &Refusal) -> Result<String, AllocError> {
+fn line_of(alloc: Global, refusal: &FinishError) -> Result<String, AllocError> {
     match refusal {
-        Refusal::Manifest(error) => error_line(alloc, error),
-        Refusal::NoWorkspace => String::from_str(alloc, "error: no workspace\n"),
-        Refusal::Resolve(refused) => resolve_line(alloc, refused),
+        FinishError::Manifest(error) => error_line(alloc, error),
+        FinishError::NoWorkspace => String::from_str(alloc, "error: no workspace\n"),
+        FinishError::Resolve(refused) => resolve_line(alloc, refused),
     }
 }
 
 /// Tells a refusal by one line, or want of memory where the line finds none. A fault of `errors` is let go.
-pub fn tell<E: Write>(alloc: Global, errors: &mut E, refusal: &Refusal) {
+pub fn tell<E: Write>(alloc: Global, errors: &mut E, refusal: &FinishError) {
     let _ = match line_of(alloc, refusal) {
         Ok(line) => errors.write_all(line.as_bytes()),
         Err(_) => errors.write_all(b"error: memory\n"),

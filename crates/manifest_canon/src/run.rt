@@ -6,11 +6,12 @@ ghost use Rattle.cargo_manifest.specs.Canonical.{IsAccepted};
 ghost use Rattle.manifest_canon.specs.Run.{IsCanonInput, Asked, Asks, AreWrong, Gives, PrintsOne, BeginsOne, IsPrinted, IsBegun, IsRefused};
 ghost use Rattle.manifest_canon.specs.Words.{asked_by, Serves, Fails};
 
-use crate::files::{canon_at, complete_at, member_at};
+use crate::files::{canon_at, complete_at};
 use crate::printing::print_manifest;
-use crate::refusal::{Refusal, tell};
+use crate::refusal::tell;
 use crate::words::{Request, refuse_words, requested};
 use cargo_manifest::{Error, Manifest};
+use manifest_inherit::FinishError;
 use std::alloc::Global;
 use std::io;
 use std::io::{ErrorKind, Read, Write};
@@ -70,7 +71,7 @@ fn serve<H: Files + AllocGlobal + Clone + Drop, R: Read, W: Write>(
     request: Request<'_>,
     input: &mut R,
     output: &mut W,
-) -> Result<(), Refusal>
+) -> Result<(), FinishError>
     ensures ok { OnOk result (Serves (asked_by request.entry)
         (R.remaining input.old) (W.contents output.old) (W.contents output.new)) }
     ensures refused { OnErr result (Fails (asked_by request.entry)
@@ -82,8 +83,8 @@ fn serve<H: Files + AllocGlobal + Clone + Drop, R: Read, W: Write>(
             Ok(())
         }
         Request::CanonFile(file) => canon_at(rt, file, output),
-        Request::CompleteFile(file) => complete_at(rt, file, output),
-        Request::CompleteMember(file, root) => member_at(rt, file, root, output),
+        Request::CompleteFile(file) => complete_at(rt, file, None, output),
+        Request::CompleteMember(file, root) => complete_at(rt, file, Some(root), output),
     }
 }
 
