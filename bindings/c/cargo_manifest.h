@@ -1,5 +1,6 @@
 /* Cargo manifests: a library that reads a Cargo.toml, completes it by what its folders hold, puts in what it inherits from
-   its workspace, and writes it as its one canonical text. Its code is proved to do what its definitions say.
+   its workspace, and writes it as its one canonical text. Its code is proved to do what its definitions say, but for the
+   three functions by which it asks for memory.
 
    LINKING. Where the library is installed,
 
@@ -18,16 +19,18 @@
            fwrite(out, 1, answer.length, stdout);
 
    - Each slice that is handed in is a pointer and a length. It may be empty: the length is 0, and the pointer may be null.
-   - `out` is memory for the text. It need not be set before, since it is only written. It overlaps nothing else that is
-     handed in. Without any (null and 0) the call tells how long the text is. As want of memory can end one call and not the
-     next, `length` is looked at after each call.
+   - `out` is memory for the text. It need not be set before: it is only written, which is tested. It overlaps nothing else
+     that is handed in. Without any (null and 0) the call tells how long the text is. As want of memory can end one call and
+     not the next, `length` is looked at after each call.
    - Another thread may read what is handed in meanwhile, and may not write to it, nor read or write `out`.
    - The answer depends on what is handed in, and on nothing else but whether there is memory.
    - The library keeps nothing from one call to the next, keeps no pointer that it is given, frees nothing that it is given,
      and gives nothing that has to be freed.
 
-   THREADS. Each call may be made from any thread at any time, also while others run. Since it asks for memory, it may not
-   be made from a signal handler, nor from the forked child of a process that has threads.
+   THREADS. Each call may be made from any thread, also while others run, which is tested. Since it asks for memory, it may
+   not be made from a signal handler, nor from the forked child of a process that has threads. It has to come to its end:
+   a call that is broken off, by longjmp or by cancelling its thread, leaves its memory behind, and of later calls of that
+   thread nothing is said.
 
    STACK. A call takes more stack the deeper the manifest nests, and no status tells that the stack ran out. For an ordinary
    manifest 128 kB are enough; but 21 kB of text can nest so deep that 3.3 MB are taken. So a thread that is handed the bytes
@@ -164,8 +167,8 @@ struct manifest_folder {
    spelling. Comments, and keys that no manifest has, are left out. */
 struct manifest_answer manifest_canonical(const uint8_t *bytes, size_t bytes_length, uint8_t *out, size_t out_length);
 
-/* The same, completed over the folders: with the library, binaries, examples, tests, benches and build script that Cargo
-   finds in them. */
+/* The same, completed over the folders: with the library, binaries, examples, tests, benches and build script that are
+   found in them. */
 struct manifest_answer manifest_completed(const uint8_t *bytes, size_t bytes_length,
                                           const struct manifest_folder *folders, size_t folders_length, uint8_t *out,
                                           size_t out_length);

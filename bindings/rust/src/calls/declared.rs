@@ -72,12 +72,14 @@ pub(crate) enum Output {
     Table,
 }
 
-/// What is wrong with a text of the library, which no contract allows: this crate and the archive are of two versions.
+/// Ends at an answer that no contract of the library allows: the archive is of another version than this crate, or this
+/// crate reads the answer wrongly.
 pub(crate) fn is_broken() -> ! {
     panic!("the library's answer is none that the header has: the archive is of another version")
 }
 
-/// The text of an answer, which is UTF-8 as each text of a manifest is.
+/// The text of an answer, which is UTF-8: a canonical text is a document of TOML, and of the text of a refusal a contract
+/// says it.
 pub(crate) fn text_of(bytes: Vec<u8>) -> String {
     String::from_utf8(bytes).unwrap_or_else(|_| is_broken())
 }
@@ -135,7 +137,7 @@ fn bytes_of(room: usize, run: impl Fn(*mut u8, usize) -> Answer) -> Result<Vec<u
     let mut room = room;
     loop {
         out.try_reserve_exact(room).map_err(|_| Refusal::Memory)?;
-        // the library takes a slice that it may read, so its bytes are set before
+        // (no contract says that the library reads none of them, so they are set before)
         out.resize(room, 0);
         let answer = run(out.as_mut_ptr(), out.len());
         if answer.length > out.len() {

@@ -8,8 +8,9 @@
 //! # Ok::<(), calls::Refusal>(())
 //! ```
 //!
-//! Nothing is kept between calls, so each may be made from any thread at any time. A call takes the more stack the deeper
-//! its text nests tables: `LIBRARY.md` says how much that may be.
+//! Nothing of a manifest is kept between calls, so each may be made from any thread, also while others run; not from a
+//! signal handler, nor from the forked child of a process that has threads. A call takes the more stack the deeper its text
+//! nests tables: `LIBRARY.md` says how much that may be.
 
 mod declared;
 mod folders;

@@ -9,7 +9,7 @@ pub(crate) fn table(bytes: &[u8]) -> Result<Vec<u8>, Refusal> {
     of_text(declared::manifest_table, bytes)
 }
 
-/// The same where metadata has a float.
+/// The same with an empty table in the place of metadata, and the document that has it: where metadata has a float.
 pub(crate) fn without_metadata(bytes: &[u8]) -> Result<Apart, Refusal> {
     let table = of_text(declared::manifest_table_without_metadata, bytes)?;
     let document = of_text(declared::manifest_document, bytes)?;
