@@ -104,7 +104,7 @@ fn assert_found<R: Abort + Files + AllocGlobal>(
     assert_is(rt, Ok(got), expected.as_str(), at)
 }
 
-/// (`every_folder_empty`: a completion that takes each folder for empty finds neither.)
+/// (A completion that takes each folder for empty finds neither.)
 #[test]
 fn a_library_and_a_binary(rt: HostRuntime) -> Result<(), Fail> {
     let folder = test_folder(rt, "a_library_and_a_binary")?;
