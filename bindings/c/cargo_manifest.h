@@ -77,7 +77,8 @@ enum manifest_status {
     MANIFEST_OTHER = 5,
     /* no memory was left */
     MANIFEST_MEMORY = 6,
-    /* the manifest keeps a date-time that cannot be written, as the text says. (No text is known that is read as one.) */
+    /* the manifest keeps a date-time that cannot be written, as the text says. (No text is known that is read as one; a
+       tagged table can hold one.) */
     MANIFEST_DATE = 7,
     /* the folders are no listings: a path or a name is not UTF-8, the names of a folder do not ascend, or two folders have
        one path */
