@@ -1,5 +1,5 @@
 -- Over folders that are given, what is stored decides what a completion comes to.
-use Rattle.std.proofs.Common.{◌⊎◌, inl, inr, Option, Some, None, Ok, Err}
+use Rattle.std.proofs.Common.{inl, inr, Option, Some, None, Ok, Err}
 use Rattle.std.specs.Borrow.{Bor}
 use Rattle.manifest_schema.specs.Paths.{Text}
 use Rattle.manifest_schema.specs.Contents.{Manifest}

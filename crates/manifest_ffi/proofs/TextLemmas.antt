@@ -1,5 +1,5 @@
 -- The bytes of a string are UTF-8.
-use Rattle.std.proofs.Common.{List, [], String, Global, string_bytes, IsUtf8, refl}
+use Rattle.std.proofs.Common.{[], String, Global, string_bytes, IsUtf8, refl}
 use Rattle.std.proofs.lemmas.Str.{IsUtf8-had}
 
 pub string_is_utf8 : (s : String Global) → IsUtf8 (string_bytes s)

@@ -1,5 +1,5 @@
 -- What a call makes of bytes, what it writes of that, and why it does not.
-use Rattle.std.specs.Prelude.{◌≡◌, ◌⊎◌, ℕ, ◌<◌, ◌≤◌, List, length, Option, Some, None, option_map, Vec, Result, Ok, Err}
+use Rattle.std.specs.Prelude.{◌≡◌, ◌⊎◌, ℕ, ◌<◌, ◌≤◌, List, length, Option, Some, None, option_map, Vec, Result, Ok, Err, IsUtf8}
 use Rattle.std.specs.Borrow.{Bor}
 use Rattle.std.specs.declared.alloc.Global.{Global}
 use Rattle.manifest_schema.specs.Paths.{Text}
@@ -116,9 +116,9 @@ abbrev pub RefusesTagged : ℕ → List ℕ → Refusals
 RefusesTagged most tagged TooLong = most < length tagged
 RefusesTagged most tagged e = IsOutOfMemory e
 
--- WHAT IS ASKED FOR of a manifest, in at most so many bytes: its canonical text, or the tagged bytes of its table
+-- WHAT IS ASKED FOR of a manifest, in at most so many bytes: its canonical text, which is UTF-8, or the tagged bytes of its table
 abbrev pub Writes : Output → ℕ → Manifest → Text → Type 0
-Writes CanonicalText most m text = IsTextOf m text × (length text ≤ most)
+Writes CanonicalText most m text = IsTextOf m text × IsUtf8 text × (length text ≤ most)
 Writes TaggedTable most m text = AreWithin most (encoded (table (rewritten m))) text
 
 -- such bytes hold the table

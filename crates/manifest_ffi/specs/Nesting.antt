@@ -1,5 +1,5 @@
 -- How deep a text may nest what it says, counted before it is parsed.
-use Rattle.std.specs.Prelude.{◌≡◌, ℕ, zero, suc, ◌+◌, ◌-◌, ◌*◌, max, Bool, true, false, ◌&&◌, ◌||◌, ◌==◌, nat_lt, if◌then◌else◌, List, length, drop, Option, Some, None, option_map, unwrap_or}
+use Rattle.std.specs.Prelude.{◌≡◌, ℕ, zero, suc, ◌+◌, ◌-◌, ◌*◌, max, Bool, ◌||◌, ◌==◌, nat_lt, if◌then◌else◌, length, drop, Option, Some, None, option_map, unwrap_or}
 use Rattle.std.specs.Borrow.{Bor}
 use Rattle.toml_parser.specs.Lexical.{line_feed, hash, comma, dot, equals, left_bracket, right_bracket, left_brace, right_brace, first, skip_blank}
 use Rattle.toml_parser.specs.Strings.{starts_string, quoted}

@@ -1,5 +1,6 @@
 -- What the bytes of a call are, and why they are refused.
-use Rattle.std.specs.Prelude.{◌≡◌, ◌⊎◌, ℕ, ◌<◌, ◌≤◌, List, Some, None, true, false, IsUtf8}
+use Rattle.std.specs.Prelude.{◌≡◌, ◌⊎◌, ◌<◌, ◌≤◌, Some, None, true, false, IsUtf8}
+use Rattle.std.specs.declared.alloc.AllocError.{AllocError}
 use Rattle.toml.specs.Data.{Data, Members, members_depth}
 use Rattle.toml.specs.Parse.{parse_document}
 use Rattle.toml.specs.Errors.{IsMemory, IsWithin}
@@ -17,8 +18,12 @@ use Rattle.manifest_bytes.specs.Encoded.{encoded}
 use Rattle.manifest_ffi.specs.declared.reading.Input.{Input}
 use Rattle.manifest_ffi.specs.declared.reading.Input.TheVariants.{Toml, Tagged}
 use Rattle.manifest_ffi.specs.declared.refusal.InputError.{InputError}
-use Rattle.manifest_ffi.specs.declared.refusal.InputError.TheVariants.{Manifest as NoManifest, Untagged, TooDeep}
+use Rattle.manifest_ffi.specs.declared.refusal.InputError.TheVariants.{Manifest as NoManifest, TooDeep}
 use Rattle.manifest_ffi.specs.Nesting.{nests_densely}
+
+-- memory ran out
+abbrev pub ReadingRanOut : InputError → Type 0
+ReadingRanOut e = (refused : AllocError) × (e ≡ NoManifest (Memory refused))
 
 -- THE BYTES ARE THE DOCUMENT of the table: it does not nest densely, and its table nests at most 128 deep
 pub record IsDocument (bytes : Text) (document : Members) : Type 0 where

@@ -127,6 +127,7 @@ pub(crate) fn make(
 }
 
 /// The canonical text of a manifest.
+
 fn text_of(alloc: Global, manifest: &Manifest, most: usize) -> Result<Vec<u8>, Refusal>
     ensures { let m = manifest_content view view manifest.now in
         IsMade (Writes CanonicalText most m) (RefusesOutput CanonicalText most m) result }

@@ -16,11 +16,9 @@ pub enum InputError {
 }
 
 impl From<AllocError> for InputError {
-    ghost use Rattle.std.specs.Prelude.{◌≡◌};
-    ghost use Rattle.manifest_value.specs.declared.error.Error.TheVariants.{Memory};
-    ghost use Rattle.manifest_ffi.specs.declared.refusal.InputError.TheVariants.{Manifest};
+    ghost use Rattle.manifest_ffi.specs.Read.{ReadingRanOut};
 
-    ghost from_gives = { λ refused error. error ≡ Manifest (Memory refused) };
+    ghost from_gives = { λ _ error. ReadingRanOut error };
 
     fn from(refused: AllocError) -> InputError {
         InputError::Manifest(Error::Memory(refused))
@@ -28,12 +26,9 @@ impl From<AllocError> for InputError {
 }
 
 impl<T: Drop> From<AllocFailed<T>> for InputError {
-    ghost use Rattle.std.specs.Prelude.{◌≡◌};
-    ghost use Rattle.std.specs.declared.alloc.AllocError.{AllocError};
-    ghost use Rattle.manifest_value.specs.declared.error.Error.TheVariants.{Memory};
-    ghost use Rattle.manifest_ffi.specs.declared.refusal.InputError.TheVariants.{Manifest};
+    ghost use Rattle.manifest_ffi.specs.Read.{ReadingRanOut};
 
-    ghost from_gives = { λ _ error. (refused : AllocError) × (error ≡ Manifest (Memory refused)) };
+    ghost from_gives = { λ _ error. ReadingRanOut error };
 
     fn from(refused: AllocFailed<T>) -> InputError {
         InputError::Manifest(Error::Memory(AllocError::from(refused)))

@@ -1,6 +1,6 @@
 //! Values as tagged bytes. The bytes that are due come from the table of docs/LIBRARY.md.
 use crate::answers::value;
-use manifest_bytes::{value_bytes, value_of_bytes};
+use manifest_bytes::{DecodeError, value_bytes, value_of_bytes};
 use std::alloc::Global;
 use std::test::Fail;
 use toml::Value;
@@ -71,7 +71,7 @@ fn bytes_of_the_example(rt: HostRuntime) -> Result<(), Fail> {
 #[test]
 fn values_of_bytes(rt: HostRuntime) -> Result<(), Fail> {
     for (text, bytes) in VALUES {
-        let got = value_of_bytes(rt.alloc(), bytes)?.ok_or("no value")?;
+        let got = value_of_bytes(rt.alloc(), 128, bytes)?.ok_or("no value")?;
         let again = value_bytes(rt.alloc(), &got)?;
         assert_eq!(rt; again.as_slice(), *bytes, "at {text}");
         drop(got);
@@ -100,7 +100,7 @@ const NO_VALUES: &[&[u8]] = &[
 #[test]
 fn bytes_of_no_value(rt: HostRuntime) -> Result<(), Fail> {
     for bytes in NO_VALUES {
-        let got = value_of_bytes(rt.alloc(), bytes)?;
+        let got = value_of_bytes(rt.alloc(), 128, bytes)?;
         assert!(rt; got.is_none(), "at {bytes:?}");
         drop(got);
     }
@@ -108,7 +108,7 @@ fn bytes_of_no_value(rt: HostRuntime) -> Result<(), Fail> {
 }
 
 fn list_of_bytes(alloc: Global) -> Result<Option<Value>, Fail> {
-    let value = value_of_bytes(alloc, &[7, 2, 5, 2, 172, 2])?; // `[true, 300]`
+    let value = value_of_bytes(alloc, 128, &[7, 2, 5, 2, 172, 2])?; // `[true, 300]`
     Ok(value)
 }
 
@@ -118,6 +118,29 @@ fn value_of_the_example(rt: HostRuntime) -> Result<(), Fail> {
     let wanted = value(rt.alloc(), "[true, 300]")?;
     assert!(rt; got == wanted);
     drop(got);
+    Ok(())
+}
+
+/// Arrays in one another, and how deep they nest: as deep as is allowed they are read, and deeper refused.
+#[test]
+fn bytes_that_nest(rt: HostRuntime) -> Result<(), Fail> {
+    for (bytes, depth) in [
+        (b"\x05".as_slice(), 0),
+        (b"\x07\x00".as_slice(), 1),
+        (b"\x07\x01\x08\x01\x01a\x07\x00".as_slice(), 3),
+    ] {
+        let got = value_of_bytes(rt.alloc(), depth, bytes)?;
+        assert!(rt; got.is_some(), "at {bytes:?}");
+        drop(got);
+        if depth > 0 {
+            let refused = value_of_bytes(rt.alloc(), depth - 1, bytes);
+            assert!(rt;
+                matches!(refused, Err(DecodeError::TooDeep)),
+                "at {bytes:?}"
+            );
+            drop(refused);
+        }
+    }
     Ok(())
 }
 
@@ -133,7 +156,7 @@ fn bytes_of_floats(rt: HostRuntime) -> Result<(), Fail> {
     for (text, bytes) in FLOATS {
         let got = value_bytes(rt.alloc(), &value(rt.alloc(), text)?)?;
         assert_eq!(rt; got.as_slice(), *bytes, "at {text}");
-        let back = value_of_bytes(rt.alloc(), bytes)?;
+        let back = value_of_bytes(rt.alloc(), 128, bytes)?;
         assert!(rt; back.is_some(), "at {text}");
         drop(back);
     }

@@ -38,6 +38,8 @@ mod examples_of_tables;
 #[cfg(test)]
 mod files;
 #[cfg(test)]
+mod finished;
+#[cfg(test)]
 mod folders;
 #[cfg(test)]
 mod forms;

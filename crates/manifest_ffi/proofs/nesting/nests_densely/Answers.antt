@@ -1,8 +1,8 @@
-use Rattle.std.proofs.Common.{rules, arith, ◌≡◌, ℕ, suc, ◌-◌, ◌+◌, ◌<◌, ◌≤◌, Option, Some, None, option_map, refl, sym, ap, ◌∙◌, length}
+use Rattle.std.proofs.Common.{rules, arith, ◌≡◌, ℕ, suc, ◌-◌, ◌+◌, ◌<◌, ◌≤◌, Some, None, option_map, refl, sym, ap, ◌∙◌, length}
 use Rattle.std.specs.Prelude.{unwrap_or}
 use Rattle.manifest_schema.specs.Paths.{Text}
 use Rattle.manifest_ffi.specs.declared.nesting.Nesting.{Nesting}
-use Rattle.manifest_ffi.specs.Nesting.{step, scan, start, is_dense}
+use Rattle.manifest_ffi.specs.Nesting.{step, scan, is_dense}
 use Rattle.manifest_ffi.proofs.nesting.nests_densely.Goals as goal
 
 -- one turn of a scan
