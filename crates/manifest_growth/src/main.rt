@@ -21,7 +21,7 @@ use std::process::ExitCode;
 use std::{env, io};
 
 const USAGE: &str =
-    "usage: manifest_growth badges | unfit | lints | untrue | tool | metadata | priority | float | listed | library | binaries | example | member | fault | text\n";
+    "usage: manifest_growth badges | unfit | lints | untrue | tool | metadata | priority | greatest | float | listed | numbers | library | binaries | example | member | fault | text\n";
 
 /// What is tried.
 #[derive(Clone, Copy)]
@@ -47,6 +47,8 @@ fn named(name: &str) -> Option<Trial> {
         "metadata" => Some(Trial::Reading(Document::Metadata)),
         "priority" => Some(Trial::Reading(Document::Priority)),
         "float" => Some(Trial::Reading(Document::Float)),
+        "greatest" => Some(Trial::Reading(Document::Greatest)),
+        "numbers" => Some(Trial::Reading(Document::Numbers)),
         "listed" => Some(Trial::Reading(Document::Listed)),
         "library" => Some(Trial::Completion(Scenario::Library)),
         "binaries" => Some(Trial::Completion(Scenario::Binaries)),

@@ -21,10 +21,14 @@ pub enum Document {
     Metadata,
     /// A priority that is out of range.
     Priority,
+    /// A lint with the greatest priority, and no other.
+    Greatest,
     /// A float deep in metadata.
     Float,
     /// A float in a list of metadata.
     Listed,
+    /// A list of numbers in metadata.
+    Numbers,
 }
 
 /// What reading a manifest gives.
@@ -51,8 +55,12 @@ impl Document {
             Document::Priority => {
                 b"[package]\nname = 'p'\n[lints.rust]\nx = { level = 'warn', priority = 128 }\n"
             }
+            Document::Greatest => {
+                b"[package]\nname = 'p'\n[lints.rust]\nx = { level = 'warn', priority = 127 }\n"
+            }
             Document::Float => b"[package]\nname = 'p'\n[package.metadata]\na = [[[0.5]]]\n",
             Document::Listed => b"[package]\nname = 'p'\n[package.metadata]\nx = [1, 0.5]\n",
+            Document::Numbers => b"[package]\nname = 'p'\n[package.metadata]\nx = [1]\n",
         }
     }
 
