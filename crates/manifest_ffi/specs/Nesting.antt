@@ -6,9 +6,9 @@ use Rattle.toml_parser.specs.Strings.{starts_string, quoted}
 use Rattle.manifest_schema.specs.Paths.{Text}
 use Rattle.manifest_ffi.specs.declared.nesting.Nesting.{Nesting}
 
--- COUNTED are, up to 512, the brackets that are open and the dots since a key began, and the most of both so far
+-- COUNTED are, up to 384, the brackets that are open and the dots since a key began, and the most of both so far
 abbrev pub more : ℕ → ℕ
-more n = if nat_lt n 512 then n + 1 else n
+more n = if nat_lt n 384 then n + 1 else n
 
 abbrev pub start : Nesting
 start = record { brackets = 0; dots = 0; most_brackets = 0; most_dots = 0 }
@@ -50,7 +50,7 @@ scan (suc k) n text = unwrap_or (option_map (λ r. scan k r.0 r.1) (step n text)
 
 -- IT NESTS DENSELY: with each bracket in the others, each behind a key of the most dots, and a header of an array of tables and a key of as many dots before them
 abbrev pub is_dense : Nesting → Bool
-is_dense n = nat_lt 512 ((n.most_brackets + 3) * (n.most_dots + 1))
+is_dense n = nat_lt 384 ((n.most_brackets + 3) * (n.most_dots + 1))
 
 abbrev pub nests_densely : Text → Bool
 nests_densely text = is_dense (scan (length text) start text)

@@ -9,7 +9,7 @@ use toml_parser::text::{first, skip, skip_blank};
 use toml_parser::{ParseError, quoted, starts_string};
 
 /// How much nesting is parsed: brackets and dots are counted up to it.
-const MOST_NESTING: u16 = 512;
+const MOST_NESTING: u16 = 384;
 
 /// The brackets that are open and the dots of the key that is read, at a place of a text, and the most of both so far.
 #[derive(Debug, Clone, Copy)]
@@ -29,6 +29,7 @@ const START: Nesting = Nesting {
 };
 
 /// One more.
+#[inline(always)]
 fn more(count: u16) -> u16
     ensures { result ≡ more count }
 {
@@ -40,6 +41,7 @@ fn more(count: u16) -> u16
 }
 
 /// Behind an opening bracket.
+#[inline(always)]
 fn opened(nesting: Nesting) -> Nesting
     ensures { result ≡ opened nesting }
 {
@@ -53,6 +55,7 @@ fn opened(nesting: Nesting) -> Nesting
 }
 
 /// Behind a closing bracket.
+#[inline(always)]
 fn closed(nesting: Nesting) -> Nesting
     ensures { result ≡ closed nesting }
 {
@@ -65,6 +68,7 @@ fn closed(nesting: Nesting) -> Nesting
 }
 
 /// Behind a dot.
+#[inline(always)]
 fn dotted(nesting: Nesting) -> Nesting
     ensures { result ≡ dotted nesting }
 {
@@ -78,6 +82,7 @@ fn dotted(nesting: Nesting) -> Nesting
 }
 
 /// Behind the end of a key.
+#[inline(always)]
 fn ended(nesting: Nesting) -> Nesting
     ensures { result ≡ ended nesting }
 {
@@ -90,6 +95,7 @@ fn ended(nesting: Nesting) -> Nesting
 }
 
 /// Behind a byte outside strings and comments.
+#[inline(always)]
 fn counted(byte: u8, nesting: Nesting) -> Nesting
     ensures { result ≡ counted byte nesting }
 {
@@ -107,6 +113,7 @@ fn counted(byte: u8, nesting: Nesting) -> Nesting
 }
 
 /// Behind the next string, comment or byte; `None` at the end of the text, or where it is no TOML from here on.
+#[inline(always)]
 fn step<'t>(
     alloc: Global,
     nesting: Nesting,
