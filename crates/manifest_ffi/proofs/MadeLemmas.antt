@@ -3,7 +3,7 @@ use Rattle.std.proofs.Common.{◌≡◌, ℕ, List, Option, Some, None, Vec, Glo
 use Rattle.std.specs.Prelude.{IfErr}
 use Rattle.manifest_bytes.specs.Decoded.{decoded}
 use Rattle.manifest_bytes.specs.Laws.{IsFloatless}
-use Rattle.manifest_bytes.proofs.FloatLemmas.{kept_floatless, tree_floatless, table_is_decoded}
+use Rattle.manifest_bytes.proofs.FloatLemmas.{tree_floatless, table_is_decoded}
 use Rattle.manifest_schema.specs.Paths.{Text}
 use Rattle.manifest_schema.specs.Contents.{Manifest}
 use Rattle.manifest_schema.specs.Needs.{good_some}
@@ -11,6 +11,7 @@ use Rattle.manifest_schema.specs.Forms.{form}
 use Rattle.manifest_schema.specs.ManifestForms.{workspace_rows}
 use Rattle.manifest_schema.specs.Meaning.{well_formed}
 use Rattle.manifest_schema.proofs.KindLaws.{tree_lawful}
+use Rattle.manifest_schema.specs.Kinds.{kept}
 use Rattle.manifest_schema.proofs.KeptLaws.{kept_lawful}
 use Rattle.manifest_schema.proofs.ManifestLaws.{manifest_lawful}
 use Rattle.manifest_schema.proofs.MeaningLaws.{accepted_is_well_formed}
@@ -73,7 +74,7 @@ made_formed input bytes root folders m (listings, (n, is, (r, is_root, (o, inher
 -- THE LAST STEP
 -- metadata that is kept is written without floats
 kept_is_floatless : IsFloatless metadata
-kept_is_floatless = let kept_tree = tree_floatless kept_floatless in kept_tree.writes
+kept_is_floatless = tree_floatless kept (λ x g. g)
 
 held : (output : Output) (most : ℕ) (m : Manifest) (text : Text) → IsFormed m → Writes output most m text → Holds output m text
 held CanonicalText most m text g written = tt

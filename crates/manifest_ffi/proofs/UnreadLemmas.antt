@@ -8,17 +8,14 @@ use Rattle.manifest_schema.proofs.MeaningLaws.{accepted_is_well_formed}
 use Rattle.manifest_bytes.specs.Encoded.{encoded}
 use Rattle.manifest_bytes.specs.Decoded.{decoded}
 use Rattle.manifest_bytes.specs.Laws.{IsFloatless}
-use Rattle.manifest_bytes.proofs.FloatLemmas.{Floatless, tree_floatless, table_is_decoded}
+use Rattle.manifest_bytes.proofs.FloatLemmas.{tree_floatless, table_is_decoded}
 use Rattle.manifest_ffi.specs.declared.refusal.Refusal.{Refusal}
 use Rattle.manifest_ffi.specs.Read.{IsSourceOf}
 use Rattle.manifest_ffi.specs.Made.{AreWithin, RefusesTagged, IsMade}
 use Rattle.manifest_ffi.specs.Unread.{no_metadata, unread_table, GivesUnread, RefusesUnread}
 
-unread_floatless : Floatless unread
-unread_floatless = record { writes = λ x g. refl }
-
 no_metadata_floatless : IsFloatless no_metadata
-no_metadata_floatless = let floatless = tree_floatless unread_floatless in floatless.writes
+no_metadata_floatless = tree_floatless unread (λ x g. refl)
 
 unread_held : (bytes : List ℕ) (m : Manifest) → IsSourceOf no_metadata no_metadata bytes m → decoded (encoded (unread_table m)) ≡ Some (unread_table m)
 unread_held bytes m is =

@@ -14,3 +14,5 @@ pub mod MeaningLaws
 pub mod GoodLaws
 pub mod FormerLaws
 pub mod CopyLaws
+pub mod ScalarLaws
+pub mod ReadScalars
