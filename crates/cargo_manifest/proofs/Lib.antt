@@ -3,3 +3,5 @@ pub mod StoredLaws
 pub mod WellFormedLaws
 pub mod CountLemmas
 pub mod PrintedLemmas
+pub mod ParsedLemmas
+pub mod CompletedLemmas

@@ -8,3 +8,4 @@ pub mod Completes
 pub mod Folders
 pub mod Canonical
 pub mod Printed
+pub mod Dates

@@ -5,8 +5,10 @@
 ghost use Rattle.manifest_schema.specs.Kinds.{kept, tree_of};
 ghost use Rattle.manifest_schema.specs.Meaning.{MeansOne, WrittenIsRead, AcceptedIsWellFormed, WrittenMeansTheSame, RewrittenMeansTheSame, RewrittenTwiceIsOnce, SameExactly, SameWrittenIsSame, FaultyMeansNothing, AcceptedOrFaulty};
 ghost use Rattle.manifest_schema.specs.Former.{OldWrittenIsRead};
+ghost use Rattle.manifest_schema.specs.Dates.{MeantDatesAreValid, WrittenDatesAreValid};
 ghost use Rattle.manifest_completion.specs.Laws.{CompletedIsFixed};
 ghost use Rattle.cargo_manifest.specs.Completes.{StoredDecides};
+ghost use Rattle.cargo_manifest.specs.Dates.{ParsedDatesAreValid, ReadDatesAreValid, CompletedDatesAreValid};
 ghost use Rattle.cargo_manifest.specs.Printed.{PrintedIsBounded};
 ghost use Rattle.cargo_manifest.specs.WellFormed.{PackageByMetadata, WorkspaceByParts, ManifestByParts};
 
@@ -102,4 +104,20 @@ pub fn completed_is_fixed<P: Metadata, W: Metadata>()
 #[tactic(auto, using(crate::proofs::PrintedLemmas::printed_is_bounded))]
 pub fn printed_is_bounded()
     ensures { PrintedIsBounded }
+{}
+
+/// A document has no date-time that TOML cannot write; nor does its manifest keep one, where metadata is kept as it is.
+#[tactic(auto, using(crate::proofs::ParsedLemmas::parsed_dates_are_valid))]
+pub fn parsed_dates_are_valid()
+    ensures parsed { ParsedDatesAreValid }
+    ensures read { ReadDatesAreValid }
+{}
+
+/// Where metadata is kept as it is, a manifest that is meant by a table without a date-time that TOML cannot write keeps
+/// none, nor does what it is completed to, and none stands in what is written of it.
+#[tactic(auto, using(manifest_schema::proofs::DateLaws::meant_dates_are_valid, manifest_schema::proofs::DateLaws::written_dates_are_valid))]
+pub fn kept_dates_are_valid()
+    ensures meant { MeantDatesAreValid }
+    ensures completed { CompletedDatesAreValid }
+    ensures written { WrittenDatesAreValid }
 {}

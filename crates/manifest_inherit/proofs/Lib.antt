@@ -5,3 +5,4 @@ pub mod LenderLemmas
 pub mod FeatureLemmas
 pub mod EntryLemmas
 pub mod MadeLemmas
+pub mod KeptLemmas

@@ -6,6 +6,7 @@ use Rattle.manifest_schema.specs.Forms.{form}
 use Rattle.manifest_schema.specs.Contents.{Workspace, Manifest}
 use Rattle.manifest_schema.specs.ManifestForms.{workspace_rows}
 use Rattle.manifest_schema.specs.Meaning.{well_formed}
+use Rattle.manifest_schema.specs.Dates.{KeepsValidDates}
 use Rattle.manifest_completion.specs.Listings.{ListingMap}
 use Rattle.manifest_completion.specs.Completed.{completed_to, completed}
 use Rattle.manifest_inherit.specs.Own.{InheritsNothing}
@@ -36,3 +37,8 @@ CompletedStaysResolved K W V =
     well_formed K W m → (form (workspace_rows V)).good w →
     ResolvesTo m w n → completed n l ≡ completed_to o →
     IsSettled o w × (completed o l ≡ completed_to o)
+
+-- a resolved manifest keeps no other date-time than the manifest did: a workspace lends none
+abbrev pub ResolvedDatesAreValid : Type 0
+ResolvedDatesAreValid =
+    (m n : Manifest) (w : Workspace) → KeepsValidDates m → ResolvesTo m w n → KeepsValidDates n

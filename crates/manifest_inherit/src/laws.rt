@@ -4,7 +4,7 @@
 //! Each function returns at once: it is there for its contract, a law of the definitions.
 
 ghost use Rattle.manifest_schema.specs.Kinds.{tree_of};
-ghost use Rattle.manifest_inherit.specs.Laws.{ResolvedIsSettled, OwnIsSettled, ResolvedIsWellFormed, CompletedStaysResolved};
+ghost use Rattle.manifest_inherit.specs.Laws.{ResolvedIsSettled, OwnIsSettled, ResolvedIsWellFormed, CompletedStaysResolved, ResolvedDatesAreValid};
 
 use cargo_manifest::Metadata;
 
@@ -16,4 +16,9 @@ pub fn resolved_is_fixed<P: Metadata, W: Metadata, V: Metadata>()
     ensures own { OwnIsSettled }
     ensures formed { ResolvedIsWellFormed (tree_of P.kind) (tree_of W.kind) (tree_of V.kind) }
     ensures completed { CompletedStaysResolved (tree_of P.kind) (tree_of W.kind) (tree_of V.kind) }
+{}
+
+/// Where metadata is kept as it is, a resolved manifest keeps no date-time that TOML cannot write, if the manifest kept none.
+pub fn resolved_dates_are_valid()
+    ensures { ResolvedDatesAreValid }
 {}

@@ -16,3 +16,4 @@ pub mod FormerLaws
 pub mod CopyLaws
 pub mod ScalarLaws
 pub mod ReadScalars
+pub mod DateLaws

@@ -13,4 +13,5 @@ pub mod PartForms
 pub mod ManifestForms
 pub mod Meaning
 pub mod Former
+pub mod Dates
 pub mod Examples
