@@ -145,7 +145,8 @@ impl Form for StripSetting {
     fn decode(reader: &mut Reader<'_>) -> Option<StripSetting> {
         if reader.peek()? == STRING {
             reader.tag(STRING)?;
-            return reader.str().and_then(StripSetting::of_word);
+            // (the other two words are written as booleans)
+            return (reader.str()? == "debuginfo").then_some(StripSetting::Debuginfo);
         }
         bool::decode(reader).map(StripSetting::of_flag)
     }

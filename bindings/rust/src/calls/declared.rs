@@ -153,9 +153,14 @@ fn bytes_of(room: usize, run: impl Fn(*mut u8, usize) -> Answer) -> Result<Vec<u
     }
 }
 
-/// How many bytes most outputs fit into, that are made of so many.
-fn room_for(bytes: usize) -> usize {
-    2 * bytes + 256
+/// How many bytes most outputs fit into, that are made of so many bytes and so many names.
+pub(super) fn room_for(bytes: usize, names: usize) -> usize {
+    names.saturating_mul(64).saturating_add(bytes).saturating_mul(2).saturating_add(256)
+}
+
+/// How many bytes most tables fit into: a table has no spaces, and each of its numbers is short.
+pub(super) fn room_for_table(bytes: usize) -> usize {
+    bytes.saturating_add(bytes / 8).saturating_add(256)
 }
 
 /// What is asked for of the manifest that the bytes are.
@@ -165,9 +170,8 @@ pub(crate) fn read(output: Output, bytes: &[u8]) -> Result<Vec<u8>, Refusal> {
         Output::Table => manifest_table,
     };
     let room = match output {
-        Output::Text => room_for(bytes.len()),
-        // (a table has no spaces, and each of its numbers is short)
-        Output::Table => bytes.len() + bytes.len() / 8 + 256,
+        Output::Text => room_for(bytes.len(), 0),
+        Output::Table => room_for_table(bytes.len()),
     };
     bytes_of(room, |out, room| {
         // SAFETY: both pointers are of slices that live through the call and do not overlap, with their lengths.
@@ -182,7 +186,7 @@ pub(crate) fn complete(output: Output, bytes: &[u8], listings: &Listings) -> Res
         Output::Table => manifest_completed_table,
     };
     with_folders(listings, |folders| {
-        bytes_of(room_for(bytes.len() + 64 * listings.len()), |out, room| {
+        bytes_of(room_for(bytes.len(), listings.len()), |out, room| {
             // SAFETY: as in `read`; so do the slices that the folders hold.
             unsafe { call(bytes.as_ptr(), bytes.len(), folders.as_ptr(), folders.len(), out, room) }
         })
@@ -195,7 +199,7 @@ pub(crate) fn resolve(output: Output, bytes: &[u8], root: &[u8]) -> Result<Vec<u
         Output::Text => manifest_resolved,
         Output::Table => manifest_resolved_table,
     };
-    bytes_of(room_for(bytes.len() + root.len()), |out, room| {
+    bytes_of(room_for(bytes.len().saturating_add(root.len()), 0), |out, room| {
         // SAFETY: as in `read`.
         unsafe { call(bytes.as_ptr(), bytes.len(), root.as_ptr(), root.len(), out, room) }
     })
@@ -213,7 +217,7 @@ pub(crate) fn resolve_and_complete(
         Output::Table => manifest_resolved_completed_table,
     };
     with_folders(listings, |folders| {
-        bytes_of(room_for(bytes.len() + root.len() + 64 * listings.len()), |out, room| {
+        bytes_of(room_for(bytes.len().saturating_add(root.len()), listings.len()), |out, room| {
             let (at, count) = (folders.as_ptr(), folders.len());
             // SAFETY: as in `complete`.
             unsafe { call(bytes.as_ptr(), bytes.len(), root.as_ptr(), root.len(), at, count, out, room) }
@@ -226,7 +230,7 @@ type OnSlice = unsafe extern "C" fn(*const u8, usize, *mut u8, usize) -> Answer;
 
 /// What a call answers that takes one slice.
 pub(crate) fn of_text(call: OnSlice, bytes: &[u8]) -> Result<Vec<u8>, Refusal> {
-    bytes_of(room_for(bytes.len()), |out, room| {
+    bytes_of(room_for(bytes.len(), 0), |out, room| {
         // SAFETY: as in `read`.
         unsafe { call(bytes.as_ptr(), bytes.len(), out, room) }
     })
@@ -234,7 +238,7 @@ pub(crate) fn of_text(call: OnSlice, bytes: &[u8]) -> Result<Vec<u8>, Refusal> {
 
 /// A table, completed over folders that have so many names.
 pub(crate) fn of_table(table: &[u8], folders: &[Folder], names: usize) -> Result<Vec<u8>, Refusal> {
-    bytes_of(room_for(table.len() + 64 * names), |out, room| {
+    bytes_of(room_for(table.len(), names), |out, room| {
         // SAFETY: as in `complete`.
         unsafe { manifest_completed_of_table(table.as_ptr(), table.len(), folders.as_ptr(), folders.len(), out, room) }
     })
@@ -242,7 +246,7 @@ pub(crate) fn of_table(table: &[u8], folders: &[Folder], names: usize) -> Result
 
 /// A table, with what it inherits from the workspace of the root's put in.
 pub(crate) fn of_tables(member: &[u8], root: &[u8]) -> Result<Vec<u8>, Refusal> {
-    bytes_of(room_for(member.len() + root.len()), |out, room| {
+    bytes_of(room_for(member.len().saturating_add(root.len()), 0), |out, room| {
         // SAFETY: as in `read`.
         unsafe { manifest_resolved_of_tables(member.as_ptr(), member.len(), root.as_ptr(), root.len(), out, room) }
     })

@@ -1,6 +1,6 @@
 //! What only this crate sees: memory for the answer, memory that is refused, and how the declarations lie in memory.
 
-use super::declared::{manifest_canonical, Answer};
+use super::declared::{manifest_canonical, room_for, room_for_table, Answer};
 use super::folders::{Folder, Slice};
 use super::heap::refusals::{blocks, with_refused};
 use super::{canonical, resolved_completed, resolved_completed_table, table, Fault, Listings, Refusal};
@@ -37,6 +37,15 @@ fn the_text_is_put_whole_or_not_at_all() {
             assert_eq!(out[..put], text[..put]);
             assert!(out[put..].iter().all(|byte| *byte == 0xAA), "{room} bytes for {}", wanted.length);
         }
+    }
+}
+
+#[test]
+fn room_is_no_more_than_there_are_numbers() {
+    assert_eq!((room_for(100, 3), room_for_table(800)), (840, 1_156));
+    for most in [usize::MAX / 64, usize::MAX / 2 + 1, usize::MAX] {
+        assert!(room_for(most, 0) > most / 2 && room_for(0, most) > most / 2 && room_for(most, most) > most / 2);
+        assert!(room_for_table(most) >= most);
     }
 }
 

@@ -105,7 +105,7 @@ impl<T: Form> Form for Vec<T> {
     fn decode(reader: &mut Reader<'_>) -> Option<Vec<T>> {
         reader.tag(ARRAY)?;
         let count = reader.number()?;
-        let mut items = Vec::with_capacity(reader.at_most(count, 1));
+        let mut items = Vec::with_capacity(reader.at_most::<T>(count));
         for _ in 0..count {
             items.push(T::decode(reader)?);
         }
@@ -145,7 +145,7 @@ impl<T: Encode> Encode for Vec<T> {
 impl<T: Form> Form for BTreeMap<String, T> {
     fn decode(reader: &mut Reader<'_>) -> Option<BTreeMap<String, T>> {
         let mut keys = reader.table()?;
-        let mut members = Vec::with_capacity(reader.at_most(keys.left(), 2));
+        let mut members = Vec::with_capacity(reader.at_most::<(String, T)>(keys.left()));
         while let Some(key) = keys.next(reader)? {
             members.push((key.to_owned(), T::decode(reader)?));
         }

@@ -45,7 +45,8 @@ impl<'a> Reader<'a> {
         (self.byte()? == tag).then_some(())
     }
 
-    /// Groups of seven bits, the lowest first, with 128 added to each but the last.
+    /// Groups of seven bits, the lowest first, with 128 added to each but the last. A number has one form: the last of
+    /// more groups than one is not 0.
     #[inline]
     pub(crate) fn number(&mut self) -> Option<u64> {
         // most numbers are lengths below 128
@@ -61,12 +62,14 @@ impl<'a> Reader<'a> {
         for group in 0..10 {
             let byte = self.byte()?;
             let bits = u64::from(byte & 127);
+            // (of the tenth group one bit is left)
             if group == 9 && bits > 1 {
                 return None;
             }
             number |= bits << (7 * group);
             if byte < 128 {
-                return Some(number);
+                // (the first byte was 128 or more)
+                return (byte > 0).then_some(number);
             }
         }
         None
@@ -85,10 +88,10 @@ impl<'a> Reader<'a> {
         std::str::from_utf8(self.bytes()?).ok()
     }
 
-    /// The count, but no more than are in the bytes that are left, of which each takes so many at least: for so many there
-    /// may be room made, whatever the bytes say.
-    pub(crate) fn at_most(&self, count: u64, size: usize) -> usize {
-        usize::try_from(count).unwrap_or(usize::MAX).min(self.left.len() / size)
+    /// The count, but no more than take as much memory as the bytes that are left: for so many there may be room made,
+    /// whatever the bytes say. (Each value takes more memory than bytes.)
+    pub(crate) fn at_most<T>(&self, count: u64) -> usize {
+        usize::try_from(count).unwrap_or(usize::MAX).min(self.left.len() / size_of::<T>().max(1))
     }
 
     /// The keys of a table, whose tag is next.

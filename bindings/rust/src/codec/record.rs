@@ -116,7 +116,14 @@ macro_rules! row {
     (done $field:ident needed) => { $field? };
     (done $field:ident default($with:expr)) => { $field? };
     (done $field:ident lenient_default($with:expr)) => { $field? };
-    (done $field:ident unless($with:expr)) => { $field.unwrap_or_else(|| $with) };
+    (done $field:ident unless($with:expr)) => {
+        match $field {
+            None => $with,
+            // (what is as usual is not written)
+            Some(value) if value == $with => return None,
+            Some(value) => value,
+        }
+    };
     (done $field:ident $how:ident $(($($with:tt)+))?) => { $field };
     (read $members:ident $aside:ident $key:literal ($($second:literal)?) metadata($place:ident)) => {{
         $aside.$place = $members.remove($key);

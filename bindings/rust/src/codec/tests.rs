@@ -2,6 +2,7 @@
 
 use crate::codec::Aside;
 use crate::reading::{decoded, encode};
+use crate::value::tests::Random;
 use crate::value::{self, Value};
 
 /// Tagged bytes of a manifest with many kinds of rows.
@@ -14,16 +15,26 @@ fn table() -> Vec<u8> {
     crate::calls::tables::table(text.as_bytes()).expect("a table")
 }
 
-/// Reads the bytes as a manifest and as a value. What is read as a manifest can be written.
-fn is_read(bytes: &[u8]) -> bool {
-    let _ = value::decoded(bytes);
-    match decoded::<Value, Value>(bytes) {
-        Some((manifest, aside)) => {
-            let _ = encode(&manifest, aside);
-            true
-        }
-        None => false,
+/// Whether a value holds what can be read and not written: a float, or a date-time that TOML does not have.
+fn is_unwritten(value: &Value) -> bool {
+    match value {
+        Value::Float(_) => true,
+        Value::Datetime(datetime) => !datetime.is_one(),
+        Value::Array(items) => items.iter().any(is_unwritten),
+        Value::Table(members) => members.values().any(is_unwritten),
+        _ => false,
     }
+}
+
+/// Whether the bytes are read as a manifest: then they are exactly those that are written of it.
+fn is_read(bytes: &[u8]) -> bool {
+    let Some((manifest, aside)) = decoded::<Value, Value>(bytes) else { return false };
+    let value = value::decoded(bytes).expect("a manifest is a value too");
+    match encode(&manifest, aside) {
+        Ok(again) => assert_eq!(again, bytes, "{manifest:?}"),
+        Err(error) => assert!(is_unwritten(&value), "{error} of {manifest:?}"),
+    }
+    true
 }
 
 #[test]
@@ -37,38 +48,72 @@ fn bytes_that_are_cut_off_are_refused() {
 }
 
 #[test]
-fn bytes_that_are_changed_are_read_or_refused() {
+fn bytes_that_are_changed_are_refused_or_those_of_what_is_read() {
     let table = table();
-    let mut refused = 0;
+    let (mut read, mut refused) = (0, 0);
     for place in 0..table.len() {
-        for flipped in [1, 2, 4, 8, 16, 32, 64, 128, 255] {
+        for other in 0..=255 {
             let mut bytes = table.clone();
-            bytes[place] ^= flipped;
-            refused += usize::from(!is_read(&bytes));
+            bytes[place] = other;
+            *(if is_read(&bytes) { &mut read } else { &mut refused }) += 1;
+        }
+        for more in [&[0][..], &[1, 0], &[128, 0]] {
+            let (front, back) = table.split_at(place);
+            is_read(&[front, more, back].concat());
+            is_read(&[front, more, &back[1..]].concat());
         }
     }
-    assert!(refused > table.len(), "{refused}");
+    assert!(read > table.len() && refused > table.len(), "{read} read, {refused} refused");
+}
+
+/// The key `package`, with a table of the name `p` behind it.
+const PACKAGE: &[u8] = b"\x07package\x08\x01\x04name\x01\x01p";
+
+#[test]
+fn what_is_as_usual_is_not_written() {
+    let with = |member: &[u8]| [&[8, 2][..], member, PACKAGE].concat();
+    let lib = |key: &[u8]| {
+        let required = b"\x11required-features\x07\x00";
+        with(&[&[3, b'l', b'i', b'b', 8, 2][..], key, required].concat())
+    };
+    assert!(is_read(&[&[8, 1][..], PACKAGE].concat()));
+    assert!(is_read(&lib(b"\x07harness\x04")));
+    assert!(!is_read(&lib(b"\x07harness\x05")));
+    assert!(is_read(&lib(b"\x06plugin\x05")));
+    assert!(!is_read(&lib(b"\x06plugin\x04")));
+    assert!(is_read(&with(b"\x03bin\x07\x01\x08\x01\x11required-features\x07\x00")));
+    assert!(!is_read(&with(b"\x03bin\x07\x00")));
+    let profile = |strip: &[u8]| {
+        let before = b"\x07profile\x08\x01\x03dev\x08\x02\x07package\x08\x00\x05strip";
+        [&[8, 2][..], PACKAGE, before, strip].concat()
+    };
+    for (strip, is) in [(&b"\x05"[..], true), (b"\x04", true), (b"\x01\x09debuginfo", true), (b"\x01\x04none", false)] {
+        assert_eq!(is_read(&profile(strip)), is, "{strip:?}");
+    }
+    assert!(!is_read(&profile(b"\x01\x07symbols")));
 }
 
 #[test]
-fn any_bytes_are_read_or_refused() {
-    let mut random: u64 = 0x2545_f491_4f6c_dd1d;
+fn damaged_bytes_are_refused_or_those_of_what_is_read() {
+    let table = table();
+    let mut random = Random(0x1357_9bdf_0246_8ace);
+    let (mut read, mut refused) = (0, 0);
+    for _ in 0..20_000 {
+        let mut bytes = table.clone();
+        random.damage(&mut bytes);
+        *(if is_read(&bytes) { &mut read } else { &mut refused }) += 1;
+    }
+    assert!(read > 200 && refused > 2_000, "{read} read, {refused} refused");
+}
+
+#[test]
+fn any_bytes_are_refused_or_those_of_what_is_read() {
+    let mut random = Random(0x2545_f491_4f6c_dd1d);
     for _ in 0..100_000 {
-        let bytes: Vec<u8> = (0..random % 24)
-            .map(|_| {
-                random ^= random << 13;
-                random ^= random >> 7;
-                random ^= random << 17;
-                // (small bytes are tags and lengths)
-                if random % 3 > 0 {
-                    (random >> 8) as u8 % 10
-                } else {
-                    (random >> 8) as u8
-                }
-            })
-            .collect();
-        random = random.wrapping_add(1);
+        // (few of them are a table)
+        let bytes: Vec<u8> = (0..random.below(24)).map(|_| random.byte()).collect();
         is_read(&bytes);
+        is_read(&[&[8, 1, 9][..], b"workspace", &bytes].concat());
     }
 }
 
@@ -84,11 +129,15 @@ fn no_room_is_made_for_more_than_there_is() {
 
 #[test]
 fn keys_have_to_ascend() {
-    let table = |first: u8, second: u8| vec![8, 2, 1, first, 4, 1, second, 4];
-    assert!(value::decoded(&table(b'a', b'b')).is_some());
+    let members = |first, second| [8, 2, 1, first, 1, 1, b'1', 1, second, 1, 1, b'1'];
+    let dependencies = |first, second| [&b"\x0cdependencies"[..], &members(first, second)].concat();
+    let is = |one: &[u8], other: &[u8]| is_read(&[&[8, 2], one, other].concat());
+    assert!(is(&dependencies(b'a', b'b'), PACKAGE));
     for (first, second) in [(b'b', b'a'), (b'a', b'a')] {
-        assert!(value::decoded(&table(first, second)).is_none());
+        assert!(!is(&dependencies(first, second), PACKAGE));
     }
+    assert!(!is(PACKAGE, &dependencies(b'a', b'b')));
+    assert!(!is(PACKAGE, PACKAGE));
 }
 
 /// A number that is read stays a float, and no table of a manifest has one.

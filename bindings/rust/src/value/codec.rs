@@ -46,6 +46,15 @@ fn datetime(reader: &mut Reader<'_>) -> Option<Datetime> {
     Some(Datetime { date, time, offset })
 }
 
+/// The bits of everything that is not a number, as the library writes them.
+const NOT_A_NUMBER: u64 = 0x7ff8_0000_0000_0000;
+
+fn float(reader: &mut Reader<'_>) -> Option<f64> {
+    let bits = reader.number()?;
+    let number = f64::from_bits(bits);
+    (bits == NOT_A_NUMBER || !number.is_nan()).then_some(number)
+}
+
 /// A value that holds no other.
 fn simple(reader: &mut Reader<'_>) -> Option<Value> {
     Some(match reader.peek()? {
@@ -55,7 +64,7 @@ fn simple(reader: &mut Reader<'_>) -> Option<Value> {
         }
         FLOAT => {
             reader.tag(FLOAT)?;
-            Value::Float(f64::from_bits(reader.number()?))
+            Value::Float(float(reader)?)
         }
         STRING => Value::String(Form::decode(reader)?),
         FALSE | TRUE => Value::Boolean(Form::decode(reader)?),

@@ -3,6 +3,8 @@
 mod access;
 mod codec;
 mod datetime;
+#[cfg(test)]
+pub(crate) mod tests;
 mod text;
 
 pub use access::Index;
