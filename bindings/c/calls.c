@@ -150,6 +150,8 @@ static const struct call TABLES[] = {
 #define HALF "\x09\x80\x80\x80\x80\x80\x80\x80\xf0\x3f"
 #define NOT_A_NUMBER "\x09\x80\x80\x80\x80\x80\x80\x80\xfc\x7f"
 #define VERSIONS_TABLE "\x08\x01\x09workspace\x08\x01\x07package\x08\x01\x07version\x01\x05" "2.0.0"
+/* a date-time whose month is 77 */
+#define NO_DATE "\x06\x01\x4d\x01\x01\x01\x01\x01\x01\x01\x01\x01\x01\x01\x01"
 #define MEMBER_TABLE                                                                                                    \
     "\x08\x01\x07package\x08\x03\x07" "edition\x01\x04" "2021\x04name\x01\x03p-q\x07version\x08\x01\x09workspace\x05"
 
@@ -182,6 +184,8 @@ static const struct call OF_TABLES[] = {
      .cause = MANIFEST_WRONG_KIND, .text = "package.name"},
     {CANONICAL_OF_TABLE, .bytes = "\x08\x01\x07package\x08\x02\x08metadata" HALF "\x04name\x01\x03p-q",
      .status = MANIFEST_SCHEMA, .cause = MANIFEST_HOLDS_FLOAT, .text = "package.metadata"},
+    {CANONICAL_OF_TABLE, .bytes = "\x08\x01\x07package\x08\x02\x08metadata" NO_DATE "\x04name\x01\x03p-q",
+     .status = MANIFEST_DATE, .text = "a date-time of a kept value is not a valid date"},
     {CANONICAL_OF_TABLE, .bytes = "\x05", .status = MANIFEST_SCHEMA, .cause = MANIFEST_WRONG_KIND, .text = "(top)"},
     {CANONICAL_OF_TABLE, .status = MANIFEST_UNTAGGED, .text = ""},
     {CANONICAL_OF_TABLE, .bytes = NAME, .status = MANIFEST_UNTAGGED, .text = ""},
@@ -206,10 +210,68 @@ static const struct call OF_TABLES[] = {
      .cause = MANIFEST_WRONG_KIND, .text = "(top)"},
 };
 
+/* So many times a text. */
+#define TEN(text) text text text text text text text text text text
+#define HUNDRED(text) TEN(TEN(text))
+#define TIMES_15(text) TEN(text) text text text text text
+#define TIMES_29(text) TEN(text) TEN(text) text text text text text text text text text
+#define TIMES_48(text) TEN(text) TEN(text) TEN(text) TEN(text) text text text text text text text text
+#define TIMES_79(text) TIMES_48(text) TIMES_29(text) text text
+#define TIMES_128(text) HUNDRED(text) TEN(text) TEN(text) text text text text text text text text
+#define TIMES_510(text) HUNDRED(text) HUNDRED(text) HUNDRED(text) HUNDRED(text) HUNDRED(text) TEN(text)
+
+/* The front of a table of one key, whose value stands behind it, and that of an array of one value. */
+#define KEY "\x08\x01\x01k"
+#define ITEM "\x07\x01"
+/* A text with 128 tables in one another in its whole table, if one part of a key more is not put in. */
+#define DEEP(more) "[k" TIMES_79(".k") "]\nk" TIMES_48(".k") more " = true"
+/* Texts that are as near to the limit as can be, 32 times 16, and beyond it: by brackets, and by dots. */
+#define NEAR(more_dots, more_brackets, closing) \
+    "k" TIMES_15(".k") more_dots " = " more_brackets TIMES_29("[") "true" TIMES_29("]") closing
+#define BRACKETS "k = " TIMES_510("[")
+
+/* What nests as deep as it may, and deeper. */
+static const struct call DEPTHS[] = {
+    {DOCUMENT, .bytes = DEEP(""), .text = TIMES_128(KEY) KEY "\x05"},
+    {DOCUMENT, .bytes = DEEP(".k"), .status = MANIFEST_TOO_DEEP, .text = ""},
+    {CANONICAL, .bytes = OWN DEEP(""), .text = PACKAGE},
+    {CANONICAL, .bytes = OWN DEEP(".k"), .status = MANIFEST_TOO_DEEP, .text = ""},
+    {COMPLETED, .bytes = OWN DEEP(".k"), FOLDERS(HERE), .status = MANIFEST_TOO_DEEP, .text = ""},
+    {RESOLVED, .bytes = OWN, .root = ROOT DEEP(""), .text = PACKAGE},
+    {RESOLVED, .bytes = OWN, .root = ROOT DEEP(".k"), .status = MANIFEST_ROOT_TOO_DEEP, .text = ""},
+    {CANONICAL_OF_TABLE, .bytes = TIMES_128(KEY) KEY "\x05", .text = ""},
+    {CANONICAL_OF_TABLE, .bytes = TIMES_128(KEY) KEY KEY "\x05", .status = MANIFEST_TOO_DEEP, .text = ""},
+    {CANONICAL_OF_TABLE, .bytes = TIMES_128(KEY) ITEM "\x05", .text = ""},
+    {CANONICAL_OF_TABLE, .bytes = TIMES_128(KEY) ITEM ITEM "\x05", .status = MANIFEST_TOO_DEEP, .text = ""},
+    {COMPLETED_OF_TABLE, .bytes = TIMES_128(KEY) KEY KEY "\x05", FOLDERS(HERE), .status = MANIFEST_TOO_DEEP, .text = ""},
+    {RESOLVED_OF_TABLES, .bytes = MEMBER_TABLE, .root = TIMES_128(KEY) KEY KEY "\x05", .status = MANIFEST_ROOT_TOO_DEEP,
+     .text = ""},
+    {DOCUMENT, .bytes = NEAR("", "", ""), .text = KEY TIMES_15(KEY) TIMES_29(ITEM) "\x05"},
+    {DOCUMENT, .bytes = NEAR(".k", "", ""), .status = MANIFEST_TOO_DEEP, .text = ""},
+    {DOCUMENT, .bytes = NEAR("", "[", "]"), .status = MANIFEST_TOO_DEEP, .text = ""},
+    /* (dots in one place, and brackets in another) */
+    {DOCUMENT, .bytes = "[k" TIMES_15(".k") ".k]\nk = " TIMES_29("[") TIMES_29("]"), .status = MANIFEST_TOO_DEEP,
+     .text = ""},
+    {DOCUMENT, .bytes = BRACKETS, .status = MANIFEST_TOO_DEEP, .text = ""},
+    {TABLE, .bytes = OWN BRACKETS, .status = MANIFEST_TOO_DEEP, .text = ""},
+    {RESOLVED_TABLE, .bytes = OWN, .root = BRACKETS, .status = MANIFEST_ROOT_TOO_DEEP, .text = ""},
+    {DOCUMENT, .bytes = "k = '" TIMES_510("[") "' # " TIMES_510("["), .text = KEY "\x01\xfe\x03" TIMES_510("[")},
+    {DOCUMENT, .bytes = "k = \"\\\"" TIMES_510(".") "\"", .text = KEY "\x01\xff\x03\"" TIMES_510(".")},
+};
+
 /* Of two steps that refuse, the one that goes before the other is told. */
 static const struct call ORDERS[] = {
     {COMPLETED, .bytes = CUT, FOLDERS(HERE, HERE), .status = MANIFEST_LISTINGS, .text = ""},
     {RESOLVED_COMPLETED, .bytes = OWN, .root = CUT, FOLDERS(HERE, HERE), .status = MANIFEST_LISTINGS, .text = ""},
+    {COMPLETED, .bytes = BRACKETS, FOLDERS(HERE, HERE), .status = MANIFEST_LISTINGS, .text = ""},
+    {CANONICAL, .bytes = BRACKETS CUT, .status = MANIFEST_NOT_UTF8, .text = ""},
+    {CANONICAL, .bytes = "edition = 1\n" DEEP(".k"), .status = MANIFEST_TOO_DEEP, .text = ""},
+    {RESOLVED, .bytes = BRACKETS, .root = BRACKETS, .status = MANIFEST_TOO_DEEP, .text = ""},
+    {RESOLVED, .bytes = CUT, .root = BRACKETS, .status = MANIFEST_NOT_UTF8, .text = ""},
+    {RESOLVED, .bytes = BRACKETS, .root = CUT, .status = MANIFEST_TOO_DEEP, .text = ""},
+    {RESOLVED, .bytes = OWN, .root = BRACKETS CUT, .status = MANIFEST_ROOT_NOT_UTF8, .text = ""},
+    {RESOLVED_COMPLETED, .bytes = OWN, .root = DEEP(".k"), FOLDERS(HERE, FAULTY), .status = MANIFEST_ROOT_TOO_DEEP,
+     .text = ""},
     {RESOLVED, .bytes = CUT, .root = "\xff", .status = MANIFEST_NOT_UTF8, .text = ""},
     {COMPLETED, .bytes = CUT, FOLDERS(HERE, FAULTY), .status = MANIFEST_NOT_UTF8, .text = ""},
     {RESOLVED_COMPLETED, .bytes = OWN, .root = CUT, FOLDERS(HERE, FAULTY), .status = MANIFEST_ROOT_NOT_UTF8, .text = ""},
@@ -254,43 +316,46 @@ static const struct group {
     const struct call *calls;
     size_t length;
 } GROUPS[] = {GROUP(READINGS), GROUP(COMPLETIONS), GROUP(RESOLVINGS), GROUP(TABLES), GROUP(UNREAD), GROUP(OF_TABLES),
-              GROUP(ORDERS), GROUP(NULLS)};
+              GROUP(DEPTHS), GROUP(ORDERS), GROUP(NULLS)};
 
 enum { GROUP_COUNT = sizeof GROUPS / sizeof GROUPS[0], THREADS = 4, TURNS = 20, SET = 0xAA };
 
-static struct manifest_answer made(const struct call *call, uint8_t *out, size_t room)
+/* A call, whose text or table may take so many bytes. */
+static struct manifest_answer made(const struct call *call, size_t most, uint8_t *out, size_t room)
 {
     const uint8_t *bytes = (const uint8_t *)call->bytes, *root = (const uint8_t *)call->root;
     size_t length = bytes ? strlen(call->bytes) : 0, root_length = root ? strlen(call->root) : 0;
     switch (call->which) {
     case CANONICAL:
-        return manifest_canonical(bytes, length, out, room);
+        return manifest_canonical(bytes, length, most, out, room);
     case COMPLETED:
-        return manifest_completed(bytes, length, call->folders, call->folders_length, out, room);
+        return manifest_completed(bytes, length, call->folders, call->folders_length, most, out, room);
     case RESOLVED:
-        return manifest_resolved(bytes, length, root, root_length, out, room);
+        return manifest_resolved(bytes, length, root, root_length, most, out, room);
     case RESOLVED_COMPLETED:
-        return manifest_resolved_completed(bytes, length, root, root_length, call->folders, call->folders_length, out, room);
+        return manifest_resolved_completed(bytes, length, root, root_length, call->folders, call->folders_length, most, out,
+                                           room);
     case TABLE:
-        return manifest_table(bytes, length, out, room);
+        return manifest_table(bytes, length, most, out, room);
     case COMPLETED_TABLE:
-        return manifest_completed_table(bytes, length, call->folders, call->folders_length, out, room);
+        return manifest_completed_table(bytes, length, call->folders, call->folders_length, most, out, room);
     case RESOLVED_TABLE:
-        return manifest_resolved_table(bytes, length, root, root_length, out, room);
+        return manifest_resolved_table(bytes, length, root, root_length, most, out, room);
     case RESOLVED_COMPLETED_TABLE:
-        return manifest_resolved_completed_table(bytes, length, root, root_length, call->folders, call->folders_length, out, room);
+        return manifest_resolved_completed_table(bytes, length, root, root_length, call->folders, call->folders_length, most,
+                                                 out, room);
     case TABLE_WITHOUT_METADATA:
-        return manifest_table_without_metadata(bytes, length, out, room);
+        return manifest_table_without_metadata(bytes, length, most, out, room);
     case DOCUMENT:
-        return manifest_document(bytes, length, out, room);
+        return manifest_document(bytes, length, most, out, room);
     case CANONICAL_OF_TABLE:
-        return manifest_canonical_of_table(bytes, length, out, room);
+        return manifest_canonical_of_table(bytes, length, most, out, room);
     case COMPLETED_OF_TABLE:
-        return manifest_completed_of_table(bytes, length, call->folders, call->folders_length, out, room);
+        return manifest_completed_of_table(bytes, length, call->folders, call->folders_length, most, out, room);
     case RESOLVED_OF_TABLES:
         break;
     }
-    return manifest_resolved_of_tables(bytes, length, root, root_length, out, room);
+    return manifest_resolved_of_tables(bytes, length, root, root_length, most, out, room);
 }
 
 /* How long the text that is wanted is. */
@@ -311,7 +376,7 @@ static int has_numbers(struct manifest_answer answer, const struct call *call)
    not as wanted. */
 static uint8_t *text_of(const struct call *call, size_t *length)
 {
-    struct manifest_answer answer = made(call, NULL, 0);
+    struct manifest_answer answer = made(call, SIZE_MAX, NULL, 0);
     if (!has_numbers(answer, call))
         return NULL;
     *length = answer.length;
@@ -319,7 +384,7 @@ static uint8_t *text_of(const struct call *call, size_t *length)
     uint8_t *out = malloc(*length ? *length : 1);
     if (!out)
         return NULL;
-    answer = made(call, out, *length);
+    answer = made(call, SIZE_MAX, out, *length);
     if (has_numbers(answer, call) && answer.length == *length && (!call->text || !memcmp(out, call->text, *length)))
         return out;
     free(out);
@@ -334,7 +399,7 @@ static int is_put(const struct call *call, const uint8_t *text, size_t length, s
     if (!out)
         return 0;
     memset(out, SET, size);
-    struct manifest_answer answer = made(call, out, room);
+    struct manifest_answer answer = made(call, SIZE_MAX, out, room);
     int is_right = has_numbers(answer, call) && answer.length == length && !memcmp(out, text, put);
     for (size_t i = put; i < size; i++)
         is_right = is_right && out[i] == SET;
@@ -342,12 +407,46 @@ static int is_put(const struct call *call, const uint8_t *text, size_t length, s
     return is_right;
 }
 
+/* Whether the text of a call is a table, of which each byte is counted. */
+static int is_table(const struct call *call)
+{
+    return call->which != CANONICAL && call->which != COMPLETED && call->which != RESOLVED
+           && call->which != RESOLVED_COMPLETED && call->which != CANONICAL_OF_TABLE;
+}
+
+/* Whether the answer is that the text is longer than it may be, and all of `out` is as it was. */
+static int is_too_long(const struct call *call, size_t most)
+{
+    uint8_t out[64];
+    memset(out, SET, sizeof out);
+    struct manifest_answer answer = made(call, most, out, sizeof out);
+    int is_right = answer.status == MANIFEST_TOO_LONG && answer.cause == 0 && answer.length == 0 && answer.start == 0
+                   && answer.end == 0;
+    for (size_t i = 0; i < sizeof out; i++)
+        is_right = is_right && out[i] == SET;
+    return is_right;
+}
+
+/* Whether the length of a text is limited, and that of a refusal is not. A text may be refused that is shorter than what it
+   may take, and not one that takes a small part of that. */
+static int is_limited(const struct call *call, size_t length)
+{
+    /* (the length is looked at before the text is printed) */
+    if (call->status == MANIFEST_DATE)
+        return is_too_long(call, 0);
+    if (call->status != MANIFEST_ACCEPTED)
+        return has_numbers(made(call, 0, NULL, 0), call);
+    size_t enough = is_table(call) ? length : 16 * length + 1024;
+    return has_numbers(made(call, enough, NULL, 0), call)
+           && (length == 0 || (is_too_long(call, length - 1) && is_too_long(call, 0)));
+}
+
 /* Whether the call is answered as wanted, with an `out` of each length from 0 to one more than is needed. */
 static int is_answered(const struct call *call)
 {
     size_t length;
     uint8_t *text = text_of(call, &length);
-    int is_right = text != NULL;
+    int is_right = text != NULL && is_limited(call, length);
     for (size_t room = 0; is_right && room <= length + 1; room++)
         is_right = is_put(call, text, length, room);
     free(text);

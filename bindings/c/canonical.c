@@ -4,6 +4,9 @@
 #include <stdio.h>
 #include <stdlib.h>
 
+/* no text is as long that a person wrote the manifest of */
+#define MOST ((size_t)1 << 26)
+
 int main(void)
 {
     static uint8_t bytes[1 << 20];
@@ -18,14 +21,14 @@ int main(void)
     uint8_t *out = malloc(room);
     if (!out)
         return 2;
-    struct manifest_answer answer = manifest_canonical(bytes, length, out, room);
+    struct manifest_answer answer = manifest_canonical(bytes, length, MOST, out, room);
     if (answer.length > room) {
         free(out);
         room = answer.length;
         out = malloc(room);
         if (!out)
             return 2;
-        answer = manifest_canonical(bytes, length, out, room);
+        answer = manifest_canonical(bytes, length, MOST, out, room);
     }
 
     int is_written = 1;

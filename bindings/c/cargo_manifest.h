@@ -14,14 +14,17 @@
    A CALL is handed bytes and memory for its text, and answers at once:
 
        uint8_t out[4096];
-       struct manifest_answer answer = manifest_canonical(bytes, length, out, sizeof out);
+       struct manifest_answer answer = manifest_canonical(bytes, length, SIZE_MAX, out, sizeof out);
        if (answer.status == MANIFEST_ACCEPTED && answer.length <= sizeof out)
            fwrite(out, 1, answer.length, stdout);
 
    - Each slice that is handed in is a pointer and a length. It may be empty: the length is 0, and the pointer may be null.
-   - `out` is memory for the text. It need not be set before: it is only written, which is tested. It overlaps nothing else
-     that is handed in. Without any (null and 0) the call tells how long the text is. As want of memory can end one call and
-     not the next, `length` is looked at after each call.
+   - `most` is how many bytes the text or the table may take at most: SIZE_MAX for any number. A text that could take more is
+     not made, and the status is MANIFEST_TOO_LONG. Some kilobytes can mean a text of many megabytes, as where a long key
+     stands above many tables. The text of a refusal is put whatever `most` is.
+   - `out` is memory for the text. It need not be set before, since it is only written. It overlaps nothing else that is
+     handed in. Without any (null and 0) the call tells how long the text is. As want of memory can end one call and not the
+     next, `length` is looked at after each call.
    - Another thread may read what is handed in meanwhile, and may not write to it, nor read or write `out`.
    - The answer depends on what is handed in, and on nothing else but whether there is memory.
    - The library keeps nothing from one call to the next, keeps no pointer that it is given, frees nothing that it is given,
@@ -32,9 +35,8 @@
    a call that is broken off, by longjmp or by cancelling its thread, leaves its memory behind, and of later calls of that
    thread nothing is said.
 
-   STACK. A call takes more stack the deeper the manifest nests, and no status tells that the stack ran out. For an ordinary
-   manifest 128 kB are enough; but 21 kB of text can nest so deep that 3.3 MB are taken. So a thread that is handed the bytes
-   of others gets a stack of 8 MB, which the first thread mostly has, or it bounds their length.
+   STACK. 256 KiB of stack are enough for each call, whatever is handed in: what nests deeper than MANIFEST_DEPTH_LIMIT, or
+   could, is refused before anything goes as deep.
 
    MEMORY is asked for by three functions over malloc, realloc and free, which a program may replace: see the end. */
 #ifndef CARGO_MANIFEST_H
@@ -51,13 +53,14 @@ extern "C" {
    order, as far as it has them, and the first that refuses is told:
 
        the folders                8
-       the bytes                  4, 1, 2, or 14, 2
-       the root                   20, 17, 18, or 30, 18   (it is read also where the manifest inherits nothing)
+       the bytes                  4, 15, 1, 15, 2, or 14, 15, 2
+       the root                   20, 31, 17, 31, 18, or 30, 31, 18   (it is read also where the manifest inherits nothing)
        its workspace              9
        what the workspace lends   10, 11, 12, 13
        the completion             3, 5
-       the printing               7
+       the printing               32, 7
 
+   A text is refused as too deep before it is read (by its brackets and dots) or behind that (by its table).
    MANIFEST_MEMORY may stand in the place of any of them. There are no other numbers than these. */
 enum manifest_status {
     /* the text is what was asked for */
@@ -77,8 +80,8 @@ enum manifest_status {
     MANIFEST_OTHER = 5,
     /* no memory was left */
     MANIFEST_MEMORY = 6,
-    /* the manifest keeps a date-time that cannot be written, as the text says. (No text is known that is read as one; a
-       tagged table can hold one.) */
+    /* the manifest keeps a date-time that cannot be written, as the text says: one of a table that was handed in. (No text is
+       known that is read as one.) */
     MANIFEST_DATE = 7,
     /* the folders are no listings: a path or a name is not UTF-8, the names of a folder do not ascend, or two folders have
        one path */
@@ -97,12 +100,27 @@ enum manifest_status {
     /* bytes that should be a tagged table are none: a text in them is not UTF-8, the keys of a table do not ascend, a number
        is not written in the shortest way, or they end too early or too late */
     MANIFEST_UNTAGGED = 14,
-    /* 1, 2, 4 and 14 of the root: 16 more. `start` and `end` are places in the root */
+    /* arrays and tables stand in one another deeper than MANIFEST_DEPTH_LIMIT; or a text has brackets and dotted keys by
+       which they could: see there */
+    MANIFEST_TOO_DEEP = 15,
+    /* 1, 2, 4, 14 and 15 of the root: 16 more. `start` and `end` are places in the root */
     MANIFEST_ROOT_NO_TOML = 17,
     MANIFEST_ROOT_SCHEMA = 18,
     MANIFEST_ROOT_NOT_UTF8 = 20,
-    MANIFEST_ROOT_UNTAGGED = 30
+    MANIFEST_ROOT_UNTAGGED = 30,
+    MANIFEST_ROOT_TOO_DEEP = 31,
+    /* what is asked for could take more bytes than `most`. Of a text a bound is counted before it is printed: its keys and
+       its values, and for each table a header of its whole path; a table is refused exactly where its bytes are more */
+    MANIFEST_TOO_LONG = 32
 };
+
+/* How deep arrays and tables may stand in one another, the whole table not counted: `a = [{}]` is 2 deep.
+
+   A text is refused before it is read where (B + 3) * (D + 1) is more than 512. B is how many brackets, `[` and `{`, are open
+   at one place at most, and D how many dots stand in a row at most, behind the last `,`, `=`, `[`, `{` or line end. Those in
+   strings and comments are not counted, nor any behind the first string that does not end or character that TOML has in
+   these alone. A text that people write has less: keys of 5 parts and 8 brackets in one another come to 55. */
+#define MANIFEST_DEPTH_LIMIT 128
 
 /* The cause of MANIFEST_SCHEMA and MANIFEST_ROOT_SCHEMA. */
 enum manifest_cause {
@@ -166,23 +184,24 @@ struct manifest_folder {
 
 /* The canonical text of the manifest that the bytes are, as TOML: its keys in the order of their bytes, each by its first
    spelling. Comments, and keys that no manifest has, are left out. */
-struct manifest_answer manifest_canonical(const uint8_t *bytes, size_t bytes_length, uint8_t *out, size_t out_length);
+struct manifest_answer manifest_canonical(const uint8_t *bytes, size_t bytes_length, size_t most, uint8_t *out,
+                                          size_t out_length);
 
 /* The same, completed over the folders: with the library, binaries, examples, tests, benches and build script that are
    found in them. */
 struct manifest_answer manifest_completed(const uint8_t *bytes, size_t bytes_length,
-                                          const struct manifest_folder *folders, size_t folders_length, uint8_t *out,
-                                          size_t out_length);
+                                          const struct manifest_folder *folders, size_t folders_length, size_t most,
+                                          uint8_t *out, size_t out_length);
 
 /* The same as the first, with what the manifest inherits from the workspace of `root` put in. `root` has the bytes of the
    Cargo.toml in which the workspace stands. */
 struct manifest_answer manifest_resolved(const uint8_t *bytes, size_t bytes_length, const uint8_t *root,
-                                         size_t root_length, uint8_t *out, size_t out_length);
+                                         size_t root_length, size_t most, uint8_t *out, size_t out_length);
 
 /* The same, resolved and then completed. */
 struct manifest_answer manifest_resolved_completed(const uint8_t *bytes, size_t bytes_length, const uint8_t *root,
                                                    size_t root_length, const struct manifest_folder *folders,
-                                                   size_t folders_length, uint8_t *out, size_t out_length);
+                                                   size_t folders_length, size_t most, uint8_t *out, size_t out_length);
 
 /* The table that the canonical text says, as tagged bytes. A value is a tag and what stands behind it:
 
@@ -200,50 +219,53 @@ struct manifest_answer manifest_resolved_completed(const uint8_t *bytes, size_t 
    for none, or 1 and a byte), and the nanosecond (0 for none, or 1 and a number). An offset is 0 for `Z`, 1 and the
    minutes ahead of UTC, or 2 and the minutes behind UTC less 1. `[package]` with `name = "a"` and `autobins = false` is
    8 1 7 `package` 8 2 8 `autobins` 4 4 `name` 1 1 `a`. */
-struct manifest_answer manifest_table(const uint8_t *bytes, size_t bytes_length, uint8_t *out, size_t out_length);
+struct manifest_answer manifest_table(const uint8_t *bytes, size_t bytes_length, size_t most, uint8_t *out,
+                                      size_t out_length);
 
 /* The tables that the texts of the other three calls say, in the same way. */
 struct manifest_answer manifest_completed_table(const uint8_t *bytes, size_t bytes_length,
                                                 const struct manifest_folder *folders, size_t folders_length,
-                                                uint8_t *out, size_t out_length);
+                                                size_t most, uint8_t *out, size_t out_length);
 
 struct manifest_answer manifest_resolved_table(const uint8_t *bytes, size_t bytes_length, const uint8_t *root,
-                                               size_t root_length, uint8_t *out, size_t out_length);
+                                               size_t root_length, size_t most, uint8_t *out, size_t out_length);
 
 struct manifest_answer manifest_resolved_completed_table(const uint8_t *bytes, size_t bytes_length, const uint8_t *root,
                                                          size_t root_length, const struct manifest_folder *folders,
-                                                         size_t folders_length, uint8_t *out, size_t out_length);
+                                                         size_t folders_length, size_t most, uint8_t *out,
+                                                         size_t out_length);
 
 /* The table that manifest_table gives, but that the metadata of the package and of the workspace is not looked at: where
    there is any, it is written as the empty table. So metadata refuses nothing, also where it has a float. */
-struct manifest_answer manifest_table_without_metadata(const uint8_t *bytes, size_t bytes_length, uint8_t *out,
-                                                       size_t out_length);
+struct manifest_answer manifest_table_without_metadata(const uint8_t *bytes, size_t bytes_length, size_t most,
+                                                       uint8_t *out, size_t out_length);
 
 /* The document that the bytes are, as a tagged table, whatever it means: all its keys as they stand. It may have floats:
 
       9  a float: its 64 bits as a number, 0x7ff8000000000000 for all that are not a number */
-struct manifest_answer manifest_document(const uint8_t *bytes, size_t bytes_length, uint8_t *out, size_t out_length);
+struct manifest_answer manifest_document(const uint8_t *bytes, size_t bytes_length, size_t most, uint8_t *out,
+                                         size_t out_length);
 
 /* Calls whose bytes are no text but a tagged table, such as manifest_table gives, or a program makes. A table has no old
    headers: its package is `package`. A float in it is refused as any other value that does not fit.
 
    The canonical text of its manifest. */
-struct manifest_answer manifest_canonical_of_table(const uint8_t *bytes, size_t bytes_length, uint8_t *out,
+struct manifest_answer manifest_canonical_of_table(const uint8_t *bytes, size_t bytes_length, size_t most, uint8_t *out,
                                                    size_t out_length);
 
 /* The tagged table of its manifest, completed over the folders. */
 struct manifest_answer manifest_completed_of_table(const uint8_t *bytes, size_t bytes_length,
                                                    const struct manifest_folder *folders, size_t folders_length,
-                                                   uint8_t *out, size_t out_length);
+                                                   size_t most, uint8_t *out, size_t out_length);
 
 /* The tagged table of its manifest, with what it inherits from the workspace of the root put in. The root's bytes are a
    tagged table too. */
 struct manifest_answer manifest_resolved_of_tables(const uint8_t *bytes, size_t bytes_length, const uint8_t *root,
-                                                   size_t root_length, uint8_t *out, size_t out_length);
+                                                   size_t root_length, size_t most, uint8_t *out, size_t out_length);
 
 /* The version of these calls and of the tagged bytes: MANIFEST_VERSION, where the library is of the same version as this
    header. */
-#define MANIFEST_VERSION 1
+#define MANIFEST_VERSION 2
 uint32_t manifest_version(void);
 
 /* What a request for memory answers. */

@@ -6,6 +6,9 @@
 #include <stdlib.h>
 #include <string.h>
 
+/* No text is as long that a person wrote the manifest of. */
+#define MOST ((size_t)1 << 26)
+
 static const struct manifest_bytes HERE = {(const uint8_t *)".", 1}, MANIFEST = {(const uint8_t *)"Cargo.toml", 10};
 
 /* A name, and the folder that it stands in. */
@@ -135,6 +138,10 @@ static void print_refusal(struct manifest_answer answer, const uint8_t *out)
         fputs("error: memory\n", stderr);
     else if (answer.status == MANIFEST_LISTINGS)
         fputs("error: the list of files is not UTF-8\n", stderr);
+    else if (answer.status == MANIFEST_TOO_DEEP)
+        fputs("error: too deep\n", stderr);
+    else if (answer.status == MANIFEST_TOO_LONG)
+        fputs("error: too long\n", stderr);
     else
         fprintf(stderr, "error: %.*s\n", length, text);
 }
@@ -146,7 +153,7 @@ static int print_completed(struct manifest_bytes manifest, const struct manifest
     uint8_t *out = NULL;
     size_t room = 0;
     /* (the first call tells how long the text is) */
-    while ((answer = manifest_completed(manifest.at, manifest.length, folders, count, out, room)).length > room) {
+    while ((answer = manifest_completed(manifest.at, manifest.length, folders, count, MOST, out, room)).length > room) {
         free(out);
         room = answer.length;
         out = room_for(room, 1);

@@ -99,21 +99,21 @@ static struct manifest_answer made(int call, uint8_t *out, size_t room)
     size_t length = sizeof OWN - 1, member_length = sizeof MEMBER - 1, root_length = sizeof ROOT - 1;
     switch (call) {
     case 0:
-        return manifest_canonical(own, length, out, room);
+        return manifest_canonical(own, length, SIZE_MAX, out, room);
     case 1:
-        return manifest_completed(own, length, FOLDERS, 2, out, room);
+        return manifest_completed(own, length, FOLDERS, 2, SIZE_MAX, out, room);
     case 2:
-        return manifest_resolved(member, member_length, root, root_length, out, room);
+        return manifest_resolved(member, member_length, root, root_length, SIZE_MAX, out, room);
     case 3:
-        return manifest_resolved_completed(member, member_length, root, root_length, FOLDERS, 2, out, room);
+        return manifest_resolved_completed(member, member_length, root, root_length, FOLDERS, 2, SIZE_MAX, out, room);
     case 4:
-        return manifest_table(own, length, out, room);
+        return manifest_table(own, length, SIZE_MAX, out, room);
     case 5:
-        return manifest_table_without_metadata(own, length, out, room);
+        return manifest_table_without_metadata(own, length, SIZE_MAX, out, room);
     case 6:
-        return manifest_document((const uint8_t *)INLINE, sizeof INLINE - 1, out, room);
+        return manifest_document((const uint8_t *)INLINE, sizeof INLINE - 1, SIZE_MAX, out, room);
     default:
-        return manifest_canonical_of_table((const uint8_t *)TABLE, sizeof TABLE - 1, out, room);
+        return manifest_canonical_of_table((const uint8_t *)TABLE, sizeof TABLE - 1, SIZE_MAX, out, room);
     }
 }
 
