@@ -29,14 +29,14 @@ struct Answer {
 }
 
 extern "C" {
-    fn manifest_table(bytes: *const u8, bytes_length: usize, out: *mut u8, out_length: usize) -> Answer;
+    fn manifest_table(bytes: *const u8, length: usize, most: usize, out: *mut u8, out_length: usize) -> Answer;
 }
 
 /// The library's call alone, without room for what it makes: it reads the text, and says how long its table would be.
 fn table_alone(bytes: &[u8]) -> usize {
     let mut out = 0;
     // SAFETY: both pointers are of as many bytes as is said.
-    let answer = unsafe { manifest_table(bytes.as_ptr(), bytes.len(), &mut out, 0) };
+    let answer = unsafe { manifest_table(bytes.as_ptr(), bytes.len(), usize::MAX, &mut out, 0) };
     assert!(answer.status == 0, "a table");
     answer.length
 }

@@ -2,7 +2,7 @@
 
 use crate::calls::{tables, Fault, Listings, Refusal};
 use crate::codec::Aside;
-use crate::error::refused;
+use crate::error::refused_table;
 use crate::reading::{decode, encode};
 use crate::{AbstractFilesystem, Error, Filesystem, Manifest, StringOrBool};
 use std::collections::BTreeSet;
@@ -89,7 +89,7 @@ fn library_is_found<FS>(table: &[u8], asked: &Asked<'_, FS>) -> Result<(), Error
     }
     let mut listings = asked.listings.clone();
     listings.put(".", [""; 0]);
-    tables::completed(table, &listings).map(drop).map_err(|refusal| refused(refusal, &[]))
+    tables::completed(table, &listings).map(drop).map_err(refused_table)
 }
 
 /// What was asked, up to the first folder that refuses the completion.
@@ -133,7 +133,7 @@ impl<FS: AbstractFilesystem> Asked<'_, FS> {
     fn refused(self, refusal: Refusal) -> Error {
         match (refusal, self.error) {
             (Refusal::Io(_), Some(error)) => Error::Io(error),
-            (refusal, _) => refused(refusal, &[]),
+            (refusal, _) => refused_table(refusal),
         }
     }
 }

@@ -1,6 +1,6 @@
 //! Why a manifest is refused.
 
-use crate::calls::{is_broken, Cause, Fault, Refusal};
+use crate::calls::{is_broken, Cause, Fault, Refusal, DEPTH_LIMIT};
 use crate::codec::{steps, Form, Misfit, Step};
 use crate::{Manifest, Package, Value};
 use std::borrow::Cow;
@@ -13,7 +13,7 @@ use std::str::Utf8Error;
 /// Why a manifest is not read, completed, resolved or written.
 #[derive(Debug)]
 pub enum Error {
-    /// The text is no TOML, or it is TOML and no manifest.
+    /// The text is no TOML, or it is TOML and no manifest, or it nests too deep.
     Parse(ParseError),
     /// A file or a folder cannot be read, or no memory is left.
     ///
@@ -78,7 +78,8 @@ impl From<Utf8Error> for Error {
     }
 }
 
-/// What is wrong with a text that is no TOML, or no manifest.
+/// What is wrong with a text that is no TOML, or no manifest, or that nests deeper than
+/// [`DEPTH_LIMIT`](crate::calls::DEPTH_LIMIT).
 ///
 /// ```
 /// use cargo_manifest::{Cause, Error, Manifest};
@@ -102,6 +103,8 @@ pub struct ParseError {
 enum At {
     Bytes(Range<usize>),
     Key(Cause, String),
+    /// The text as a whole.
+    Whole,
 }
 
 impl ParseError {
@@ -110,11 +113,12 @@ impl ParseError {
         &self.message
     }
 
-    /// Where in the bytes the text is no TOML. What is TOML and no manifest has a key path instead.
+    /// Where in the bytes the text is no TOML. What is TOML and no manifest has a key path instead, and what nests too deep
+    /// has neither.
     pub fn span(&self) -> Option<Range<usize>> {
         match &self.at {
             At::Bytes(range) => Some(range.clone()),
-            At::Key(..) => None,
+            At::Key(..) | At::Whole => None,
         }
     }
 
@@ -127,7 +131,7 @@ impl ParseError {
     /// The key path of what is wrong in a text that is TOML, as `package.authors[0]`.
     pub fn key_path(&self) -> Option<&str> {
         match &self.at {
-            At::Bytes(_) => None,
+            At::Bytes(_) | At::Whole => None,
             At::Key(_, path) => Some(path),
         }
     }
@@ -135,7 +139,7 @@ impl ParseError {
     /// Why the value at the key path does not fit.
     pub fn cause(&self) -> Option<Cause> {
         match &self.at {
-            At::Bytes(_) => None,
+            At::Bytes(_) | At::Whole => None,
             At::Key(cause, _) => Some(*cause),
         }
     }
@@ -203,6 +207,11 @@ fn wanted_at(path: &str) -> Option<Cow<'static, str>> {
     of_manifest.or_else(|| Package::<Value>::wanted_at(package))
 }
 
+/// What is said of what nests too deep.
+pub(crate) fn too_deep() -> String {
+    format!("it nests too deep: at most {DEPTH_LIMIT} arrays and tables can stand in one another")
+}
+
 /// The error of a refusal of these bytes, and of those of the workspace's root.
 pub(crate) fn refused(refusal: Refusal, bytes: &[u8]) -> Error {
     match refusal {
@@ -215,6 +224,7 @@ pub(crate) fn refused(refusal: Refusal, bytes: &[u8]) -> Error {
             let wanted = wanted_at(&path);
             Error::Parse(ParseError::of_key(cause, path, wanted))
         }
+        Refusal::TooDeep(_) => Error::Parse(ParseError { message: too_deep(), at: At::Whole }),
         Refusal::Utf8(_) => match std::str::from_utf8(bytes) {
             Err(error) => Error::Utf8(error),
             Ok(_) => is_broken(),
@@ -224,6 +234,14 @@ pub(crate) fn refused(refusal: Refusal, bytes: &[u8]) -> Error {
         Refusal::Io(Fault::OutOfMemory) | Refusal::Memory => Error::Io(io::ErrorKind::OutOfMemory.into()),
         Refusal::Other(text) | Refusal::Date(text) => Error::Other(text),
         other => Error::Other(sentence(&other)),
+    }
+}
+
+/// The error of a refusal of a table that was made of a manifest.
+pub(crate) fn refused_table(refusal: Refusal) -> Error {
+    match refusal {
+        Refusal::TooDeep(_) => Error::Other(too_deep()),
+        other => refused(other, &[]),
     }
 }
 

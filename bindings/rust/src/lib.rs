@@ -115,11 +115,13 @@
 //! Nothing is kept between calls, so each may be made from any thread at any time. Where no memory is left for the library,
 //! the error is [`Error::Io`] of the kind `OutOfMemory`.
 //!
-//! A call takes the more stack the deeper its text nests tables, and a thread that has less is ended by the system. A usual
-//! manifest takes less than 200 kB. A text of 13 kB can nest so deep that it takes 3.2 MB to be read, and 6.2 MB to be
-//! written; and in a debug build 5.4 MB to be read, and 11.8 MB to be copied or written. So a thread that handles the
-//! manifests of others should have 8 MB, and in a debug build 16 MB (`std::thread::Builder::stack_size`), or bound their
-//! length.
+//! What nests more than 128 deep, or has brackets and dotted keys by which it could, is refused
+//! ([`DEPTH_LIMIT`](calls::DEPTH_LIMIT)). So 256 KiB of stack are enough for each call of the library, and 512 KiB to read,
+//! copy, compare, print, write and drop a [`Manifest`] that was read, in a debug build too. (Values that a program makes itself
+//! may nest deeper: they are dropped, copied and compared as deep as they go, and refused where they are written.)
+//!
+//! The canonical text of a manifest can be as long as the square of what it is read of, since a header repeats the keys above
+//! it. [`AtMost`](calls::AtMost) bounds it.
 //!
 //! # Features
 //!

@@ -2,7 +2,7 @@
 
 use crate::calls::tables;
 use crate::codec::{Aside, Members, Writer};
-use crate::error::refused;
+use crate::error::refused_table;
 use crate::reading::encode;
 use crate::{Error, Manifest, Workspace};
 
@@ -29,7 +29,7 @@ impl<PackageMetadata, WorkspaceMetadata> Manifest<PackageMetadata, WorkspaceMeta
         members.push("workspace", workspace);
         members.encode(&mut writer);
         let (root, _) = writer.finish().map_err(Error::Other)?;
-        let resolved = tables::resolved(&member, &root).map_err(|refusal| refused(refusal, &[]))?;
+        let resolved = tables::resolved(&member, &root).map_err(refused_table)?;
         self.replace(&resolved);
         Ok(())
     }

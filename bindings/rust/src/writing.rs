@@ -1,8 +1,8 @@
 //! Writing a manifest: the proved call, and metadata with floats behind its text.
 
-use crate::calls::{is_broken, tables};
+use crate::calls::{is_broken, tables, DEPTH_LIMIT};
 use crate::codec::Aside;
-use crate::error::refused;
+use crate::error::{refused, refused_table, too_deep};
 use crate::metadata::WrittenMetadata;
 use crate::reading::encode;
 use crate::value::{decoded, inline, Value};
@@ -17,7 +17,8 @@ impl<PackageMetadata: WrittenMetadata, WorkspaceMetadata: WrittenMetadata>
     /// is tested and not proved.
     ///
     /// A manifest that no table can hold is an [`Error::Other`]: a custom profile named as one of the other fields of
-    /// [`Profiles`](crate::Profiles), a tool of `lints` named `workspace`, and a float outside of metadata.
+    /// [`Profiles`](crate::Profiles), a tool of `lints` named `workspace`, a float outside of metadata, and values that nest
+    /// deeper than [`DEPTH_LIMIT`](crate::calls::DEPTH_LIMIT).
     ///
     /// ```
     /// use cargo_manifest::{Manifest, Package, Product};
@@ -41,9 +42,13 @@ impl<PackageMetadata: WrittenMetadata, WorkspaceMetadata: WrittenMetadata>
         let holds_float = |value: &mut Value| value.holds_float();
         let behind =
             [("package", aside.package.take_if(holds_float)), ("workspace", aside.workspace.take_if(holds_float))];
-        let mut text = tables::canonical(&encode(self, aside)?).map_err(|refusal| refused(refusal, &[]))?;
+        let mut text = tables::canonical(&encode(self, aside)?).map_err(refused_table)?;
         for (table, metadata) in behind {
             if let Some(metadata) = metadata {
+                // (the table of the header stands around it)
+                if metadata.depth() > DEPTH_LIMIT - 1 {
+                    return Err(Error::Other(too_deep()));
+                }
                 put_metadata(&mut text, table, &metadata);
             }
         }

@@ -2,7 +2,7 @@
 
 use cargo_manifest::calls::{canonical, completed, resolved, resolved_completed, table};
 use cargo_manifest::calls::{completed_table, resolved_completed_table, resolved_table};
-use cargo_manifest::calls::{Cause, Fault, Listings, Part, Refusal};
+use cargo_manifest::calls::{AtMost, Cause, Fault, Listings, Part, Refusal};
 use cargo_manifest::{Date, Datetime, Offset, Time, Value};
 use std::fs;
 use std::io::{Error as IoError, ErrorKind};
@@ -96,8 +96,10 @@ fn nested(depth: usize) -> Result<String, Refusal> {
 #[test]
 fn nesting_on_a_small_stack() {
     assert!(nested(20).unwrap().contains(&format!("a = {}{}", "[".repeat(20), "]".repeat(20))));
+    // more than 80 brackets in one another are not read, and of many more that is told before they are
+    assert!(matches!(nested(200), Err(Refusal::Toml { .. })));
     for depth in [1_000, 1_000_000] {
-        assert!(matches!(nested(depth), Err(Refusal::Toml { .. })), "{depth}");
+        assert_eq!(nested(depth), Err(Refusal::TooDeep(Part::Manifest)), "{depth}");
     }
 }
 
@@ -256,4 +258,82 @@ fn the_tables_of_the_other_calls() {
     assert_eq!(resolved_table(member, member), Err(Refusal::NoWorkspace));
     let missed = Err(Refusal::Io(Fault::NotFound));
     assert_eq!(resolved_completed_table(member, root, &Listings::new()), missed);
+}
+
+/// What each call answers to these, as text where that is what it gives, in so many bytes at most.
+fn each(most: usize, bytes: &[u8], root: &[u8]) -> [Result<String, Refusal>; 8] {
+    let (call, listings) = (AtMost(most), with_library());
+    let debug = |value: Result<Value, Refusal>| value.map(|value| format!("{value:?}"));
+    [
+        call.canonical(bytes),
+        call.completed(bytes, &listings),
+        call.resolved(bytes, root),
+        call.resolved_completed(bytes, root, &listings),
+        debug(call.table(bytes)),
+        debug(call.completed_table(bytes, &listings)),
+        debug(call.resolved_table(bytes, root)),
+        debug(call.resolved_completed_table(bytes, root, &listings)),
+    ]
+}
+
+#[test]
+fn a_bound_on_what_is_answered() {
+    let listings = with_library();
+    let unbound = [
+        canonical(MEMBER),
+        completed(MEMBER, &listings),
+        resolved(MEMBER, ROOT),
+        resolved_completed(MEMBER, ROOT, &listings),
+    ];
+    assert_eq!(each(usize::MAX, MEMBER, ROOT)[..4], unbound);
+    assert_eq!(each(1 << 12, MEMBER, ROOT), each(usize::MAX, MEMBER, ROOT));
+    for most in [0, 32] {
+        assert_eq!(each(most, MEMBER, ROOT), [const { Err(Refusal::TooLong) }; 8]);
+    }
+    for (which, text) in unbound.iter().enumerate() {
+        let most = text.as_ref().unwrap().len() - 1;
+        assert_eq!(each(most, MEMBER, ROOT)[which], Err(Refusal::TooLong));
+    }
+    // what refuses before is told whatever the bound is
+    for (bytes, root) in [(&b""[..], ROOT), (b"\xff", ROOT), (b"[package", ROOT), (MEMBER, b"[workspace]\nmembers = 1")]
+    {
+        assert_eq!(each(0, bytes, root)[3], each(usize::MAX, bytes, root)[3]);
+        assert!(each(0, bytes, root)[3] != Err(Refusal::TooLong));
+    }
+}
+
+#[test]
+fn the_bound_on_a_table_is_that_on_its_tagged_bytes() {
+    // 8 1 7 `package` 8 1 4 `name` 1 1 `p`
+    let text = b"[package]\nname = 'p'\n";
+    assert_eq!(AtMost(20).table(text), table(text));
+    assert_eq!(AtMost(19).table(text), Err(Refusal::TooLong));
+}
+
+#[test]
+fn a_long_key_above_many_tables_is_bounded() {
+    let tables: String = (0..1_000).map(|number| format!("t{number} = {{}}\n")).collect();
+    let below = |key: &str| format!("[package]\nname = 'p'\n[package.metadata.{key}]\n{tables}").into_bytes();
+    let (long, short) = (below(&"k".repeat(1_000)), below("k"));
+    // the header of each table has the key again
+    assert!(long.len() < 16_000 && canonical(&long).unwrap().len() > 1_000_000);
+    assert_eq!(AtMost(1 << 16).canonical(&long), Err(Refusal::TooLong));
+    assert!(AtMost(1 << 16).canonical(&short).is_ok() && AtMost(1 << 16).table(&long).is_ok());
+}
+
+#[test]
+fn what_nests_too_deep() {
+    // brackets that are open at one place, dots in a row, and a header and a key that make 129 tables in one another
+    let brackets = format!("a = {}", "[".repeat(510));
+    let dots = format!("a{} = 1", ".a".repeat(170));
+    let table = format!("[a{}]\na{} = 1", ".a".repeat(79), ".a".repeat(49));
+    for deep in [brackets, dots, table].map(String::into_bytes) {
+        assert_eq!(each(usize::MAX, &deep, ROOT), [const { Err(Refusal::TooDeep(Part::Manifest)) }; 8]);
+        let of_root = each(usize::MAX, MEMBER, &deep);
+        for which in [2, 3, 6, 7] {
+            assert_eq!(of_root[which], Err(Refusal::TooDeep(Part::Root)));
+        }
+    }
+    assert_eq!(Refusal::TooDeep(Part::Root).to_string(), "root: too deep");
+    assert_eq!(Refusal::TooLong.to_string(), "too long");
 }

@@ -284,6 +284,28 @@ fn errors_say_what_is_wrong_where_and_what_is_wanted() {
 }
 
 #[test]
+fn what_nests_too_deep() {
+    let text = format!("[package]\nname = 'p'\nmetadata = {}", "[".repeat(600));
+    let error = parse_error(text.as_bytes());
+    assert_eq!(error.to_string(), "it nests too deep: at most 128 arrays and tables can stand in one another");
+    assert_eq!((error.span(), error.line_column(text.as_bytes())), (None, None));
+    assert_eq!((error.key_path(), error.cause()), (None, None));
+    // what is made of values is refused where it is written
+    let with = |metadata| {
+        let mut manifest: Manifest = "[package]\nname = 'p'\nedition = '2021'\n".parse().unwrap();
+        manifest.package.as_mut().unwrap().metadata = Some(metadata);
+        manifest
+    };
+    let is_too_deep = |error: &Error| matches!(error, Error::Other(text) if text.starts_with("it nests too deep: "));
+    for inner in [Value::from(1), Value::from(1.5)] {
+        let around = |count: usize| (0..count).fold(inner.clone(), |value, _| vec![value].into());
+        // (that of the package and 127 arrays)
+        assert!(with(around(127)).to_toml_string().is_ok());
+        assert!(is_too_deep(&with(around(128)).to_toml_string().unwrap_err()));
+    }
+}
+
+#[test]
 fn errors_of_other_kinds() {
     let text = "[package]\nname = 'é' =\n".as_bytes();
     let error = parse_error(text);
@@ -314,23 +336,4 @@ fn what_is_shared_between_threads() {
             });
         }
     });
-}
-
-/// Tables in one another, as deep as the reader of TOML takes a short text.
-#[test]
-fn deep_metadata_on_8_megabytes_of_stack() {
-    let key = vec!["a"; 80].join(".");
-    let (open, close) = (format!("{{{key} = ").repeat(79), "}".repeat(79));
-    let text = format!("[package]\nname = 'p'\n[package.metadata]\na = {open}1{close}\n");
-    let run = move || {
-        let manifest: Manifest = text.parse().unwrap();
-        let mut depth = 0;
-        let mut value = manifest.package.as_ref().and_then(|package| package.metadata.as_ref());
-        while let Some(inner) = value.and_then(|value| value.get("a")) {
-            value = Some(inner);
-            depth += 1;
-        }
-        assert_eq!((depth, value.and_then(Value::as_integer)), (79 * 80 + 1, Some(1)));
-    };
-    std::thread::Builder::new().stack_size(8 << 20).spawn(run).unwrap().join().unwrap();
 }

@@ -19,32 +19,18 @@ pub(crate) struct Answer {
 // The signatures of `bindings/c/cargo_manifest.h`. No tool compares them: `scripts/library` compares the
 // sizes and offsets of the two, and runs both.
 extern "C" {
-    pub(crate) fn manifest_canonical(bytes: *const u8, bytes_length: usize, out: *mut u8, out_length: usize) -> Answer;
-    pub(crate) fn manifest_table(bytes: *const u8, bytes_length: usize, out: *mut u8, out_length: usize) -> Answer;
     fn manifest_version() -> u32;
-    pub(crate) fn manifest_table_without_metadata(
-        bytes: *const u8,
-        bytes_length: usize,
-        out: *mut u8,
-        out_length: usize,
-    ) -> Answer;
-    pub(crate) fn manifest_document(bytes: *const u8, bytes_length: usize, out: *mut u8, out_length: usize) -> Answer;
-    pub(crate) fn manifest_canonical_of_table(
-        table: *const u8,
-        table_length: usize,
-        out: *mut u8,
-        out_length: usize,
-    ) -> Answer;
 }
 
-/// Declares calls that take a root, folders or both, in this order, between the bytes and `out`.
+/// Declares calls that take a root, folders or both, in this order, between the bytes and `most`.
 macro_rules! declared {
-    ($($name:ident($($slice:ident: $item:ty, $length:ident),+);)+) => {
+    ($($name:ident($($slice:ident: $item:ty, $length:ident),*);)+) => {
         extern "C" {
-            $(fn $name(
+            $(pub(crate) fn $name(
                 bytes: *const u8,
                 bytes_length: usize,
-                $($slice: *const $item, $length: usize,)+
+                $($slice: *const $item, $length: usize,)*
+                most: usize,
                 out: *mut u8,
                 out_length: usize,
             ) -> Answer;)+
@@ -53,6 +39,11 @@ macro_rules! declared {
 }
 
 declared! {
+    manifest_canonical();
+    manifest_table();
+    manifest_table_without_metadata();
+    manifest_document();
+    manifest_canonical_of_table();
     manifest_completed(folders: Folder, folders_length);
     manifest_completed_table(folders: Folder, folders_length);
     manifest_resolved(root: u8, root_length);
@@ -86,7 +77,7 @@ pub(crate) fn text_of(bytes: Vec<u8>) -> String {
 
 /// The error of an answer that gives no text.
 fn refused(answer: Answer, text: Vec<u8>) -> Refusal {
-    let part = if answer.status >= 16 { Part::Root } else { Part::Manifest };
+    let part = if (16..32).contains(&answer.status) { Part::Root } else { Part::Manifest };
     match answer.status {
         1 | 17 => Refusal::Toml { part, message: text_of(text), range: answer.start..answer.end },
         2 | 18 => match Cause::of_number(answer.cause) {
@@ -108,6 +99,8 @@ fn refused(answer: Answer, text: Vec<u8>) -> Refusal {
         12 => Refusal::MixedLints,
         13 => Refusal::ToolNamedWorkspace,
         14 | 30 => Refusal::Untagged(part),
+        15 | 31 => Refusal::TooDeep(part),
+        32 => Refusal::TooLong,
         _ => is_broken(),
     }
 }
@@ -119,7 +112,7 @@ fn version() -> u32 {
 }
 
 /// The version of the calls that this crate is written for.
-const VERSION: u32 = 1;
+const VERSION: u32 = 2;
 
 /// Compares the versions of this crate and of the archive, at the first call.
 fn version_fits() {
@@ -128,6 +121,9 @@ fn version_fits() {
         is_broken();
     }
 }
+
+/// What `most` is where a text may be of any length.
+pub(crate) const ANY: usize = usize::MAX;
 
 /// Calls with memory for this many bytes, and once more where the text takes more. `run` gets a pointer to so many
 /// bytes that are set.
@@ -163,8 +159,8 @@ pub(super) fn room_for_table(bytes: usize) -> usize {
     bytes.saturating_add(bytes / 8).saturating_add(256)
 }
 
-/// What is asked for of the manifest that the bytes are.
-pub(crate) fn read(output: Output, bytes: &[u8]) -> Result<Vec<u8>, Refusal> {
+/// What is asked for of the manifest that the bytes are, in so many bytes at most.
+pub(crate) fn read(output: Output, bytes: &[u8], most: usize) -> Result<Vec<u8>, Refusal> {
     let call = match output {
         Output::Text => manifest_canonical,
         Output::Table => manifest_table,
@@ -173,35 +169,35 @@ pub(crate) fn read(output: Output, bytes: &[u8]) -> Result<Vec<u8>, Refusal> {
         Output::Text => room_for(bytes.len(), 0),
         Output::Table => room_for_table(bytes.len()),
     };
-    bytes_of(room, |out, room| {
+    bytes_of(room.min(most), |out, room| {
         // SAFETY: both pointers are of slices that live through the call and do not overlap, with their lengths.
-        unsafe { call(bytes.as_ptr(), bytes.len(), out, room) }
+        unsafe { call(bytes.as_ptr(), bytes.len(), most, out, room) }
     })
 }
 
 /// The same, completed over listings.
-pub(crate) fn complete(output: Output, bytes: &[u8], listings: &Listings) -> Result<Vec<u8>, Refusal> {
+pub(crate) fn complete(output: Output, bytes: &[u8], listings: &Listings, most: usize) -> Result<Vec<u8>, Refusal> {
     let call = match output {
         Output::Text => manifest_completed,
         Output::Table => manifest_completed_table,
     };
     with_folders(listings, |folders| {
-        bytes_of(room_for(bytes.len(), listings.len()), |out, room| {
+        bytes_of(room_for(bytes.len(), listings.len()).min(most), |out, room| {
             // SAFETY: as in `read`; so do the slices that the folders hold.
-            unsafe { call(bytes.as_ptr(), bytes.len(), folders.as_ptr(), folders.len(), out, room) }
+            unsafe { call(bytes.as_ptr(), bytes.len(), folders.as_ptr(), folders.len(), most, out, room) }
         })
     })
 }
 
 /// The same, with what it inherits from the workspace of the root put in.
-pub(crate) fn resolve(output: Output, bytes: &[u8], root: &[u8]) -> Result<Vec<u8>, Refusal> {
+pub(crate) fn resolve(output: Output, bytes: &[u8], root: &[u8], most: usize) -> Result<Vec<u8>, Refusal> {
     let call = match output {
         Output::Text => manifest_resolved,
         Output::Table => manifest_resolved_table,
     };
-    bytes_of(room_for(bytes.len().saturating_add(root.len()), 0), |out, room| {
+    bytes_of(room_for(bytes.len().saturating_add(root.len()), 0).min(most), |out, room| {
         // SAFETY: as in `read`.
-        unsafe { call(bytes.as_ptr(), bytes.len(), root.as_ptr(), root.len(), out, room) }
+        unsafe { call(bytes.as_ptr(), bytes.len(), root.as_ptr(), root.len(), most, out, room) }
     })
 }
 
@@ -211,36 +207,38 @@ pub(crate) fn resolve_and_complete(
     bytes: &[u8],
     root: &[u8],
     listings: &Listings,
+    most: usize,
 ) -> Result<Vec<u8>, Refusal> {
     let call = match output {
         Output::Text => manifest_resolved_completed,
         Output::Table => manifest_resolved_completed_table,
     };
     with_folders(listings, |folders| {
-        bytes_of(room_for(bytes.len().saturating_add(root.len()), listings.len()), |out, room| {
+        bytes_of(room_for(bytes.len().saturating_add(root.len()), listings.len()).min(most), |out, room| {
             let (at, count) = (folders.as_ptr(), folders.len());
             // SAFETY: as in `complete`.
-            unsafe { call(bytes.as_ptr(), bytes.len(), root.as_ptr(), root.len(), at, count, out, room) }
+            unsafe { call(bytes.as_ptr(), bytes.len(), root.as_ptr(), root.len(), at, count, most, out, room) }
         })
     })
 }
 
 /// A call that takes one slice.
-type OnSlice = unsafe extern "C" fn(*const u8, usize, *mut u8, usize) -> Answer;
+type OnSlice = unsafe extern "C" fn(*const u8, usize, usize, *mut u8, usize) -> Answer;
 
 /// What a call answers that takes one slice.
 pub(crate) fn of_text(call: OnSlice, bytes: &[u8]) -> Result<Vec<u8>, Refusal> {
     bytes_of(room_for(bytes.len(), 0), |out, room| {
         // SAFETY: as in `read`.
-        unsafe { call(bytes.as_ptr(), bytes.len(), out, room) }
+        unsafe { call(bytes.as_ptr(), bytes.len(), ANY, out, room) }
     })
 }
 
 /// A table, completed over folders that have so many names.
 pub(crate) fn of_table(table: &[u8], folders: &[Folder], names: usize) -> Result<Vec<u8>, Refusal> {
     bytes_of(room_for(table.len(), names), |out, room| {
+        let (at, count) = (folders.as_ptr(), folders.len());
         // SAFETY: as in `complete`.
-        unsafe { manifest_completed_of_table(table.as_ptr(), table.len(), folders.as_ptr(), folders.len(), out, room) }
+        unsafe { manifest_completed_of_table(table.as_ptr(), table.len(), at, count, ANY, out, room) }
     })
 }
 
@@ -248,6 +246,6 @@ pub(crate) fn of_table(table: &[u8], folders: &[Folder], names: usize) -> Result
 pub(crate) fn of_tables(member: &[u8], root: &[u8]) -> Result<Vec<u8>, Refusal> {
     bytes_of(room_for(member.len().saturating_add(root.len()), 0), |out, room| {
         // SAFETY: as in `read`.
-        unsafe { manifest_resolved_of_tables(member.as_ptr(), member.len(), root.as_ptr(), root.len(), out, room) }
+        unsafe { manifest_resolved_of_tables(member.as_ptr(), member.len(), root.as_ptr(), root.len(), ANY, out, room) }
     })
 }

@@ -8,10 +8,10 @@
 //! # Ok::<(), calls::Refusal>(())
 //! ```
 //!
-//! Nothing of a manifest is kept between calls, so each may be made from any thread, also while others run; not from a
-//! signal handler, nor from the forked child of a process that has threads. A call takes the more stack the deeper its text
-//! nests tables: `LIBRARY.md` says how much that may be.
+//! Nothing is kept between calls, so each may be made from any thread at any time. 256 KiB of stack are enough for each of
+//! them, whatever its bytes are: what nests too deep is refused. How long an answer may be [`AtMost`] bounds.
 
+mod at_most;
 mod declared;
 mod folders;
 #[cfg(test)]
@@ -23,29 +23,30 @@ pub(crate) mod tables;
 mod tests;
 
 use crate::value::{decoded, Value};
+pub use at_most::AtMost;
 pub(crate) use declared::is_broken;
-use declared::{complete, read, resolve, resolve_and_complete, text_of, Output};
+use declared::ANY;
 pub use listings::Listings;
-pub use refusal::{Cause, Fault, Part, Refusal};
+pub use refusal::{Cause, Fault, Part, Refusal, DEPTH_LIMIT};
 
 /// The canonical text of the manifest that the bytes are.
 pub fn canonical(bytes: &[u8]) -> Result<String, Refusal> {
-    read(Output::Text, bytes).map(text_of)
+    AtMost(ANY).canonical(bytes)
 }
 
 /// The canonical text of the manifest that the bytes are, completed over listings.
 pub fn completed(bytes: &[u8], listings: &Listings) -> Result<String, Refusal> {
-    complete(Output::Text, bytes, listings).map(text_of)
+    AtMost(ANY).completed(bytes, listings)
 }
 
 /// The canonical text of the manifest that the bytes are, with what it inherits from the workspace of the root put in.
 pub fn resolved(bytes: &[u8], root: &[u8]) -> Result<String, Refusal> {
-    resolve(Output::Text, bytes, root).map(text_of)
+    AtMost(ANY).resolved(bytes, root)
 }
 
 /// The same, resolved and then completed.
 pub fn resolved_completed(bytes: &[u8], root: &[u8], listings: &Listings) -> Result<String, Refusal> {
-    resolve_and_complete(Output::Text, bytes, root, listings).map(text_of)
+    AtMost(ANY).resolved_completed(bytes, root, listings)
 }
 
 /// What a document is whose metadata the library cannot keep, as tagged bytes.
@@ -72,20 +73,20 @@ fn value_of(table: Vec<u8>) -> Value {
 /// # Ok::<(), cargo_manifest::calls::Refusal>(())
 /// ```
 pub fn table(bytes: &[u8]) -> Result<Value, Refusal> {
-    read(Output::Table, bytes).map(value_of)
+    AtMost(ANY).table(bytes)
 }
 
 /// The table of the completed manifest: what [`completed`] says, by values.
 pub fn completed_table(bytes: &[u8], listings: &Listings) -> Result<Value, Refusal> {
-    complete(Output::Table, bytes, listings).map(value_of)
+    AtMost(ANY).completed_table(bytes, listings)
 }
 
 /// The table of the resolved manifest: what [`resolved`] says, by values.
 pub fn resolved_table(bytes: &[u8], root: &[u8]) -> Result<Value, Refusal> {
-    resolve(Output::Table, bytes, root).map(value_of)
+    AtMost(ANY).resolved_table(bytes, root)
 }
 
 /// The table of the resolved and completed manifest: what [`resolved_completed`] says, by values.
 pub fn resolved_completed_table(bytes: &[u8], root: &[u8], listings: &Listings) -> Result<Value, Refusal> {
-    resolve_and_complete(Output::Table, bytes, root, listings).map(value_of)
+    AtMost(ANY).resolved_completed_table(bytes, root, listings)
 }

@@ -107,6 +107,14 @@ impl fmt::Display for Fault {
     }
 }
 
+/// How deep arrays and tables may stand in one another, the whole table not counted: `a = [{}]` is 2 deep.
+///
+/// A text is refused before it is read where (B + 3) * (D + 1) is more than 512: B is how many brackets, `[` and `{`, are open
+/// at one place at most, and D how many dots stand in a row at most, behind the last `,`, `=`, `[`, `{` or line end. Those in
+/// strings and comments are not counted, nor any behind the first string that does not end or character that TOML has in
+/// these alone.
+pub const DEPTH_LIMIT: usize = 128;
+
 /// What a call refuses with.
 #[derive(Clone, Debug, PartialEq, Eq)]
 #[non_exhaustive]
@@ -151,6 +159,11 @@ pub enum Refusal {
     ToolNamedWorkspace,
     /// The bytes are not the tagged bytes of a table.
     Untagged(Part),
+    /// Arrays and tables stand in one another deeper than [`DEPTH_LIMIT`], or the text has brackets and dotted keys by which
+    /// they could.
+    TooDeep(Part),
+    /// What is asked for could take more bytes than [`AtMost`](super::AtMost) allows.
+    TooLong,
 }
 
 impl fmt::Display for Refusal {
@@ -168,6 +181,8 @@ impl fmt::Display for Refusal {
             Refusal::MixedLints => f.write_str("mixed lints"),
             Refusal::ToolNamedWorkspace => f.write_str("tool named workspace"),
             Refusal::Untagged(part) => write!(f, "{part}untagged"),
+            Refusal::TooDeep(part) => write!(f, "{part}too deep"),
+            Refusal::TooLong => f.write_str("too long"),
         }
     }
 }

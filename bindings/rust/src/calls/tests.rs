@@ -21,7 +21,7 @@ const FIVE: [&[u8]; 5] = [
 fn call(bytes: &[u8], room: usize) -> (Answer, Vec<u8>) {
     let mut out = vec![0xAA; room + 8];
     // SAFETY: both pointers are of slices that live through the call and do not overlap; `room` is at most the length.
-    let answer = unsafe { manifest_canonical(bytes.as_ptr(), bytes.len(), out.as_mut_ptr(), room) };
+    let answer = unsafe { manifest_canonical(bytes.as_ptr(), bytes.len(), usize::MAX, out.as_mut_ptr(), room) };
     (answer, out)
 }
 

@@ -257,4 +257,19 @@ impl Value {
         }
         false
     }
+
+    /// How deep arrays and tables stand in one another.
+    pub(crate) fn depth(&self) -> usize {
+        let mut deepest = 0;
+        let mut left = vec![(self, 1)];
+        while let Some((value, depth)) = left.pop() {
+            match value {
+                Value::Array(items) => left.extend(items.iter().map(|item| (item, depth + 1))),
+                Value::Table(members) => left.extend(members.values().map(|member| (member, depth + 1))),
+                _ => continue,
+            }
+            deepest = deepest.max(depth);
+        }
+        deepest
+    }
 }
