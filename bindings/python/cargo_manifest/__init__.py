@@ -7,10 +7,8 @@
 Nothing is kept between calls, so each may be made from any thread at any time. Other threads of Python run on
 meanwhile.
 
-A call takes the more stack the deeper its text nests tables: up to some 3.3 MB for the deepest text that is read,
-which takes 21 kB. The main thread and those of `threading` have 8 MB on Linux with glibc, unless `ulimit -s` or
-`threading.stack_size` says otherwise. A thread that runs out of stack ends the whole process, so a thread that reads
-what others wrote has to have 8 MB.
+256 KiB of stack are enough for each call, whatever it is handed: what nests too deep is refused. Each takes a keyword
+`most`, how many bytes it may give.
 """
 from ._calls import canonical, completed, completed_table, resolved, resolved_completed
 from ._calls import resolved_completed_table, resolved_table, table

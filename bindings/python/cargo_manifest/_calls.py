@@ -13,27 +13,31 @@ from ._tagged import decoded
 from ._texts import Text, bytes_of, listings_of
 
 
-def canonical(manifest: Text) -> str:
+def canonical(manifest: Text, *, most: Optional[int] = None) -> str:
     r"""The canonical text of a manifest: only the keys that a manifest has, each by its first spelling, in one order.
 
     `manifest` is the text, as `bytes`, `bytearray`, `memoryview` or `str`; or the path of a file that is read, as
     `pathlib.Path`.
 
-    Raises `ManifestError` where the text is no manifest, the `OSError` of a file that cannot be read, and
-    `MemoryError` where no memory is left.
+    `most` is how many bytes the canonical text may take, as UTF-8. Some kilobytes can mean many megabytes, as where a
+    long key stands above many tables. What is compared is a bound on the length: the keys and the values, and a header
+    of its whole path for each table.
+
+    Raises `ManifestError` where the text is no manifest, nests too deep or could give more than `most`; the `OSError`
+    of a file that cannot be read; and `MemoryError` where no memory is left.
 
     >>> print(canonical("name = 'a'\nedition = '2021'"), end="")
     [package]
     edition = "2021"
     name = "a"
     """
-    return utf8(answered(manifest_canonical, bytes_of(manifest, "manifest")))
+    return utf8(answered(manifest_canonical, most, bytes_of(manifest, "manifest")))
 
 
-def completed(manifest: Text, folders: Optional[Folders] = None) -> str:
+def completed(manifest: Text, folders: Optional[Folders] = None, *, most: Optional[int] = None) -> str:
     """The canonical text of a manifest, completed with the targets and the build script that its folders show.
 
-    `manifest` is as in `canonical`. `folders` says what stands beside it, in one of three ways:
+    `manifest` and `most` are as in `canonical`. `folders` says what stands beside it, in one of three ways:
 
     - the path of the manifest's folder on the disk, a `str` or as `pathlib.Path`;
     - a mapping from the path of each folder, as `"src"` and `"src/bin"`, and `"."` for the manifest's own, to the names
@@ -62,13 +66,13 @@ def completed(manifest: Text, folders: Optional[Folders] = None) -> str:
     name = "a-b"
     """
     given = bytes_of(manifest, "manifest")
-    return utf8(answered(manifest_completed, given, listings=listings_of(manifest, folders)))
+    return utf8(answered(manifest_completed, most, given, listings=listings_of(manifest, folders)))
 
 
-def resolved(manifest: Text, root: Text) -> str:
+def resolved(manifest: Text, root: Text, *, most: Optional[int] = None) -> str:
     """The canonical text of a manifest, with what it inherits from its workspace put in.
 
-    `manifest` is as in `canonical`, and so is `root`, the manifest that has the workspace.
+    `manifest` and `most` are as in `canonical`, and so is `root`, the manifest that has the workspace.
 
     Raises what `canonical` does, for the root too: its errors have the `part` `"root"`. `ManifestError` is raised also
     where the root has no workspace, or where that does not have what is inherited.
@@ -79,10 +83,12 @@ def resolved(manifest: Text, root: Text) -> str:
     name = "a"
     version = "2.0.0"
     """
-    return utf8(answered(manifest_resolved, bytes_of(manifest, "manifest"), bytes_of(root, "root")))
+    return utf8(answered(manifest_resolved, most, bytes_of(manifest, "manifest"), bytes_of(root, "root")))
 
 
-def resolved_completed(manifest: Text, root: Text, folders: Optional[Folders] = None) -> str:
+def resolved_completed(
+    manifest: Text, root: Text, folders: Optional[Folders] = None, *, most: Optional[int] = None
+) -> str:
     """The canonical text of a manifest, first resolved as by `resolved` and then completed as by `completed`.
 
     Raises what these two do.
@@ -101,17 +107,18 @@ def resolved_completed(manifest: Text, root: Text, folders: Optional[Folders] = 
     name = "a"
     """
     given, lent = bytes_of(manifest, "manifest"), bytes_of(root, "root")
-    return utf8(answered(manifest_resolved_completed, given, lent, listings_of(manifest, folders)))
+    return utf8(answered(manifest_resolved_completed, most, given, lent, listings_of(manifest, folders)))
 
 
-def table(manifest: Text) -> dict[str, Any]:
+def table(manifest: Text, *, most: Optional[int] = None) -> dict[str, Any]:
     r"""What the canonical text of a manifest says, by values, as `tomllib.loads` makes them of a text.
 
     These are `str`, `int`, `bool`, `list` and `dict`, and `datetime`, `date` and `time` of the module `datetime`. A
     date-time with an offset is aware, and others are naive. What a second has below its millionth part is cut off.
-    A table may nest some 6,600 deep, which is deeper than Python compares, prints or copies values.
+    They stand in one another 128 deep at most.
 
-    `manifest` is as in `canonical`.
+    `manifest` is as in `canonical`. `most` is how many bytes the table may take as the library hands it over, where a
+    key or a text of less than 128 bytes has one or two beside its own.
 
     Raises what `canonical` does, and `ManifestError` with `Cause.DATE_BEYOND_PYTHON` for a date-time with the second
     60 or the year 0, which TOML has and `datetime` has not. Its `path` is that in the table.
@@ -119,44 +126,49 @@ def table(manifest: Text) -> dict[str, Any]:
     >>> table("name = 'a'\nmetadata = { since = 1979-05-27 }")
     {'package': {'metadata': {'since': datetime.date(1979, 5, 27)}, 'name': 'a'}}
     """
-    return _table_of(answered(manifest_table, bytes_of(manifest, "manifest")))
+    return _table_of(answered(manifest_table, most, bytes_of(manifest, "manifest")))
 
 
-def completed_table(manifest: Text, folders: Optional[Folders] = None) -> dict[str, Any]:
+def completed_table(
+    manifest: Text, folders: Optional[Folders] = None, *, most: Optional[int] = None
+) -> dict[str, Any]:
     """What the text of `completed` says, by values as in `table`.
 
-    Takes what `completed` takes, and raises what `completed` and `table` do.
+    Takes what `completed` takes, with `most` as in `table`, and raises what `completed` and `table` do.
 
     >>> completed_table("name = 'a'", {".": ["build.rs"]})
     {'package': {'build': 'build.rs', 'name': 'a'}}
     """
     given = bytes_of(manifest, "manifest")
-    return _table_of(answered(manifest_completed_table, given, listings=listings_of(manifest, folders)))
+    return _table_of(answered(manifest_completed_table, most, given, listings=listings_of(manifest, folders)))
 
 
-def resolved_table(manifest: Text, root: Text) -> dict[str, Any]:
+def resolved_table(manifest: Text, root: Text, *, most: Optional[int] = None) -> dict[str, Any]:
     """What the text of `resolved` says, by values as in `table`.
 
-    Takes what `resolved` takes, and raises what `resolved` and `table` do.
+    Takes what `resolved` takes, with `most` as in `table`, and raises what `resolved` and `table` do.
 
     >>> root = "workspace.package.version = '2.0.0'"
     >>> resolved_table("package = { name = 'a', version.workspace = true }", root)
     {'package': {'name': 'a', 'version': '2.0.0'}}
     """
-    return _table_of(answered(manifest_resolved_table, bytes_of(manifest, "manifest"), bytes_of(root, "root")))
+    return _table_of(answered(manifest_resolved_table, most, bytes_of(manifest, "manifest"), bytes_of(root, "root")))
 
 
-def resolved_completed_table(manifest: Text, root: Text, folders: Optional[Folders] = None) -> dict[str, Any]:
+def resolved_completed_table(
+    manifest: Text, root: Text, folders: Optional[Folders] = None, *, most: Optional[int] = None
+) -> dict[str, Any]:
     """What the text of `resolved_completed` says, by values as in `table`.
 
-    Takes what `resolved_completed` takes, and raises what `resolved_completed` and `table` do.
+    Takes what `resolved_completed` takes, with `most` as in `table`, and raises what `resolved_completed` and `table`
+    do.
 
     >>> root = "workspace.package.version = '2.0.0'"
     >>> resolved_completed_table("package = { name = 'a', version.workspace = true }", root, {".": ["build.rs"]})
     {'package': {'build': 'build.rs', 'name': 'a', 'version': '2.0.0'}}
     """
     given, lent = bytes_of(manifest, "manifest"), bytes_of(root, "root")
-    return _table_of(answered(manifest_resolved_completed_table, given, lent, listings_of(manifest, folders)))
+    return _table_of(answered(manifest_resolved_completed_table, most, given, lent, listings_of(manifest, folders)))
 
 
 def _table_of(held: bytes) -> dict[str, Any]:

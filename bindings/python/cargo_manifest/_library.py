@@ -48,6 +48,7 @@ Call = Callable[..., Answer]
 
 _TEXT = (ctypes.c_char_p, ctypes.c_size_t)
 _FOLDERS = (ctypes.POINTER(Folder), ctypes.c_size_t)
+_MOST = ctypes.c_size_t
 _OUT = (ctypes.POINTER(ctypes.c_char), ctypes.c_size_t)
 
 
@@ -69,7 +70,7 @@ def _loaded() -> ctypes.CDLL:
 
 
 # the version of the calls that this package is written for: MANIFEST_VERSION of `cargo_manifest.h`
-_VERSION = 1
+_VERSION = 2
 
 
 def compare_versions(library: ctypes.CDLL) -> None:
@@ -86,12 +87,13 @@ def compare_versions(library: ctypes.CDLL) -> None:
 
 
 def _declared(library: ctypes.CDLL, name: str, *slices: tuple[Any, Any]) -> Call:
-    """A call that takes these slices, each a pointer with its length, and the memory for its text behind them."""
+    """A call that takes these slices, each a pointer with its length, and behind them how long its text may be, and the
+    memory for it."""
     try:
         call = library[name]
     except AttributeError as fault:
         raise ImportError(f"the library has no call {name}: name a {NAME} that has it by {VARIABLE}") from fault
-    call.argtypes = [part for pair in (*slices, _OUT) for part in pair]
+    call.argtypes = [*(part for pair in slices for part in pair), _MOST, *_OUT]
     call.restype = Answer
     return call
 

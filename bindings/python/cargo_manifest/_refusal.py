@@ -39,6 +39,9 @@ _PLAIN: dict[int, tuple[Cause, Part]] = {
     9: (Cause.NO_WORKSPACE, "root"),
     12: (Cause.MIXED_LINTS, "manifest"),
     13: (Cause.TOOL_NAMED_WORKSPACE, "root"),
+    15: (Cause.TOO_DEEP, "manifest"),
+    31: (Cause.TOO_DEEP, "root"),
+    32: (Cause.TOO_LONG, "manifest"),
 }
 
 
@@ -75,6 +78,9 @@ def _of_folder(answer: Answer, listings: Optional[Listings]) -> Exception:
 def refusal(answer: Answer, said: str, manifest: bytes, root: bytes, listings: Optional[Listings]) -> Exception:
     """The exception of an answer with this text, to a call with what else is handed in here."""
     status = answer.status
+    if status in _PLAIN:
+        cause, part = _PLAIN[status]
+        return ManifestError(cause, part=part)
     if status > _OF_ROOT:
         return _of_text(answer, said, status - _OF_ROOT, "root", root)
     if status == _FOLDER:
@@ -86,7 +92,4 @@ def refusal(answer: Answer, said: str, manifest: bytes, root: bytes, listings: O
     if status in _NAMED:
         cause, part = _NAMED[status]
         return ManifestError(cause, part=part, name=said)
-    if status in _PLAIN:
-        cause, part = _PLAIN[status]
-        return ManifestError(cause, part=part)
     return _of_text(answer, said, status, "manifest", manifest)

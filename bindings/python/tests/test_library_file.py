@@ -58,9 +58,9 @@ class WithoutThisLibrary(unittest.TestCase):
 
     def test_a_library_of_another_version(self) -> None:
         def version() -> int:
-            return 2
+            return 1
 
-        with self.assertRaisesRegex(ImportError, "has version 2 of its calls.* written for version 1"):
+        with self.assertRaisesRegex(ImportError, "has version 1 of its calls.* written for version 2"):
             _library.compare_versions({"manifest_version": version})  # type: ignore[arg-type]
 
     def test_beside_the_modules_and_above(self) -> None:

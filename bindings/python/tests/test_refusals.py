@@ -8,6 +8,7 @@ from collections.abc import Callable
 from typing import Any, Optional
 
 from cargo_manifest import Cause, ManifestError, canonical, completed, resolved, resolved_completed, table
+from cargo_manifest import completed_table, resolved_completed_table, resolved_table
 from cargo_manifest._library import Answer
 from cargo_manifest._refusal import refusal
 
@@ -124,6 +125,60 @@ class OfAText(Refused):
                 self.refused(lambda: canonical(text), "not UTF-8", cause=Cause.NOT_UTF8)
                 self.refused(lambda: table(text), "not UTF-8", cause=Cause.NOT_UTF8)
                 self.refused(lambda: resolved(MEMBER, text), "root: not UTF-8", cause=Cause.NOT_UTF8, part="root")
+
+
+class OfDepthAndLength(Refused):
+    # brackets that are open at one place, dots in a row, and a header and a key that make 129 tables in one another
+    DEEP = ("a = " + "[" * 510, "a" + ".a" * 170 + " = 1", "[a" + ".a" * 79 + "]\na" + ".a" * 49 + " = 1")
+
+    def test_what_nests_too_deep(self) -> None:
+        cause = Cause.TOO_DEEP
+        for text in self.DEEP:
+            for call in (canonical, table):
+                self.refused(lambda: call(text), "too deep", cause=cause)
+            self.refused(lambda: completed(text, {}), "too deep", cause=cause)
+            self.refused(lambda: resolved(text, text), "too deep", cause=cause)
+            self.refused(lambda: resolved(PACKAGE, text), "root: too deep", cause=cause, part="root")
+
+    def test_what_takes_too_much(self) -> None:
+        given: list[tuple[Callable[..., Any], tuple[Any, ...]]] = [
+            (canonical, ()),
+            (table, ()),
+            (completed, ({".": []},)),
+            (completed_table, ({".": []},)),
+            (resolved, ("workspace = {}",)),
+            (resolved_table, ("workspace = {}",)),
+            (resolved_completed, ("workspace = {}", {".": []})),
+            (resolved_completed_table, ("workspace = {}", {".": []})),
+        ]
+        for call, words in given:
+            with self.subTest(call=call):
+                whole = call(PACKAGE, *words)
+                for enough in (None, 4096, 2**63, 2**64, 2**100):
+                    self.assertEqual(call(PACKAGE, *words, most=enough), whole)
+                for less in (0, 19):
+                    self.refused(lambda: call(PACKAGE, *words, most=less), "too long", cause=Cause.TOO_LONG)
+                # (a fault of the text is told, however long its words are)
+                wanted = {"cause": Cause.MISSING, "path": ("name",), "path_text": "name"}
+                self.refused(lambda: call("", *words, most=0), "missing at name", **wanted)
+
+    def test_the_length_of_a_table(self) -> None:
+        # 8 1 7 `package` 8 1 4 `name` 1 1 `p`
+        self.assertEqual(table(PACKAGE, most=20), {"package": {"name": "p"}})
+        self.refused(lambda: table(PACKAGE, most=19), "too long", cause=Cause.TOO_LONG)
+
+    def test_a_long_key_above_many_tables(self) -> None:
+        text = f"{PACKAGE}[package.metadata.{'k' * 1000}]\n" + "".join(f"t{number} = {{}}\n" for number in range(1000))
+        self.assertGreater(len(canonical(text)), 1_000_000)
+        self.refused(lambda: canonical(text, most=1 << 16), "too long", cause=Cause.TOO_LONG)
+        self.assertEqual(len(table(text, most=1 << 16)["package"]["metadata"]["k" * 1000]), 1000)
+
+    def test_what_is_no_length(self) -> None:
+        for other in ("1", 1.0, True, b"", [1]):
+            with self.assertRaisesRegex(TypeError, "^most has to be an int or None, not "):
+                canonical(PACKAGE, most=other)  # type: ignore[arg-type]
+        with self.assertRaisesRegex(ValueError, "^most has to be 0 or more, not -1$"):
+            canonical(PACKAGE, most=-1)
 
 
 class OfFolders(Refused):
@@ -249,7 +304,7 @@ class NeverTold(unittest.TestCase):
         self.assertIsInstance(self.made(3, 2), MemoryError)
 
     def test_answers_that_the_header_does_not_have(self) -> None:
-        for status, cause in ((14, 0), (16, 0), (19, 0), (21, 0), (255, 0), (2, 0), (2, 9), (18, 9)):
+        for status, cause in ((14, 0), (16, 0), (19, 0), (21, 0), (30, 0), (33, 0), (255, 0), (2, 0), (2, 9), (18, 9)):
             with self.subTest(status=status, cause=cause), self.assertRaises(RuntimeError):
                 self.made(status, cause)
         for said in ("", "a..b", 'a."b', "a[x]", "a[0]b", "a b", '"a"b'):
@@ -265,6 +320,8 @@ class Copies(unittest.TestCase):
             lambda: resolved(MEMBER, "workspace = {}"),
             lambda: completed(PACKAGE, {}),
             lambda: table(PACKAGE + "metadata = 23:59:60"),
+            lambda: resolved(PACKAGE, OfDepthAndLength.DEEP[0]),
+            lambda: canonical(PACKAGE, most=0),
         ]
         errors = []
         for call in calls:

@@ -1,4 +1,5 @@
 """Tables by values: of manifests, and of tagged bytes that are written here as docs/LIBRARY.md says."""
+import copy
 import threading
 import unittest
 from collections.abc import Callable
@@ -67,10 +68,9 @@ def text(value: str) -> bytes:
     return number(len(held)) + held
 
 
-def deep_text(keys: int, tables: int) -> str:
-    """A manifest whose metadata nests so many inline tables, each below so many keys and one more."""
-    key = ".".join(["a"] * keys)
-    return f"package.name = 'p'\n[package.metadata]\n{(key + ' = { ') * tables}b = 1{' }' * tables}\n"
+def deep_text(header: int, key: int) -> str:
+    """A manifest whose metadata has a header with so many keys more, and below it a key of so many parts and one more."""
+    return f"package.name = 'p'\n[package.metadata{'.a' * header}]\n{'a.' * key}b = 1\n"
 
 
 def depth_of(value: Any) -> int:
@@ -112,7 +112,7 @@ class OfManifests(unittest.TestCase):
             self.assertIn(written, canonical(made))
 
     def in_a_thread(self, run: Callable[[], None]) -> None:
-        """Runs in a thread with 16 MB of stack, whatever the other threads have."""
+        """Runs in a thread with 512 KiB of stack, whatever the other threads have."""
         faults: list[BaseException] = []
 
         def caught() -> None:
@@ -121,7 +121,7 @@ class OfManifests(unittest.TestCase):
             except BaseException as fault:
                 faults.append(fault)
 
-        before = threading.stack_size(16 << 20)
+        before = threading.stack_size(512 << 10)
         thread = threading.Thread(target=caught)
         thread.start()
         threading.stack_size(before)
@@ -129,18 +129,27 @@ class OfManifests(unittest.TestCase):
         if faults:
             raise faults[0]
 
-    def test_a_deep_table(self) -> None:
+    def test_the_deepest_table(self) -> None:
         def run() -> None:
-            made = deep_text(79, 76)
-            self.assertLess(len(made), 21_000)
-            self.assertEqual(depth_of(table(made)["package"]["metadata"]), 79 * 76)
-            header = f"[package.metadata{'.a' * 79 * 76}]"
-            self.assertEqual(canonical(made), f'[package]\nname = "p"\n\n{header}\nb = 1\n')
+            # (the tables of the package and of the metadata, and 126 more)
+            made = table(deep_text(77, 49))
+            self.assertEqual(depth_of(made["package"]["metadata"]), 126)
+            again = copy.deepcopy(made)
+            self.assertEqual(again, made)
+            self.assertEqual(repr(again), repr(made))
+            header = f"[package.metadata{'.a' * 126}]"
+            self.assertEqual(canonical(deep_text(77, 49)), f'[package]\nname = "p"\n\n{header}\nb = 1\n')
 
         self.in_a_thread(run)
 
     def test_a_text_that_nests_too_deep(self) -> None:
-        for made in (f"a = {'[' * 1_000_000}", f"a = {'{a=' * 100_000}", f"{'a.' * 100_000}a = 1"):
+        more = (f"a = {'[' * 1_000_000}", f"a = {'{a=' * 100_000}", f"{'a.' * 100_000}a = 1", deep_text(77, 50))
+        for made in more:
+            with self.assertRaises(ManifestError) as caught:
+                table(made)
+            self.assertIs(caught.exception.cause, Cause.TOO_DEEP)
+        # (more brackets or parts than 80 are not read, whatever else there is)
+        for made in (f"a = {'[' * 100}", f"{'a.' * 80}a = 1"):
             with self.assertRaises(ManifestError) as caught:
                 table(made)
             self.assertIs(caught.exception.cause, Cause.NO_TOML)
