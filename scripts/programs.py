@@ -8,7 +8,6 @@ import tempfile
 from pathlib import Path
 
 from archive import BINDINGS, TOP, counts, told
-from documents import LIMIT
 from runs import ANSWERS, make, stored
 
 PROGRAMS = TOP / "tests" / "programs"
@@ -152,16 +151,34 @@ def without_field(line):
 
 
 def deepest():
-    """The document of a package whose metadata nest as deep as `toml` reads: 78 tables by a header, whose keys have 80 parts,
-    and then so many inline tables in one another, each under a key of so many parts."""
-    header, key = ".".join(["a"] * (LIMIT - 2)), ".".join(["a"] * LIMIT)
-    return f'[package]\nname = "p"\n[package.metadata.{header}]\n' + f"{key} = {{" * LIMIT + f"{key} = 1" + "}" * LIMIT + "\n"
+    """Documents with 128 arrays and tables in one another in the whole table, which is as deep as is read: by a header and a
+    dotted key, by inline tables, whose keys have one part or two, and by inline tables and arrays in turns."""
+    def document(header, key, opening, closing):
+        path = ".".join(["package", "metadata"] + ["a"] * header)
+        return f'[package]\nname = "p"\n[{path}]\n{".".join(["a"] * key)} = {opening}1{closing}\n'
+
+    inline = "{a.a = " * 46 + "{a = " * 34
+    both = "{a.a = [" * 34 + "{a.a = " * 12
+    return [document(77, 50, "", ""), document(0, 1, inline, "}" * 80), document(0, 1, both, "}" * 12 + "]}" * 34)]
 
 
-def stack_fault(program, step, stack, text):
-    """What is wrong where `stack` does a step with a text in a thread with so much stack, or None."""
-    run = subprocess.run([program, step, str(stack)], input=cases([(text, [])]), capture_output=True, timeout=600)
-    if (run.returncode, run.stdout) == (0, b"1\n"):
+def densest():
+    """Documents with as many brackets and dotted keys as are parsed, 512 by their product, whose tables nest far deeper than
+    128: inline tables in one another, below a header and a key, of which each key has as many parts. Each stands alone, and
+    before a fault that is found when all of it is there: a key that stands twice, or a header."""
+    def document(parts, brackets):
+        key = ".".join(["a"] * parts)
+        return f"[{key}]\nb.{key[2:]} = " + f"{{{key} = " * brackets + "1" + "}" * brackets + "\n"
+
+    deep = [document(parts, min(512 // parts - 3, 80)) for parts in (6, 16, 32, 51, 64, 73, 80)]
+    return [text + fault for text in deep for fault in ("", "c = 1\nc = 1\n", "[b]\n[b]\n")]
+
+
+def stack_fault(program, step, stack, texts):
+    """What is wrong where `stack` does a step with texts in a thread with so much stack, or None."""
+    given = cases([(text, []) for text in texts])
+    run = subprocess.run([program, step, str(stack)], input=given, capture_output=True, timeout=600)
+    if (run.returncode, run.stdout) == (0, f"{len(texts)}\n".encode()):
         return None
     return f"status {run.returncode}, {run.stdout}, {run.stderr.decode('utf-8', 'replace')}"
 
