@@ -22,9 +22,9 @@
    - `most` is how many bytes the text or the table may take at most: SIZE_MAX for any number. A text that could take more is
      not made, and the status is MANIFEST_TOO_LONG. Some kilobytes can mean a text of many megabytes, as where a long key
      stands above many tables. The text of a refusal is put whatever `most` is.
-   - `out` is memory for the text. It need not be set before, since it is only written. It overlaps nothing else that is
-     handed in. Without any (null and 0) the call tells how long the text is. As want of memory can end one call and not the
-     next, `length` is looked at after each call.
+   - `out` is memory for the text. It need not be set before: it is only written, which is tested. It overlaps nothing else
+     that is handed in. Without any (null and 0) the call tells how long the text is. As want of memory can end one call and
+     not the next, `length` is looked at after each call.
    - Another thread may read what is handed in meanwhile, and may not write to it, nor read or write `out`.
    - The answer depends on what is handed in, and on nothing else but whether there is memory.
    - The library keeps nothing from one call to the next, keeps no pointer that it is given, frees nothing that it is given,
@@ -116,7 +116,7 @@ enum manifest_status {
 
 /* How deep arrays and tables may stand in one another, the whole table not counted: `a = [{}]` is 2 deep.
 
-   A text is refused before it is read where (B + 3) * (D + 1) is more than 512. B is how many brackets, `[` and `{`, are open
+   A text is refused before it is read where (B + 3) * (D + 1) is more than 384. B is how many brackets, `[` and `{`, are open
    at one place at most, and D how many dots stand in a row at most, behind the last `,`, `=`, `[`, `{` or line end. Those in
    strings and comments are not counted, nor any behind the first string that does not end or character that TOML has in
    these alone. A text that people write has less: keys of 5 parts and 8 brackets in one another come to 55. */

@@ -8,8 +8,9 @@
 //! # Ok::<(), calls::Refusal>(())
 //! ```
 //!
-//! Nothing is kept between calls, so each may be made from any thread at any time. 256 KiB of stack are enough for each of
-//! them, whatever its bytes are: what nests too deep is refused. How long an answer may be [`AtMost`] bounds.
+//! Nothing of a manifest is kept between calls, so each may be made from any thread, also while others run; not from a
+//! signal handler, nor from the forked child of a process that has threads. 256 KiB of stack are enough for each of them,
+//! whatever its bytes are, which is tested: what nests too deep is refused. How long an answer may be [`AtMost`] bounds.
 
 mod at_most;
 mod declared;

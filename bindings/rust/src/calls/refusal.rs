@@ -109,7 +109,7 @@ impl fmt::Display for Fault {
 
 /// How deep arrays and tables may stand in one another, the whole table not counted: `a = [{}]` is 2 deep.
 ///
-/// A text is refused before it is read where (B + 3) * (D + 1) is more than 512: B is how many brackets, `[` and `{`, are open
+/// A text is refused before it is read where (B + 3) * (D + 1) is more than 384: B is how many brackets, `[` and `{`, are open
 /// at one place at most, and D how many dots stand in a row at most, behind the last `,`, `=`, `[`, `{` or line end. Those in
 /// strings and comments are not counted, nor any behind the first string that does not end or character that TOML has in
 /// these alone.
