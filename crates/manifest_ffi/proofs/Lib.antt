@@ -1,3 +1,4 @@
+pub mod DateLemmas
 pub mod GivenLemmas
 pub mod MadeLemmas
 pub mod StoredLemmas

@@ -1,6 +1,7 @@
 //! What a call answers, and how its text comes into memory that the caller lent.
 
-ghost use Rattle.std.specs.Prelude.{option_copied};
+ghost use Rattle.std.specs.Prelude.{◌≡◌, option_copied};
+ghost use Rattle.manifest_ffi.specs.declared.reading.Input.TheVariants.{Toml};
 ghost use Rattle.manifest_ffi.specs.Answered.{IsHanded, Outcome, Hands, Answers};
 ghost use Rattle.manifest_ffi.specs.Made.{Makes, RefusesToMake};
 
@@ -82,11 +83,12 @@ pub(crate) fn respond(
     folders: Option<&[Folder<'_>]>,
     out: &mut [u8],
 ) -> Answer
-    ensures { Answers asked.output asked.most
+    ensures answers { Answers asked.output asked.most
         (Makes asked.input bytes.now (option_copied root.entry) (option_copied folders.entry))
         (RefusesToMake asked.input bytes.now
         (option_copied root.entry) (option_copied folders.entry))
         out.old out.new result }
+    ensures dates { asked.input ≡ Toml → ¬ (result.status ≡ 7) }
 {
     let made = make(alloc, asked.input, bytes, root, folders);
     let text = finished(alloc, asked.output, asked.most, made);

@@ -41,8 +41,9 @@ pub extern "C" fn manifest_canonical(
     most: usize,
     out: &mut [u8],
 ) -> Answer
-    ensures { Answers CanonicalText most (Makes Toml bytes.now None None)
+    ensures answers { Answers CanonicalText most (Makes Toml bytes.now None None)
         (RefusesToMake Toml bytes.now None None) out.old out.new result }
+    ensures dates { ¬ (result.status ≡ 7) }
 {
     let asked = Asked {
         input: Input::Toml,
@@ -66,8 +67,9 @@ pub extern "C" fn manifest_completed(
     most: usize,
     out: &mut [u8],
 ) -> Answer
-    ensures { Answers CanonicalText most (Makes Toml bytes.now None (Some folders.now))
+    ensures answers { Answers CanonicalText most (Makes Toml bytes.now None (Some folders.now))
         (RefusesToMake Toml bytes.now None (Some folders.now)) out.old out.new result }
+    ensures dates { ¬ (result.status ≡ 7) }
 {
     let asked = Asked {
         input: Input::Toml,
@@ -90,8 +92,9 @@ pub extern "C" fn manifest_resolved(
     most: usize,
     out: &mut [u8],
 ) -> Answer
-    ensures { Answers CanonicalText most (Makes Toml bytes.now (Some root.now) None)
+    ensures answers { Answers CanonicalText most (Makes Toml bytes.now (Some root.now) None)
         (RefusesToMake Toml bytes.now (Some root.now) None) out.old out.new result }
+    ensures dates { ¬ (result.status ≡ 7) }
 {
     let asked = Asked {
         input: Input::Toml,
@@ -115,8 +118,9 @@ pub extern "C" fn manifest_resolved_completed(
     most: usize,
     out: &mut [u8],
 ) -> Answer
-    ensures { Answers CanonicalText most (Makes Toml bytes.now (Some root.now) (Some folders.now))
+    ensures answers { Answers CanonicalText most (Makes Toml bytes.now (Some root.now) (Some folders.now))
         (RefusesToMake Toml bytes.now (Some root.now) (Some folders.now)) out.old out.new result }
+    ensures dates { ¬ (result.status ≡ 7) }
 {
     let asked = Asked {
         input: Input::Toml,

@@ -1,12 +1,16 @@
+use Rattle.std.proofs.Common.{◌≡◌, Option, List, ℕ, sym, subst, ◌∙◌}
 use Rattle.std.specs.Prelude.{option_copied}
 use Rattle.toml.specs.View.{view}
 use Rattle.cargo_manifest.specs.Whole.{manifest_content}
-use Rattle.manifest_ffi.specs.Made.{RefusesToMake}
+use Rattle.manifest_ffi.specs.Made.{Makes, RefusesToMake, Gives, OrOutput, IsMade}
+use Rattle.manifest_ffi.specs.declared.reading.Input.{Input}
+use Rattle.manifest_ffi.specs.declared.reading.Input.TheVariants.{Toml}
+use Rattle.manifest_ffi.proofs.DateLemmas.{is_not_seven}
 use Rattle.manifest_ffi.proofs.MadeLemmas.{finished}
 use Rattle.manifest_ffi.proofs.answer.respond.Goals as goal
 
-pub returns : goal.returns
-returns c =
+pub returns-clause-answers : goal.returns-clause-answers
+returns-clause-answers c =
     let asked = c.args.asked in
     let bytes = c.args.bytes.now in
     let root = option_copied c.args.root in
@@ -18,3 +22,13 @@ returns c =
       outcome = c.outcome-told.ensures;
       hands = c.handed.ensures;
     }
+
+pub returns-clause-dates : goal.returns-clause-dates
+returns-clause-dates c = λ is_toml seven.
+    let asked = c.args.asked in
+    let bytes = c.args.bytes.now in
+    let root = option_copied c.args.root in
+    let folders = option_copied c.args.folders in
+    let made = finished (manifest_content view view) asked.output asked.most asked.input bytes root folders (RefusesToMake asked.input bytes root folders) c.make-made.result c.finished-text.result c.make-made.ensures.ok c.make-made.ensures.refused c.finished-text.ensures.made c.finished-text.ensures.refused in
+    let of_text = subst (λ (input : Input). IsMade (Gives asked.output asked.most (Makes input bytes root folders)) (OrOutput asked.output asked.most (Makes input bytes root folders) (RefusesToMake input bytes root folders)) c.finished-text.result) is_toml made in
+    is_not_seven asked.output asked.most bytes root folders c.finished-text.result c.outcome-told.result of_text c.outcome-told.ensures (sym c.handed.ensures.status ∙ seven)
