@@ -163,14 +163,14 @@ def deepest():
 
 
 def densest():
-    """Documents with as many brackets and dotted keys as are parsed, 512 by their product, whose tables nest far deeper than
+    """Documents with as many brackets and dotted keys as are parsed, 384 by their product, whose tables nest far deeper than
     128: inline tables in one another, below a header and a key, of which each key has as many parts. Each stands alone, and
     before a fault that is found when all of it is there: a key that stands twice, or a header."""
     def document(parts, brackets):
         key = ".".join(["a"] * parts)
         return f"[{key}]\nb.{key[2:]} = " + f"{{{key} = " * brackets + "1" + "}" * brackets + "\n"
 
-    deep = [document(parts, min(512 // parts - 3, 80)) for parts in (6, 16, 32, 51, 64, 73, 80)]
+    deep = [document(parts, min(384 // parts - 3, 80)) for parts in (6, 16, 32, 51, 64, 73, 80)]
     return [text + fault for text in deep for fault in ("", "c = 1\nc = 1\n", "[b]\n[b]\n")]
 
 
