@@ -1,5 +1,5 @@
 -- Of texts no date-time comes that cannot be written, so that status 7 is never told of them.
-use Rattle.std.proofs.Common.{◌≡◌, ◌⊎◌, ℕ, List, Option, Some, None, Vec, Global, Result, Ok, Err, Bool, true, false, inl, inr, sym, subst, ◌∙◌}
+use Rattle.std.proofs.Common.{◌≡◌, ℕ, List, Option, Some, None, Vec, Global, Result, Ok, Err, Bool, true, false, ◌==◌, inl, inr, refl, sym, ap, subst, ◌∙◌}
 use Rattle.manifest_schema.specs.Paths.{Text}
 use Rattle.manifest_schema.specs.Contents.{Manifest}
 use Rattle.manifest_schema.specs.Dates.{KeepsValidDates}
@@ -28,7 +28,7 @@ use Rattle.manifest_ffi.specs.declared.refusal.Refusal.TheVariants.{Bytes, Root,
 use Rattle.manifest_ffi.specs.declared.telling.Told.{Told}
 use Rattle.manifest_ffi.specs.Told.{TellsError, TellsInput, TellsResolving, TellsFinishing, TellsPrinting, Tells}
 use Rattle.manifest_ffi.specs.Read.{Are}
-use Rattle.manifest_ffi.specs.Made.{Completes, RefusesByBytes, MakesOver, Makes, RefusesOver, RefusesToMake, RefusesOutput, Gives, OrOutput, IsMade}
+use Rattle.manifest_ffi.specs.Made.{Completes, Makes, RefusesToMake, RefusesOutput, Gives, OrOutput, IsMade}
 use Rattle.manifest_ffi.specs.Answered.{Outcome}
 
 -- WHAT IS MADE of texts keeps valid date-times
@@ -48,37 +48,37 @@ made_keeps bytes root folders m (listings, (n, is, (r, is_root, (o, inherits, co
     completes_keeps _ o m (inherits_keeps r n o (read_keeps bytes n is) inherits) completes
 
 -- THE NUMBERS: no other refusal than that of a date-time is told by 7
-two_numbers : (t : Told) (n : ℕ) → t.status ≡ n → t.status ≡ 7 → n ≡ 7
-two_numbers t n is seven = sym is ∙ seven
+is_other : (t : Told) (n : ℕ) → (n == 7) ≡ false → t.status ≡ n → t.status ≡ 7 → ⊥
+is_other t n other is seven = let same : (n == 7) ≡ true = ap (λ k. k == 7) (sym is ∙ seven) in let both : true ≡ false = sym same ∙ other in cc
 
 error_is_not_seven : (is_root : Bool) (e : Error) (t : Told) → TellsError is_root e t → t.status ≡ 7 → ⊥
-error_is_not_seven true (error.Parse (NoToml e)) t h seven = let n : 17 ≡ 7 = two_numbers t 17 h.status seven in cc
-error_is_not_seven false (error.Parse (NoToml e)) t h seven = let n : 1 ≡ 7 = two_numbers t 1 h.status seven in cc
-error_is_not_seven true (error.Parse (Schema f)) t h seven = let n : 18 ≡ 7 = two_numbers t 18 h.0 seven in cc
-error_is_not_seven false (error.Parse (Schema f)) t h seven = let n : 2 ≡ 7 = two_numbers t 2 h.0 seven in cc
-error_is_not_seven is_root (error.Io e) t h seven = let n : 3 ≡ 7 = two_numbers t 3 h.0 seven in cc
-error_is_not_seven true (error.Utf8 e) t h seven = let n : 20 ≡ 7 = two_numbers t 20 h.0 seven in cc
-error_is_not_seven false (error.Utf8 e) t h seven = let n : 4 ≡ 7 = two_numbers t 4 h.0 seven in cc
-error_is_not_seven is_root (error.Other s) t h seven = let n : 5 ≡ 7 = two_numbers t 5 h.0 seven in cc
-error_is_not_seven is_root (error.Memory e) t h seven = let n : 6 ≡ 7 = two_numbers t 6 h.0 seven in cc
+error_is_not_seven true (error.Parse (NoToml e)) t h seven = is_other t 17 refl h.status seven
+error_is_not_seven false (error.Parse (NoToml e)) t h seven = is_other t 1 refl h.status seven
+error_is_not_seven true (error.Parse (Schema f)) t h seven = is_other t 18 refl h.0 seven
+error_is_not_seven false (error.Parse (Schema f)) t h seven = is_other t 2 refl h.0 seven
+error_is_not_seven is_root (error.Io e) t h seven = is_other t 3 refl h.0 seven
+error_is_not_seven true (error.Utf8 e) t h seven = is_other t 20 refl h.0 seven
+error_is_not_seven false (error.Utf8 e) t h seven = is_other t 4 refl h.0 seven
+error_is_not_seven is_root (error.Other s) t h seven = is_other t 5 refl h.0 seven
+error_is_not_seven is_root (error.Memory e) t h seven = is_other t 6 refl h.0 seven
 
 input_is_not_seven : (is_root : Bool) (e : InputError) (t : Told) → TellsInput is_root e t → t.status ≡ 7 → ⊥
 input_is_not_seven is_root (unread.Manifest e) t h seven = error_is_not_seven is_root e t h seven
-input_is_not_seven true unread.Untagged t h seven = let n : 30 ≡ 7 = two_numbers t 30 h.0 seven in cc
-input_is_not_seven false unread.Untagged t h seven = let n : 14 ≡ 7 = two_numbers t 14 h.0 seven in cc
-input_is_not_seven true unread.TooDeep t h seven = let n : 31 ≡ 7 = two_numbers t 31 h.0 seven in cc
-input_is_not_seven false unread.TooDeep t h seven = let n : 15 ≡ 7 = two_numbers t 15 h.0 seven in cc
+input_is_not_seven true unread.Untagged t h seven = is_other t 30 refl h.0 seven
+input_is_not_seven false unread.Untagged t h seven = is_other t 14 refl h.0 seven
+input_is_not_seven true unread.TooDeep t h seven = is_other t 31 refl h.0 seven
+input_is_not_seven false unread.TooDeep t h seven = is_other t 15 refl h.0 seven
 
 resolving_is_not_seven : (e : ResolveError) (t : Told) → TellsResolving e t → t.status ≡ 7 → ⊥
-resolving_is_not_seven (unresolved.NotInWorkspace s) t h seven = let n : 10 ≡ 7 = two_numbers t 10 h.0 seven in cc
-resolving_is_not_seven (unresolved.InheritedInWorkspace s) t h seven = let n : 11 ≡ 7 = two_numbers t 11 h.0 seven in cc
-resolving_is_not_seven unresolved.MixedLints t h seven = let n : 12 ≡ 7 = two_numbers t 12 h.0 seven in cc
-resolving_is_not_seven unresolved.ToolNamedWorkspace t h seven = let n : 13 ≡ 7 = two_numbers t 13 h.0 seven in cc
-resolving_is_not_seven (unresolved.Memory e) t h seven = let n : 6 ≡ 7 = two_numbers t 6 h.0 seven in cc
+resolving_is_not_seven (unresolved.NotInWorkspace s) t h seven = is_other t 10 refl h.0 seven
+resolving_is_not_seven (unresolved.InheritedInWorkspace s) t h seven = is_other t 11 refl h.0 seven
+resolving_is_not_seven unresolved.MixedLints t h seven = is_other t 12 refl h.0 seven
+resolving_is_not_seven unresolved.ToolNamedWorkspace t h seven = is_other t 13 refl h.0 seven
+resolving_is_not_seven (unresolved.Memory e) t h seven = is_other t 6 refl h.0 seven
 
 finishing_is_not_seven : (e : FinishError) (t : Told) → TellsFinishing e t → t.status ≡ 7 → ⊥
 finishing_is_not_seven (unfinished.Manifest e) t h seven = error_is_not_seven false e t h seven
-finishing_is_not_seven unfinished.NoWorkspace t h seven = let n : 9 ≡ 7 = two_numbers t 9 h.0 seven in cc
+finishing_is_not_seven unfinished.NoWorkspace t h seven = is_other t 9 refl h.0 seven
 finishing_is_not_seven (unfinished.Resolve e) t h seven = resolving_is_not_seven e t h seven
 
 -- PRINTING: only what a manifest is asked for is refused as printed
@@ -106,15 +106,15 @@ refusal_is_not_seven : (output : Output) (most : ℕ) (bytes : List ℕ) (root :
     → OrOutput output most (Makes Toml bytes root folders) (RefusesToMake Toml bytes root folders) e → Tells e t → t.status ≡ 7 → ⊥
 refusal_is_not_seven output most bytes root folders (Bytes e) t r h seven = input_is_not_seven false e t h seven
 refusal_is_not_seven output most bytes root folders (Root e) t r h seven = input_is_not_seven true e t h seven
-refusal_is_not_seven output most bytes root folders Listings t r h seven = let n : 8 ≡ 7 = two_numbers t 8 h.0 seven in cc
+refusal_is_not_seven output most bytes root folders Listings t r h seven = is_other t 8 refl h.0 seven
 refusal_is_not_seven output most bytes root folders (Finishing e) t r h seven = finishing_is_not_seven e t h seven
 refusal_is_not_seven output most bytes root folders (Printing e) t r h seven = printing_is_not_seven output most bytes root folders e t r h seven
-refusal_is_not_seven output most bytes root folders TooLong t r h seven = let n : 32 ≡ 7 = two_numbers t 32 h.0 seven in cc
-refusal_is_not_seven output most bytes root folders (Memory e) t r h seven = let n : 6 ≡ 7 = two_numbers t 6 h.0 seven in cc
+refusal_is_not_seven output most bytes root folders TooLong t r h seven = is_other t 32 refl h.0 seven
+refusal_is_not_seven output most bytes root folders (Memory e) t r h seven = is_other t 6 refl h.0 seven
 
 -- of texts nothing is told by 7
 pub is_not_seven : (output : Output) (most : ℕ) (bytes : List ℕ) (root : Option (List ℕ)) (folders : Option (List Folder)) (made : Result (Vec ℕ Global) Refusal) (t : Told)
     → IsMade (Gives output most (Makes Toml bytes root folders)) (OrOutput output most (Makes Toml bytes root folders) (RefusesToMake Toml bytes root folders)) made → Outcome made t → t.status ≡ 7 → ⊥
-is_not_seven output most bytes root folders (Ok v) t r h seven = let n : 0 ≡ 7 = two_numbers t 0 h.0 seven in cc
-is_not_seven output most bytes root folders (Err e) t r (inl memory, utf8) seven = let n : 6 ≡ 7 = two_numbers t 6 memory.0 seven in cc
+is_not_seven output most bytes root folders (Ok v) t r h seven = is_other t 0 refl h.0 seven
+is_not_seven output most bytes root folders (Err e) t r (inl memory, utf8) seven = is_other t 6 refl memory.0 seven
 is_not_seven output most bytes root folders (Err e) t r (inr h, utf8) seven = refusal_is_not_seven output most bytes root folders e t r h seven

@@ -1,10 +1,9 @@
-use Rattle.std.proofs.Common.{◌≡◌, Option, List, ℕ, sym, subst, ◌∙◌}
+use Rattle.std.proofs.Common.{sym, subst, ◌∙◌}
 use Rattle.std.specs.Prelude.{option_copied}
 use Rattle.toml.specs.View.{view}
 use Rattle.cargo_manifest.specs.Whole.{manifest_content}
 use Rattle.manifest_ffi.specs.Made.{Makes, RefusesToMake, Gives, OrOutput, IsMade}
 use Rattle.manifest_ffi.specs.declared.reading.Input.{Input}
-use Rattle.manifest_ffi.specs.declared.reading.Input.TheVariants.{Toml}
 use Rattle.manifest_ffi.proofs.DateLemmas.{is_not_seven}
 use Rattle.manifest_ffi.proofs.MadeLemmas.{finished}
 use Rattle.manifest_ffi.proofs.answer.respond.Goals as goal
