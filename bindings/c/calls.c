@@ -214,6 +214,7 @@ static const struct call OF_TABLES[] = {
 #define TEN(text) text text text text text text text text text text
 #define HUNDRED(text) TEN(TEN(text))
 #define TIMES_15(text) TEN(text) text text text text text
+#define TIMES_21(text) TEN(text) TEN(text) text
 #define TIMES_29(text) TEN(text) TEN(text) text text text text text text text text text
 #define TIMES_48(text) TEN(text) TEN(text) TEN(text) TEN(text) text text text text text text text text
 #define TIMES_79(text) TIMES_48(text) TIMES_29(text) text text
@@ -225,9 +226,9 @@ static const struct call OF_TABLES[] = {
 #define ITEM "\x07\x01"
 /* A text with 128 tables in one another in its whole table, if one part of a key more is not put in. */
 #define DEEP(more) "[k" TIMES_79(".k") "]\nk" TIMES_48(".k") more " = true"
-/* Texts that are as near to the limit as can be, 32 times 16, and beyond it: by brackets, and by dots. */
+/* Texts that are as near to the limit as can be, 24 times 16, and beyond it: by brackets, and by dots. */
 #define NEAR(more_dots, more_brackets, closing) \
-    "k" TIMES_15(".k") more_dots " = " more_brackets TIMES_29("[") "true" TIMES_29("]") closing
+    "k" TIMES_15(".k") more_dots " = " more_brackets TIMES_21("[") "true" TIMES_21("]") closing
 #define BRACKETS "k = " TIMES_510("[")
 
 /* What nests as deep as it may, and deeper. */
@@ -246,11 +247,11 @@ static const struct call DEPTHS[] = {
     {COMPLETED_OF_TABLE, .bytes = TIMES_128(KEY) KEY KEY "\x05", FOLDERS(HERE), .status = MANIFEST_TOO_DEEP, .text = ""},
     {RESOLVED_OF_TABLES, .bytes = MEMBER_TABLE, .root = TIMES_128(KEY) KEY KEY "\x05", .status = MANIFEST_ROOT_TOO_DEEP,
      .text = ""},
-    {DOCUMENT, .bytes = NEAR("", "", ""), .text = KEY TIMES_15(KEY) TIMES_29(ITEM) "\x05"},
+    {DOCUMENT, .bytes = NEAR("", "", ""), .text = KEY TIMES_15(KEY) TIMES_21(ITEM) "\x05"},
     {DOCUMENT, .bytes = NEAR(".k", "", ""), .status = MANIFEST_TOO_DEEP, .text = ""},
     {DOCUMENT, .bytes = NEAR("", "[", "]"), .status = MANIFEST_TOO_DEEP, .text = ""},
     /* (dots in one place, and brackets in another) */
-    {DOCUMENT, .bytes = "[k" TIMES_15(".k") ".k]\nk = " TIMES_29("[") TIMES_29("]"), .status = MANIFEST_TOO_DEEP,
+    {DOCUMENT, .bytes = "[k" TIMES_15(".k") ".k]\nk = " TIMES_21("[") TIMES_21("]"), .status = MANIFEST_TOO_DEEP,
      .text = ""},
     {DOCUMENT, .bytes = BRACKETS, .status = MANIFEST_TOO_DEEP, .text = ""},
     {TABLE, .bytes = OWN BRACKETS, .status = MANIFEST_TOO_DEEP, .text = ""},

@@ -35,8 +35,8 @@
    a call that is broken off, by longjmp or by cancelling its thread, leaves its memory behind, and of later calls of that
    thread nothing is said.
 
-   STACK. 256 KiB of stack are enough for each call, whatever is handed in: what nests deeper than MANIFEST_DEPTH_LIMIT, or
-   could, is refused before anything goes as deep.
+   STACK. 256 KiB of stack are enough for each call, whatever is handed in, which is tested: what nests deeper than
+   MANIFEST_DEPTH_LIMIT is refused, and a text that could nest more than 384 deep is not even parsed.
 
    MEMORY is asked for by three functions over malloc, realloc and free, which a program may replace: see the end. */
 #ifndef CARGO_MANIFEST_H
@@ -53,14 +53,15 @@ extern "C" {
    order, as far as it has them, and the first that refuses is told:
 
        the folders                8
-       the bytes                  4, 15, 1, 15, 2, or 14, 15, 2
-       the root                   20, 31, 17, 31, 18, or 30, 31, 18   (it is read also where the manifest inherits nothing)
+       the bytes                  4, 15, 1, 15, 2, or 14 and 15, then 2
+       the root                   20, 31, 17, 31, 18, or 30 and 31, then 18   (it is read also where the manifest inherits nothing)
        its workspace              9
        what the workspace lends   10, 11, 12, 13
        the completion             3, 5
        the printing               32, 7
 
-   A text is refused as too deep before it is read (by its brackets and dots) or behind that (by its table).
+   A text is refused as too deep before it is read (by its brackets and dots) or behind that (by its table). Of tagged
+   bytes 14 or 15 is told, by which is met first.
    MANIFEST_MEMORY may stand in the place of any of them. There are no other numbers than these. */
 enum manifest_status {
     /* the text is what was asked for */
@@ -81,7 +82,7 @@ enum manifest_status {
     /* no memory was left */
     MANIFEST_MEMORY = 6,
     /* the manifest keeps a date-time that cannot be written, as the text says: one of a table that was handed in. (No text is
-       known that is read as one.) */
+       read as one, which is proved.) */
     MANIFEST_DATE = 7,
     /* the folders are no listings: a path or a name is not UTF-8, the names of a folder do not ascend, or two folders have
        one path */
@@ -117,7 +118,7 @@ enum manifest_status {
 /* How deep arrays and tables may stand in one another, the whole table not counted: `a = [{}]` is 2 deep.
 
    A text is refused before it is read where (B + 3) * (D + 1) is more than 384. B is how many brackets, `[` and `{`, are open
-   at one place at most, and D how many dots stand in a row at most, behind the last `,`, `=`, `[`, `{` or line end. Those in
+   at one place at most, and D how many dots stand at most between one of `,`, `=`, `[`, `{`, `#` and line ends and the next. Those in
    strings and comments are not counted, nor any behind the first string that does not end or character that TOML has in
    these alone. A text that people write has less: keys of 5 parts and 8 brackets in one another come to 55. */
 #define MANIFEST_DEPTH_LIMIT 128
@@ -236,7 +237,8 @@ struct manifest_answer manifest_resolved_completed_table(const uint8_t *bytes, s
                                                          size_t out_length);
 
 /* The table that manifest_table gives, but that the metadata of the package and of the workspace is not looked at: where
-   there is any, it is written as the empty table. So metadata refuses nothing, also where it has a float. */
+   there is any, it is written as the empty table. So no value in metadata refuses anything, not a float either, but for what
+   nests too deep. */
 struct manifest_answer manifest_table_without_metadata(const uint8_t *bytes, size_t bytes_length, size_t most,
                                                        uint8_t *out, size_t out_length);
 

@@ -56,7 +56,7 @@ class Cause(enum.Enum):
     TOOL_NAMED_WORKSPACE = "tool named workspace"
     """The manifest inherits its lints, and the workspace has lints of a tool named `workspace`."""
     DATE_WITHOUT_TEXT = "date-time without a text"
-    """A date-time is kept that no text can have."""
+    """A date-time is kept that no text can have. The calls here read texts, which have none, so that no call tells this."""
     DATE_BEYOND_PYTHON = "date-time that Python cannot hold"
     """`table` only: a date-time with the second 60 or the year 0, which `datetime` does not have."""
 

@@ -100,7 +100,7 @@
 //!
 //! The library takes the bytes of a `Cargo.toml`, and what it answers is the table of the manifest that these bytes mean, as
 //! the definitions have it; or the table of the completed or the resolved manifest; or a manifest's canonical text. That is
-//! proved, and `LIBRARY.md` of the repository has the contracts. Where a manifest is refused, the library says why and at
+//! proved, and `PROMISES.md` of the repository tells the contracts. Where a manifest is refused, the library says why and at
 //! which key path.
 //!
 //! What this crate does with these bytes is plain Rust, which is tested: a [`Manifest`] is decoded from the bytes of its

@@ -23,8 +23,8 @@ fn documents(more: usize, value: &str) -> [String; 5] {
     let both = "{a.a = [".repeat(34) + &"{a.a = ".repeat(12);
     [
         document(77, 50 + more, "", value, ""),
-        document(60, 62 + more, "[[[[[", value, "]]]]]"),
-        document(28, 29 + more, &"{a.a.a.a.a.a.a.a.a = [".repeat(7), value, &"]}".repeat(7)),
+        document(61, 63 + more, "[[[", value, "]]]"),
+        document(17, 19 + more, &"{a.a.a.a.a.a.a.a.a.a.a.a = [".repeat(7), value, &"]}".repeat(7)),
         document(0, 1 + more, &inline, value, &"}".repeat(80)),
         document(0, 1 + more, &both, value, &("}".repeat(12) + &"]}".repeat(34))),
     ]

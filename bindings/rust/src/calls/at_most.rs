@@ -7,7 +7,7 @@ use super::value_of;
 use crate::value::Value;
 
 /// The calls of this module, none of which answers more than so many bytes: what could take more is
-/// [`Refusal::TooLong`], before it is made.
+/// [`Refusal::TooLong`]: a text before it is made, tagged bytes when they are measured.
 ///
 /// Some kilobytes can mean a text of many megabytes, as where a long key stands above many tables. So who handles the
 /// manifests of others bounds not their length alone. Of a text it is a bound on its length that is compared: its keys and its

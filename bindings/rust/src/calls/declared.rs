@@ -69,8 +69,7 @@ pub(crate) fn is_broken() -> ! {
     panic!("the library's answer is none that the header has: the archive is of another version")
 }
 
-/// The text of an answer, which is UTF-8: a canonical text is a document of TOML, and of the text of a refusal a contract
-/// says it.
+/// The text of an answer, which is UTF-8: contracts say so of a canonical text and of the text of a refusal.
 pub(crate) fn text_of(bytes: Vec<u8>) -> String {
     String::from_utf8(bytes).unwrap_or_else(|_| is_broken())
 }

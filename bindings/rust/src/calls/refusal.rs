@@ -110,9 +110,9 @@ impl fmt::Display for Fault {
 /// How deep arrays and tables may stand in one another, the whole table not counted: `a = [{}]` is 2 deep.
 ///
 /// A text is refused before it is read where (B + 3) * (D + 1) is more than 384: B is how many brackets, `[` and `{`, are open
-/// at one place at most, and D how many dots stand in a row at most, behind the last `,`, `=`, `[`, `{` or line end. Those in
-/// strings and comments are not counted, nor any behind the first string that does not end or character that TOML has in
-/// these alone.
+/// at one place at most, and D how many dots stand at most between one of `,`, `=`, `[`, `{`, `#` and line ends and the next.
+/// Those in strings and comments are not counted, nor any behind the first string that does not end or character that TOML
+/// has in these alone.
 pub const DEPTH_LIMIT: usize = 128;
 
 /// What a call refuses with.
@@ -145,7 +145,8 @@ pub enum Refusal {
     Other(String),
     /// No memory was left.
     Memory,
-    /// The manifest keeps a date-time that no text can have.
+    /// The manifest keeps a date-time that no text can have. No call of this module tells it: what is read of a text keeps
+    /// none.
     Date(String),
     /// The root has no workspace.
     NoWorkspace,
