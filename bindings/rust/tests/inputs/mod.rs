@@ -48,7 +48,8 @@ impl Most {
     /// About as many as are read: 3 more brackets than these, times the parts, are 384 at most.
     fn near_the_limit(random: &mut Random) -> Most {
         let parts = random.one_of(&[1, 2, 2, 3, 4, 5, 6, 8, 8, 16, 16, 32, 32, 64, 79, 80, 81, 128, 170]);
-        let brackets = 384 / parts - 3 + usize::from(random.one_in(8));
+        let brackets: usize = 384 / parts;
+        let brackets = brackets.saturating_sub(3) + usize::from(random.one_in(8));
         Most { parts, brackets: brackets.min(random.one_of(&[80, 80, 80, 80, 81, 600])) }
     }
 
