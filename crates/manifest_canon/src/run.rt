@@ -9,7 +9,7 @@ ghost use Rattle.manifest_canon.specs.Words.{asked_by, Serves, Fails};
 use crate::files::{canon_at, complete_at};
 use crate::printing::print_manifest;
 use crate::refusal::tell;
-use crate::words::{Request, refuse_words, requested};
+use crate::words::{Request, refuse_words, request_from_words};
 use cargo_manifest::{Error, Manifest};
 use manifest_inherit::FinishError;
 use std::alloc::Global;
@@ -128,7 +128,7 @@ pub fn run<H: Files + AllocGlobal + Clone + Drop, R: Read, W: Write, E: Write>(
     ensures wrong_words { AreWrong words.now
         → (result ≡ 2) × Keeps (W.contents output.old) (W.contents output.new) }
 {
-    let request = match requested(words) {
+    let request = match request_from_words(words) {
         Some(request) => request,
         None => return refuse_words(errors),
     };

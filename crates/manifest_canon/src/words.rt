@@ -50,7 +50,7 @@ fn member_request<'a>(verb: &str, file: &'a str, option: &str, root: &'a str) ->
 }
 
 /// What the words ask for, or `None` where they are wrong.
-pub fn requested(words: &[String]) -> Option<Request<'_>>
+pub fn request_from_words(words: &[String]) -> Option<Request<'_>>
     ensures { IsRequestOf words.now result }
 {
     match words {

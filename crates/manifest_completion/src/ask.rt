@@ -118,7 +118,7 @@ fn ask_folder<FS: AbstractFilesystem>(
 
 impl FolderAnswers {
     /// Those of a folder that is not asked.
-    fn none(alloc: Global) -> FolderAnswers
+    fn of_unasked_folder(alloc: Global) -> FolderAnswers
         ensures own { answer_of result.own ≡ fault NotFound }
         ensures entries { result.entries.items ≡ [] }
     {
@@ -159,7 +159,7 @@ fn ask_folder_unless<FS: AbstractFilesystem>(
         a) }
 {
     if stopped {
-        return Ok(FolderAnswers::none(alloc));
+        return Ok(FolderAnswers::of_unasked_folder(alloc));
     }
     ask_folder(alloc, fs, folder)
 }

@@ -11,7 +11,7 @@ ghost use Rattle.manifest_completion.specs.Completed.{is_legacy, own_edition, di
 ghost use Rattle.manifest_completion.specs.Outcome.{declared_content, defaults_content, folder_paired, IsFault, TargetsCompleted, ListsCompleted, CompletesHeard};
 
 use crate::ask::{Answers, FolderAnswers, ask, ask_folders};
-use crate::copies::copied;
+use crate::copies::copy_optional_text;
 use crate::filesystem::AbstractFilesystem;
 use crate::finds::{folder_finds, lists, push_main_find};
 use crate::library::completed_library;
@@ -142,7 +142,7 @@ fn asks_root(build: &Option<StringOrBool>) -> bool
 }
 
 /// The answer at `src`, unless it is a fault other than that it is not there.
-fn settled_source(
+fn check_source(
     source: io::Result<BTreeSet<String>>,
 ) -> Result<io::Result<BTreeSet<String>>, Error>
     ensures { MatchResult result (λ s. (s ≡ source) × (source_fault (answer_of source) ≡ None))
@@ -161,7 +161,7 @@ fn settled_source(
 }
 
 /// Refuses where the folder of the manifest was asked and is a fault.
-fn settled_root(asks: bool, root: &io::Result<BTreeSet<String>>) -> Result<(), Error>
+fn check_root(asks: bool, root: &io::Result<BTreeSet<String>>) -> Result<(), Error>
     ensures { let fault = root_fault_if asks (answer_of root.now) in
         MatchResult result (λ u. fault ≡ None) (IsFault fault) }
 {
@@ -325,7 +325,7 @@ fn completed_lists(
 }
 
 /// The targets completed with this library, by what was answered.
-fn completed_by_answers(
+fn complete_by_answers(
     alloc: Global,
     declared: &DeclaredTargets<'_>,
     lib: Option<Product>,
@@ -337,7 +337,7 @@ fn completed_by_answers(
     if answers.found_no_memory() {
         return Err(Error::Io(io::Error::from(ErrorKind::OutOfMemory)));
     }
-    settled_root(asks_root(declared.build), &answers.root)?;
+    check_root(asks_root(declared.build), &answers.root)?;
     let build = completed_build(alloc, declared.build, &answers.root)?;
     let CompletedLists {
         bin,
@@ -372,10 +372,10 @@ pub fn complete<FS: AbstractFilesystem>(
 ) -> Result<CompletedTargets, Error>
     ensures { TargetsCompleted (FS.allows fs.now) (declared_content declared.now) result }
 {
-    let source = settled_source(ask(alloc, fs, "src"))?;
+    let source = check_source(ask(alloc, fs, "src"))?;
     let lib = completed_library(alloc, declared, &source)?;
     let answers = ask_folders(alloc, fs, source, asks_root(declared.build))?;
-    let completed = completed_by_answers(alloc, declared, lib, &answers);
+    let completed = complete_by_answers(alloc, declared, lib, &answers);
     drop(answers);
     completed
 }

@@ -6,7 +6,7 @@ ghost use Rattle.std.specs.Option.{option_copied};
 use std::alloc::{AllocError, Global};
 
 /// A copy of a text, where there is one.
-pub fn copied(alloc: Global, text: Option<&str>) -> Result<Option<String>, AllocError>
+pub fn copy_optional_text(alloc: Global, text: Option<&str>) -> Result<Option<String>, AllocError>
     ensures { IfOk result (λ o. option_map string_bytes o ≡ option_copied text.entry) }
 {
     match text {

@@ -21,7 +21,7 @@ use std::io;
 const NO_LIBRARY: &str = "can't find library, rename file to `src/lib.rs` or specify lib.path";
 
 /// The name of the package, with `_` in place of each `-`.
-fn underscored(alloc: Global, name: &str) -> Result<String, AllocError>
+fn library_name(alloc: Global, name: &str) -> Result<String, AllocError>
     ensures { IfOk result (λ s. string_bytes s ≡ underscored name.now) }
 {
     name.replace(alloc, '-', "_")
@@ -85,7 +85,7 @@ fn declared_library(
 {
     let name = match &lib.name {
         Some(name) => String::from_str(alloc, name.as_str())?,
-        None => underscored(alloc, declared.name)?,
+        None => library_name(alloc, declared.name)?,
     };
     let crate_type = crate_type_of(alloc, &lib.crate_type, Some("lib"))?;
     Ok(Product {
@@ -119,7 +119,7 @@ fn inferred_library(
         return Ok(None);
     }
     let path = String::from_str(alloc, "src/lib.rs")?;
-    let name = underscored(alloc, declared.name)?;
+    let name = library_name(alloc, declared.name)?;
     let crate_type = one_text(alloc, "lib")?;
     Ok(Some(Product {
         path: Some(path),

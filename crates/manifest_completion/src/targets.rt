@@ -7,7 +7,7 @@ ghost use Rattle.manifest_completion.specs.Targets.{paths_of, pathed, found, add
 ghost use Rattle.manifest_completion.specs.Index.{paths_in, SamePaths};
 ghost use Rattle.manifest_completion.specs.Outcome.{find_content, finds_content, defaults_content};
 
-use crate::copies::{copied, one_text};
+use crate::copies::{copy_optional_text, one_text};
 use crate::finds::FoundTarget;
 use crate::index::{IndexedFinds, take_path};
 use manifest_parts::{Edition, Product};
@@ -84,7 +84,7 @@ fn filled_target<'a>(
     ensures { let filled = pathed finds.now (product_content target.now) in
         IfOk result (λ p. product_content p ≡ with_defaults (defaults_content defaults) filled) }
 {
-    let path = copied(alloc, path_of(target, finds).or(defaults.path))?;
+    let path = copy_optional_text(alloc, path_of(target, finds).or(defaults.path))?;
     let name = copy_of(&target.name)?;
     let required_features = copy_of(&target.required_features)?;
     let crate_type = crate_type_of(alloc, &target.crate_type, defaults.crate_type)?;

@@ -6,7 +6,7 @@ ghost use Rattle.manifest_ffi.specs.Answered.{IsHanded, Outcome, Hands, Answers}
 ghost use Rattle.manifest_ffi.specs.Made.{Makes, RefusesToMake};
 
 use crate::folders::Folder;
-use crate::making::{Output, finished, make};
+use crate::making::{Output, make, output_or_refusal};
 use crate::reading::Input;
 use crate::refusal::Refusal;
 use crate::telling::{Told, tell, with_text};
@@ -32,7 +32,7 @@ pub struct Answer {
 const _: () = prove!(size_of::<Answer>() == 32);
 
 /// Copies a text to the front of `out`, where there is room for it.
-fn hand(text: &[u8], out: &mut [u8]) -> usize
+fn copy_to_front(text: &[u8], out: &mut [u8]) -> usize
     ensures { IsHanded text.now result out.old out.new }
 {
     let length = text.len();
@@ -53,10 +53,10 @@ pub(crate) fn outcome(alloc: Global, made: Result<Vec<u8>, Refusal>) -> Told
 }
 
 /// Hands out what is told.
-pub(crate) fn handed(told: &Told, out: &mut [u8]) -> Answer
+pub(crate) fn write_answer(told: &Told, out: &mut [u8]) -> Answer
     ensures { Hands told.now out.old out.new result }
 {
-    let length = hand(told.text.as_slice(), out);
+    let length = copy_to_front(told.text.as_slice(), out);
     Answer {
         status: told.status,
         cause: told.cause,
@@ -91,7 +91,7 @@ pub(crate) fn respond(
     ensures dates { asked.input ≡ Toml → ¬ (result.status ≡ 7) }
 {
     let made = make(alloc, asked.input, bytes, root, folders);
-    let text = finished(alloc, asked.output, asked.most, made);
+    let text = output_or_refusal(alloc, asked.output, asked.most, made);
     let told = outcome(alloc, text);
-    handed(&told, out)
+    write_answer(&told, out)
 }

@@ -23,7 +23,7 @@ ghost use Rattle.manifest_ffi.specs.Answered.{Answers, IsAnswered};
 ghost use Rattle.manifest_ffi.specs.Unread.{GivesUnread, RefusesUnread, GivesDocument, RefusesDocument};
 
 pub use answer::Answer;
-use answer::{Asked, handed, outcome, respond};
+use answer::{Asked, outcome, respond, write_answer};
 pub use folders::Folder;
 use making::Output;
 use reading::Input;
@@ -240,7 +240,7 @@ pub extern "C" fn manifest_table_without_metadata(
 {
     let table = unread::unread_table(alloc, bytes, most);
     let told = outcome(alloc, table);
-    handed(&told, out)
+    write_answer(&told, out)
 }
 
 /// The tagged bytes of the document that the bytes are, whatever it means. It may have floats, which no table of a manifest
@@ -261,7 +261,7 @@ pub extern "C" fn manifest_document(
 {
     let document = unread::document_table(alloc, bytes, most);
     let told = outcome(alloc, document);
-    handed(&told, out)
+    write_answer(&told, out)
 }
 
 /// The canonical text of the manifest of a table, from its tagged bytes: those that [`manifest_table`] writes, or such of

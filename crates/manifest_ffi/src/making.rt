@@ -140,7 +140,7 @@ fn text_of(alloc: Global, manifest: &Manifest, most: usize) -> Result<Vec<u8>, R
 }
 
 /// The tagged bytes of a value.
-pub(crate) fn tagged(alloc: Global, value: &Value, most: usize) -> Result<Vec<u8>, Refusal>
+pub(crate) fn tagged_bytes(alloc: Global, value: &Value, most: usize) -> Result<Vec<u8>, Refusal>
     ensures { let tagged = encoded (view value.now) in
         IsMade (AreWithin most tagged) (RefusesTagged most tagged) result }
 {
@@ -157,7 +157,7 @@ fn table_of(alloc: Global, manifest: &Manifest, most: usize) -> Result<Vec<u8>, 
         IsMade (AreWithin most bytes) (RefusesTagged most bytes) result }
 {
     let value = manifest.to_value(alloc)?;
-    tagged(alloc, &value, most)
+    tagged_bytes(alloc, &value, most)
 }
 
 /// What is asked for of a manifest.
@@ -177,7 +177,7 @@ fn output_of(
 }
 
 /// What is asked for of a manifest that was made, or why none was.
-pub(crate) fn finished(
+pub(crate) fn output_or_refusal(
     alloc: Global,
     output: Output,
     most: usize,

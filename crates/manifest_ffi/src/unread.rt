@@ -11,7 +11,7 @@ ghost use Rattle.cargo_manifest.specs.Whole.{manifest_of};
 ghost use Rattle.manifest_ffi.specs.Made.{AreWithin, RefusesTagged, IsMade};
 ghost use Rattle.manifest_ffi.specs.Unread.{no_metadata, GivesUnread, RefusesUnread, GivesDocument, RefusesDocument};
 
-use crate::making::tagged;
+use crate::making::tagged_bytes;
 use crate::reading::{document, from_text};
 use crate::refusal::Refusal;
 use cargo_manifest::{Manifest, Schema, Unread, Value};
@@ -28,7 +28,7 @@ fn table_of_unread(
         IsMade (AreWithin most bytes) (RefusesTagged most bytes) result }
 {
     let value = manifest.to_value(alloc)?;
-    tagged(alloc, &value, most)
+    tagged_bytes(alloc, &value, most)
 }
 
 /// The tagged bytes of the table of the manifest that the bytes mean.
@@ -52,5 +52,5 @@ pub(crate) fn document_table(alloc: Global, bytes: &[u8], most: usize) -> Result
         Ok(table) => Value::Table(table),
         Err(refused) => return Err(Refusal::Bytes(refused)),
     };
-    tagged(alloc, &value, most)
+    tagged_bytes(alloc, &value, most)
 }

@@ -37,7 +37,7 @@ enum Trial {
 }
 
 /// The trial of a name.
-fn named(name: &str) -> Option<Trial> {
+fn trial_of_name(name: &str) -> Option<Trial> {
     match name {
         "badges" => Some(Trial::Reading(Document::Badges)),
         "unfit" => Some(Trial::Reading(Document::Unfit)),
@@ -63,7 +63,7 @@ fn named(name: &str) -> Option<Trial> {
 /// The trial that the first word after the program's name names.
 fn asked_trial(rt: &HostRuntime) -> io::Result<Option<Trial>> {
     let word = env::args(rt)?.nth(1);
-    Ok(word.and_then(|word| named(word.as_str())))
+    Ok(word.and_then(|word| trial_of_name(word.as_str())))
 }
 
 /// The line that tells what a completion was refused with.

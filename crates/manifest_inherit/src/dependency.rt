@@ -38,7 +38,7 @@ fn version_alone(version: &String) -> Result<DependencyDetail, AllocError>
 }
 
 /// What the member says, or else the workspace.
-fn own_or_lent(own: Option<bool>, lent: Option<bool>) -> Option<bool>
+fn own_or_workspace(own: Option<bool>, lent: Option<bool>) -> Option<bool>
     ensures { option_map (λ b. b) result
         ≡ option_or (option_map (λ b. b) own) (option_map (λ b. b) lent) }
 {
@@ -49,7 +49,7 @@ fn own_or_lent(own: Option<bool>, lent: Option<bool>) -> Option<bool>
 }
 
 /// The detail that is lent, with what the member says, simplified.
-fn joined(
+fn join_dependency(
     alloc: Global,
     own: &InheritedDependencyDetail,
     lent: DependencyDetail,
@@ -60,7 +60,7 @@ fn joined(
     let mut detail = lent;
     join_features(alloc, &mut detail.features, &own.features)?;
     detail.optional = own.optional;
-    detail.default_features = own_or_lent(own.default_features, detail.default_features);
+    detail.default_features = own_or_workspace(own.default_features, detail.default_features);
     Ok(Dependency::Detailed(detail).simplify())
 }
 
@@ -84,9 +84,9 @@ pub(crate) fn resolved_dependency(
             None => Err(not_in_workspace(alloc, name)),
             Some(Dependency::Inherited(_)) => Err(inherited_in_workspace(alloc, name)),
             Some(Dependency::Simple(version)) => {
-                Ok(joined(alloc, own, version_alone(version)?)?)
+                Ok(join_dependency(alloc, own, version_alone(version)?)?)
             }
-            Some(Dependency::Detailed(detail)) => { Ok(joined(alloc, own, copy_of(detail)?)?) }
+            Some(Dependency::Detailed(detail)) => { Ok(join_dependency(alloc, own, copy_of(detail)?)?) }
         },
     }
 }

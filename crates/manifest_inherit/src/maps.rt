@@ -28,7 +28,7 @@ pub(crate) trait Heir: Sized + Drop {
     ghost refuses: { Entries Contents.Dependency → List ℕ → Content → Refusal → Type 0 };
 
     /// What it becomes under this name, made beside it.
-    fn resolved(
+    fn resolve_under_name(
         &self,
         alloc: Global,
         lent: &Option<DepsSet>,
@@ -50,7 +50,7 @@ impl Heir for Dependency {
 
     ghost refuses = { refuses_dependency };
 
-    fn resolved(
+    fn resolve_under_name(
         &self,
         alloc: Global,
         lent: &Option<DepsSet>,
@@ -69,7 +69,7 @@ impl Heir for Target {
 
     ghost refuses = { λ lent name. refuses_platform lent };
 
-    fn resolved(
+    fn resolve_under_name(
         &self,
         alloc: Global,
         lent: &Option<DepsSet>,
@@ -102,7 +102,7 @@ fn resolved_list<T: Heir>(
 {
     let mut list = Vec::new(alloc);
     for (key, x) in own.iter() {
-        let made = match x.resolved(alloc, lent, key.as_str()) {
+        let made = match x.resolve_under_name(alloc, lent, key.as_str()) {
             Ok(made) => made,
             Err(refusal) => return Err(refusal),
         };

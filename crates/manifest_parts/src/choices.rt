@@ -6,7 +6,7 @@ ghost use Rattle.manifest_schema.specs.Choices.{edition, edition_text, resolver,
 ghost use Rattle.manifest_schema.proofs.ChoiceLaws.{edition_lawful, edition_plain, resolver_lawful, level_lawful, status_lawful};
 ghost use Rattle.manifest_parts.specs.Parts.{edition_content, resolver_content, level_content, status_content};
 
-use manifest_value::fault::here;
+use manifest_value::fault::fault_here;
 use manifest_value::{Cause, Plain, ReadFault, Schema, Source};
 use std::alloc::{AllocError, Global};
 use toml::Value;
@@ -59,9 +59,9 @@ impl Schema for Edition {
                 "2018" => Ok(Edition::E2018),
                 "2021" => Ok(Edition::E2021),
                 "2024" => Ok(Edition::E2024),
-                _ => Err(here(alloc, Cause::NotAChoice)),
+                _ => Err(fault_here(alloc, Cause::NotAChoice)),
             },
-            _ => Err(here(alloc, Cause::WrongKind)),
+            _ => Err(fault_here(alloc, Cause::WrongKind)),
         }
     }
 
@@ -130,9 +130,9 @@ impl Schema for Resolver {
                 "1" => Ok(Resolver::V1),
                 "2" => Ok(Resolver::V2),
                 "3" => Ok(Resolver::V3),
-                _ => Err(here(alloc, Cause::NotAChoice)),
+                _ => Err(fault_here(alloc, Cause::NotAChoice)),
             },
-            _ => Err(here(alloc, Cause::WrongKind)),
+            _ => Err(fault_here(alloc, Cause::WrongKind)),
         }
     }
 
@@ -204,9 +204,9 @@ impl Schema for LintLevel {
                 "deny" => Ok(LintLevel::Deny),
                 "warn" => Ok(LintLevel::Warn),
                 "allow" => Ok(LintLevel::Allow),
-                _ => Err(here(alloc, Cause::NotAChoice)),
+                _ => Err(fault_here(alloc, Cause::NotAChoice)),
             },
-            _ => Err(here(alloc, Cause::WrongKind)),
+            _ => Err(fault_here(alloc, Cause::WrongKind)),
         }
     }
 
@@ -287,9 +287,9 @@ impl Schema for MaintenanceStatus {
         match source.value() {
             Value::String(s) => match status_of(s.as_str()) {
                 Some(status) => Ok(status),
-                None => Err(here(alloc, Cause::NotAChoice)),
+                None => Err(fault_here(alloc, Cause::NotAChoice)),
             },
-            _ => Err(here(alloc, Cause::WrongKind)),
+            _ => Err(fault_here(alloc, Cause::WrongKind)),
         }
     }
 

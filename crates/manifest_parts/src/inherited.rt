@@ -9,7 +9,7 @@ ghost use Rattle.manifest_schema.proofs.KindLaws.{inh_lawful, truth_lawful};
 ghost use Rattle.manifest_parts.specs.Parts.{inh_content};
 ghost use Rattle.manifest_value.specs.Reading.{data_of};
 
-use manifest_value::fault::here;
+use manifest_value::fault::fault_here;
 use manifest_value::readers::find;
 use manifest_value::rows::put_row;
 use manifest_value::{Cause, Plain, ReadFault, Schema, Source};
@@ -33,8 +33,8 @@ impl Schema for True {
     fn read(alloc: Global, source: Source<'_>) -> Result<True, ReadFault> {
         match source.value() {
             Value::Boolean(true) => Ok(True),
-            Value::Boolean(false) => Err(here(alloc, Cause::NotTrue)),
-            _ => Err(here(alloc, Cause::WrongKind)),
+            Value::Boolean(false) => Err(fault_here(alloc, Cause::NotTrue)),
+            _ => Err(fault_here(alloc, Cause::WrongKind)),
         }
     }
 
@@ -108,7 +108,7 @@ impl<T: Plain> Schema for MaybeInherited<T> {
             return Ok(MaybeInherited::Inherited { workspace: True });
         }
         match source.value() {
-            Value::Table(_) => Err(here(alloc, Cause::WrongKind)),
+            Value::Table(_) => Err(fault_here(alloc, Cause::WrongKind)),
             _ => Ok(MaybeInherited::Local(T::read(alloc, source)?)),
         }
     }

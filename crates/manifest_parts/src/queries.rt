@@ -44,7 +44,7 @@ impl Dependency {
         match self {
             Dependency::Simple(version) => Dependency::Simple(version),
             Dependency::Inherited(detail) => Dependency::Inherited(detail),
-            Dependency::Detailed(detail) => simplified(detail),
+            Dependency::Detailed(detail) => simplify_detail(detail),
         }
     }
 
@@ -212,7 +212,7 @@ fn says_more(detail: &DependencyDetail) -> bool
 }
 
 /// The version alone, where the detail says no more.
-fn simplified(mut detail: DependencyDetail) -> Dependency
+fn simplify_detail(mut detail: DependencyDetail) -> Dependency
     ensures { dependency_content result ≡ simplify (detailed (detail_content detail)) }
 {
     if says_more(&detail) {

@@ -10,7 +10,7 @@ ghost use Rattle.manifest_parts.specs.Parts.{strip_content};
 ghost use Rattle.manifest_value.specs.Reading.{Reads};
 ghost use Rattle.manifest_parts.specs.Refusals.{RefusesStrip};
 
-use manifest_value::fault::here;
+use manifest_value::fault::fault_here;
 use manifest_value::{Cause, Error, ReadFault, Schema, Source};
 use std::alloc::{AllocError, Global};
 use toml::Value;
@@ -84,9 +84,9 @@ impl Schema for StripSetting {
                 "none" => Ok(StripSetting::None),
                 "symbols" => Ok(StripSetting::Symbols),
                 "debuginfo" => Ok(StripSetting::Debuginfo),
-                _ => Err(here(alloc, Cause::NotAChoice)),
+                _ => Err(fault_here(alloc, Cause::NotAChoice)),
             },
-            _ => Err(here(alloc, Cause::WrongKind)),
+            _ => Err(fault_here(alloc, Cause::WrongKind)),
         }
     }
 

@@ -12,7 +12,7 @@ pub type Row = (&'static str, Result<&'static str, &'static str>);
 pub const PACKAGE: &str = "[package]\nname = 'p'\n";
 
 /// What an error tells: the cause and the path of a fault of the schema, else what refused.
-pub fn told(alloc: Global, error: &Error) -> Result<String, AllocError> {
+pub fn error_text(alloc: Global, error: &Error) -> Result<String, AllocError> {
     match error {
         Error::Parse(ParseFault::Schema(fault)) => {
             let cause = fault.cause.as_str();
@@ -35,14 +35,14 @@ pub fn written<P: Metadata, W: Metadata>(
     match &read {
         Ok(manifest) => match manifest.to_toml_string(alloc) {
             Ok(text) => Ok(text),
-            Err(error) => told(alloc, &error),
+            Err(error) => error_text(alloc, &error),
         },
-        Err(error) => told(alloc, error),
+        Err(error) => error_text(alloc, error),
     }
 }
 
 /// A document as `toml` lays its table out.
-pub fn laid_out(alloc: Global, document: &str) -> Result<String, Fail> {
+pub fn toml_layout(alloc: Global, document: &str) -> Result<String, Fail> {
     let table = toml::table_from_str(alloc, document)?;
     Ok(toml::table_to_string(alloc, &table)?)
 }
@@ -53,7 +53,7 @@ pub fn value(alloc: Global, text: &str) -> Result<Value, Fail> {
 }
 
 /// The text of a table of one value.
-pub fn shown(alloc: Global, value: Value) -> Result<String, Fail> {
+pub fn text_of_value(alloc: Global, value: Value) -> Result<String, Fail> {
     let mut table = Table::new(alloc);
     drop(table.insert(String::from_str(alloc, "value")?, value)?);
     Ok(toml::table_to_string(alloc, &table)?)
@@ -62,15 +62,15 @@ pub fn shown(alloc: Global, value: Value) -> Result<String, Fail> {
 /// What is written of a value that was read, or how it is told to be refused.
 pub fn answer_of<T: Schema>(alloc: Global, read: Result<T, Error>) -> Result<String, Fail> {
     match read {
-        Ok(x) => shown(alloc, x.to_value(alloc)?),
-        Err(error) => Ok(told(alloc, &error)?),
+        Ok(x) => text_of_value(alloc, x.to_value(alloc)?),
+        Err(error) => Ok(error_text(alloc, &error)?),
     }
 }
 
 /// The answer that a row expects of a value.
-pub fn expected_of(alloc: Global, answer: Result<&str, &str>) -> Result<String, Fail> {
+pub fn expected_answer(alloc: Global, answer: Result<&str, &str>) -> Result<String, Fail> {
     match answer {
-        Ok(written) => shown(alloc, value(alloc, written)?),
+        Ok(written) => text_of_value(alloc, value(alloc, written)?),
         Err(told) => Ok(String::from_str(alloc, told)?),
     }
 }
@@ -95,7 +95,7 @@ pub fn assert_written<T: Schema>(
     text: &str,
 ) -> Result<(), Fail> {
     let got = answer_of(alloc, Ok(read?))?;
-    let expected = expected_of(alloc, Ok(text))?;
+    let expected = expected_answer(alloc, Ok(text))?;
     assert_is(rt, Ok(got), expected.as_str(), text)
 }
 
@@ -117,7 +117,7 @@ pub fn expected_behind(
     answer: Result<&str, &str>,
 ) -> Result<String, Fail> {
     match answer {
-        Ok(written) => laid_out(alloc, format!(in alloc; "{head}{written}")?.as_str()),
+        Ok(written) => toml_layout(alloc, format!(in alloc; "{head}{written}")?.as_str()),
         Err(told) => Ok(String::from_str(alloc, told)?),
     }
 }
@@ -146,7 +146,7 @@ fn value_answer<T: Schema>(alloc: Global, text: &str) -> Result<String, Fail> {
 /// Asserts of each row how its text is answered as a `T`.
 pub fn assert_values<T: Schema>(rt: &impl Abort, alloc: Global, rows: &[Row]) -> Result<(), Fail> {
     for (text, answer) in rows {
-        let expected = expected_of(alloc, *answer)?;
+        let expected = expected_answer(alloc, *answer)?;
         assert_is(rt, value_answer::<T>(alloc, text), expected.as_str(), text)?;
     }
     Ok(())

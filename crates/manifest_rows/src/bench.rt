@@ -2,9 +2,9 @@
 //! together, the row without its key where it is needed, all rows filled, and keys that no row has; and one table in which
 //! all rows of all forms are filled. The answers come from the tables of docs/KEYS.md.
 
-use crate::answers::{answer_of, assert_is, document_answer, laid_out, shown};
+use crate::answers::{answer_of, assert_is, document_answer, text_of_value, toml_layout};
 use crate::bench_keys;
-use crate::bench_kinds::{Answer, VALUES, cases_of, fitting};
+use crate::bench_kinds::{Answer, VALUES, cases_of, fitting_value};
 use cargo_manifest::{
     Badge, Badges, DependencyDetail, InheritedDependencyDetail, LintConfig, Maintenance, Manifest,
     MaybeInheritedLintsSet, Package, Product, Profile, Profiles, Target, Workspace,
@@ -33,7 +33,7 @@ struct Row {
 }
 
 /// What stands between backticks, or nothing.
-fn quoted(cell: &'static str) -> &'static str {
+fn text_in_backticks(cell: &'static str) -> &'static str {
     cell.split('`').nth(1).unwrap_or("")
 }
 
@@ -43,7 +43,7 @@ fn cell(line: &'static str, at: usize) -> &'static str {
 }
 
 /// What is never written of a row that is written like this.
-fn left_out(written: &str) -> &'static str {
+fn skipped_value(written: &str) -> &'static str {
     match written {
         "unless true" => "true",
         "unless false" => "false",
@@ -57,21 +57,21 @@ const OWN: &str = "own";
 
 /// The row of a line of docs/KEYS.md.
 fn row_of(line: &'static str) -> Row {
-    let key = quoted(cell(line, 1));
+    let key = text_in_backticks(cell(line, 1));
     let need = cell(line, 4);
     let written = cell(line, 5);
     Row {
         key: if key.is_empty() { OWN } else { key },
-        second: quoted(cell(line, 2)),
+        second: text_in_backticks(cell(line, 2)),
         holds: cell(line, 3),
         is_needed: need.contains("needed"),
         is_lenient: need.contains("does not fit"),
         absent: if written == "always" {
-            quoted(need)
+            text_in_backticks(need)
         } else {
             ""
         },
-        skipped: left_out(written),
+        skipped: skipped_value(written),
     }
 }
 
@@ -140,7 +140,7 @@ fn write_entry(text: &mut String, key: &str, value: &str) -> Result<(), AllocErr
 /// What a row has to have and has written, without a key.
 fn add_needed(entries: &mut Entries, row: &Row) -> Result<(), AllocError> {
     if row.is_needed {
-        let (value, written) = fitting(row.holds, "").unwrap_or(("", ""));
+        let (value, written) = fitting_value(row.holds, "").unwrap_or(("", ""));
         entries.read(row.key, value)?;
         entries.written(row.key, written)
     } else {
@@ -165,7 +165,7 @@ fn add_unlisted(
 }
 
 /// What the other rows have to have and have written.
-fn others(
+fn other_entries(
     alloc: Global,
     rows: &[&'static str],
     key: &str,
@@ -199,7 +199,7 @@ fn answer<T: Schema>(alloc: Global, place: Option<&Place>, entries: &str) -> Res
 }
 
 /// The answer that is due at a place, where these entries are written or this is refused.
-fn due(
+fn expected_at_place(
     alloc: Global,
     place: &Place,
     written: &str,
@@ -208,23 +208,23 @@ fn due(
     match refusal {
         None => {
             let head = place.written_head;
-            laid_out(alloc, format!(in alloc; "{head}{written}")?.as_str())
+            toml_layout(alloc, format!(in alloc; "{head}{written}")?.as_str())
         }
         Some((cause, key, rest)) => {
             if place.unfit.is_empty() {
                 let path = place.path;
                 Ok(format!(in alloc; "{cause} at {path}{key}{rest}")?)
             } else {
-                laid_out(alloc, place.unfit)
+                toml_layout(alloc, place.unfit)
             }
         }
     }
 }
 
 /// The same by the call of the type.
-fn due_by_call(alloc: Global, written: &str, refusal: Option<Refusal<'_>>) -> Result<String, Fail> {
+fn expected_by_call(alloc: Global, written: &str, refusal: Option<Refusal<'_>>) -> Result<String, Fail> {
     match refusal {
-        None => shown(alloc, Value::Table(toml::table_from_str(alloc, written)?)),
+        None => text_of_value(alloc, Value::Table(toml::table_from_str(alloc, written)?)),
         Some((cause, key, rest)) => Ok(format!(in alloc; "{cause} at {key}{rest}")?),
     }
 }
@@ -255,8 +255,8 @@ impl Form<'_> {
         let read = entries.read.as_str();
         let written = entries.written.as_str();
         let expected = match self.place {
-            Some(place) => due(alloc, place, written, refusal)?,
-            None => due_by_call(alloc, written, refusal)?,
+            Some(place) => expected_at_place(alloc, place, written, refusal)?,
+            None => expected_by_call(alloc, written, refusal)?,
         };
         let got = answer::<T>(alloc, self.place, read);
         assert_is(rt, got, expected.as_str(), read)
@@ -272,7 +272,7 @@ impl Form<'_> {
         value: &str,
         answer: Answer,
     ) -> Result<(), Fail> {
-        let mut entries = others(alloc, self.rows, row.key, self.besides())?;
+        let mut entries = other_entries(alloc, self.rows, row.key, self.besides())?;
         entries.read(spelling, value)?;
         let refusal = match answer {
             Ok(written) => {
@@ -300,7 +300,7 @@ impl Form<'_> {
         alloc: Global,
         row: &Row,
     ) -> Result<(), Fail> {
-        let mut entries = others(alloc, self.rows, row.key, self.besides())?;
+        let mut entries = other_entries(alloc, self.rows, row.key, self.besides())?;
         if row.is_needed {
             self.assert_answer::<T>(rt, alloc, &entries, Some(("missing", row.key, "")))?;
         }
@@ -330,7 +330,7 @@ impl Form<'_> {
         for line in self.rows {
             let row = row_of(line);
             if row.key != self.besides() {
-                match fitting(row.holds, row.skipped) {
+                match fitting_value(row.holds, row.skipped) {
                     Some((value, written)) => {
                         entries.read(row.key, value)?;
                         entries.written(row.key, written)?;
@@ -345,7 +345,7 @@ impl Form<'_> {
     /// Keys that no row has, with a value of each kind: they are ignored.
     fn assert_ignored<T: Schema>(&self, rt: &impl Abort, alloc: Global) -> Result<(), Fail> {
         for value in VALUES {
-            let mut entries = others(alloc, self.rows, "", self.besides())?;
+            let mut entries = other_entries(alloc, self.rows, "", self.besides())?;
             for line in self.rows {
                 add_unlisted(alloc, &mut entries, &row_of(line), value)?;
             }
@@ -423,7 +423,7 @@ fn dependencies_in_detail(rt: HostRuntime) -> Result<(), Fail> {
 }
 
 /// A place of an inherited dependency, whose row `workspace` decides that it is one.
-fn lent(head: &'static str, path: &'static str) -> Place {
+fn inherited_place(head: &'static str, path: &'static str) -> Place {
     Place {
         besides: "workspace",
         ..at(head, path)
@@ -433,15 +433,15 @@ fn lent(head: &'static str, path: &'static str) -> Place {
 #[test]
 fn inherited_dependencies(rt: HostRuntime) -> Result<(), Fail> {
     let places = [
-        lent(
+        inherited_place(
             "package.name = 'p'\n[dependencies.a]\nworkspace = true\n",
             "dependencies.a.",
         ),
-        lent(
+        inherited_place(
             "package.name = 'p'\n[patch.x.a]\nworkspace = true\n",
             "patch.x.a.",
         ),
-        lent(
+        inherited_place(
             "workspace.members = []\n[workspace.dependencies.a]\nworkspace = true\n",
             "workspace.dependencies.a.",
         ),
@@ -503,7 +503,7 @@ fn profiles(rt: HostRuntime) -> Result<(), Fail> {
 }
 
 /// A place where a form that does not fit refuses nothing.
-fn lenient(head: &'static str) -> Place {
+fn lenient_place(head: &'static str) -> Place {
     Place {
         unfit: "package.name = 'p'\n[badges]\nmaintenance = { status = 'none' }\n",
         ..at(head, "")
@@ -513,15 +513,15 @@ fn lenient(head: &'static str) -> Place {
 #[test]
 fn badges(rt: HostRuntime) -> Result<(), Fail> {
     let badges = [
-        lenient(
+        lenient_place(
             "package.name = 'p'\n[badges]\nmaintenance = { status = 'none' }\n[badges.appveyor]\n",
         ),
-        lenient(
+        lenient_place(
             "package.name = 'p'\n[badges]\nmaintenance = { status = 'none' }\n[badges.is-it-maintained-open-issues]\n",
         ),
     ];
     assert_form::<Badge>(&rt, rt.alloc(), bench_keys::BADGE, &badges)?;
-    let maintenances = [lenient("package.name = 'p'\n[badges.maintenance]\n")];
+    let maintenances = [lenient_place("package.name = 'p'\n[badges.maintenance]\n")];
     assert_form::<Maintenance>(&rt, rt.alloc(), bench_keys::MAINTENANCE, &maintenances)?;
     let sets = [at("package.name = 'p'\n[badges]\n", "badges.")];
     assert_form::<Badges>(&rt, rt.alloc(), bench_keys::BADGES, &sets)
@@ -538,7 +538,7 @@ fn packages(rt: HostRuntime) -> Result<(), Fail> {
         // a whole file with a key `workspace` is no package
         Place {
             head: "",
-            ..lent("[package]\n", "")
+            ..inherited_place("[package]\n", "")
         },
     ];
     assert_form::<Package<Value>>(&rt, rt.alloc(), bench_keys::PACKAGE, &places)
@@ -562,7 +562,7 @@ fn manifests(rt: HostRuntime) -> Result<(), Fail> {
             besides: "package",
             ..at("package = { name = 'p' }\n", "")
         },
-        lent("workspace = { members = [] }\n", ""),
+        inherited_place("workspace = { members = [] }\n", ""),
     ];
     assert_form::<Manifest<Value, Value>>(&rt, rt.alloc(), bench_keys::MANIFEST, &places)
 }
@@ -623,12 +623,12 @@ fn outline(row: &Row) -> &'static str {
     if row.holds.starts_with("table ") {
         return row.holds;
     }
-    let (_, written) = fitting(row.holds, row.skipped).unwrap_or(("", ""));
+    let (_, written) = fitting_value(row.holds, row.skipped).unwrap_or(("", ""));
     written
 }
 
 /// The table of a form with all rows, each with the outline of a value.
-fn outlined(alloc: Global, rows: &[&'static str]) -> Result<String, AllocError> {
+fn outline_of_form(alloc: Global, rows: &[&'static str]) -> Result<String, AllocError> {
     let mut text = String::new(alloc);
     let mut before = "{ ";
     for line in rows {
@@ -644,20 +644,20 @@ fn outlined(alloc: Global, rows: &[&'static str]) -> Result<String, AllocError> 
 }
 
 /// A value that fits a row, in which all rows of all forms are filled.
-fn full(alloc: Global, row: &Row) -> Result<String, AllocError> {
+fn value_of_row(alloc: Global, row: &Row) -> Result<String, AllocError> {
     let mut text = String::from_str(alloc, outline(row))?;
     for (form, rows) in FORMS {
-        text = text.replace(alloc, *form, outlined(alloc, rows)?.as_str())?;
+        text = text.replace(alloc, *form, outline_of_form(alloc, rows)?.as_str())?;
     }
     Ok(text)
 }
 
 /// The entries of a manifest in which every row of every form is filled.
-pub fn filled(alloc: Global) -> Result<String, AllocError> {
+pub fn manifest_of_all_rows(alloc: Global) -> Result<String, AllocError> {
     let mut text = String::new(alloc);
     for line in bench_keys::MANIFEST {
         let row = row_of(line);
-        let value = full(alloc, &row)?;
+        let value = value_of_row(alloc, &row)?;
         write_entry(&mut text, row.key, value.as_str())?;
     }
     Ok(text)
@@ -666,8 +666,8 @@ pub fn filled(alloc: Global) -> Result<String, AllocError> {
 /// Every row of every form, in one table: it is written as it is read.
 #[test]
 fn all_forms_at_once(rt: HostRuntime) -> Result<(), Fail> {
-    let read = filled(rt.alloc())?;
-    let written = filled(rt.alloc())?;
+    let read = manifest_of_all_rows(rt.alloc())?;
+    let written = manifest_of_all_rows(rt.alloc())?;
     let entries = Entries { read, written };
     let rows = bench_keys::MANIFEST;
     let by_call = Form { rows, place: None };

@@ -332,7 +332,7 @@ fn listed_map(kind: &str) -> &'static [Case] {
 }
 
 /// What a kind lists, by the words of the tables.
-fn listed(kind: &str) -> &'static [Case] {
+fn cases_of_kind(kind: &str) -> &'static [Case] {
     match kind {
         "text" => TEXT,
         "boolean" => BOOLEAN,
@@ -374,10 +374,10 @@ pub fn cases_of(alloc: Global, holds: &str) -> Result<Vec<Case>, AllocError> {
     let mut cases: Vec<Case> = Vec::new(alloc);
     match holds.strip_suffix(", or inherited") {
         Some(kind) => {
-            add(&mut cases, listed(kind))?;
+            add(&mut cases, cases_of_kind(kind))?;
             add(&mut cases, LENT)?;
         }
-        None => add(&mut cases, listed(holds))?,
+        None => add(&mut cases, cases_of_kind(holds))?,
     }
     for value in VALUES {
         if !is_listed(cases.as_slice(), value) {
@@ -389,9 +389,9 @@ pub fn cases_of(alloc: Global, holds: &str) -> Result<Vec<Case>, AllocError> {
 
 /// A value that a row's kind reads and that is written, other than the one that is left out, with what is written of
 /// it.
-pub fn fitting(holds: &str, left_out: &str) -> Option<(&'static str, &'static str)> {
+pub fn fitting_value(holds: &str, left_out: &str) -> Option<(&'static str, &'static str)> {
     let kind = holds.strip_suffix(", or inherited").unwrap_or(holds);
-    for (value, answer) in listed(kind) {
+    for (value, answer) in cases_of_kind(kind) {
         if let Ok(written) = answer {
             if *written != left_out {
                 return Some((*value, *written));

@@ -1,12 +1,12 @@
 //! The calls that take memory and that no other test names: faults, rows that are written, and targets that are completed.
-use crate::answers::{answer_of, assert_is, assert_written, laid_out, told, value};
+use crate::answers::{answer_of, assert_is, assert_written, error_text, toml_layout, value};
 use crate::folders::listings;
 use cargo_manifest::{
     Cause, Edition, MaybeInherited, Product, ReadFault, Schema, Step, StringOrBool,
 };
 use manifest_completion::{CompletedTargets, DeclaredTargets, complete};
 use manifest_value::error::refusal;
-use manifest_value::fault::{here, prefixed, under_key};
+use manifest_value::fault::{fault_behind_step, fault_here, fault_under_key};
 use manifest_value::maps::{entries_table, map_of_list};
 use manifest_value::metadata::put_tree;
 use manifest_value::rows::{at_key, put_nonempty, put_optional, put_row, put_unless, read_under};
@@ -17,8 +17,8 @@ use std::test::Fail;
 use toml::{Table, Value};
 
 /// How a fault is told.
-fn told_of(alloc: Global, fault: ReadFault) -> Result<String, Fail> {
-    Ok(told(alloc, &refusal(fault))?)
+fn fault_text(alloc: Global, fault: ReadFault) -> Result<String, Fail> {
+    Ok(error_text(alloc, &refusal(fault))?)
 }
 
 #[test]
@@ -26,15 +26,15 @@ fn faults_behind_steps(rt: HostRuntime) -> Result<(), Fail> {
     let alloc = rt.alloc();
     let not_true = || at_key(alloc, "a b", Cause::NotTrue);
     for (fault, expected) in [
-        (here(alloc, Cause::Missing), "missing at (top)"),
+        (fault_here(alloc, Cause::Missing), "missing at (top)"),
         (not_true(), "not true at \"a b\""),
-        (under_key(alloc, "x", not_true()), "not true at x.\"a b\""),
+        (fault_under_key(alloc, "x", not_true()), "not true at x.\"a b\""),
         (
-            prefixed(Step::Index(3), not_true()),
+            fault_behind_step(Step::Index(3), not_true()),
             "not true at [3].\"a b\"",
         ),
     ] {
-        assert_is(&rt, told_of(alloc, fault), expected, expected)?;
+        assert_is(&rt, fault_text(alloc, fault), expected, expected)?;
     }
     Ok(())
 }
@@ -43,7 +43,7 @@ fn faults_behind_steps(rt: HostRuntime) -> Result<(), Fail> {
 fn answer_under<T: Schema>(alloc: Global, text: &str) -> Result<String, Fail> {
     match read_under::<T>(alloc, &value(alloc, text)?, "k") {
         Ok(x) => answer_of(alloc, Ok(x)),
-        Err(fault) => told_of(alloc, fault),
+        Err(fault) => fault_text(alloc, fault),
     }
 }
 
@@ -96,7 +96,7 @@ fn written_rows(alloc: Global) -> Result<Table, Fail> {
 fn rows_that_are_written(rt: HostRuntime) -> Result<(), Fail> {
     let alloc = rt.alloc();
     let rows = "row = false\noptional = 'a'\nunless = 1\nlist = [65535]\ntree = { a = [1] }";
-    let expected = laid_out(alloc, rows)?;
+    let expected = toml_layout(alloc, rows)?;
     let got = toml::table_to_string(alloc, &written_rows(alloc)?)?;
     assert_is(&rt, Ok(got), expected.as_str(), rows)
 }
@@ -124,7 +124,7 @@ fn maps_that_are_written(rt: HostRuntime) -> Result<(), Fail> {
 }
 
 /// What has to be there.
-fn there<T: Schema>(value: Option<T>) -> Result<T, Fail> {
+fn value_or_fail<T: Schema>(value: Option<T>) -> Result<T, Fail> {
     match value {
         Some(x) => Ok(x),
         None => Err(Fail::from("a target is not there")),
@@ -141,10 +141,10 @@ fn assert_targets(rt: &impl Abort, alloc: Global, completed: CompletedTargets) -
         test,
         bench,
     } = completed;
-    assert_written(rt, alloc, there(build), "'build.rs'")?;
+    assert_written(rt, alloc, value_or_fail(build), "'build.rs'")?;
     let expected =
         "{ name = 'a_b', path = 'src/lib.rs', edition = '2021', required-features = [], crate-type = ['lib'] }";
-    assert_written(rt, alloc, there(lib), expected)?;
+    assert_written(rt, alloc, value_or_fail(lib), expected)?;
     let expected =
         "[{ name = 'c', path = 'src/bin/c.rs', edition = '2021', required-features = [] }]";
     assert_written(rt, alloc, Ok(bin), expected)?;

@@ -1,5 +1,5 @@
 //! Each reader and writer of values, by its name.
-use crate::answers::{answer_of, assert_is, expected_of, told, value};
+use crate::answers::{answer_of, assert_is, error_text, expected_answer, value};
 use cargo_manifest::{ReadFault, Schema};
 use manifest_value::error::refusal;
 use manifest_value::{
@@ -19,10 +19,10 @@ const WRONG_KIND: &str = "wrong kind at (top)";
 const OUT_OF_RANGE: &str = "out of range at (top)";
 
 /// Whether a reader accepts, or how it tells its refusal.
-fn told_of<T: Drop>(alloc: Global, read: Result<T, ReadFault>) -> Result<String, Fail> {
+fn answer_of_reader<T: Drop>(alloc: Global, read: Result<T, ReadFault>) -> Result<String, Fail> {
     match read {
         Ok(_) => Ok(String::from_str(alloc, ACCEPTED)?),
-        Err(fault) => Ok(told(alloc, &refusal(fault))?),
+        Err(fault) => Ok(error_text(alloc, &refusal(fault))?),
     }
 }
 
@@ -38,7 +38,7 @@ enum Reader {
 fn copied_by<T: Schema>(alloc: Global, read: Result<T, ReadFault>) -> Result<String, Fail> {
     match read {
         Ok(x) => answer_of(alloc, Ok(x)),
-        Err(fault) => Ok(told(alloc, &refusal(fault))?),
+        Err(fault) => Ok(error_text(alloc, &refusal(fault))?),
     }
 }
 
@@ -67,7 +67,7 @@ const READERS: &[(Reader, &str, Result<&str, &str>)] = &[
 #[test]
 fn readers_of_one_value(rt: HostRuntime) -> Result<(), Fail> {
     for (reader, shown, answer) in READERS {
-        let expected = expected_of(rt.alloc(), *answer)?;
+        let expected = expected_answer(rt.alloc(), *answer)?;
         assert_is(
             &rt,
             answer_by(rt.alloc(), *reader, shown),
@@ -86,7 +86,7 @@ fn entries_of(alloc: Global, shown: &str) -> Result<String, Fail> {
             let count = entries.len();
             Ok(format!(in alloc; "{count}")?)
         }
-        Err(fault) => Ok(told(alloc, &refusal(fault))?),
+        Err(fault) => Ok(error_text(alloc, &refusal(fault))?),
     }
 }
 
@@ -116,7 +116,7 @@ const NUMBERS: &[(&str, i64, i64, &str)] = &[
 fn whole_numbers_between_limits(rt: HostRuntime) -> Result<(), Fail> {
     for (shown, low, high, answer) in NUMBERS {
         let read = whole(rt.alloc(), &value(rt.alloc(), shown)?, *low, *high);
-        assert_is(&rt, told_of(rt.alloc(), read), answer, shown)?;
+        assert_is(&rt, answer_of_reader(rt.alloc(), read), answer, shown)?;
     }
     Ok(())
 }
@@ -128,7 +128,7 @@ fn number_of(alloc: Global, document: &str, second: Option<&str>) -> Result<Stri
         Ok(Some(Value::Integer(n))) => Ok(format!(in alloc; "{n}")?),
         Ok(Some(_)) => Err(Fail::from("no number")),
         Ok(None) => Ok(String::from_str(alloc, "absent")?),
-        Err(fault) => Ok(told(alloc, &refusal(fault))?),
+        Err(fault) => Ok(error_text(alloc, &refusal(fault))?),
     }
 }
 
@@ -179,13 +179,13 @@ fn lists_and_maps_by_closures(rt: HostRuntime) -> Result<(), Fail> {
         let value = value(alloc, shown)?;
         assert_is(
             &rt,
-            told_of(alloc, list_of(alloc, &value, level)),
+            answer_of_reader(alloc, list_of(alloc, &value, level)),
             as_list,
             shown,
         )?;
         assert_is(
             &rt,
-            told_of(alloc, map_of(alloc, &value, level)),
+            answer_of_reader(alloc, map_of(alloc, &value, level)),
             as_map,
             shown,
         )?;
@@ -221,7 +221,7 @@ fn assert_shown(
     written: Result<Value, AllocError>,
     expected: &str,
 ) -> Result<(), Fail> {
-    let wanted = expected_of(alloc, Ok(expected))?;
+    let wanted = expected_answer(alloc, Ok(expected))?;
     assert_is(
         rt,
         answer_of(alloc, Ok(written?)),
@@ -231,7 +231,7 @@ fn assert_shown(
 }
 
 /// Texts in a list.
-fn owned(alloc: Global, texts: &[&str]) -> Result<Vec<String>, Fail> {
+fn owned_texts(alloc: Global, texts: &[&str]) -> Result<Vec<String>, Fail> {
     let mut all = Vec::new(alloc);
     for text in texts {
         all.push(String::from_str(alloc, text)?)?;
@@ -243,9 +243,9 @@ fn owned(alloc: Global, texts: &[&str]) -> Result<Vec<String>, Fail> {
 fn writers_of_texts(rt: HostRuntime) -> Result<(), Fail> {
     let alloc = rt.alloc();
     assert_shown(&rt, alloc, write_text(alloc, "a"), "'a'")?;
-    let none = owned(alloc, &[])?;
+    let none = owned_texts(alloc, &[])?;
     assert_shown(&rt, alloc, write_texts(alloc, none.as_slice()), "[]")?;
-    let names = owned(alloc, &["b", "a"])?;
+    let names = owned_texts(alloc, &["b", "a"])?;
     assert_shown(
         &rt,
         alloc,

@@ -1,5 +1,5 @@
 //! Manifests completed from listings, and the tables that are written of them.
-use crate::answers::{PACKAGE, assert_is, expected_behind, told};
+use crate::answers::{PACKAGE, assert_is, error_text, expected_behind};
 use crate::folders::listings;
 use cargo_manifest::{
     AbstractFilesystem, Edition, Error, Listings, Manifest, MaybeInherited, Package, Product, True,
@@ -28,14 +28,14 @@ pub fn completion<FS: AbstractFilesystem>(
 ) -> Result<(String, String), Fail> {
     let answer = match manifest.complete_from_abstract_filesystem(alloc, fs) {
         Ok(()) => String::new(alloc),
-        Err(error) => told(alloc, &error)?,
+        Err(error) => error_text(alloc, &error)?,
     };
     Ok((answer, manifest.to_toml_string(alloc)?))
 }
 
 /// Completes a manifest twice: its table, or what was told. A refusal has to leave it as it was, and completing it again has
 /// to answer the same and change nothing.
-fn completed_twice(
+fn complete_twice(
     alloc: Global,
     manifest: &mut Manifest<Value, Value>,
     listings: &Listings,
@@ -54,11 +54,11 @@ fn completed_twice(
     }
 }
 
-/// What [`completed_twice`] says of a document over listings.
-fn completed(alloc: Global, document: &str, folders: &str) -> Result<String, Fail> {
+/// What [`complete_twice`] says of a document over listings.
+fn complete_document(alloc: Global, document: &str, folders: &str) -> Result<String, Fail> {
     let listings = listings(alloc, folders)?;
     let mut manifest = Manifest::from_str(alloc, document)?;
-    let answer = completed_twice(alloc, &mut manifest, &listings);
+    let answer = complete_twice(alloc, &mut manifest, &listings);
     drop(manifest);
     answer
 }
@@ -67,7 +67,7 @@ fn completed(alloc: Global, document: &str, folders: &str) -> Result<String, Fai
 fn assert_completed(rt: &impl Abort, alloc: Global, rows: &[Row]) -> Result<(), Fail> {
     for (document, folders, answer) in rows {
         let expected = expected_behind(alloc, "", *answer)?;
-        let got = completed(alloc, document, folders);
+        let got = complete_document(alloc, document, folders);
         assert_is(rt, got, expected.as_str(), document)?;
     }
     Ok(())
@@ -340,7 +340,7 @@ fn binaries_of_each_number(rt: HostRuntime) -> Result<(), Fail> {
         let folders = folders_of_files(rt.alloc(), count)?;
         let document = package_of_binaries(rt.alloc(), count)?;
         let expected = expected_behind(rt.alloc(), "", Ok(document.as_str()))?;
-        let got = completed(rt.alloc(), package, folders.as_str());
+        let got = complete_document(rt.alloc(), package, folders.as_str());
         assert_is(&rt, got, expected.as_str(), folders.as_str())?;
     }
     Ok(())

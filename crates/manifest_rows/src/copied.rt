@@ -1,6 +1,6 @@
 //! Copies: each is equal to what it is copied from, and is written as it is.
-use crate::answers::{assert_is, shown};
-use crate::bench::filled;
+use crate::answers::{assert_is, text_of_value};
+use crate::bench::manifest_of_all_rows;
 use crate::queries::read_as;
 use cargo_manifest::{
     Dependency, Edition, Lint, Manifest, MaybeInherited, MaybeInheritedLintsSet, Publish,
@@ -21,15 +21,15 @@ fn assert_copied<T: Schema + Copied + PartialEq>(
 ) -> Result<(), Fail> {
     let copy = copy_of(x)?;
     assert!(rt; copy == *x, "at {at}");
-    let written = shown(alloc, x.to_value(alloc)?)?;
-    let got = shown(alloc, copy.to_value(alloc)?);
+    let written = text_of_value(alloc, x.to_value(alloc)?)?;
+    let got = text_of_value(alloc, copy.to_value(alloc)?);
     assert_is(rt, got, written.as_str(), at)
 }
 
 /// Every row of every form, in one manifest.
 #[test]
 fn a_manifest_is_copied(rt: HostRuntime) -> Result<(), Fail> {
-    let text = filled(rt.alloc())?;
+    let text = manifest_of_all_rows(rt.alloc())?;
     let manifest: Manifest = Manifest::from_str(rt.alloc(), text.as_str())?;
     assert_copied(&rt, rt.alloc(), &manifest, "all rows")?;
     let copy = manifest.clone()?;

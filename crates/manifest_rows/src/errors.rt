@@ -1,5 +1,5 @@
 //! Copies of errors and their texts, errors that `?` makes, and the second way to read what is stripped.
-use crate::answers::{assert_is, told};
+use crate::answers::{assert_is, error_text};
 use cargo_manifest::{Error, Manifest, ParseFault, SchemaFault, StripSetting};
 use manifest_value::text;
 use std::alloc::{AllocError, Global};
@@ -45,7 +45,7 @@ fn assert_copied(
     let error = error?;
     let copy = error.clone(alloc)?;
     assert!(rt; says_the_same(&error, &copy), "at {text}");
-    assert_is(rt, Ok(told(alloc, &copy)?), text, text)
+    assert_is(rt, Ok(error_text(alloc, &copy)?), text, text)
 }
 
 const REFUSED: &[(&[u8], &str)] = &[
@@ -114,7 +114,7 @@ fn texts_of_errors(rt: HostRuntime) -> Result<(), Fail> {
 }
 
 /// A text in a list, and then a value that is none: `?` hands on a reader's fault, and want of memory of every kind.
-fn listed(alloc: Global, value: &str) -> Result<Vec<String>, Error> {
+fn list_with_a_fault(alloc: Global, value: &str) -> Result<Vec<String>, Error> {
     let value = Value::string(alloc, value)?;
     let mut texts = Vec::new(alloc);
     texts.push(text(alloc, &value)?)?;
@@ -124,8 +124,8 @@ fn listed(alloc: Global, value: &str) -> Result<Vec<String>, Error> {
 
 #[test]
 fn faults_of_readers_are_errors_by_a_question_mark(rt: HostRuntime) -> Result<(), Fail> {
-    let told = match listed(rt.alloc(), "a").err() {
-        Some(error) => told(rt.alloc(), &error)?,
+    let told = match list_with_a_fault(rt.alloc(), "a").err() {
+        Some(error) => error_text(rt.alloc(), &error)?,
         None => return Err(Fail::from("accepted")),
     };
     assert_is(&rt, Ok(told), "wrong kind at (top)", "a list")
@@ -138,7 +138,7 @@ fn setting(alloc: Global, text: &str) -> Result<String, Fail> {
         Ok(StripSetting::None) => String::from_str(alloc, "None")?,
         Ok(StripSetting::Debuginfo) => String::from_str(alloc, "Debuginfo")?,
         Ok(StripSetting::Symbols) => String::from_str(alloc, "Symbols")?,
-        Err(error) => told(alloc, &error)?,
+        Err(error) => error_text(alloc, &error)?,
     })
 }
 

@@ -1,5 +1,5 @@
 //! The example at the head of `cargo_manifest`, which is the README's last one: a manifest, completed and written.
-use crate::answers::{assert_is, laid_out};
+use crate::answers::{assert_is, toml_layout};
 use crate::folders::listings;
 use cargo_manifest::{Error, Listings, Manifest};
 use std::alloc::Global;
@@ -21,6 +21,6 @@ fn a_manifest_is_completed(rt: HostRuntime) -> Result<(), std::test::Fail> {
     )?;
     let expected =
         "[package]\nname = 'p'\nedition = '2024'\nbuild = 'build.rs'\n[lib]\nname = 'p'\npath = 'src/lib.rs'\nedition = '2024'\nrequired-features = []\ncrate-type = ['lib']";
-    let expected = laid_out(rt.alloc(), expected)?;
+    let expected = toml_layout(rt.alloc(), expected)?;
     assert_is(&rt, Ok(text), expected.as_str(), "a package")
 }

@@ -1,6 +1,6 @@
 //! The first examples of the README, over a real manifest: a workspace with inherited fields, profiles, lints and
 //! tables of a platform.
-use crate::answers::{assert_is, laid_out};
+use crate::answers::{assert_is, toml_layout};
 use cargo_manifest::{Error, Manifest, ParseFault};
 use std::alloc::{AllocError, Global};
 use std::test::Fail;
@@ -117,7 +117,7 @@ edition = '2021'
 #[test]
 fn a_manifest_of_a_workspace(rt: HostRuntime) -> Result<(), Fail> {
     let alloc = rt.alloc();
-    let written = laid_out(alloc, WRITTEN)?;
+    let written = toml_layout(alloc, WRITTEN)?;
     let text = canonical(alloc, MANIFEST.as_bytes())?;
     assert_is(&rt, Ok(text), written.as_str(), "the manifest")?;
     // the written text is a manifest, and is written again as it is

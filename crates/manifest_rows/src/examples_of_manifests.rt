@@ -45,7 +45,7 @@ fn complete(alloc: Global, manifest: &mut Manifest) -> Result<(), Fail> {
     Ok(())
 }
 
-fn completed(alloc: Global) -> Result<Manifest, Fail> {
+fn completed_manifest(alloc: Global) -> Result<Manifest, Fail> {
     let mut manifest = Manifest::from_str(alloc, "[package]\nname = 'a'\nedition = '2024'")?;
     match complete(alloc, &mut manifest) {
         Ok(()) => Ok(manifest),
@@ -61,7 +61,7 @@ fn a_manifest_is_completed(rt: HostRuntime) -> Result<(), Fail> {
     assert_written(
         &rt,
         rt.alloc(),
-        completed(rt.alloc()),
+        completed_manifest(rt.alloc()),
         "{ package = { name = 'a', edition = '2024' }, bin = [{ name = 'a', path = 'src/main.rs', edition = '2024', required-features = [] }] }",
     )
 }

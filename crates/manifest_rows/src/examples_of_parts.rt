@@ -1,5 +1,5 @@
 //! The examples of the calls of `manifest_parts` that read, each as it stands in the call's comment, and their answers.
-use crate::answers::{assert_is, assert_written, told};
+use crate::answers::{assert_is, assert_written, error_text};
 use cargo_manifest::{
     Badge, Badges, Dependency, DependencyDetail, Edition, Error, InheritedDependencyDetail, Lint,
     LintConfig, LintLevel, Maintenance, MaintenanceStatus, MaybeInherited, MaybeInheritedLintsSet,
@@ -142,17 +142,17 @@ fn text_of(alloc: Global, value: &Value) -> Result<String, Error> {
 }
 
 /// What is told of a value that is no text.
-fn told_of(alloc: Global, value: &Value) -> Result<String, Fail> {
+fn refusal_text(alloc: Global, value: &Value) -> Result<String, Fail> {
     match text_of(alloc, value) {
         Ok(_) => Err(Fail::from("accepted")),
-        Err(error) => Ok(told(alloc, &error)?),
+        Err(error) => Ok(error_text(alloc, &error)?),
     }
 }
 
 #[test]
 fn values_are_read_or_refused(rt: HostRuntime) -> Result<(), Fail> {
     assert!(rt; edition_by_its_kind(rt.alloc())? == Edition::E2021);
-    let told = told_of(rt.alloc(), &Value::Boolean(true));
+    let told = refusal_text(rt.alloc(), &Value::Boolean(true));
     assert_is(&rt, told, "wrong kind at (top)", "a boolean")
 }
 

@@ -69,7 +69,7 @@ fn all_profiles(rt: HostRuntime) -> Result<(), Fail> {
     )
 }
 
-fn lent(alloc: Global) -> Result<WorkspacePackage, Fail> {
+fn workspace_package(alloc: Global) -> Result<WorkspacePackage, Fail> {
     let value = Value::from_str(alloc, "{ version = '1.0.0', edition = '2021' }")?;
     let lent = WorkspacePackage::from_value(alloc, &value)?; // what members may inherit
     Ok(lent)
@@ -95,7 +95,7 @@ fn workspaces(rt: HostRuntime) -> Result<(), Fail> {
     assert_written(
         &rt,
         alloc,
-        lent(alloc),
+        workspace_package(alloc),
         "{ version = '1.0.0', edition = '2021' }",
     )?;
     assert_written(

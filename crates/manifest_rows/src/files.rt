@@ -1,5 +1,5 @@
 //! Manifests of files, completed by the folders that these stand in: real ones, which the tests make and remove.
-use crate::answers::{assert_is, laid_out, written};
+use crate::answers::{assert_is, toml_layout, written};
 use crate::score::Score;
 use cargo_manifest::{AbstractFilesystem, Error, Filesystem, Manifest};
 use std::io::ErrorKind;
@@ -47,7 +47,7 @@ fn complete(rt: HostRuntime, manifest: &mut Manifest) -> Result<(), Error> {
     Ok(())
 }
 
-fn completed(rt: HostRuntime) -> Result<Manifest, Error> {
+fn completed_manifest(rt: HostRuntime) -> Result<Manifest, Error> {
     let mut manifest = match Manifest::from_str(rt.alloc(), PACKAGE) {
         Ok(manifest) => manifest,
         Err(refused) => return Err(refused),
@@ -76,7 +76,7 @@ fn from_path_with_metadata(rt: HostRuntime) -> Result<Manifest<Score>, Error> {
 fn answer_in(rt: HostRuntime, folder: Path<'_>) -> Result<String, Fail> {
     let package = make_package(rt, folder)?;
     env::set_current_dir(&rt, folder)?;
-    let by_parent = written(rt.alloc(), completed(rt))?;
+    let by_parent = written(rt.alloc(), completed_manifest(rt))?;
     env::set_current_dir(&rt, package.as_path())?;
     let by_name = written(rt.alloc(), from_path(rt))?;
     let with_metadata = written(rt.alloc(), from_path_with_metadata(rt))?;
@@ -97,7 +97,7 @@ fn assert_found<R: Abort + Files + AllocGlobal>(
     let removed = fs::remove_dir_all(rt, folder);
     let got = got?;
     removed?;
-    let expected = laid_out(
+    let expected = toml_layout(
         rt.alloc(),
         format!(in rt.alloc(); "{PACKAGE}{FOUND}")?.as_str(),
     )?;

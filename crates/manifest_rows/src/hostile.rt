@@ -1,6 +1,6 @@
 //! Documents that are cut short, also within a character, and documents that are nested deep.
 use crate::answers::{PACKAGE, assert_is, document_answer, expected_behind, written};
-use crate::printed::nested;
+use crate::printed::nested_document;
 use cargo_manifest::{Error, Manifest};
 use std::alloc::Global;
 use std::process::Abort;
@@ -148,7 +148,7 @@ fn assert_nested(
 ) -> Result<(), Fail> {
     let (before, opening, inner, closing, _) = shape;
     let head = format!(in alloc; "{PACKAGE}{before}")?;
-    let document = nested(alloc, head.as_str(), (*opening, *inner, *closing), depth)?;
+    let document = nested_document(alloc, head.as_str(), (*opening, *inner, *closing), depth)?;
     let expected = expected_behind(alloc, PACKAGE, answer)?;
     let got = document_answer(alloc, document.as_str());
     assert_is(rt, got, expected.as_str(), head.as_str())

@@ -1,5 +1,5 @@
 //! Manifests that are built, and printed or not.
-use crate::answers::{assert_is, laid_out, written};
+use crate::answers::{assert_is, toml_layout, written};
 use cargo_manifest::{Error, Manifest};
 use std::alloc::Global;
 use std::test::Fail;
@@ -7,7 +7,7 @@ use toml::Value;
 use toml::value::{Date, Datetime};
 
 /// The text of a workspace of this metadata, or what the error in its place says.
-fn printed(alloc: Global, metadata: Value) -> Result<String, Fail> {
+fn print_workspace(alloc: Global, metadata: Value) -> Result<String, Fail> {
     let mut manifest = Manifest::from_str(alloc, "[workspace]")?;
     if let Some(workspace) = &mut manifest.workspace {
         drop(workspace.metadata.replace(metadata));
@@ -35,14 +35,14 @@ fn a_date_that_toml_cannot_write(rt: HostRuntime) -> Result<(), Fail> {
         (2024, 13, 1, invalid),
     ] {
         let date = Value::Datetime(Datetime::from(Date { year, month, day }));
-        assert_eq!(rt; printed(rt.alloc(), date)?.as_str(), expected);
+        assert_eq!(rt; print_workspace(rt.alloc(), date)?.as_str(), expected);
     }
     Ok(())
 }
 
 /// A document whose value is nested so deep behind this beginning: what opens a level, what stands in the last one, and
 /// what closes a level.
-pub fn nested(
+pub fn nested_document(
     alloc: Global,
     head: &str,
     shape: (&str, &str, &str),
@@ -74,8 +74,8 @@ fn printed_twice(alloc: Global, document: &str) -> Result<String, Fail> {
 #[test]
 fn a_deep_list(rt: HostRuntime) -> Result<(), Fail> {
     let head = "[package]\nname = 'p'\nmetadata.x = ";
-    let document = nested(rt.alloc(), head, ("[", "1", "]"), 20)?;
-    let expected = laid_out(rt.alloc(), document.as_str())?;
+    let document = nested_document(rt.alloc(), head, ("[", "1", "]"), 20)?;
+    let expected = toml_layout(rt.alloc(), document.as_str())?;
     let got = printed_twice(rt.alloc(), document.as_str());
     assert_is(&rt, got, expected.as_str(), "20 lists")
 }

@@ -1,5 +1,5 @@
 //! What is asked of dependencies, lints, packages and of what the workspace may lend.
-use crate::answers::{answer_of, assert_is, expected_of, told, value};
+use crate::answers::{answer_of, assert_is, error_text, expected_answer, value};
 use cargo_manifest::{
     Dependency, Edition, Lint, LintLevel, MaybeInherited, MaybeInheritedLintsSet, Package, Publish,
     True,
@@ -13,7 +13,7 @@ use toml::Value;
 pub fn read_as<T: Schema>(alloc: Global, text: &str) -> Result<T, Fail> {
     match T::from_value(alloc, &value(alloc, text)?) {
         Ok(x) => Ok(x),
-        Err(error) => Err(Fail::from(told(alloc, &error)?.as_str())),
+        Err(error) => Err(Fail::from(error_text(alloc, &error)?.as_str())),
     }
 }
 
@@ -139,7 +139,7 @@ fn dependencies(rt: HostRuntime) -> Result<(), Fail> {
     for (text, simplified, answers) in DEPENDENCIES {
         let dependency: Dependency = read_as(alloc, text)?;
         assert_is(&rt, answers_of(alloc, &dependency), answers, text)?;
-        let expected = expected_of(alloc, Ok(simplified))?;
+        let expected = expected_answer(alloc, Ok(simplified))?;
         let dependency = dependency.simplify(); // of `{ workspace = false, version = '1' }`, `Simple` of this version
         let got = answer_of(alloc, Ok(dependency));
         assert_is(&rt, got, expected.as_str(), text)?;

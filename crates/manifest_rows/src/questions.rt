@@ -1,6 +1,6 @@
 //! Which folders are asked while a manifest is completed, and what comes of a filesystem that refuses one question or
 //! changes.
-use crate::answers::{assert_is, expected_behind, told};
+use crate::answers::{assert_is, error_text, expected_behind};
 use crate::completed::{NO_LIBRARY, ODD_NAMES, WITH_ODD_NAMES, completion};
 use crate::folders::{Changing, Recorder, listings};
 use cargo_manifest::{Error, Manifest, Value};
@@ -149,7 +149,7 @@ fn answer(
             Some((_, kind)) if kind != fault.kind() => Err(Fail::from("another kind")),
             _ => Ok(String::from_str(alloc, "io")?),
         },
-        Some(error) => Ok(told(alloc, error)?),
+        Some(error) => Ok(error_text(alloc, error)?),
     }
 }
 
@@ -207,7 +207,7 @@ const CHANGED: &[[&str; 4]] = &[
 ];
 
 /// What is written of a manifest after each of three completions over a filesystem that changes; a text for each line.
-fn thrice(
+fn complete_thrice(
     alloc: Global,
     manifest: &mut Manifest<Value, Value>,
     fs: &Changing<'_>,
@@ -226,11 +226,11 @@ fn expected_thrice(alloc: Global, row: &[&str; 4]) -> Result<String, Fail> {
     Ok(format!(in alloc; "{first}\n{second}\n{second}")?)
 }
 
-fn completed_thrice(alloc: Global, row: &[&str; 4]) -> Result<String, Fail> {
+fn complete_row_thrice(alloc: Global, row: &[&str; 4]) -> Result<String, Fail> {
     let first = listings(alloc, row[0])?;
     let second = listings(alloc, row[1])?;
     let mut manifest = Manifest::from_str(alloc, PACKAGE)?;
-    let got = thrice(alloc, &mut manifest, &Changing::new(&first, &second));
+    let got = complete_thrice(alloc, &mut manifest, &Changing::new(&first, &second));
     drop(manifest);
     got
 }
@@ -239,7 +239,7 @@ fn completed_thrice(alloc: Global, row: &[&str; 4]) -> Result<String, Fail> {
 fn folders_that_change(rt: HostRuntime) -> Result<(), Fail> {
     for row in CHANGED {
         let expected = expected_thrice(rt.alloc(), row)?;
-        let got = completed_thrice(rt.alloc(), row);
+        let got = complete_row_thrice(rt.alloc(), row);
         assert_is(&rt, got, expected.as_str(), row[1])?;
     }
     Ok(())

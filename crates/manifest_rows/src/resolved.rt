@@ -47,7 +47,7 @@ fn resolution(
 }
 
 /// Resolves a manifest and completes it: the text that is then written of it.
-fn completed(
+fn resolve_and_complete(
     alloc: Global,
     manifest: &mut Manifest<Value, Value>,
     workspace: &Workspace<Value>,
@@ -60,7 +60,7 @@ fn completed(
 
 /// Resolves a manifest twice: its table, or what was told. A refusal has to leave it as it was; resolving it again has to
 /// answer the same and change nothing; and so has resolving and completing it again, once it is completed.
-fn resolved_twice(
+fn resolve_twice(
     alloc: Global,
     manifest: &mut Manifest<Value, Value>,
     workspace: &Workspace<Value>,
@@ -79,23 +79,23 @@ fn resolved_twice(
         };
     }
     let listings = listings(alloc, "src|lib.rs|main.rs;tests|t.rs;.|build.rs")?;
-    let once = completed(alloc, manifest, workspace, &listings)?;
-    if once == completed(alloc, manifest, workspace, &listings)? {
+    let once = resolve_and_complete(alloc, manifest, workspace, &listings)?;
+    if once == resolve_and_complete(alloc, manifest, workspace, &listings)? {
         Ok(after)
     } else {
         Err(Fail::from("resolving and completing again changes it"))
     }
 }
 
-/// What [`resolved_twice`] says of a manifest over the workspace of a document.
-fn resolved_over(
+/// What [`resolve_twice`] says of a manifest over the workspace of a document.
+fn resolve_over_root(
     alloc: Global,
     manifest: &mut Manifest<Value, Value>,
     root: &str,
 ) -> Result<String, Fail> {
     let root = Manifest::from_str(alloc, root)?;
     let answer = match &root.workspace {
-        Some(workspace) => resolved_twice(alloc, manifest, workspace),
+        Some(workspace) => resolve_twice(alloc, manifest, workspace),
         None => Err(Fail::from("no workspace")),
     };
     drop(root);
@@ -103,9 +103,9 @@ fn resolved_over(
 }
 
 /// The same of a document.
-fn resolved(alloc: Global, root: &str, member: &str) -> Result<String, Fail> {
+fn resolve_document(alloc: Global, root: &str, member: &str) -> Result<String, Fail> {
     let mut manifest = Manifest::from_str(alloc, member)?;
-    let answer = resolved_over(alloc, &mut manifest, root);
+    let answer = resolve_over_root(alloc, &mut manifest, root);
     drop(manifest);
     answer
 }
@@ -115,7 +115,7 @@ fn assert_resolved(rt: &impl Abort, alloc: Global, rows: &[Row]) -> Result<(), F
     for (root, rest, answer) in rows {
         let member = format!(in alloc; "{PACKAGE}{rest}")?;
         let expected = expected_behind(alloc, PACKAGE, *answer)?;
-        let got = resolved(alloc, root, member.as_str());
+        let got = resolve_document(alloc, root, member.as_str());
         assert_is(rt, got, expected.as_str(), rest)?;
     }
     Ok(())
@@ -238,7 +238,7 @@ fn members_of_a_workspace(rt: HostRuntime) -> Result<(), Fail> {
 }
 
 /// Resolves and completes the manifest of a member over the workspace of a document: the text that is then written of it.
-fn completed_over(
+fn complete_over_root(
     alloc: Global,
     manifest: &mut Manifest<Value, Value>,
     root: &str,
@@ -246,7 +246,7 @@ fn completed_over(
 ) -> Result<String, Fail> {
     let root = Manifest::from_str(alloc, root)?;
     let answer = match &root.workspace {
-        Some(workspace) => completed(alloc, manifest, workspace, listings),
+        Some(workspace) => resolve_and_complete(alloc, manifest, workspace, listings),
         None => Err(Fail::from("no workspace")),
     };
     drop(root);
@@ -261,7 +261,7 @@ fn completed_in_the_old_way(alloc: Global) -> Result<String, Fail> {
         "[package]\nname = 'p'\nedition.workspace = true\n[[bin]]\nname = 'a'",
     )?;
     let root = "[workspace.package]\nedition = '2015'";
-    let answer = completed_over(alloc, &mut manifest, root, &listings);
+    let answer = complete_over_root(alloc, &mut manifest, root, &listings);
     drop(manifest);
     answer
 }

@@ -5,7 +5,7 @@ ghost use Rattle.manifest_schema.specs.Kinds.{whole};
 ghost use Rattle.manifest_schema.proofs.KindLaws.{whole_lawful};
 ghost use Rattle.manifest_rows.specs.Scores.{score_rows, score_lawful, score_plain, score_by_tree};
 
-use manifest_value::fault::here;
+use manifest_value::fault::fault_here;
 use manifest_value::form::{RowPut, RowRead, Rowed, Word};
 use manifest_value::row_slots::RowSlot;
 use manifest_value::{
@@ -35,10 +35,10 @@ impl Schema for Level {
                 if 0 <= n && n <= 9 {
                     Ok(Level { number: n as u8 })
                 } else {
-                    Err(here(alloc, Cause::OutOfRange))
+                    Err(fault_here(alloc, Cause::OutOfRange))
                 }
             }
-            _ => Err(here(alloc, Cause::WrongKind)),
+            _ => Err(fault_here(alloc, Cause::WrongKind)),
         }
     }
 

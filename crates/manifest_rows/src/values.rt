@@ -1,5 +1,5 @@
 //! Values of plain types and of std's, read by the trait and written.
-use crate::answers::{Row, answer_of, assert_is, assert_values, expected_of, value};
+use crate::answers::{Row, answer_of, assert_is, assert_values, expected_answer, value};
 use cargo_manifest::Error;
 use manifest_value::error::refusal;
 use manifest_value::{holds_float, kept};
@@ -67,7 +67,7 @@ fn kept_values(rt: HostRuntime) -> Result<(), Fail> {
     for (text, answer) in KEPT {
         let value = value(rt.alloc(), text)?;
         assert_eq!(rt; holds_float(&value), answer.is_err(), "at {text}");
-        let expected = expected_of(rt.alloc(), *answer)?;
+        let expected = expected_answer(rt.alloc(), *answer)?;
         let copy = kept(rt.alloc(), &value).map_err(refusal);
         assert_is(&rt, answer_of(rt.alloc(), copy), expected.as_str(), text)?;
     }

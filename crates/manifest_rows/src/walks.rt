@@ -1,5 +1,5 @@
 //! A walk over a table, and the readers of its rows, by their names.
-use crate::answers::{assert_is, told};
+use crate::answers::{assert_is, error_text};
 use manifest_value::entries::Key;
 use manifest_value::error::refusal;
 use manifest_value::maps::map_of_entries;
@@ -91,7 +91,7 @@ fn sources_that_are_taken_or_lent(rt: HostRuntime) -> Result<(), Fail> {
     );
     let told = match Source::Taken(value).into_table(alloc) {
         Ok(_) => String::from_str(alloc, "accepted")?,
-        Err(fault) => told(alloc, &refusal(fault))?,
+        Err(fault) => error_text(alloc, &refusal(fault))?,
     };
     assert_is(&rt, Ok(told), "wrong kind at (top)", "a text")?;
     let table = Value::Table(toml::table_from_str(alloc, ENTRIES)?);
@@ -164,7 +164,7 @@ fn a_missing_row_is_refused_and_leaves_its_place(rt: HostRuntime) -> Result<(), 
     let mut missing = RowSlot::Absent;
     let told = match read_required(alloc, "a", &mut missing, &mut flag) {
         Ok(()) => String::from_str(alloc, "accepted")?,
-        Err(fault) => told(alloc, &refusal(fault))?,
+        Err(fault) => error_text(alloc, &refusal(fault))?,
     };
     assert!(rt; flag);
     assert_is(&rt, Ok(told), "missing at a", "nothing")
@@ -183,7 +183,7 @@ fn the_rest_of_a_walk_is_read_as_a_map(rt: HostRuntime) -> Result<(), Fail> {
         }
         Err(fault) => assert_is(
             &rt,
-            Ok(told(alloc, &refusal(fault))?),
+            Ok(error_text(alloc, &refusal(fault))?),
             "accepted",
             READ_FROM,
         ),

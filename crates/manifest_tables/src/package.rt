@@ -143,7 +143,7 @@ impl<M> Package<M> {
     {
         Package {
             version: Some(MaybeInherited::Local(version)),
-            ..named(name)
+            ..package_with_name(name)
         }
     }
 
@@ -166,7 +166,7 @@ impl<M> Package<M> {
 }
 
 /// A package of this name, and nothing else.
-fn named<M>(name: String) -> Package<M>
+fn package_with_name<M>(name: String) -> Package<M>
     ensures { (f : M → Data)
         → IsOfTable (package_rows kept) (package_content f)
         (member (codes "name") (string (string_bytes name)) no_members) result }
@@ -203,7 +203,7 @@ impl<M: Metadata> Rowed for Package<M> {
     }
 
     fn empty(alloc: Global) -> Package<M> {
-        named(String::new(alloc))
+        package_with_name(String::new(alloc))
     }
 
     fn read_row(&mut self, alloc: Global, i: usize, key: Word, slot: &mut RowSlot<'_>) -> RowRead {

@@ -8,7 +8,7 @@ ghost use Rattle.manifest_schema.specs.Paths.{behind, index, key};
 ghost use Rattle.manifest_value.specs.Calls.{ItemsGiven, EntriesGiven, Refused, IsItemOf, ListGiven, ItemRefused, ListRefused, IsValueOf, MapGiven, EntryRefused, MapRefused};
 ghost use Rattle.manifest_value.specs.Faults.{FaultIn};
 
-use crate::fault::{Cause, ReadFault, Step, here, prefixed, under_key};
+use crate::fault::{Cause, ReadFault, Step, fault_behind_step, fault_here, fault_under_key};
 use std::alloc::Global;
 use std::collections::BTreeMap;
 use toml::{Table, Value};
@@ -47,7 +47,7 @@ fn item_at<T: Drop, F: Fn(&Value) -> Result<T, ReadFault>>(
 {
     match read_at(read, item) {
         Ok(x) => Ok(x),
-        Err(fault) => Err(prefixed(Step::Index(i), fault)),
+        Err(fault) => Err(fault_behind_step(Step::Index(i), fault)),
     }
 }
 
@@ -89,7 +89,7 @@ pub fn list_of<T: Drop, F: Fn(&Value) -> Result<T, ReadFault> + Drop>(
 {
     match value {
         Value::Array(items) => items_of(alloc, items.as_slice(), &read),
-        _ => Err(here(alloc, Cause::WrongKind)),
+        _ => Err(fault_here(alloc, Cause::WrongKind)),
     }
 }
 
@@ -108,7 +108,7 @@ fn entry_at<T: Drop, F: Fn(&Value) -> Result<T, ReadFault>>(
 {
     match read_at(read, value) {
         Ok(x) => Ok(x),
-        Err(fault) => Err(under_key(alloc, word, fault)),
+        Err(fault) => Err(fault_under_key(alloc, word, fault)),
     }
 }
 
@@ -156,6 +156,6 @@ pub fn map_of<T: Drop, F: Fn(&Value) -> Result<T, ReadFault> + Drop>(
 {
     match value {
         Value::Table(table) => entries_of(alloc, table, &read),
-        _ => Err(here(alloc, Cause::WrongKind)),
+        _ => Err(fault_here(alloc, Cause::WrongKind)),
     }
 }

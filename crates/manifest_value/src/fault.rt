@@ -115,10 +115,10 @@ impl<T: Drop> From<AllocFailed<T>> for ReadFault {
 /// The fault at the value itself.
 ///
 /// ```ignore
-/// let fault = here(alloc, Cause::WrongKind); // told as `wrong kind at (top)`
+/// let fault = fault_here(alloc, Cause::WrongKind); // told as `wrong kind at (top)`
 /// ```
 #[cold]
-pub fn here(alloc: Global, cause: Cause) -> ReadFault
+pub fn fault_here(alloc: Global, cause: Cause) -> ReadFault
     ensures fault { FaultIn (itself (cause_of cause)) result }
     ensures schema { IsSchema result }
 {
@@ -133,10 +133,10 @@ pub fn here(alloc: Global, cause: Cause) -> ReadFault
 /// The fault as it is seen one step further out, or want of memory where the step finds no room.
 ///
 /// ```ignore
-/// let fault = prefixed(Step::Index(2), here(alloc, Cause::WrongKind)); // told as `wrong kind at [2]`
+/// let fault = fault_behind_step(Step::Index(2), fault_here(alloc, Cause::WrongKind)); // told as `wrong kind at [2]`
 /// ```
 #[cold]
-pub fn prefixed(step: Step, fault: ReadFault) -> ReadFault
+pub fn fault_behind_step(step: Step, fault: ReadFault) -> ReadFault
     ensures { IsBehind (step_of step) fault result }
 {
     match fault {
@@ -152,15 +152,15 @@ pub fn prefixed(step: Step, fault: ReadFault) -> ReadFault
 /// room.
 ///
 /// ```ignore
-/// let fault = under_key(alloc, "name", here(alloc, Cause::WrongKind)); // told as `wrong kind at name`
+/// let fault = fault_under_key(alloc, "name", fault_here(alloc, Cause::WrongKind)); // told as `wrong kind at name`
 /// ```
 #[cold]
 #[tactic(auto, using(crate::proofs::Behind::memory_behind))]
-pub fn under_key(alloc: Global, word: &str, fault: ReadFault) -> ReadFault
+pub fn fault_under_key(alloc: Global, word: &str, fault: ReadFault) -> ReadFault
     ensures { IsBehind (key word.now) fault result }
 {
     match String::from_str(alloc, word) {
-        Ok(word) => prefixed(Step::Key(word), fault),
+        Ok(word) => fault_behind_step(Step::Key(word), fault),
         Err(refused) => {
             drop(fault);
             ReadFault::Memory(refused)

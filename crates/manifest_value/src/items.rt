@@ -9,7 +9,7 @@ ghost use Rattle.manifest_value.specs.Faults.{FaultIn};
 ghost use Rattle.manifest_value.specs.Reading.{Reads};
 ghost use Rattle.manifest_value.specs.Sources.{source_value, source_view, items_left};
 
-use crate::fault::{ReadFault, Step, prefixed};
+use crate::fault::{ReadFault, Step, fault_behind_step};
 use crate::schema::Schema;
 use crate::source::Source;
 use std::alloc::Global;
@@ -57,7 +57,7 @@ fn read_item<T: Schema>(alloc: Global, source: Source<'_>, i: usize) -> Result<T
 {
     match T::read(alloc, source) {
         Ok(x) => Ok(x),
-        Err(fault) => Err(prefixed(Step::Index(i), fault)),
+        Err(fault) => Err(fault_behind_step(Step::Index(i), fault)),
     }
 }
 

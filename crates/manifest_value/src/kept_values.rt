@@ -6,7 +6,7 @@ ghost use Rattle.manifest_schema.specs.Kinds.{plain, plain_items, plain_members,
 ghost use Rattle.manifest_schema.proofs.KeptLaws.{kept_lawful};
 ghost use Rattle.manifest_value.specs.Faults.{FaultIn};
 
-use crate::fault::{Cause, ReadFault, Step, here, prefixed, under_key};
+use crate::fault::{Cause, ReadFault, Step, fault_behind_step, fault_here, fault_under_key};
 use crate::schema::Schema;
 use crate::source::Source;
 use std::alloc::{AllocError, Global};
@@ -64,7 +64,7 @@ fn refuse_float(alloc: Global, value: &Value) -> Result<(), ReadFault>
     ensures fault { IfErr result (FaultIn (float_in (view value.now))) }
 {
     match value {
-        Value::Float(_) => Err(here(alloc, Cause::HoldsFloat)),
+        Value::Float(_) => Err(fault_here(alloc, Cause::HoldsFloat)),
         Value::Array(items) => refuse_float_in_items(alloc, items),
         Value::Table(members) => refuse_float_in_members(alloc, members),
         _ => Ok(()),
@@ -79,7 +79,7 @@ fn refuse_float_in_items(alloc: Global, items: &Vec<Value>) -> Result<(), ReadFa
 {
     for (i, item) in items.iter().enumerate() {
         if let Err(fault) = refuse_float(alloc, item) {
-            return Err(prefixed(Step::Index(i), fault));
+            return Err(fault_behind_step(Step::Index(i), fault));
         }
     }
     Ok(())
@@ -93,7 +93,7 @@ fn refuse_float_in_members(alloc: Global, members: &Table) -> Result<(), ReadFau
 {
     for (key, member) in members.iter() {
         if let Err(fault) = refuse_float(alloc, member) {
-            return Err(under_key(alloc, key.as_str(), fault));
+            return Err(fault_under_key(alloc, key.as_str(), fault));
         }
     }
     Ok(())

@@ -77,7 +77,7 @@ fn list_of_entries<T: Schema>(
 }
 
 /// The map of entries whose keys ascend, each value of one kind.
-fn map_read<T: Schema>(
+fn read_map<T: Schema>(
     alloc: Global,
     room: usize,
     entries: Entries<'_>,
@@ -107,7 +107,7 @@ pub fn map_of_entries<T: Schema>(
         (entries_content T.content m.entries)) }
     ensures fault { IfErr result (FaultIn (faulty_entry T.kind (rest_view rest.entry.items))) }
 {
-    map_read(alloc, rest.len(), Entries::Rest(rest.into_iter()))
+    read_map(alloc, rest.len(), Entries::Rest(rest.into_iter()))
 }
 
 /// The entries of a table, each of one kind.
@@ -120,7 +120,7 @@ fn map_from<T: Schema>(
     ensures fault { IfErr result (FaultIn (faulty_entry T.kind (members_of table.entry))) }
 {
     let room = table.table().len();
-    map_read(alloc, room, table.entries())
+    read_map(alloc, room, table.entries())
 }
 
 /// The table of a map.

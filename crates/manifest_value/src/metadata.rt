@@ -9,7 +9,7 @@ ghost use Rattle.manifest_schema.specs.Needs.{written_some};
 ghost use Rattle.manifest_schema.specs.ForProofs.{nothing_laws, unread_laws};
 ghost use Rattle.manifest_value.specs.Reading.{written_as};
 
-use crate::fault::{Cause, ReadFault, here};
+use crate::fault::{Cause, ReadFault, fault_here};
 use crate::rows::put_optional;
 use crate::schema::Schema;
 use crate::source::Source;
@@ -57,7 +57,7 @@ impl Schema for () {
     ghost takes_no_memory = { Unit {0} };
 
     fn read(alloc: Global, _source: Source<'_>) -> Result<(), ReadFault> {
-        Err(here(alloc, Cause::Metadata))
+        Err(fault_here(alloc, Cause::Metadata))
     }
 
     fn to_value(&self, alloc: Global) -> Result<Value, AllocError> {

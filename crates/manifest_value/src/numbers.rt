@@ -4,7 +4,7 @@ ghost use Rattle.std.specs.Prelude.{ℤ, pos, negsuc};
 ghost use Rattle.manifest_schema.specs.Kinds.{whole};
 ghost use Rattle.manifest_schema.proofs.KindLaws.{whole_lawful};
 
-use crate::fault::{Cause, ReadFault, here};
+use crate::fault::{Cause, ReadFault, fault_here};
 use crate::schema::Schema;
 use crate::source::Source;
 use std::alloc::{AllocError, Global};
@@ -27,10 +27,10 @@ impl Schema for u16 {
                 if 0 <= n && n <= 65535 {
                     Ok(n as u16)
                 } else {
-                    Err(here(alloc, Cause::OutOfRange))
+                    Err(fault_here(alloc, Cause::OutOfRange))
                 }
             }
-            _ => Err(here(alloc, Cause::WrongKind)),
+            _ => Err(fault_here(alloc, Cause::WrongKind)),
         }
     }
 
@@ -64,10 +64,10 @@ impl Schema for i8 {
                 if -128 <= n && n <= 127 {
                     Ok(n as i8)
                 } else {
-                    Err(here(alloc, Cause::OutOfRange))
+                    Err(fault_here(alloc, Cause::OutOfRange))
                 }
             }
-            _ => Err(here(alloc, Cause::WrongKind)),
+            _ => Err(fault_here(alloc, Cause::WrongKind)),
         }
     }
 

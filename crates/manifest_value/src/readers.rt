@@ -11,7 +11,7 @@ ghost use Rattle.manifest_schema.specs.ForProofs.{spellings_of};
 ghost use Rattle.manifest_value.specs.Faults.{FaultIn, IsSchema, no_table};
 ghost use Rattle.manifest_value.specs.Walks.{value_in};
 
-use crate::fault::{Cause, ReadFault, here};
+use crate::fault::{Cause, ReadFault, fault_here};
 use crate::rows::at_key;
 use crate::schema::Schema;
 use crate::source::Source;
@@ -33,7 +33,7 @@ pub fn text(alloc: Global, value: &Value) -> Result<String, ReadFault>
 {
     match value {
         Value::String(s) => Ok(String::from_str(alloc, s.as_str())?),
-        _ => Err(here(alloc, Cause::WrongKind)),
+        _ => Err(fault_here(alloc, Cause::WrongKind)),
     }
 }
 
@@ -52,7 +52,7 @@ pub fn boolean(alloc: Global, value: &Value) -> Result<bool, ReadFault>
 {
     match value {
         Value::Boolean(b) => Ok(*b),
-        _ => Err(here(alloc, Cause::WrongKind)),
+        _ => Err(fault_here(alloc, Cause::WrongKind)),
     }
 }
 
@@ -76,10 +76,10 @@ pub fn whole(alloc: Global, value: &Value, low: i64, high: i64) -> Result<i64, R
             if low <= n && n <= high {
                 Ok(n)
             } else {
-                Err(here(alloc, Cause::OutOfRange))
+                Err(fault_here(alloc, Cause::OutOfRange))
             }
         }
-        _ => Err(here(alloc, Cause::WrongKind)),
+        _ => Err(fault_here(alloc, Cause::WrongKind)),
     }
 }
 
@@ -114,7 +114,7 @@ pub fn table(alloc: Global, value: &Value) -> Result<&Table, ReadFault>
 {
     match value {
         Value::Table(entries) => Ok(entries),
-        _ => Err(here(alloc, Cause::WrongKind)),
+        _ => Err(fault_here(alloc, Cause::WrongKind)),
     }
 }
 

@@ -8,7 +8,7 @@ ghost use Rattle.manifest_schema.specs.Slots.{put_some};
 ghost use Rattle.manifest_schema.specs.Needs.{written_some, written_unless, is_empty};
 ghost use Rattle.manifest_value.specs.Reading.{Reads};
 
-use crate::fault::{Cause, ReadFault, here, under_key};
+use crate::fault::{Cause, ReadFault, fault_here, fault_under_key};
 use crate::schema::Schema;
 use crate::source::{Source, source_under};
 use std::alloc::{AllocError, Global};
@@ -24,7 +24,7 @@ use toml::{Table, Value};
 pub fn at_key(alloc: Global, word: &str, cause: Cause) -> ReadFault
     ensures { FaultIn (behind (key word.now) (itself (cause_of cause))) result }
 {
-    under_key(alloc, word, here(alloc, cause))
+    fault_under_key(alloc, word, fault_here(alloc, cause))
 }
 
 /// The value under a key, with the key before the path of a fault.

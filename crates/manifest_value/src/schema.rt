@@ -11,7 +11,7 @@ ghost use Rattle.manifest_value.specs.Refusals.{RefusedIn, TellsSchema};
 ghost use Rattle.manifest_value.specs.Sources.{source_view};
 
 use crate::error::{Error, refusal};
-use crate::fault::{Cause, ReadFault, here};
+use crate::fault::{Cause, ReadFault, fault_here};
 use crate::items::{Items, read_items};
 use crate::readers::{boolean, text};
 use crate::source::Source;
@@ -135,7 +135,7 @@ impl<T: Schema> Schema for Vec<T> {
             Source::Taken(Value::Array(items)) => {
                 read_items(alloc, items.len(), Items::Taken(items.into_iter()))
             }
-            _ => Err(here(alloc, Cause::WrongKind)),
+            _ => Err(fault_here(alloc, Cause::WrongKind)),
         }
     }
 

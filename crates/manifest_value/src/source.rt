@@ -9,7 +9,7 @@ ghost use Rattle.manifest_value.specs.Sources.{source_view, members_of, table_so
 ghost use Rattle.manifest_value.specs.Walks.{Ascend};
 
 use crate::entries::Entries;
-use crate::fault::{Cause, ReadFault, here, under_key};
+use crate::fault::{Cause, ReadFault, fault_here, fault_under_key};
 use crate::schema::Schema;
 use std::alloc::Global;
 use toml::{Table, Value};
@@ -59,7 +59,7 @@ impl<'t> Source<'t> {
         match self {
             Source::Lent(Value::Table(table)) => Ok(TableSource::Lent(table)),
             Source::Taken(Value::Table(table)) => Ok(TableSource::Taken(table)),
-            _ => Err(here(alloc, Cause::WrongKind)),
+            _ => Err(fault_here(alloc, Cause::WrongKind)),
         }
     }
 }
@@ -102,6 +102,6 @@ pub(crate) fn source_under<T: Schema>(
 {
     match T::read(alloc, source) {
         Ok(x) => Ok(x),
-        Err(fault) => Err(under_key(alloc, word, fault)),
+        Err(fault) => Err(fault_under_key(alloc, word, fault)),
     }
 }

@@ -58,7 +58,7 @@ fn empty_slots<'t>(alloc: Global, rows: &[Spellings]) -> Result<Vec<RowSlot<'t>>
 
 /// A slot in which one more value is found: a second one clashes with the first.
 #[inline(always)]
-fn filled<'t>(slot: &RowSlot<'t>, spelling: &'static str, value: Source<'t>) -> RowSlot<'t>
+fn slot_with_value<'t>(slot: &RowSlot<'t>, spelling: &'static str, value: Source<'t>) -> RowSlot<'t>
     ensures { row_view result ≡ filled (row_view slot.now) spelling.now (source_view value.entry) }
 {
     match slot {
@@ -76,7 +76,7 @@ fn fill_slot<'t>(slots: &mut Vec<RowSlot<'t>>, i: usize, spelling: &'static str,
         ≡ filled_at i spelling.now (source_view value.entry) (map row_view slots.old.items) }
     ensures many { length slots.new.items ≡ length slots.old.items }
 {
-    slots[i] = filled(&slots[i], spelling, value);
+    slots[i] = slot_with_value(&slots[i], spelling, value);
 }
 
 /// Walks once over a table: what it holds under the spellings of each row, and all other keys. Nothing of a table that is

@@ -6,5 +6,5 @@ returns c = record {
   told = c.outcome-told.result;
   is_made = c.document_table-document.ensures;
   outcome = c.outcome-told.ensures;
-  hands = c.handed.ensures;
+  hands = c.write_answer.ensures;
 }

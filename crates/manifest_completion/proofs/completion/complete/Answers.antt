@@ -33,4 +33,4 @@ returns g c =
     let none : source_fault (answer_of a.source) ≡ None = ap (λ x. source_fault (answer_of x)) (same ∙ c.in_ok-source.ensures.0) ∙ c.in_ok-source.ensures.1 in
     let got = subst (λ x. library t (answer_of x) ≡ known (option_map product_content c.in_ok-lib.lib)) (sym same) c.in_ok-lib.ensures in
     let heard = subst (λ x. AllHeard allows x a) c.asks_root.ensures c.in_ok-answers.ensures.heard in
-    by_answers allows t a heard none (option_map product_content c.in_ok-lib.lib) got c.completed_by_answers-completed.result c.completed_by_answers-completed.ensures
+    by_answers allows t a heard none (option_map product_content c.in_ok-lib.lib) got c.complete_by_answers-completed.result c.complete_by_answers-completed.ensures

@@ -15,11 +15,11 @@ returns-clause-answers c =
     let root = option_copied c.args.root in
     let folders = option_copied c.args.folders in
     record {
-      made = c.finished-text.result;
+      made = c.output_or_refusal-text.result;
       told = c.outcome-told.result;
-      is_made = finished (manifest_content view view) asked.output asked.most asked.input bytes root folders (RefusesToMake asked.input bytes root folders) c.make-made.result c.finished-text.result c.make-made.ensures.ok c.make-made.ensures.refused c.finished-text.ensures.made c.finished-text.ensures.refused;
+      is_made = finished (manifest_content view view) asked.output asked.most asked.input bytes root folders (RefusesToMake asked.input bytes root folders) c.make-made.result c.output_or_refusal-text.result c.make-made.ensures.ok c.make-made.ensures.refused c.output_or_refusal-text.ensures.made c.output_or_refusal-text.ensures.refused;
       outcome = c.outcome-told.ensures;
-      hands = c.handed.ensures;
+      hands = c.write_answer.ensures;
     }
 
 pub returns-clause-dates : goal.returns-clause-dates
@@ -28,6 +28,6 @@ returns-clause-dates c = λ is_toml seven.
     let bytes = c.args.bytes.now in
     let root = option_copied c.args.root in
     let folders = option_copied c.args.folders in
-    let made = finished (manifest_content view view) asked.output asked.most asked.input bytes root folders (RefusesToMake asked.input bytes root folders) c.make-made.result c.finished-text.result c.make-made.ensures.ok c.make-made.ensures.refused c.finished-text.ensures.made c.finished-text.ensures.refused in
-    let of_text = subst (λ (input : Input). IsMade (Gives asked.output asked.most (Makes input bytes root folders)) (OrOutput asked.output asked.most (Makes input bytes root folders) (RefusesToMake input bytes root folders)) c.finished-text.result) is_toml made in
-    is_not_seven asked.output asked.most bytes root folders c.finished-text.result c.outcome-told.result of_text c.outcome-told.ensures (sym c.handed.ensures.status ∙ seven)
+    let made = finished (manifest_content view view) asked.output asked.most asked.input bytes root folders (RefusesToMake asked.input bytes root folders) c.make-made.result c.output_or_refusal-text.result c.make-made.ensures.ok c.make-made.ensures.refused c.output_or_refusal-text.ensures.made c.output_or_refusal-text.ensures.refused in
+    let of_text = subst (λ (input : Input). IsMade (Gives asked.output asked.most (Makes input bytes root folders)) (OrOutput asked.output asked.most (Makes input bytes root folders) (RefusesToMake input bytes root folders)) c.output_or_refusal-text.result) is_toml made in
+    is_not_seven asked.output asked.most bytes root folders c.output_or_refusal-text.result c.outcome-told.result of_text c.outcome-told.ensures (sym c.write_answer.ensures.status ∙ seven)

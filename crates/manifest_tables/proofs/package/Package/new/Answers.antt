@@ -4,4 +4,4 @@ use Rattle.manifest_tables.proofs.package.Package.new.Goals as goal
 
 pub returns : goal.returns
 unfolding package_rows
-returns g c = λ f. let h = c.named.ensures f in (h.0, (h.1.0, (refl, h.1.1.1)))
+returns g c = λ f. let h = c.package_with_name.ensures f in (h.0, (h.1.0, (refl, h.1.1.1)))

@@ -5,7 +5,7 @@ use Rattle.manifest_value.specs.Entries.{entries_content}
 use Rattle.manifest_value.specs.Sources.{entries_view}
 use Rattle.manifest_value.proofs.ReadingLemmas.{first_ascend, none_left}
 use Rattle.manifest_value.proofs.CollectLemmas.{same_content}
-use Rattle.manifest_value.proofs.maps.map_read.Goals as goal
+use Rattle.manifest_value.proofs.maps.read_map.Goals as goal
 
 pub map_of_list-requires : goal.map_of_list-requires
 map_of_list-requires g c =
