@@ -17,7 +17,7 @@ use Rattle.manifest_completion.specs.Listings.{Answer, fault, names_of, is_memor
 use Rattle.manifest_completion.specs.Finds.{Find, finds, entry_finds}
 use Rattle.manifest_completion.specs.Completed.{PackageTargets, Explains, folder_places, target_places, has_memory_fault, completed_to, refused, no_library, filled, library, no_file, known, source_fault, root_fault, after_root, completed_targets, asked_targets, asks_root, stops_at_source, completed, asked}
 use Rattle.manifest_completion.specs.Answered.{answer_of, answers_of}
-use Rattle.manifest_completion.specs.Asking.{Heard, EntriesHeard, HeardInTurn, folder_listing, listing_map, AllHeard, found_no_memory, some_found_no_memory}
+use Rattle.manifest_completion.specs.Asking.{Heard, EntriesHeard, HeardInTurn, folder_listing, listing_map, AllHeard, ran_out_of_memory, some_ran_out_of_memory}
 use Rattle.manifest_completion.specs.Outcome.{completed_content, IsFault, RefusesLibrary, TargetsComeTo, TargetsRefused, TargetsCompleted, paired_finds, folder_paired, TargetsMade, heard_fault, CompletesHeard}
 use Rattle.manifest_completion.proofs.DecidesLaws.{with_library}
 use Rattle.manifest_completion.proofs.AskLemmas.{none_ascend, ascending_differ}
@@ -42,7 +42,7 @@ paired_is d f (n ∷ ns) (a ∷ heard) e h q =
     rw here (ap (λ (xs : List Find). entry_finds d n a ++ xs)
     (paired_is d f ns heard there (match_false (is_memory_fault a) (heard ≡ []) (EntriesHeard (λ path answer. Unit {0}) d ns heard) h.1 kept) (right_false (is_memory_fault a) (list_any is_memory_fault heard) q)))
 
-folder_paired_is : (l : ListingMap) (d : TargetFolder) (a : FolderAnswers) → folder_of l d ≡ folder_listing a → HeardInTurn d a → found_no_memory a ≡ false → folder_paired (folder_text d) a ≡ finds l d
+folder_paired_is : (l : ListingMap) (d : TargetFolder) (a : FolderAnswers) → folder_of l d ≡ folder_listing a → HeardInTurn d a → ran_out_of_memory a ≡ false → folder_paired (folder_text d) a ≡ finds l d
 folder_paired_is l d a e h q =
     let own : (folder_of l d).own ≡ answer_of a.own = ap (λ (f : FolderListing). f.own) e in
     let kept : list_any is_memory_fault (answers_of a.entries) ≡ false = any_map is_memory_fault answer_of a.entries.items ∙ right_false (is_memory_fault (answer_of a.own)) _ q in
@@ -98,7 +98,7 @@ module _ (allows : Text → Answer → Type 0) (t : PackageTargets) (a : Answers
   explains_all : Explains allows (listing_map a) (asked_targets t (listing_map a))
   explains_all = rw (none, got) heard.explained
 
-  any_fault : has_memory_fault (at (listing_map a)) (target_places (listing_map a)) ≡ some_found_no_memory a
+  any_fault : has_memory_fault (at (listing_map a)) (target_places (listing_map a)) ≡ some_ran_out_of_memory a
   any_fault =
       let l = listing_map a in let t = λ (q : Place). is_memory_fault (at l q) in
       list_any-append t (folder_places l bins) (folder_places l examples ++ (folder_places l tests ++ folder_places l benches))
@@ -111,27 +111,27 @@ module _ (allows : Text → Answer → Type 0) (t : PackageTargets) (a : Answers
   heard_outcome =
       with_library t (listing_map a) lib none got
       ∙ ap (λ (b : Bool). if b then refused OutOfMemory else after_root t lib (listing_map a) (root_fault t.build (answer_of a.root))) any_fault
-      ∙ one (some_found_no_memory a)
+      ∙ one (some_ran_out_of_memory a)
     where
       one : (b : Bool) → (if b then refused OutOfMemory else after_root t lib (listing_map a) (root_fault t.build (answer_of a.root)))
           ≡ after_root t lib (listing_map a) (if b then Some OutOfMemory else root_fault t.build (answer_of a.root))
       one true = refl
       one false = refl
 
-  calm : heard_fault t a ≡ None → some_found_no_memory a ≡ false
-  calm e = one (some_found_no_memory a) (root_fault t.build (answer_of a.root)) e
+  calm : heard_fault t a ≡ None → some_ran_out_of_memory a ≡ false
+  calm e = one (some_ran_out_of_memory a) (root_fault t.build (answer_of a.root)) e
     where
       one : (b : Bool) (k : Option ErrorKind) → (if b then Some OutOfMemory else k) ≡ None → b ≡ false
       one true k f = cc
       one false k f = refl
 
-  filled_is : some_found_no_memory a ≡ false → (c : CompletedTargets) → TargetsMade t lib a c → filled t lib (listing_map a) ≡ completed_content t c
+  filled_is : some_ran_out_of_memory a ≡ false → (c : CompletedTargets) → TargetsMade t lib a c → filled t lib (listing_map a) ≡ completed_content t c
   unfolding filled
   filled_is e c made =
       let l = listing_map a in
-      let q1 = left_false (found_no_memory a.bins) _ e in let r1 = right_false (found_no_memory a.bins) _ e in
-      let q2 = left_false (found_no_memory a.examples) _ r1 in let r2 = right_false (found_no_memory a.examples) _ r1 in
-      let q3 = left_false (found_no_memory a.tests) (found_no_memory a.benches) r2 in let q4 = right_false (found_no_memory a.tests) (found_no_memory a.benches) r2 in
+      let q1 = left_false (ran_out_of_memory a.bins) _ e in let r1 = right_false (ran_out_of_memory a.bins) _ e in
+      let q2 = left_false (ran_out_of_memory a.examples) _ r1 in let r2 = right_false (ran_out_of_memory a.examples) _ r1 in
+      let q3 = left_false (ran_out_of_memory a.tests) (ran_out_of_memory a.benches) r2 in let q4 = right_false (ran_out_of_memory a.tests) (ran_out_of_memory a.benches) r2 in
       let fb = folder_paired_is l bins a.bins refl heard.bins q1 in let fe = folder_paired_is l examples a.examples refl heard.examples q2 in
       let ft = folder_paired_is l tests a.tests refl heard.tests q3 in let fn = folder_paired_is l benches a.benches refl heard.benches q4 in
       rw (made.build, made.library, made.lists.bin, made.lists.example, made.lists.test, made.lists.bench, fb, fe, ft, fn) refl

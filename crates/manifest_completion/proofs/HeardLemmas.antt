@@ -11,7 +11,7 @@ use Rattle.manifest_completion.specs.declared.ask.Answers.{Answers}
 use Rattle.manifest_completion.specs.Listings.{Answer, fault, names_of, is_memory_fault, TargetFolder, bins, examples, tests, benches, Place, source, folder, entry, root, joined, folder_text, path_text, entry_answer, FolderListing, ListingMap, folder_of, at, IsAscending, NamesAscend}
 use Rattle.manifest_completion.specs.Completed.{up_to_memory_fault, folder_places, has_memory_fault, target_places, root_places}
 use Rattle.manifest_completion.specs.Answered.{answer_of, answers_of}
-use Rattle.manifest_completion.specs.Asking.{Heard, EntriesHeard, FolderHeard, HeardInTurn, folder_listing, listing_map, AllHeard, found_no_memory}
+use Rattle.manifest_completion.specs.Asking.{Heard, EntriesHeard, FolderHeard, HeardInTurn, folder_listing, listing_map, AllHeard, ran_out_of_memory}
 use Rattle.manifest_completion.proofs.AskLemmas.{none_ascend, ascending_differ}
 
 -- the answers, with NotFound past their end
@@ -59,7 +59,7 @@ pub entry_answers : (l : ListingMap) (d : TargetFolder) (a : FolderAnswers) → 
 entry_answers l d a e h = rw e (lookups (names_of (answer_of a.own)) (answers_of a.entries) h)
 
 -- whether the folder or an entry found no memory
-pub folder_fault : (l : ListingMap) (d : TargetFolder) (a : FolderAnswers) → folder_of l d ≡ folder_listing a → HeardInTurn d a → has_memory_fault (at l) (folder_places l d) ≡ found_no_memory a
+pub folder_fault : (l : ListingMap) (d : TargetFolder) (a : FolderAnswers) → folder_of l d ≡ folder_listing a → HeardInTurn d a → has_memory_fault (at l) (folder_places l d) ≡ ran_out_of_memory a
 folder_fault l d a e h =
     let ns = names_of (answer_of a.own) in
     let own : (folder_of l d).own ≡ answer_of a.own = ap (λ (f : FolderListing). f.own) e in
@@ -204,10 +204,10 @@ asks_and false stopped e f = cc
 pub all_heard : (allows : Text → Answer → Type 0) (asks : Bool) (a : Answers) →
     Heard allows (path_text source) (answer_of a.source) →
     FolderHeard allows (folder_text bins) a.bins →
-    HeardUnless (found_no_memory a.bins) allows examples a.examples →
-    HeardUnless (found_no_memory a.bins || found_no_memory a.examples) allows tests a.tests →
-    HeardUnless ((found_no_memory a.bins || found_no_memory a.examples) || found_no_memory a.tests) allows benches a.benches →
-    Heard (λ path answer. (asks && not (((found_no_memory a.bins || found_no_memory a.examples) || found_no_memory a.tests) || found_no_memory a.benches)) ≡ true → allows path answer) (path_text root) (answer_of a.root) →
+    HeardUnless (ran_out_of_memory a.bins) allows examples a.examples →
+    HeardUnless (ran_out_of_memory a.bins || ran_out_of_memory a.examples) allows tests a.tests →
+    HeardUnless ((ran_out_of_memory a.bins || ran_out_of_memory a.examples) || ran_out_of_memory a.tests) allows benches a.benches →
+    Heard (λ path answer. (asks && not (((ran_out_of_memory a.bins || ran_out_of_memory a.examples) || ran_out_of_memory a.tests) || ran_out_of_memory a.benches)) ≡ true → allows path answer) (path_text root) (answer_of a.root) →
     AllHeard allows asks a
 all_heard allows asks a s b e t n r =
     let ob = heard_in_turn _ bins a.bins b in let oe = heard_in_turn _ examples a.examples e in
@@ -227,13 +227,13 @@ all_heard allows asks a s b e t n r =
               let together : target_places l ++ rp ≡ bp ++ (ep ++ (tp ++ (np ++ rp))) = append_assoc bp (ep ++ (tp ++ np)) rp ∙ ap (λ (ps : List Place). bp ++ ps) (append_assoc ep (tp ++ np) rp ∙ ap (λ (ps : List Place). ep ++ ps) (append_assoc tp np rp)) in
               subst (λ (ps : List Place). AllByRecursion (λ p. allows (path_text p) (at l p)) (up_to_memory_fault (at l) ps)) (sym together)
               (allowed_append allows l bp (ep ++ (tp ++ (np ++ rp))) (folder_held allows l bins a.bins refl b) (λ q1.
-              let f1 : found_no_memory a.bins ≡ false = sym (folder_fault l bins a.bins refl ob) ∙ q1 in
-              allowed_append allows l ep (tp ++ (np ++ rp)) (folder_held allows l examples a.examples refl (goes_on (found_no_memory a.bins) allows examples a.examples e f1)) (λ q2.
-              let f2 = none_of (found_no_memory a.bins) (found_no_memory a.examples) f1 (sym (folder_fault l examples a.examples refl oe) ∙ q2) in
+              let f1 : ran_out_of_memory a.bins ≡ false = sym (folder_fault l bins a.bins refl ob) ∙ q1 in
+              allowed_append allows l ep (tp ++ (np ++ rp)) (folder_held allows l examples a.examples refl (goes_on (ran_out_of_memory a.bins) allows examples a.examples e f1)) (λ q2.
+              let f2 = none_of (ran_out_of_memory a.bins) (ran_out_of_memory a.examples) f1 (sym (folder_fault l examples a.examples refl oe) ∙ q2) in
               allowed_append allows l tp (np ++ rp) (folder_held allows l tests a.tests refl (goes_on _ allows tests a.tests t f2)) (λ q3.
-              let f3 = none_of (found_no_memory a.bins || found_no_memory a.examples) (found_no_memory a.tests) f2 (sym (folder_fault l tests a.tests refl ot) ∙ q3) in
+              let f3 = none_of (ran_out_of_memory a.bins || ran_out_of_memory a.examples) (ran_out_of_memory a.tests) f2 (sym (folder_fault l tests a.tests refl ot) ∙ q3) in
               allowed_append allows l np rp (folder_held allows l benches a.benches refl (goes_on _ allows benches a.benches n f3)) (λ q4.
-              let f4 = none_of ((found_no_memory a.bins || found_no_memory a.examples) || found_no_memory a.tests) (found_no_memory a.benches) f3 (sym (folder_fault l benches a.benches refl on) ∙ q4) in
+              let f4 = none_of ((ran_out_of_memory a.bins || ran_out_of_memory a.examples) || ran_out_of_memory a.tests) (ran_out_of_memory a.benches) f3 (sym (folder_fault l benches a.benches refl on) ∙ q4) in
               root_held allows l asks (λ y. r.1 (asks_and asks _ y f4)))))))),
         );
       };

@@ -56,9 +56,9 @@ pub record AllHeard (allows : Text → Answer → Type 0) (asks : Bool) (a : Ans
   pub explained : Explains allows (listing_map a) (all_places asks (listing_map a))
 
 -- the folder's answer or one of its entries' found no memory
-abbrev pub found_no_memory : FolderAnswers → Bool
-found_no_memory a = is_memory_fault (answer_of a.own) || list_any (λ x. is_memory_fault (answer_of x)) a.entries.items
+abbrev pub ran_out_of_memory : FolderAnswers → Bool
+ran_out_of_memory a = is_memory_fault (answer_of a.own) || list_any (λ x. is_memory_fault (answer_of x)) a.entries.items
 
 -- some answer found no memory
-abbrev pub some_found_no_memory : Answers → Bool
-some_found_no_memory a = found_no_memory a.bins || (found_no_memory a.examples || (found_no_memory a.tests || found_no_memory a.benches))
+abbrev pub some_ran_out_of_memory : Answers → Bool
+some_ran_out_of_memory a = ran_out_of_memory a.bins || (ran_out_of_memory a.examples || (ran_out_of_memory a.tests || ran_out_of_memory a.benches))

@@ -22,7 +22,7 @@ use Rattle.manifest_completion.specs.Finds.{Find, entry_finds, main_find}
 use Rattle.manifest_completion.specs.Targets.{Defaults, targets}
 use Rattle.manifest_completion.specs.Completed.{PackageTargets, is_legacy, discovers, bin_defaults, example_defaults, test_defaults, Library, no_file, Completion, completed_to, refused, no_library, completed_targets, asked_targets, root_fault, build_of, ByOneMap}
 use Rattle.manifest_completion.specs.Answered.{answer_of, answers_of}
-use Rattle.manifest_completion.specs.Asking.{some_found_no_memory}
+use Rattle.manifest_completion.specs.Asking.{some_ran_out_of_memory}
 use Rattle.manifest_completion.specs.Stored.{stored_map}
 
 -- CONTENTS
@@ -135,7 +135,7 @@ pub record TargetsMade (t : PackageTargets) (lib : Option Product) (a : Answers)
 
 -- the fault that refuses after all was heard: that no memory was found for a folder of targets or an entry, or that of the folder of the manifest
 abbrev pub heard_fault : PackageTargets → Answers → Option ErrorKind
-heard_fault t a = if some_found_no_memory a then Some OutOfMemory else root_fault t.build (answer_of a.root)
+heard_fault t a = if some_ran_out_of_memory a then Some OutOfMemory else root_fault t.build (answer_of a.root)
 
 abbrev pub RefusesHeard : PackageTargets → Answers → Error → Type 0
 RefusesHeard t a (Io e) = heard_fault t a ≡ Some (error_kind e)

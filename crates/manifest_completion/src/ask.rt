@@ -4,7 +4,7 @@ ghost use Rattle.std.specs.Prelude.{◌≡◌, [], codes, IfOk, string_bytes, tr
 ghost use Rattle.std.specs.declared.io.ErrorKind.TheVariants.{NotFound};
 ghost use Rattle.manifest_completion.specs.Listings.{joined, is_memory_fault, fault, IsAscending};
 ghost use Rattle.manifest_completion.specs.Answered.{answer_of, answers_of, set_names};
-ghost use Rattle.manifest_completion.specs.Asking.{Heard, EntriesHeard, FolderHeard, AllHeard, found_no_memory, some_found_no_memory};
+ghost use Rattle.manifest_completion.specs.Asking.{Heard, EntriesHeard, FolderHeard, AllHeard, ran_out_of_memory, some_ran_out_of_memory};
 
 use crate::filesystem::AbstractFilesystem;
 use std::alloc::{AllocError, Global};
@@ -129,8 +129,8 @@ impl FolderAnswers {
     }
 
     /// Whether one of them found no memory.
-    fn found_no_memory(&self) -> bool
-        ensures { result ≡ found_no_memory self.now }
+    fn ran_out_of_memory(&self) -> bool
+        ensures { result ≡ ran_out_of_memory self.now }
     {
         is_memory_fault(&self.own) || self.entries.iter().any(|answer| is_memory_fault(answer))
     }
@@ -138,12 +138,12 @@ impl FolderAnswers {
 
 impl Answers {
     /// Whether a folder of targets or an entry of one found no memory.
-    pub fn found_no_memory(&self) -> bool
-        ensures { result ≡ some_found_no_memory self.now }
+    pub fn ran_out_of_memory(&self) -> bool
+        ensures { result ≡ some_ran_out_of_memory self.now }
     {
-        self.bins.found_no_memory()
-            | (self.examples.found_no_memory()
-                | (self.tests.found_no_memory() | self.benches.found_no_memory()))
+        self.bins.ran_out_of_memory()
+            | (self.examples.ran_out_of_memory()
+                | (self.tests.ran_out_of_memory() | self.benches.ran_out_of_memory()))
     }
 }
 
@@ -193,13 +193,13 @@ pub fn ask_folders<FS: AbstractFilesystem>(
     ensures heard { IfOk result (λ a. AllHeard (FS.allows fs.now) asks_root a) }
 {
     let bins = ask_folder(alloc, fs, "src/bin")?;
-    let after_bins = bins.found_no_memory();
+    let after_bins = bins.ran_out_of_memory();
     let examples = ask_folder_unless(after_bins, alloc, fs, "examples")?;
-    let after_examples = after_bins | examples.found_no_memory();
+    let after_examples = after_bins | examples.ran_out_of_memory();
     let tests = ask_folder_unless(after_examples, alloc, fs, "tests")?;
-    let after_tests = after_examples | tests.found_no_memory();
+    let after_tests = after_examples | tests.ran_out_of_memory();
     let benches = ask_folder_unless(after_tests, alloc, fs, "benches")?;
-    let after_benches = after_tests | benches.found_no_memory();
+    let after_benches = after_tests | benches.ran_out_of_memory();
     let root = ask_root_if(asks_root & !after_benches, alloc, fs);
     Ok(Answers {
         source,

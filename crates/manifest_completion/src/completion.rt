@@ -334,7 +334,7 @@ fn complete_by_answers(
     ensures { let t = declared_content declared.now in
         CompletesHeard t (option_map product_content lib) answers.now result }
 {
-    if answers.found_no_memory() {
+    if answers.ran_out_of_memory() {
         return Err(Error::Io(io::Error::from(ErrorKind::OutOfMemory)));
     }
     check_root(asks_root(declared.build), &answers.root)?;

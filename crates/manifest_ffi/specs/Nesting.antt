@@ -7,41 +7,41 @@ use Rattle.manifest_schema.specs.Paths.{Text}
 use Rattle.manifest_ffi.specs.declared.nesting.Nesting.{Nesting}
 
 -- COUNTED are, up to 384, the brackets that are open and the dots since a key began, and the most of both so far
-abbrev pub more : ℕ → ℕ
-more n = if nat_lt n 384 then n + 1 else n
+abbrev pub count_up : ℕ → ℕ
+count_up n = if nat_lt n 384 then n + 1 else n
 
 abbrev pub start : Nesting
 start = record { brackets = 0; dots = 0; most_brackets = 0; most_dots = 0 }
 
 -- behind an opening bracket, a closing one, a dot, and the end of a key
-abbrev pub opened : Nesting → Nesting
-opened n = record n { brackets = more n.brackets; dots = 0; most_brackets = max n.most_brackets (more n.brackets) }
+abbrev pub after_opening_bracket : Nesting → Nesting
+after_opening_bracket n = record n { brackets = count_up n.brackets; dots = 0; most_brackets = max n.most_brackets (count_up n.brackets) }
 
-abbrev pub closed : Nesting → Nesting
-closed n = record n { brackets = n.brackets - 1 }
+abbrev pub after_closing_bracket : Nesting → Nesting
+after_closing_bracket n = record n { brackets = n.brackets - 1 }
 
-abbrev pub dotted : Nesting → Nesting
-dotted n = record n { dots = more n.dots; most_dots = max n.most_dots (more n.dots) }
+abbrev pub after_dot : Nesting → Nesting
+after_dot n = record n { dots = count_up n.dots; most_dots = max n.most_dots (count_up n.dots) }
 
-abbrev pub ended : Nesting → Nesting
-ended n = record n { dots = 0 }
+abbrev pub after_key : Nesting → Nesting
+after_key n = record n { dots = 0 }
 
 -- behind a byte that stands in no string and no comment
-abbrev pub counted : ℕ → Nesting → Nesting
-counted c n =
-    if c == left_bracket || c == left_brace then opened n
-    else if c == right_bracket || c == right_brace then closed n
-    else if c == dot then dotted n
-    else if (c == comma || c == equals) || c == line_feed then ended n
+abbrev pub after_byte : ℕ → Nesting → Nesting
+after_byte c n =
+    if c == left_bracket || c == left_brace then after_opening_bracket n
+    else if c == right_bracket || c == right_brace then after_closing_bracket n
+    else if c == dot then after_dot n
+    else if (c == comma || c == equals) || c == line_feed then after_key n
     else n
 
 -- behind the next string, comment or byte, where there is one that TOML can have
 abbrev pub step : Nesting → Text → Option (Nesting × Text)
 step n text =
     if starts_string text then option_map (λ r. (n, r.1)) (quoted text)
-    else if first text == hash then Some (ended n, skip_blank text)
+    else if first text == hash then Some (after_key n, skip_blank text)
     else if first text == 0 || nat_lt 127 (first text) then None
-    else Some (counted (first text) n, drop 1 text)
+    else Some (after_byte (first text) n, drop 1 text)
 
 -- behind so many steps, or as many as there are
 unfoldable pub scan : ℕ → Nesting → Text → Nesting

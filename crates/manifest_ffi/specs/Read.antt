@@ -8,7 +8,7 @@ use Rattle.manifest_schema.specs.Paths.{Text}
 use Rattle.manifest_schema.specs.Kinds.{Kind}
 use Rattle.manifest_schema.specs.Contents.{Manifest}
 use Rattle.manifest_schema.specs.Meaning.{means, reads_manifest, faulty_manifest}
-use Rattle.manifest_value.specs.Refusals.{RefusedIn as RefusedAs, IsWantOfMemory}
+use Rattle.manifest_value.specs.Refusals.{RefusedIn as RefusedAs, IsOutOfMemory}
 use Rattle.manifest_value.specs.declared.error.Error.{Error}
 use Rattle.manifest_value.specs.declared.error.Error.TheVariants.{Parse, Utf8, Memory}
 use Rattle.manifest_value.specs.declared.error.ParseFault.TheVariants.{Toml as NoToml, Schema}
@@ -76,7 +76,7 @@ HoldFault bytes e =
 
 -- they are none: those of a faulty value, or out of memory; else no tagged bytes, or of a value that nests too deep, of which nothing is promised
 abbrev pub RefusesTagged : Text → InputError → Type 0
-RefusesTagged bytes (NoManifest e) = IsWantOfMemory e ⊎ HoldFault bytes e
+RefusesTagged bytes (NoManifest e) = IsOutOfMemory e ⊎ HoldFault bytes e
 RefusesTagged bytes _ = Unit {0}
 
 -- THE BYTES ARE THE MANIFEST, one way or the other

@@ -2,7 +2,7 @@
 //! no deeper than that.
 
 ghost use Rattle.std.specs.Prelude.{◌≡◌, IfOk};
-ghost use Rattle.manifest_ffi.specs.Nesting.{more, opened, closed, dotted, ended, counted, scan, is_dense, nests_densely, Steps};
+ghost use Rattle.manifest_ffi.specs.Nesting.{count_up, after_opening_bracket, after_closing_bracket, after_dot, after_key, after_byte, scan, is_dense, nests_densely, Steps};
 
 use std::alloc::{AllocError, Global};
 use toml_parser::text::{first, skip, skip_blank};
@@ -30,8 +30,8 @@ const START: Nesting = Nesting {
 
 /// One more.
 #[inline(always)]
-fn more(count: u16) -> u16
-    ensures { result ≡ more count }
+fn count_up(count: u16) -> u16
+    ensures { result ≡ count_up count }
 {
     if count < MOST_NESTING {
         count + 1
@@ -42,10 +42,10 @@ fn more(count: u16) -> u16
 
 /// Behind an opening bracket.
 #[inline(always)]
-fn opened(nesting: Nesting) -> Nesting
-    ensures { result ≡ opened nesting }
+fn after_opening_bracket(nesting: Nesting) -> Nesting
+    ensures { result ≡ after_opening_bracket nesting }
 {
-    let brackets = more(nesting.brackets);
+    let brackets = count_up(nesting.brackets);
     Nesting {
         brackets,
         dots: 0,
@@ -56,8 +56,8 @@ fn opened(nesting: Nesting) -> Nesting
 
 /// Behind a closing bracket.
 #[inline(always)]
-fn closed(nesting: Nesting) -> Nesting
-    ensures { result ≡ closed nesting }
+fn after_closing_bracket(nesting: Nesting) -> Nesting
+    ensures { result ≡ after_closing_bracket nesting }
 {
     Nesting {
         brackets: nesting.brackets.saturating_sub(1),
@@ -69,10 +69,10 @@ fn closed(nesting: Nesting) -> Nesting
 
 /// Behind a dot.
 #[inline(always)]
-fn dotted(nesting: Nesting) -> Nesting
-    ensures { result ≡ dotted nesting }
+fn after_dot(nesting: Nesting) -> Nesting
+    ensures { result ≡ after_dot nesting }
 {
-    let dots = more(nesting.dots);
+    let dots = count_up(nesting.dots);
     Nesting {
         brackets: nesting.brackets,
         dots,
@@ -83,8 +83,8 @@ fn dotted(nesting: Nesting) -> Nesting
 
 /// Behind the end of a key.
 #[inline(always)]
-fn ended(nesting: Nesting) -> Nesting
-    ensures { result ≡ ended nesting }
+fn after_key(nesting: Nesting) -> Nesting
+    ensures { result ≡ after_key nesting }
 {
     Nesting {
         brackets: nesting.brackets,
@@ -96,18 +96,18 @@ fn ended(nesting: Nesting) -> Nesting
 
 /// Behind a byte outside strings and comments.
 #[inline(always)]
-fn counted(byte: u8, nesting: Nesting) -> Nesting
-    ensures { result ≡ counted byte nesting }
+fn after_byte(byte: u8, nesting: Nesting) -> Nesting
+    ensures { result ≡ after_byte byte nesting }
 {
     match byte {
-        b'[' => opened(nesting),
-        b'{' => opened(nesting),
-        b']' => closed(nesting),
-        b'}' => closed(nesting),
-        b'.' => dotted(nesting),
-        b',' => ended(nesting),
-        b'=' => ended(nesting),
-        b'\n' => ended(nesting),
+        b'[' => after_opening_bracket(nesting),
+        b'{' => after_opening_bracket(nesting),
+        b']' => after_closing_bracket(nesting),
+        b'}' => after_closing_bracket(nesting),
+        b'.' => after_dot(nesting),
+        b',' => after_key(nesting),
+        b'=' => after_key(nesting),
+        b'\n' => after_key(nesting),
         _ => nesting,
     }
 }
@@ -129,11 +129,11 @@ fn step<'t>(
             Err(_) => Ok(None),
         }
     } else if byte == b'#' {
-        Ok(Some((ended(nesting), skip_blank(text, true))))
+        Ok(Some((after_key(nesting), skip_blank(text, true))))
     } else if byte == 0 || byte >= 128 {
         Ok(None)
     } else {
-        Ok(Some((counted(byte, nesting), skip(text, 1))))
+        Ok(Some((after_byte(byte, nesting), skip(text, 1))))
     }
 }
 

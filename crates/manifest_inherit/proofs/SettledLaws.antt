@@ -5,7 +5,7 @@ use Rattle.manifest_schema.specs.Kinds.{Entries}
 use Rattle.manifest_schema.specs.Contents.{InheritedDependency, DependencyDetail, Dependency, simple, by_workspace, detailed, Lint, Lints, Platform, Workspace, Manifest}
 use Rattle.manifest_parts.specs.Queries.{says_more, simplify}
 use Rattle.manifest_inherit.specs.Fields.{lendable}
-use Rattle.manifest_inherit.specs.Resolved.{resolved_package, lender, version_alone, lent_by, joined, with_lent, resolved_dependency, resolved_entries, resolved_dependencies, resolved_platform, resolved_platforms, resolved_lints_by, resolved_lints, lent_dependencies, resolved}
+use Rattle.manifest_inherit.specs.Resolved.{resolved_package, workspace_dependency, version_alone, lent_by, joined, with_lent, resolved_dependency, resolved_entries, resolved_dependencies, resolved_platform, resolved_platforms, resolved_lints_by, resolved_lints, lent_dependencies, resolved}
 use Rattle.manifest_inherit.specs.Refused.{Refusals, NoneHolds, not_in_workspace, inherited_in_workspace, refuses_fields, refuses_lender, refuses_dependency, refuses_entries, refuses_dependencies, refuses_platform, refuses_platforms, refuses_lints_by, refuses_lints, refuses_some, refuses}
 use Rattle.manifest_inherit.specs.Own.{AreOwn, IsOwnDependency, AllValues, AreOwnDependencies, IsOwnPlatform, AreOwnPlatforms, AreOwnLints, IfThere, InheritsNothing}
 use Rattle.manifest_inherit.specs.Laws.{ResolvedIsSettled, OwnIsSettled}
@@ -26,7 +26,7 @@ lent_own name own (Some (detailed d)) h = simple_own _ _ (joined own d) refl ref
 dependency_own : (lent : Entries Dependency) (name : Text) (d : Dependency) → NoneHolds (refuses_dependency lent name d) → IsOwnDependency (resolved_dependency lent name d)
 dependency_own lent name (simple v) h = tt
 dependency_own lent name (detailed d) h = tt
-dependency_own lent name (by_workspace own) h = lent_own name own (lender lent name) h
+dependency_own lent name (by_workspace own) h = lent_own name own (workspace_dependency lent name) h
 
 dependency_same : (lent : Entries Dependency) (name : Text) (d : Dependency) → IsOwnDependency d → resolved_dependency lent name d ≡ d
 dependency_same lent name (simple v) h = refl

@@ -20,9 +20,9 @@ RefusedIn refuses ToolNamedWorkspace = refuses tool_named_workspace
 RefusedIn refuses (Memory e) = Unit {0}
 
 -- want of memory
-abbrev pub IsWantOfMemory : ResolveError → Type 0
-IsWantOfMemory (Memory e) = Unit {0}
-IsWantOfMemory _ = ⊥
+abbrev pub IsOutOfMemory : ResolveError → Type 0
+IsOutOfMemory (Memory e) = Unit {0}
+IsOutOfMemory _ = ⊥
 
 -- WHAT RESOLVING A MANIFEST ANSWERS, which it leaves as the second one
 abbrev pub Resolves : Manifest → Workspace → Manifest → Result (Unit {0}) ResolveError → Type 0

@@ -5,7 +5,7 @@ use Rattle.manifest_schema.specs.Kinds.{Inheritable, inherited, Entries}
 use Rattle.manifest_schema.specs.Forms.{none_named}
 use Rattle.manifest_schema.specs.Contents.{Dependency, by_workspace, Lint, Lints, Platform, Package, WorkspacePackage, Workspace, Manifest}
 use Rattle.manifest_inherit.specs.Fields.{Fields, no_more, ◌⨾◌, lendable}
-use Rattle.manifest_inherit.specs.Resolved.{lender, lent_dependencies}
+use Rattle.manifest_inherit.specs.Resolved.{workspace_dependency, lent_dependencies}
 
 pub data Refusal : Type 0 where
   -- the workspace lends no field or dependency of this name, or no `lints`
@@ -41,7 +41,7 @@ refuses_lender name (Some (by_workspace d)) r = r ≡ inherited_in_workspace nam
 refuses_lender name (Some d) r = ⊥
 
 abbrev pub refuses_dependency : Entries Dependency → Text → Dependency → Refusals
-refuses_dependency lent name (by_workspace own) r = refuses_lender name (lender lent name) r
+refuses_dependency lent name (by_workspace own) r = refuses_lender name (workspace_dependency lent name) r
 refuses_dependency lent name d r = ⊥
 
 -- A MAP: one of its entries

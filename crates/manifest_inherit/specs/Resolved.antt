@@ -25,8 +25,8 @@ resolved_package w p = resolved_fields lendable w p
 
 -- A DEPENDENCY
 -- the workspace's dependency of this name
-abbrev pub lender : Entries Dependency → Text → Option Dependency
-lender lent name = lookup (bytes_eq name) lent
+abbrev pub workspace_dependency : Entries Dependency → Text → Option Dependency
+workspace_dependency lent name = lookup (bytes_eq name) lent
 
 -- a version alone is a detail that says no more
 abbrev pub version_alone : Text → DependencyDetail
@@ -78,7 +78,7 @@ with_lent own (Some d) = simplify (detailed (joined own d))
 
 -- the dependency of this name: where it is inherited, what the workspace's dependency of the name makes of it, simplified
 abbrev pub resolved_dependency : Entries Dependency → Text → Dependency → Dependency
-resolved_dependency lent name (by_workspace own) = with_lent own (lent_by (lender lent name))
+resolved_dependency lent name (by_workspace own) = with_lent own (lent_by (workspace_dependency lent name))
 resolved_dependency lent name d = d
 
 -- A MAP: each entry by its name, in its place

@@ -5,7 +5,7 @@ ghost use Rattle.std.specs.Option.{option_or};
 ghost use Rattle.manifest_schema.specs.Contents.{detailed};
 ghost use Rattle.manifest_parts.specs.Records.{inherited_content, detail_content, dependency_content};
 ghost use Rattle.manifest_parts.specs.Queries.{simplify};
-ghost use Rattle.manifest_inherit.specs.Resolved.{lender, version_alone, joined, resolved_dependency};
+ghost use Rattle.manifest_inherit.specs.Resolved.{workspace_dependency, version_alone, joined, resolved_dependency};
 ghost use Rattle.manifest_inherit.specs.Refused.{refuses_dependency};
 ghost use Rattle.manifest_inherit.specs.Answers.{RefusedIn};
 ghost use Rattle.manifest_inherit.specs.ForProofs.{Accepted, lent_by_map};
@@ -17,9 +17,9 @@ use manifest_value::copy_of;
 use std::alloc::{AllocError, Global};
 
 /// The workspace's dependency of this name.
-fn lender<'a>(lent: &'a Option<DepsSet>, name: &str) -> Option<&'a Dependency>
+fn workspace_dependency<'a>(lent: &'a Option<DepsSet>, name: &str) -> Option<&'a Dependency>
     ensures { option_map (λ d. dependency_content d.now) result
-        ≡ lender (lent_by_map lent.now) name.now }
+        ≡ workspace_dependency (lent_by_map lent.now) name.now }
 {
     match lent {
         Some(lent) => lent.get(name),
@@ -80,7 +80,7 @@ pub(crate) fn resolved_dependency(
     match own {
         Dependency::Simple(version) => Ok(Dependency::Simple(copy_of(version)?)),
         Dependency::Detailed(detail) => Ok(Dependency::Detailed(copy_of(detail)?)),
-        Dependency::Inherited(own) => match lender(lent, name) {
+        Dependency::Inherited(own) => match workspace_dependency(lent, name) {
             None => Err(not_in_workspace(alloc, name)),
             Some(Dependency::Inherited(_)) => Err(inherited_in_workspace(alloc, name)),
             Some(Dependency::Simple(version)) => {

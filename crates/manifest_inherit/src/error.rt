@@ -66,9 +66,9 @@ impl From<AllocError> for ResolveError {
 }
 
 impl<T: Drop> From<AllocFailed<T>> for ResolveError {
-    ghost use Rattle.manifest_inherit.specs.Answers.{IsWantOfMemory};
+    ghost use Rattle.manifest_inherit.specs.Answers.{IsOutOfMemory};
 
-    ghost from_gives = { λ _ e. IsWantOfMemory e };
+    ghost from_gives = { λ _ e. IsOutOfMemory e };
 
     fn from(refused: AllocFailed<T>) -> ResolveError {
         ResolveError::Memory(AllocError::from(refused))

@@ -21,9 +21,9 @@ TellsSchema (Parse (Schema f)) = Unit {0}
 TellsSchema _ = ⊥
 
 -- want of memory
-abbrev pub IsWantOfMemory : Error → Type 0
-IsWantOfMemory (Memory e) = Unit {0}
-IsWantOfMemory _ = ⊥
+abbrev pub IsOutOfMemory : Error → Type 0
+IsOutOfMemory (Memory e) = Unit {0}
+IsOutOfMemory _ = ⊥
 
 -- the error that tells what a reader refuses with
 abbrev pub IsRefusal : ReadFault → Error → Type 0

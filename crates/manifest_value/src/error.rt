@@ -127,9 +127,9 @@ impl From<AllocError> for Error {
 }
 
 impl<T: Drop> From<AllocFailed<T>> for Error {
-    ghost use Rattle.manifest_value.specs.Refusals.{IsWantOfMemory};
+    ghost use Rattle.manifest_value.specs.Refusals.{IsOutOfMemory};
 
-    ghost from_gives = { λ _ e. IsWantOfMemory e };
+    ghost from_gives = { λ _ e. IsOutOfMemory e };
 
     fn from(refused: AllocFailed<T>) -> Error {
         Error::Memory(AllocError::from(refused))

@@ -4,7 +4,7 @@ use Rattle.std.proofs.lemmas.Iterator.{YieldsList-from_slice}
 use Rattle.std.proofs.lemmas.Iterator.Search.{any_from_yields_List}
 use Rattle.manifest_completion.specs.Answered.{answer_of}
 use Rattle.manifest_completion.specs.Listings.{is_memory_fault}
-use Rattle.manifest_completion.proofs.ask.FolderAnswers.found_no_memory.Goals as goal
+use Rattle.manifest_completion.proofs.ask.FolderAnswers.ran_out_of_memory.Goals as goal
 
 pub returns-else-is_memory_fault : goal.returns-else-is_memory_fault
 returns-else-is_memory_fault c =
