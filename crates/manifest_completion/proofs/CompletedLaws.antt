@@ -9,7 +9,7 @@ use Rattle.manifest_schema.specs.Kinds.{Kind}
 use Rattle.manifest_schema.specs.Needs.{good_some}
 use Rattle.manifest_schema.specs.Forms.{form}
 use Rattle.manifest_schema.specs.Lawful.{IsLawful}
-use Rattle.manifest_schema.specs.Contents.{TextOrFlag, a_text, a_flag, Product, Package, Manifest}
+use Rattle.manifest_schema.specs.Contents.{StringOrBool, a_text, a_flag, Product, Package, Manifest}
 use Rattle.manifest_schema.specs.ManifestForms.{package_rows}
 use Rattle.manifest_schema.specs.Meaning.{well_formed}
 use Rattle.manifest_schema.proofs.GoodLaws.{package_good, package_metadata_good, manifest_good, manifest_parts_good}
@@ -52,7 +52,7 @@ library_fixed t None out src h = inferred_fixed t src out (cc h)
 library_fixed t (Some lib) out src h = declared_fixed t lib (library_path t src lib) src out h
 
 -- BUILD SCRIPT
-build_twice : (b : Option TextOrFlag) (a : Answer) → build_of (build_of b a) a ≡ build_of b a
+build_twice : (b : Option StringOrBool) (a : Answer) → build_of (build_of b a) a ≡ build_of b a
 build_twice None a = one (lists a (codes "build.rs")) refl
   where
     one : (x : Bool) → lists a (codes "build.rs") ≡ x → build_of (build_of None a) a ≡ build_of None a
@@ -66,7 +66,7 @@ build_twice (Some (a_flag true)) a = one (lists a (codes "build.rs")) refl
     one true e = rw e refl
     one false e = rw e refl
 
-root_calm : (b : Option TextOrFlag) (a : Answer) → root_fault b a ≡ None → root_fault (build_of b a) a ≡ None
+root_calm : (b : Option StringOrBool) (a : Answer) → root_fault b a ≡ None → root_fault (build_of b a) a ≡ None
 root_calm b (names ns) h = refl
 root_calm None (fault k) h = h
 root_calm (Some (a_text s)) (fault k) h = h
@@ -74,7 +74,7 @@ root_calm (Some (a_flag true)) (fault k) h = h
 root_calm (Some (a_flag false)) (fault k) h = h
 
 -- the folder of the manifest is asked again only where it was asked
-root_again : (b : Option TextOrFlag) (a : Answer) → asks_root (build_of b a) ≡ true → asks_root b ≡ true
+root_again : (b : Option StringOrBool) (a : Answer) → asks_root (build_of b a) ≡ true → asks_root b ≡ true
 root_again None a e = refl
 root_again (Some (a_text s)) a e = e
 root_again (Some (a_flag true)) a e = refl

@@ -5,7 +5,7 @@ use Rattle.std.specs.List.{AllByRecursion, flat_map}
 use Rattle.std.specs.declared.io.ErrorKind.{ErrorKind}
 use Rattle.std.specs.declared.io.ErrorKind.TheVariants.{OutOfMemory}
 use Rattle.manifest_schema.specs.Paths.{Text}
-use Rattle.manifest_schema.specs.Contents.{TextOrFlag, a_text, a_flag, Product, Package}
+use Rattle.manifest_schema.specs.Contents.{StringOrBool, a_text, a_flag, Product, Package}
 use Rattle.manifest_completion.specs.Listings.{Answer, names, fault, names_of, is_memory_fault, TargetFolder, bins, examples, tests, benches, Place, source, folder, entry, root, folder_text, ListingMap, at}
 use Rattle.manifest_completion.specs.Finds.{Find, entry_finds, finds}
 use Rattle.manifest_completion.specs.Completed.{PackageTargets, folder_places, target_places, root_places, up_to_memory_fault, has_memory_fault, asks_root, root_fault, build_of, Library, no_file, known, library, source_fault, after_root, filled, completed_to, refused, completed_targets, asked_targets, completed_by, asked_by, completion_with, targets_of}
@@ -125,7 +125,7 @@ module _ (l k : ListingMap) where
   agree_front (p ∷ ps) qs h = let more = agree_front ps qs h.1 in ((h.0, more.0), more.1)
 
   -- THE FOLDER OF THE MANIFEST
-  same_root : (b : Option TextOrFlag) → AgreeUpTo (root_places (asks_root b)) → (root_fault b l.root ≡ root_fault b k.root) × (build_of b l.root ≡ build_of b k.root)
+  same_root : (b : Option StringOrBool) → AgreeUpTo (root_places (asks_root b)) → (root_fault b l.root ≡ root_fault b k.root) × (build_of b l.root ≡ build_of b k.root)
   same_root None h = (ap (root_fault None) h.0, ap (build_of None) h.0)
   same_root (Some (a_flag true)) h = (ap (root_fault (Some (a_flag true))) h.0, ap (build_of (Some (a_flag true))) h.0)
   same_root (Some (a_flag false)) h = (calm l.root ∙ sym (calm k.root), refl)

@@ -8,7 +8,7 @@ use Rattle.std.proofs.lemmas.List.Folds.{list_any-append}
 use Rattle.std.specs.declared.io.ErrorKind.{ErrorKind}
 use Rattle.std.specs.declared.io.ErrorKind.TheVariants.{OutOfMemory}
 use Rattle.manifest_schema.specs.Paths.{Text}
-use Rattle.manifest_schema.specs.Contents.{TextOrFlag, a_text, a_flag, Product, Package, Manifest}
+use Rattle.manifest_schema.specs.Contents.{StringOrBool, a_text, a_flag, Product, Package, Manifest}
 use Rattle.manifest_value.specs.declared.error.Error.TheVariants.{Parse, Io, Utf8, Other, Memory}
 use Rattle.manifest_completion.specs.Listings.{Answer, names, fault, names_of, is_memory_kind, is_memory_fault, TargetFolder, bins, examples, tests, benches, Place, source, folder, entry, root, path_text, entry_answer, FolderListing, ListingMap, folder_of, at}
 use Rattle.manifest_completion.specs.Completed.{PackageTargets, folder_places, target_places, root_places, up_to_memory_fault, has_memory_fault, asks_root, root_fault, after_root, Library, no_file, known, library, source_fault, Completion, completed_to, refused, no_library, completed_targets, asked_targets, completed, asked, completed_by, asked_by, completion_with, targets_of, AllAllowed}
@@ -32,7 +32,7 @@ second true y e f = cc
 second false y e f = f
 
 -- no memory was found for the folder of the manifest, which was asked
-root_lost : (b : Option TextOrFlag) (l : ListingMap) → has_memory_fault (at l) (root_places (asks_root b)) ≡ true → root_fault b l.root ≡ Some OutOfMemory
+root_lost : (b : Option StringOrBool) (l : ListingMap) → has_memory_fault (at l) (root_places (asks_root b)) ≡ true → root_fault b l.root ≡ Some OutOfMemory
 root_lost b l h = asked_root b h
   where
     lost : (is_memory_fault l.root || false) ≡ true → l.root ≡ fault OutOfMemory
@@ -42,7 +42,7 @@ root_lost b l h = asked_root b h
         one true f = refl
         one false f = f
 
-    asked_root : (o : Option TextOrFlag) → has_memory_fault (at l) (root_places (asks_root o)) ≡ true → root_fault o l.root ≡ Some OutOfMemory
+    asked_root : (o : Option StringOrBool) → has_memory_fault (at l) (root_places (asks_root o)) ≡ true → root_fault o l.root ≡ Some OutOfMemory
     asked_root None e = rw (lost e) refl
     asked_root (Some (a_text s)) e = cc
     asked_root (Some (a_flag true)) e = rw (lost e) refl

@@ -6,7 +6,7 @@ use Rattle.std.specs.declared.io.ErrorKind.{ErrorKind}
 use Rattle.std.specs.declared.io.ErrorKind.TheVariants.{NotFound, OutOfMemory}
 use Rattle.manifest_schema.specs.Paths.{Text}
 use Rattle.manifest_schema.specs.Kinds.{Inheritable, inherited, local}
-use Rattle.manifest_schema.specs.Contents.{Edition, e2015, TextOrFlag, a_text, a_flag, Product, Package, Manifest}
+use Rattle.manifest_schema.specs.Contents.{Edition, e2015, StringOrBool, a_text, a_flag, Product, Package, Manifest}
 use Rattle.manifest_schema.specs.Needs.{is_empty}
 use Rattle.manifest_completion.specs.Listings.{Answer, names, fault, lists, is_memory_fault, TargetFolder, bins, examples, tests, benches, Place, source, folder, entry, root, names_of, path_text, ListingMap, at, NamesAscend}
 use Rattle.manifest_completion.specs.Finds.{finds, bin_finds}
@@ -21,7 +21,7 @@ pub record PackageTargets : Type 0 where
   pub autoexamples : Option Bool
   pub autotests : Option Bool
   pub autobenches : Option Bool
-  pub build : Option TextOrFlag
+  pub build : Option StringOrBool
   pub lib : Option Product
   pub bin : List Product
   pub example : List Product
@@ -98,16 +98,16 @@ abbrev pub library : PackageTargets → Answer → Library
 library t src = library_of t t.lib src
 
 -- BUILD SCRIPT: the folder of the manifest is asked where `build` is absent or true
-abbrev pub asks_root : Option TextOrFlag → Bool
+abbrev pub asks_root : Option StringOrBool → Bool
 asks_root None = true
 asks_root (Some (a_text t)) = false
 asks_root (Some (a_flag b)) = b
 
 -- `build.rs`, where it is asked for and listed
-abbrev pub found_build : Bool → Answer → Option TextOrFlag
+abbrev pub found_build : Bool → Answer → Option StringOrBool
 found_build asks a = if asks && lists a (codes "build.rs") then Some (a_text (codes "build.rs")) else None
 
-abbrev pub build_of : Option TextOrFlag → Answer → Option TextOrFlag
+abbrev pub build_of : Option StringOrBool → Answer → Option StringOrBool
 build_of b a = option_or (found_build (asks_root b) a) b
 
 -- DEFAULTS of the three sorts of lists
@@ -159,7 +159,7 @@ abbrev pub root_fault_if : Bool → Answer → Option ErrorKind
 root_fault_if asks (names ns) = None
 root_fault_if asks (fault k) = if asks then Some k else None
 
-abbrev pub root_fault : Option TextOrFlag → Answer → Option ErrorKind
+abbrev pub root_fault : Option StringOrBool → Answer → Option ErrorKind
 root_fault b a = root_fault_if (asks_root b) a
 
 -- the first that applies of: a fault of `src`, a library without a file, a target folder or an entry of one for which no memory was found, a fault of the manifest's folder; else the targets filled in

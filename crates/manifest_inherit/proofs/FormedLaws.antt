@@ -4,7 +4,7 @@ use Rattle.toml.specs.Data.{Data}
 use Rattle.manifest_schema.specs.Kinds.{Kind, Entries, map_of}
 use Rattle.manifest_schema.specs.Needs.{good_some}
 use Rattle.manifest_schema.specs.Forms.{form, none_named}
-use Rattle.manifest_schema.specs.Contents.{Lint, Lints, Package, WorkspacePackage, Manifest}
+use Rattle.manifest_schema.specs.Contents.{Lint, MaybeInheritedLintsSet, Package, WorkspacePackage, Manifest}
 use Rattle.manifest_schema.specs.PartForms.{lint, lints_rows}
 use Rattle.manifest_schema.specs.ManifestForms.{package_rows}
 use Rattle.manifest_schema.specs.Meaning.{well_formed}
@@ -33,13 +33,13 @@ is_true_of : (b : Bool) → (b ≡ false → ⊥) → IsTrue b
 is_true_of true h = refl
 is_true_of false h = absurd (h refl)
 
-lints_by_formed : (u : Option (Unit {0})) (lent : Option (Entries (Entries Lint))) (l : Lints) → good_some (map_of (map_of lint)) lent → (form lints_rows).good l → NoneHolds (refuses_lints_by u lent l) → (form lints_rows).good (resolved_lints_by u lent l)
+lints_by_formed : (u : Option (Unit {0})) (lent : Option (Entries (Entries Lint))) (l : MaybeInheritedLintsSet) → good_some (map_of (map_of lint)) lent → (form lints_rows).good l → NoneHolds (refuses_lints_by u lent l) → (form lints_rows).good (resolved_lints_by u lent l)
 unfolding lints_rows
 lints_by_formed None lent l k g h = g
 lints_by_formed (Some u) None l k g h = g
 lints_by_formed (Some u) (Some tools) l k g h = (tt, (is_true_of (none_named (codes "workspace" ∷ []) tools) (λ e. h tool_named_workspace (inr (e, refl))), k))
 
-lints_formed : (lent : Option (Entries (Entries Lint))) (o : Option Lints) → good_some (map_of (map_of lint)) lent → good_some (form lints_rows) o → NoneHolds (refuses_some (refuses_lints lent) o) → good_some (form lints_rows) (option_map (resolved_lints lent) o)
+lints_formed : (lent : Option (Entries (Entries Lint))) (o : Option MaybeInheritedLintsSet) → good_some (map_of (map_of lint)) lent → good_some (form lints_rows) o → NoneHolds (refuses_some (refuses_lints lent) o) → good_some (form lints_rows) (option_map (resolved_lints lent) o)
 lints_formed lent None k g h = tt
 lints_formed lent (Some l) k g h = lints_by_formed l.workspace lent l k g h
 

@@ -2,7 +2,7 @@
 use Rattle.std.proofs.Common.{◌≡◌, inl, inr, [], ◌∷◌, Bool, true, false, refl, ap, sym, Option, Some, None, option_map, codes, subst}
 use Rattle.manifest_schema.specs.Paths.{Text}
 use Rattle.manifest_schema.specs.Kinds.{Entries}
-use Rattle.manifest_schema.specs.Contents.{InheritedDependency, DependencyDetail, Dependency, simple, by_workspace, detailed, Lint, Lints, Platform, Workspace, Manifest}
+use Rattle.manifest_schema.specs.Contents.{InheritedDependencyDetail, DependencyDetail, Dependency, simple, by_workspace, detailed, Lint, MaybeInheritedLintsSet, Target, Workspace, Manifest}
 use Rattle.manifest_parts.specs.Queries.{says_more, simplify}
 use Rattle.manifest_inherit.specs.Fields.{lendable}
 use Rattle.manifest_inherit.specs.Resolved.{resolved_package, workspace_dependency, version_alone, lent_by, joined, with_lent, resolved_dependency, resolved_entries, resolved_dependencies, resolved_platform, resolved_platforms, resolved_lints_by, resolved_lints, lent_dependencies, resolved}
@@ -17,7 +17,7 @@ simple_own true v d e m = rw m tt
 simple_own false None d e m = rw (m, e) tt
 simple_own false (Some v) d e m = rw (m, e) tt
 
-lent_own : (name : Text) (own : InheritedDependency) (lent : Option Dependency) → NoneHolds (refuses_lender name lent) → IsOwnDependency (with_lent own (lent_by lent))
+lent_own : (name : Text) (own : InheritedDependencyDetail) (lent : Option Dependency) → NoneHolds (refuses_lender name lent) → IsOwnDependency (with_lent own (lent_by lent))
 lent_own name own None h = h (not_in_workspace name) refl
 lent_own name own (Some (by_workspace d)) h = h (inherited_in_workspace name) refl
 lent_own name own (Some (simple v)) h = simple_own _ _ (joined own (version_alone v)) refl refl
@@ -62,39 +62,39 @@ dependencies_accepted : (lent es : Entries Dependency) → AreOwnDependencies es
 dependencies_accepted lent = entries_accepted (refuses_dependency lent) IsOwnDependency (dependency_accepted lent)
 
 -- A PLATFORM
-platform_own : (lent : Entries Dependency) (p : Platform) → NoneHolds (refuses_platform lent p) → IsOwnPlatform (resolved_platform lent p)
+platform_own : (lent : Entries Dependency) (p : Target) → NoneHolds (refuses_platform lent p) → IsOwnPlatform (resolved_platform lent p)
 platform_own lent p h = (dependencies_own lent p.dependencies (λ r x. h r (inl x)), dependencies_own lent p.dev_dependencies (λ r x. h r (inr (inl x))), dependencies_own lent p.build_dependencies (λ r x. h r (inr (inr x))))
 
-platform_same : (lent : Entries Dependency) (p : Platform) → IsOwnPlatform p → resolved_platform lent p ≡ p
+platform_same : (lent : Entries Dependency) (p : Target) → IsOwnPlatform p → resolved_platform lent p ≡ p
 platform_same lent p h = rw (dependencies_same lent p.dependencies h.0, dependencies_same lent p.dev_dependencies h.1, dependencies_same lent p.build_dependencies h.2) refl
 
-platform_accepted : (lent : Entries Dependency) (p : Platform) → IsOwnPlatform p → NoneHolds (refuses_platform lent p)
+platform_accepted : (lent : Entries Dependency) (p : Target) → IsOwnPlatform p → NoneHolds (refuses_platform lent p)
 platform_accepted lent p h r (inl x) = dependencies_accepted lent p.dependencies h.0 r x
 platform_accepted lent p h r (inr (inl x)) = dependencies_accepted lent p.dev_dependencies h.1 r x
 platform_accepted lent p h r (inr (inr x)) = dependencies_accepted lent p.build_dependencies h.2 r x
 
-platforms_own : (lent : Entries Dependency) (es : Entries Platform) → NoneHolds (refuses_platforms lent es) → AreOwnPlatforms (resolved_platforms lent es)
+platforms_own : (lent : Entries Dependency) (es : Entries Target) → NoneHolds (refuses_platforms lent es) → AreOwnPlatforms (resolved_platforms lent es)
 platforms_own lent = entries_own (λ name. refuses_platform lent) IsOwnPlatform (λ name. resolved_platform lent) (λ name. platform_own lent)
 
-platforms_same : (lent : Entries Dependency) (es : Entries Platform) → AreOwnPlatforms es → resolved_platforms lent es ≡ es
+platforms_same : (lent : Entries Dependency) (es : Entries Target) → AreOwnPlatforms es → resolved_platforms lent es ≡ es
 platforms_same lent = entries_same IsOwnPlatform (λ name. resolved_platform lent) (λ name. platform_same lent)
 
-platforms_accepted : (lent : Entries Dependency) (es : Entries Platform) → AreOwnPlatforms es → NoneHolds (refuses_platforms lent es)
+platforms_accepted : (lent : Entries Dependency) (es : Entries Target) → AreOwnPlatforms es → NoneHolds (refuses_platforms lent es)
 platforms_accepted lent = entries_accepted (λ name. refuses_platform lent) IsOwnPlatform (λ name. platform_accepted lent)
 
 -- LINTS
-lints_by_own : (u : Option (Unit {0})) (lent : Option (Entries (Entries Lint))) (l : Lints) → l.workspace ≡ u → NoneHolds (refuses_lints_by u lent l) → AreOwnLints (resolved_lints_by u lent l)
+lints_by_own : (u : Option (Unit {0})) (lent : Option (Entries (Entries Lint))) (l : MaybeInheritedLintsSet) → l.workspace ≡ u → NoneHolds (refuses_lints_by u lent l) → AreOwnLints (resolved_lints_by u lent l)
 lints_by_own None lent l e h = e
 lints_by_own (Some u) (Some tools) l e h = refl
 lints_by_own (Some u) None l e h = absurd (h (not_in_workspace (codes "lints")) (inr refl))
 
-lints_own : (lent : Option (Entries (Entries Lint))) (l : Lints) → NoneHolds (refuses_lints lent l) → AreOwnLints (resolved_lints lent l)
+lints_own : (lent : Option (Entries (Entries Lint))) (l : MaybeInheritedLintsSet) → NoneHolds (refuses_lints lent l) → AreOwnLints (resolved_lints lent l)
 lints_own lent l h = lints_by_own l.workspace lent l refl h
 
-lints_same : (lent : Option (Entries (Entries Lint))) (l : Lints) → AreOwnLints l → resolved_lints lent l ≡ l
+lints_same : (lent : Option (Entries (Entries Lint))) (l : MaybeInheritedLintsSet) → AreOwnLints l → resolved_lints lent l ≡ l
 lints_same lent l e = ap (λ (u : Option (Unit {0})). resolved_lints_by u lent l) e
 
-lints_accepted : (lent : Option (Entries (Entries Lint))) (l : Lints) → AreOwnLints l → NoneHolds (refuses_lints lent l)
+lints_accepted : (lent : Option (Entries (Entries Lint))) (l : MaybeInheritedLintsSet) → AreOwnLints l → NoneHolds (refuses_lints lent l)
 lints_accepted lent l e = subst (λ (u : Option (Unit {0})). NoneHolds (refuses_lints_by u lent l)) (sym e) (λ r x. x)
 
 -- WHAT MAY BE ABSENT

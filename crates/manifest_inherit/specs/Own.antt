@@ -1,7 +1,7 @@
 -- What inherits nothing.
 use Rattle.std.specs.Prelude.{◌≡◌, [], ◌∷◌, Option, Some, None}
 use Rattle.manifest_schema.specs.Kinds.{Inheritable, inherited, Entries}
-use Rattle.manifest_schema.specs.Contents.{Dependency, by_workspace, Lints, Platform, Package, Manifest}
+use Rattle.manifest_schema.specs.Contents.{Dependency, by_workspace, MaybeInheritedLintsSet, Target, Package, Manifest}
 use Rattle.manifest_inherit.specs.Fields.{Fields, no_more, ◌⨾◌, lendable}
 
 -- a field is not inherited
@@ -28,17 +28,17 @@ abbrev pub AreOwnDependencies : Entries Dependency → Type 0
 AreOwnDependencies = AllValues IsOwnDependency
 
 -- no dependency of a platform is inherited
-abbrev pub IsOwnPlatform : Platform → Type 0
+abbrev pub IsOwnPlatform : Target → Type 0
 IsOwnPlatform p =
     AreOwnDependencies p.dependencies
     × AreOwnDependencies p.dev_dependencies
     × AreOwnDependencies p.build_dependencies
 
-abbrev pub AreOwnPlatforms : Entries Platform → Type 0
+abbrev pub AreOwnPlatforms : Entries Target → Type 0
 AreOwnPlatforms = AllValues IsOwnPlatform
 
 -- lints are not inherited
-abbrev pub AreOwnLints : Lints → Type 0
+abbrev pub AreOwnLints : MaybeInheritedLintsSet → Type 0
 AreOwnLints l = l.workspace ≡ None
 
 -- this holds of what is there

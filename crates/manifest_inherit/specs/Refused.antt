@@ -3,7 +3,7 @@ use Rattle.std.specs.Prelude.{◌≡◌, ◌⊎◌, false, [], ◌∷◌, codes,
 use Rattle.manifest_schema.specs.Paths.{Text}
 use Rattle.manifest_schema.specs.Kinds.{Inheritable, inherited, Entries}
 use Rattle.manifest_schema.specs.Forms.{none_named}
-use Rattle.manifest_schema.specs.Contents.{Dependency, by_workspace, Lint, Lints, Platform, Package, WorkspacePackage, Workspace, Manifest}
+use Rattle.manifest_schema.specs.Contents.{Dependency, by_workspace, Lint, MaybeInheritedLintsSet, Target, Package, WorkspacePackage, Workspace, Manifest}
 use Rattle.manifest_inherit.specs.Fields.{Fields, no_more, ◌⨾◌, lendable}
 use Rattle.manifest_inherit.specs.Resolved.{workspace_dependency, lent_dependencies}
 
@@ -53,13 +53,13 @@ abbrev pub refuses_dependencies : Entries Dependency → Entries Dependency → 
 refuses_dependencies lent = refuses_entries (refuses_dependency lent)
 
 -- A PLATFORM: one of its three maps
-abbrev pub refuses_platform : Entries Dependency → Platform → Refusals
+abbrev pub refuses_platform : Entries Dependency → Target → Refusals
 refuses_platform lent p r =
     refuses_dependencies lent p.dependencies r
     ⊎ refuses_dependencies lent p.dev_dependencies r
     ⊎ refuses_dependencies lent p.build_dependencies r
 
-abbrev pub refuses_platforms : Entries Dependency → Entries Platform → Refusals
+abbrev pub refuses_platforms : Entries Dependency → Entries Target → Refusals
 refuses_platforms lent = refuses_entries (λ name. refuses_platform lent)
 
 -- LINTS: they are inherited, and have a tool beside; or the workspace has none, or has a tool `workspace`
@@ -72,11 +72,11 @@ refuses_lent_lints None r = r ≡ not_in_workspace (codes "lints")
 refuses_lent_lints (Some tools) r =
     (none_named (codes "workspace" ∷ []) tools ≡ false) × (r ≡ tool_named_workspace)
 
-abbrev pub refuses_lints_by : Option (Unit {0}) → Option (Entries (Entries Lint)) → Lints → Refusals
+abbrev pub refuses_lints_by : Option (Unit {0}) → Option (Entries (Entries Lint)) → MaybeInheritedLintsSet → Refusals
 refuses_lints_by None lent own r = ⊥
 refuses_lints_by (Some u) lent own r = refuses_tools own.lints r ⊎ refuses_lent_lints lent r
 
-abbrev pub refuses_lints : Option (Entries (Entries Lint)) → Lints → Refusals
+abbrev pub refuses_lints : Option (Entries (Entries Lint)) → MaybeInheritedLintsSet → Refusals
 refuses_lints lent own = refuses_lints_by own.workspace lent own
 
 -- WHAT MAY BE ABSENT

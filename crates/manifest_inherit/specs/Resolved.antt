@@ -6,7 +6,7 @@ use Rattle.std.specs.Map.{lookup}
 use Rattle.std.specs.Str.{bytes_eq}
 use Rattle.manifest_schema.specs.Paths.{Text}
 use Rattle.manifest_schema.specs.Kinds.{Inheritable, inherited, local, Entries}
-use Rattle.manifest_schema.specs.Contents.{InheritedDependency, DependencyDetail, Dependency, simple, by_workspace, detailed, Lint, Lints, Platform, Package, WorkspacePackage, Workspace, Manifest}
+use Rattle.manifest_schema.specs.Contents.{InheritedDependencyDetail, DependencyDetail, Dependency, simple, by_workspace, detailed, Lint, MaybeInheritedLintsSet, Target, Package, WorkspacePackage, Workspace, Manifest}
 use Rattle.manifest_parts.specs.Queries.{simplify}
 use Rattle.manifest_inherit.specs.Fields.{Fields, no_more, ◌⨾◌, lendable}
 
@@ -65,14 +65,14 @@ joined_features None None = None
 joined_features lent own = Some (unwrap_or lent [] ++ new_features (unwrap_or lent []) (unwrap_or own []))
 
 -- the detail that is lent, with the features of both; `optional` is the member's, and the default features are where the member says so
-abbrev pub joined : InheritedDependency → DependencyDetail → DependencyDetail
+abbrev pub joined : InheritedDependencyDetail → DependencyDetail → DependencyDetail
 joined own lent = record lent {
   features = joined_features lent.features own.features;
   «optional» = own.«optional»;
   default_features = option_or own.default_features lent.default_features;
 }
 
-abbrev pub with_lent : InheritedDependency → Option DependencyDetail → Dependency
+abbrev pub with_lent : InheritedDependencyDetail → Option DependencyDetail → Dependency
 with_lent own None = by_workspace own
 with_lent own (Some d) = simplify (detailed (joined own d))
 
@@ -89,22 +89,22 @@ abbrev pub resolved_dependencies : Entries Dependency → Entries Dependency →
 resolved_dependencies lent = resolved_entries (resolved_dependency lent)
 
 -- A PLATFORM: its three maps of dependencies
-abbrev pub resolved_platform : Entries Dependency → Platform → Platform
+abbrev pub resolved_platform : Entries Dependency → Target → Target
 resolved_platform lent p = record {
   dependencies = resolved_dependencies lent p.dependencies;
   dev_dependencies = resolved_dependencies lent p.dev_dependencies;
   build_dependencies = resolved_dependencies lent p.build_dependencies;
 }
 
-abbrev pub resolved_platforms : Entries Dependency → Entries Platform → Entries Platform
+abbrev pub resolved_platforms : Entries Dependency → Entries Target → Entries Target
 resolved_platforms lent = resolved_entries (λ name. resolved_platform lent)
 
 -- LINTS: where they are inherited, they become the workspace's
-abbrev pub resolved_lints_by : Option (Unit {0}) → Option (Entries (Entries Lint)) → Lints → Lints
+abbrev pub resolved_lints_by : Option (Unit {0}) → Option (Entries (Entries Lint)) → MaybeInheritedLintsSet → MaybeInheritedLintsSet
 resolved_lints_by (Some u) (Some tools) own = record { workspace = None; lints = tools }
 resolved_lints_by inherits lent own = own
 
-abbrev pub resolved_lints : Option (Entries (Entries Lint)) → Lints → Lints
+abbrev pub resolved_lints : Option (Entries (Entries Lint)) → MaybeInheritedLintsSet → MaybeInheritedLintsSet
 resolved_lints lent own = resolved_lints_by own.workspace lent own
 
 -- the dependencies that a workspace lends

@@ -61,7 +61,7 @@ impl Heir for Dependency {
 }
 
 impl Heir for Target {
-    ghost Content = { Contents.Platform };
+    ghost Content = { Contents.Target };
 
     ghost content = { platform_content };
 

@@ -23,13 +23,13 @@ resolver_content Resolver.V1 = Contents.v1
 resolver_content Resolver.V2 = Contents.v2
 resolver_content Resolver.V3 = Contents.v3
 
-abbrev pub level_content : LintLevel → Contents.Level
+abbrev pub level_content : LintLevel → Contents.LintLevel
 level_content LintLevel.Forbid = Contents.forbid
 level_content LintLevel.Deny = Contents.deny
 level_content LintLevel.Warn = Contents.warn
 level_content LintLevel.Allow = Contents.allow
 
-abbrev pub status_content : MaintenanceStatus → Contents.Status
+abbrev pub status_content : MaintenanceStatus → Contents.MaintenanceStatus
 status_content MaintenanceStatus.None = Contents.no_status
 status_content MaintenanceStatus.ActivelyDeveloped = Contents.actively_developed
 status_content MaintenanceStatus.PassivelyMaintained = Contents.passively_maintained
@@ -38,13 +38,13 @@ status_content MaintenanceStatus.Experimental = Contents.experimental
 status_content MaintenanceStatus.LookingForMaintainer = Contents.looking_for_maintainer
 status_content MaintenanceStatus.Deprecated = Contents.deprecated
 
-abbrev pub strip_content : StripSetting → Contents.Strip
+abbrev pub strip_content : StripSetting → Contents.StripSetting
 strip_content StripSetting.None = Contents.strip_none
 strip_content StripSetting.Debuginfo = Contents.strip_debuginfo
 strip_content StripSetting.Symbols = Contents.strip_symbols
 
 -- A TEXT OR A BOOLEAN, and where a package may be published
-abbrev pub text_or_flag_content : StringOrBool → Contents.TextOrFlag
+abbrev pub text_or_flag_content : StringOrBool → Contents.StringOrBool
 text_or_flag_content (StringOrBool.String s) = Contents.a_text (string_bytes s)
 text_or_flag_content (StringOrBool.Bool b) = Contents.a_flag b
 

@@ -103,7 +103,7 @@ version_of p = unwrap_or p.version (local (codes "0.0.0"))
 
 -- LINTS
 -- the level
-abbrev pub level_of : Contents.Lint → Contents.Level
+abbrev pub level_of : Contents.Lint → Contents.LintLevel
 level_of (lint_level l) = l
 level_of (lint_config c) = c.level
 
@@ -113,7 +113,7 @@ priority_of (lint_level l) = pos 0
 priority_of (lint_config c) = c.priority
 
 -- the workspace lends the lints
-abbrev pub is_inherited : Contents.Lints → Bool
+abbrev pub is_inherited : Contents.MaybeInheritedLintsSet → Bool
 is_inherited l = is_some l.workspace
 
 -- WHERE A PACKAGE MAY BE PUBLISHED
@@ -128,11 +128,11 @@ abbrev pub eq_bool : Contents.Publish → Bool → Bool
 eq_bool p b = beq (may_be_published p) b
 
 -- STRIP: how much is stripped, from nothing to all symbols
-abbrev pub strip_rank : Contents.Strip → ℕ
+abbrev pub strip_rank : Contents.StripSetting → ℕ
 strip_rank strip_none = 0
 strip_rank strip_debuginfo = 1
 strip_rank strip_symbols = 2
 
 -- by how much is stripped
-abbrev pub strip_cmp : Contents.Strip → Contents.Strip → Ordering
+abbrev pub strip_cmp : Contents.StripSetting → Contents.StripSetting → Ordering
 strip_cmp a b = nat_cmp (strip_rank a) (strip_rank b)

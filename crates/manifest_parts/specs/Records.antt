@@ -18,7 +18,7 @@ use Rattle.manifest_parts.specs.declared.profile.Profile.{Profile}
 use Rattle.manifest_parts.specs.declared.target.Target.{Target}
 
 -- DEPENDENCIES
-abbrev pub inherited_content : InheritedDependencyDetail → Contents.InheritedDependency
+abbrev pub inherited_content : InheritedDependencyDetail → Contents.InheritedDependencyDetail
 inherited_content d = record {
   features = option_map (λ v. map string_bytes v.items) d.features;
   «optional» = option_map (λ b. b) d.«optional»;
@@ -97,7 +97,7 @@ abbrev pub lint_content : Lint → Contents.Lint
 lint_content (Lint.Level l) = Contents.lint_level (level_content l)
 lint_content (Lint.Config c) = Contents.lint_config (lint_config_content c)
 
-abbrev pub lints_content : MaybeInheritedLintsSet → Contents.Lints
+abbrev pub lints_content : MaybeInheritedLintsSet → Contents.MaybeInheritedLintsSet
 lints_content l = record {
   workspace = option_map (λ t. tt) l.workspace;
   lints = entries_content (λ m. entries_content lint_content m.entries) l.lints.entries;
@@ -123,7 +123,7 @@ profile_content p = record {
 }
 
 -- PLATFORMS
-abbrev pub platform_content : Target → Contents.Platform
+abbrev pub platform_content : Target → Contents.Target
 platform_content t = record {
   dependencies = entries_content dependency_content t.dependencies.entries;
   dev_dependencies = entries_content dependency_content t.dev_dependencies.entries;

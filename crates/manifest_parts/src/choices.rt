@@ -189,7 +189,7 @@ impl LintLevel {
 
 /// It is read of one of its texts. A value that is no text is refused with `WrongKind`, another text with `NotAChoice`.
 impl Schema for LintLevel {
-    ghost Content = { Contents.Level };
+    ghost Content = { Contents.LintLevel };
 
     ghost content = { level_content };
 
@@ -275,7 +275,7 @@ fn status_of(text: &str) -> Option<MaintenanceStatus>
 
 /// It is read of one of its texts. A value that is no text is refused with `WrongKind`, another text with `NotAChoice`.
 impl Schema for MaintenanceStatus {
-    ghost Content = { Contents.Status };
+    ghost Content = { Contents.MaintenanceStatus };
 
     ghost content = { status_content };
 

@@ -61,7 +61,7 @@ impl Copied for Resolver {
 }
 
 impl Copied for LintLevel {
-    ghost Held = { Contents.Level };
+    ghost Held = { Contents.LintLevel };
 
     ghost held = { level_content };
 
@@ -69,7 +69,7 @@ impl Copied for LintLevel {
 }
 
 impl Copied for MaintenanceStatus {
-    ghost Held = { Contents.Status };
+    ghost Held = { Contents.MaintenanceStatus };
 
     ghost held = { status_content };
 
@@ -77,7 +77,7 @@ impl Copied for MaintenanceStatus {
 }
 
 impl Copied for StripSetting {
-    ghost Held = { Contents.Strip };
+    ghost Held = { Contents.StripSetting };
 
     ghost held = { strip_content };
 
@@ -117,7 +117,7 @@ impl Copied for Lint {
 }
 
 impl Copied for StringOrBool {
-    ghost Held = { Contents.TextOrFlag };
+    ghost Held = { Contents.StringOrBool };
 
     ghost held = { text_or_flag_content };
 
@@ -133,7 +133,7 @@ impl Copied for Publish {
 }
 
 impl Copied for InheritedDependencyDetail {
-    ghost Held = { Contents.InheritedDependency };
+    ghost Held = { Contents.InheritedDependencyDetail };
 
     ghost held = { inherited_content };
 
@@ -157,7 +157,7 @@ impl Copied for Badge {
 }
 
 impl Copied for MaybeInheritedLintsSet {
-    ghost Held = { Contents.Lints };
+    ghost Held = { Contents.MaybeInheritedLintsSet };
 
     ghost held = { lints_content };
 

@@ -10,7 +10,7 @@ use crate::target::Target;
 use manifest_value::Copied;
 
 impl Copied for Target {
-    ghost Held = { Contents.Platform };
+    ghost Held = { Contents.Target };
 
     ghost held = { platform_content };
 

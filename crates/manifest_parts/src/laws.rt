@@ -30,5 +30,5 @@ pub fn edition_text_is_read()
 
 /// The text of a level is read as this level.
 pub fn level_text_is_read()
-    ensures { (l : Contents.Level) → level.reads (string (level_text l)) l }
+    ensures { (l : Contents.LintLevel) → level.reads (string (level_text l)) l }
 {}

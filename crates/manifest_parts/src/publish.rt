@@ -21,7 +21,7 @@ pub enum StringOrBool {
 
 /// It is read of a text or a boolean. Any other value is refused with `WrongKind`.
 impl Schema for StringOrBool {
-    ghost Content = { Contents.TextOrFlag };
+    ghost Content = { Contents.StringOrBool };
 
     ghost content = { text_or_flag_content };
 

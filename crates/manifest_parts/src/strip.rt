@@ -68,7 +68,7 @@ fn setting_of(alloc: Global, text: &str) -> Result<StripSetting, Error>
 
 /// It is read of a boolean or of one of its texts. Another text is refused with `NotAChoice`, another kind with `WrongKind`.
 impl Schema for StripSetting {
-    ghost Content = { Contents.Strip };
+    ghost Content = { Contents.StripSetting };
 
     ghost content = { strip_content };
 

@@ -6,7 +6,7 @@ use Rattle.manifest_schema.specs.Kinds.{Kind, Entries, written_entries, map_of}
 use Rattle.manifest_schema.specs.Needs.{written_some}
 use Rattle.manifest_schema.specs.Forms.{form}
 use Rattle.manifest_schema.specs.Lawful.{IsLawful}
-use Rattle.manifest_schema.specs.Contents.{InheritedDependency, Dependency, simple, by_workspace, detailed}
+use Rattle.manifest_schema.specs.Contents.{InheritedDependencyDetail, Dependency, simple, by_workspace, detailed}
 use Rattle.manifest_schema.specs.PartForms.{inherited_rows, dependency, platform_rows}
 use Rattle.manifest_schema.specs.ManifestForms.{workspace_rows, manifest_rows}
 use Rattle.manifest_schema.specs.Meaning.{reads_manifest, written_manifest}
@@ -30,7 +30,7 @@ module _ {A : Type 0} {P : A → Type 0} {K L : Kind A} (k : WritesAs P K L) whe
   map_same = record { same = λ es p. ap table (entries_same es p) }
 
 -- DEPENDENCIES
-inherited_same : (i : InheritedDependency) → i.default_features ≡ None → (form inherited_rows).written i ≡ (form former_inherited_rows).written i
+inherited_same : (i : InheritedDependencyDetail) → i.default_features ≡ None → (form inherited_rows).written i ≡ (form former_inherited_rows).written i
 unfolding inherited_rows put_some
 inherited_same i h = rw h refl
 

@@ -6,7 +6,7 @@ use Rattle.manifest_schema.specs.Slots.{put_some}
 use Rattle.manifest_schema.specs.Kinds.{list_of, map_of, is_truth}
 use Rattle.manifest_schema.specs.Forms.{form, gets, good_rows, written_rows}
 use Rattle.manifest_schema.specs.Lawful.{IsLawful, IsBuilt, IsTotal}
-use Rattle.manifest_schema.specs.Contents.{InheritedDependency, DependencyDetail, Dependency, simple, by_workspace, detailed, Level, forbid, deny, warn, allow, LintConfig, Lint, lint_level, lint_config, no_status}
+use Rattle.manifest_schema.specs.Contents.{InheritedDependencyDetail, DependencyDetail, Dependency, simple, by_workspace, detailed, LintLevel, forbid, deny, warn, allow, LintConfig, Lint, lint_level, lint_config, no_status}
 use Rattle.manifest_schema.specs.PartForms.{texts, inherited_rows, detailed_rows, dependency_table, dependency_side, dependency, lint_rows, lint_side, lint, product_rows, badge_rows, maintenance_rows, badges_rows, profile_rows, profiles_rows, lints_rows, platform_rows}
 use Rattle.manifest_schema.proofs.KindLaws.{text_lawful, list_lawful, map_lawful, split_lawful}
 use Rattle.manifest_schema.proofs.TableLaws.{get-put_same}
@@ -47,7 +47,7 @@ unfolding detailed_rows
 detailed_total = form_total detailed_rows detailed_built (search row_totals)
 
 -- DEPENDENCY
-dependency_from : Text ⊎ (InheritedDependency ⊎ DependencyDetail) → Dependency
+dependency_from : Text ⊎ (InheritedDependencyDetail ⊎ DependencyDetail) → Dependency
 dependency_from (inl s) = simple s
 dependency_from (inr (inl i)) = by_workspace i
 dependency_from (inr (inr d)) = detailed d
@@ -58,14 +58,14 @@ dependency-from_side (simple s) = refl
 dependency-from_side (by_workspace i) = refl
 dependency-from_side (detailed d) = refl
 
-dependency-side_from : (y : Text ⊎ (InheritedDependency ⊎ DependencyDetail)) → dependency_side (dependency_from y) ≡ y
+dependency-side_from : (y : Text ⊎ (InheritedDependencyDetail ⊎ DependencyDetail)) → dependency_side (dependency_from y) ≡ y
 unfolding dependency_from
 dependency-side_from (inl s) = refl
 dependency-side_from (inr (inl i)) = refl
 dependency-side_from (inr (inr d)) = refl
 
 -- an inherited dependency is written with `workspace = true`, a detailed one without
-workspace_written : (x : InheritedDependency) → get_member (codes "workspace") (written_rows inherited_rows (gets inherited_rows x)) ≡ Some (boolean true)
+workspace_written : (x : InheritedDependencyDetail) → get_member (codes "workspace") (written_rows inherited_rows (gets inherited_rows x)) ≡ Some (boolean true)
 unfolding inherited_rows put_some
 workspace_written x = search get-put_same
 
@@ -112,7 +112,7 @@ pub lint_config_total : IsTotal (form lint_rows)
 unfolding lint_rows
 lint_config_total = form_total lint_rows lint_built (search row_totals)
 
-lint_from : Level ⊎ LintConfig → Lint
+lint_from : LintLevel ⊎ LintConfig → Lint
 lint_from (inl l) = lint_level l
 lint_from (inr c) = lint_config c
 
@@ -121,7 +121,7 @@ unfolding lint_from
 lint-from_side (lint_level l) = refl
 lint-from_side (lint_config c) = refl
 
-lint-side_from : (y : Level ⊎ LintConfig) → lint_side (lint_from y) ≡ y
+lint-side_from : (y : LintLevel ⊎ LintConfig) → lint_side (lint_from y) ≡ y
 unfolding lint_from
 lint-side_from (inl l) = refl
 lint-side_from (inr c) = refl

@@ -6,7 +6,7 @@ use Rattle.manifest_schema.specs.Kinds
 use Rattle.manifest_schema.specs.Kinds.{text, flag, list_of, map_of, kept}
 use Rattle.manifest_schema.specs.Needs.{never, if_true, if_false, is_empty}
 use Rattle.manifest_schema.specs.Lawful.{IsLawful, IsTotal, IsDefault, IsPlain}
-use Rattle.manifest_schema.specs.Contents.{TextOrFlag, a_text, a_flag, Publish, publish_flag, registries}
+use Rattle.manifest_schema.specs.Contents.{StringOrBool, a_text, a_flag, Publish, publish_flag, registries}
 use Rattle.manifest_schema.specs.PartForms.{texts, text_or_flag, text_or_flag_side, publish, publish_side, codegen, priority}
 use Rattle.manifest_schema.proofs.KeptLaws.{kept_lawful}
 use Rattle.manifest_schema.proofs.KindLaws.{text_lawful, flag_lawful, whole_lawful, truth_lawful, list_lawful, map_lawful, inh_lawful, split_lawful, plain_from}
@@ -32,11 +32,11 @@ pub texts_plain : IsPlain texts
 texts_plain = plain_from texts_lawful (λ ms x a. a) texts_good
 
 -- A TEXT OR A BOOLEAN
-text_or_flag_from : Bool ⊎ Text → TextOrFlag
+text_or_flag_from : Bool ⊎ Text → StringOrBool
 text_or_flag_from (inl b) = a_flag b
 text_or_flag_from (inr s) = a_text s
 
-text_or_flag-from_side : (x : TextOrFlag) → text_or_flag_from (text_or_flag_side x) ≡ x
+text_or_flag-from_side : (x : StringOrBool) → text_or_flag_from (text_or_flag_side x) ≡ x
 unfolding text_or_flag_from
 text_or_flag-from_side (a_flag b) = refl
 text_or_flag-from_side (a_text s) = refl

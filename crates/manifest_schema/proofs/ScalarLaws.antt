@@ -11,7 +11,7 @@ use Rattle.manifest_schema.specs.Slots.{first, put, put_some}
 use Rattle.manifest_schema.specs.Kinds.{Kind, written_items, list_of, Entries, written_entries, map_of, plain, plain_items, plain_members, Inheritable, inherited, local, inh, written_split, split}
 use Rattle.manifest_schema.specs.Needs.{Need, written_unless, required, optional, default, lenient_optional, lenient_default}
 use Rattle.manifest_schema.specs.Forms.{Rows, no_more, others, ◌⨾◌, Fields, gets, written_rows, form}
-use Rattle.manifest_schema.specs.Contents.{Strip, strip_none, strip_debuginfo, strip_symbols, Package, Workspace, Manifest}
+use Rattle.manifest_schema.specs.Contents.{StripSetting, strip_none, strip_debuginfo, strip_symbols, Package, Workspace, Manifest}
 use Rattle.manifest_schema.specs.Choices.{strip_value}
 use Rattle.manifest_schema.specs.PartForms.{inherited_rows, detailed_rows, dependency, lint_rows, product_rows, badge_rows, maintenance_rows, badges_rows, profiles_rows, lints_rows, platform_rows}
 use Rattle.manifest_schema.specs.ManifestForms.{package_rows, workspace_package_rows, workspace_rows, manifest_rows}
@@ -172,7 +172,7 @@ module _ {A B : Type 0} {test : Data → Bool} {K : Kind A} {L : Kind B} where
   split_passes which side a b = record { all = λ x. record { passes = side_passes a b (side x) } }
 
 -- a setting of `strip` is written as a text or a boolean
-pub strip_passes : (test : Data → Bool) (x : Strip) → every test (strip_value x) ≡ true
+pub strip_passes : (test : Data → Bool) (x : StripSetting) → every test (strip_value x) ≡ true
 strip_passes test strip_none = refl
 strip_passes test strip_debuginfo = refl
 strip_passes test strip_symbols = refl

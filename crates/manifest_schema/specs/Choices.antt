@@ -3,7 +3,7 @@ use Rattle.std.specs.Prelude.{true, false, List, [], ◌∷◌, Option, Some, No
 use Rattle.toml.specs.Data.{Data, string, boolean}
 use Rattle.manifest_schema.specs.Paths.{Text}
 use Rattle.manifest_schema.specs.Kinds.{Kind, choice}
-use Rattle.manifest_schema.specs.Contents.{Edition, e2015, e2018, e2021, e2024, Resolver, v1, v2, v3, Level, forbid, deny, warn, allow, Status, no_status, actively_developed, passively_maintained, as_is, experimental, looking_for_maintainer, deprecated, Strip, strip_none, strip_debuginfo, strip_symbols}
+use Rattle.manifest_schema.specs.Contents.{Edition, e2015, e2018, e2021, e2024, Resolver, v1, v2, v3, LintLevel, forbid, deny, warn, allow, MaintenanceStatus, no_status, actively_developed, passively_maintained, as_is, experimental, looking_for_maintainer, deprecated, StripSetting, strip_none, strip_debuginfo, strip_symbols}
 
 -- the meaning of a word in a list of words
 abbrev pub meaning_of : {A : Type 0} → List (Text × A) → Text → Option A
@@ -41,20 +41,20 @@ abbrev pub resolver : Kind Resolver
 resolver = choice (word_meaning resolver_words) (λ e. string (resolver_text e))
 
 -- LEVELS of lints
-abbrev pub level_text : Level → Text
+abbrev pub level_text : LintLevel → Text
 level_text forbid = codes "forbid"
 level_text deny = codes "deny"
 level_text warn = codes "warn"
 level_text allow = codes "allow"
 
-abbrev pub level_words : List (Text × Level)
+abbrev pub level_words : List (Text × LintLevel)
 level_words = (codes "forbid", forbid) ∷ (codes "deny", deny) ∷ (codes "warn", warn) ∷ (codes "allow", allow) ∷ []
 
-abbrev pub level : Kind Level
+abbrev pub level : Kind LintLevel
 level = choice (word_meaning level_words) (λ e. string (level_text e))
 
 -- STATUS of maintenance
-abbrev pub status_text : Status → Text
+abbrev pub status_text : MaintenanceStatus → Text
 status_text no_status = codes "none"
 status_text actively_developed = codes "actively-developed"
 status_text passively_maintained = codes "passively-maintained"
@@ -63,28 +63,28 @@ status_text experimental = codes "experimental"
 status_text looking_for_maintainer = codes "looking-for-maintainer"
 status_text deprecated = codes "deprecated"
 
-abbrev pub status_words : List (Text × Status)
+abbrev pub status_words : List (Text × MaintenanceStatus)
 status_words =
     (codes "none", no_status) ∷ (codes "actively-developed", actively_developed) ∷ (codes "passively-maintained", passively_maintained) ∷ (codes "as-is", as_is)
     ∷ (codes "experimental", experimental) ∷ (codes "looking-for-maintainer", looking_for_maintainer) ∷ (codes "deprecated", deprecated) ∷ []
 
-abbrev pub status : Kind Status
+abbrev pub status : Kind MaintenanceStatus
 status = choice (word_meaning status_words) (λ e. string (status_text e))
 
 -- STRIP, of texts and booleans
-abbrev pub strip_words : List (Text × Strip)
+abbrev pub strip_words : List (Text × StripSetting)
 strip_words = (codes "none", strip_none) ∷ (codes "symbols", strip_symbols) ∷ (codes "debuginfo", strip_debuginfo) ∷ []
 
 -- false is `none`, true is `symbols`
-abbrev pub strip_meaning : Data → Option Strip
+abbrev pub strip_meaning : Data → Option StripSetting
 strip_meaning (boolean false) = Some strip_none
 strip_meaning (boolean true) = Some strip_symbols
 strip_meaning d = word_meaning strip_words d
 
-abbrev pub strip_value : Strip → Data
+abbrev pub strip_value : StripSetting → Data
 strip_value strip_none = boolean false
 strip_value strip_debuginfo = string (codes "debuginfo")
 strip_value strip_symbols = boolean true
 
-abbrev pub strip : Kind Strip
+abbrev pub strip : Kind StripSetting
 strip = choice strip_meaning strip_value

@@ -11,26 +11,26 @@ pub data Edition : Type 0 where
 pub data Resolver : Type 0 where
   v1 v2 v3 : Resolver
 
-pub data Level : Type 0 where
-  forbid deny warn allow : Level
+pub data LintLevel : Type 0 where
+  forbid deny warn allow : LintLevel
 
-pub data Status : Type 0 where
-  no_status actively_developed passively_maintained as_is experimental looking_for_maintainer deprecated : Status
+pub data MaintenanceStatus : Type 0 where
+  no_status actively_developed passively_maintained as_is experimental looking_for_maintainer deprecated : MaintenanceStatus
 
-pub data Strip : Type 0 where
-  strip_none strip_debuginfo strip_symbols : Strip
+pub data StripSetting : Type 0 where
+  strip_none strip_debuginfo strip_symbols : StripSetting
 
 -- A TEXT OR A BOOLEAN, and where a package may be published
-pub data TextOrFlag : Type 0 where
-  a_text : Text → TextOrFlag
-  a_flag : Bool → TextOrFlag
+pub data StringOrBool : Type 0 where
+  a_text : Text → StringOrBool
+  a_flag : Bool → StringOrBool
 
 pub data Publish : Type 0 where
   publish_flag : Bool → Publish
   registries : List Text → Publish
 
 -- DEPENDENCIES: in a member that the workspace lends them, in detail, or as a version alone
-pub record InheritedDependency : Type 0 where
+pub record InheritedDependencyDetail : Type 0 where
   pub features : Option (List Text)
   pub «optional» : Option Bool
   pub default_features : Option Bool
@@ -51,16 +51,16 @@ pub record DependencyDetail : Type 0 where
 
 pub data Dependency : Type 0 where
   simple : Text → Dependency
-  by_workspace : InheritedDependency → Dependency
+  by_workspace : InheritedDependencyDetail → Dependency
   detailed : DependencyDetail → Dependency
 
 -- LINTS: a level, or a level with a priority
 pub record LintConfig : Type 0 where
-  pub level : Level
+  pub level : LintLevel
   pub priority : ℤ
 
 pub data Lint : Type 0 where
-  lint_level : Level → Lint
+  lint_level : LintLevel → Lint
   lint_config : LintConfig → Lint
 
 -- PACKAGE; metadata is held by the tree that is written of it
@@ -68,14 +68,14 @@ pub record Package : Type 0 where
   pub name : Text
   pub edition : Option (Inheritable Edition)
   pub version : Option (Inheritable Text)
-  pub build : Option TextOrFlag
+  pub build : Option StringOrBool
   pub workspace : Option Text
   pub authors : Option (Inheritable (List Text))
   pub links : Option Text
   pub description : Option (Inheritable Text)
   pub homepage : Option (Inheritable Text)
   pub documentation : Option (Inheritable Text)
-  pub readme : Option (Inheritable TextOrFlag)
+  pub readme : Option (Inheritable StringOrBool)
   pub keywords : Option (Inheritable (List Text))
   pub categories : Option (Inheritable (List Text))
   pub license : Option (Inheritable Text)
@@ -118,7 +118,7 @@ pub record Badge : Type 0 where
   pub project_name : Option Text
 
 pub record Maintenance : Type 0 where
-  pub status : Status
+  pub status : MaintenanceStatus
 
 pub record Badges : Type 0 where
   pub appveyor : Option Badge
@@ -143,7 +143,7 @@ pub record Profile : Type 0 where
   pub panic : Option Text
   pub incremental : Option Bool
   pub overflow_checks : Option Bool
-  pub strip : Option Strip
+  pub strip : Option StripSetting
   pub «package» : Entries Data
   pub split_debuginfo : Option Text
   pub build_override : Option Data
@@ -157,12 +157,12 @@ pub record Profiles : Type 0 where
   pub custom : Entries Profile
 
 -- LINTS OF A MANIFEST: of each tool, by lint
-pub record Lints : Type 0 where
+pub record MaybeInheritedLintsSet : Type 0 where
   pub workspace : Option (Unit {0})
   pub lints : Entries (Entries Lint)
 
 -- PLATFORM: what is added under `target`
-pub record Platform : Type 0 where
+pub record Target : Type 0 where
   pub dependencies : Entries Dependency
   pub dev_dependencies : Entries Dependency
   pub build_dependencies : Entries Dependency
@@ -175,7 +175,7 @@ pub record WorkspacePackage : Type 0 where
   pub description : Option Text
   pub homepage : Option Text
   pub documentation : Option Text
-  pub readme : Option TextOrFlag
+  pub readme : Option StringOrBool
   pub keywords : Option (List Text)
   pub categories : Option (List Text)
   pub license : Option Text
@@ -204,7 +204,7 @@ pub record Manifest : Type 0 where
   pub dependencies : Option (Entries Dependency)
   pub dev_dependencies : Option (Entries Dependency)
   pub build_dependencies : Option (Entries Dependency)
-  pub target : Option (Entries Platform)
+  pub target : Option (Entries Target)
   pub features : Option (Entries (List Text))
   pub bin : List Product
   pub bench : List Product
@@ -214,4 +214,4 @@ pub record Manifest : Type 0 where
   pub lib : Option Product
   pub profile : Option Profiles
   pub badges : Option Badges
-  pub lints : Option Lints
+  pub lints : Option MaybeInheritedLintsSet

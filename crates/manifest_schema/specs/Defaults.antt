@@ -1,10 +1,10 @@
 -- The records with nothing in them that the worked examples are made of.
 use Rattle.std.specs.Prelude.{[], None}
 use Rattle.manifest_schema.specs.Paths.{Text}
-use Rattle.manifest_schema.specs.Contents.{InheritedDependency, DependencyDetail, no_status, Badges, Package, Workspace, Manifest}
+use Rattle.manifest_schema.specs.Contents.{InheritedDependencyDetail, DependencyDetail, no_status, Badges, Package, Workspace, Manifest}
 
 -- a dependency that the workspace lends, and nothing else
-abbrev pub lent : InheritedDependency
+abbrev pub lent : InheritedDependencyDetail
 lent = record { features = None; «optional» = None; default_features = None }
 
 -- a dependency without any detail

@@ -6,7 +6,7 @@ use Rattle.manifest_schema.specs.Slots.{only, also_underscored}
 use Rattle.manifest_schema.specs.Kinds.{Entries, text, flag}
 use Rattle.manifest_schema.specs.Needs.{optional, default, if_true, lenient_optional}
 use Rattle.manifest_schema.specs.Forms.{Rows, row, no_more, others, ◌⨾◌}
-use Rattle.manifest_schema.specs.Contents.{InheritedDependency, DependencyDetail, Dependency, by_workspace, Package, Manifest}
+use Rattle.manifest_schema.specs.Contents.{InheritedDependencyDetail, DependencyDetail, Dependency, by_workspace, Package, Manifest}
 use Rattle.manifest_schema.specs.Defaults.{lent, no_detail, empty_workspace, empty_manifest}
 
 -- a table of one entry, and of two in the order of their keys
@@ -41,7 +41,7 @@ abbrev pub only_package : Package → Manifest
 only_package p = record empty_manifest { «package» = Some p }
 
 -- a dependency that the workspace lends, without its default features
-abbrev pub bare : InheritedDependency
+abbrev pub bare : InheritedDependencyDetail
 bare = record lent { default_features = Some false }
 
 -- a table of that dependency, with this spelling
@@ -49,7 +49,7 @@ abbrev pub bare_by : Text → Data
 bare_by k = table (two_entries k (boolean false) (codes "workspace") (boolean true))
 
 -- a manifest with this inherited dependency at each place of it, and nothing else
-abbrev pub everywhere : InheritedDependency → Manifest
+abbrev pub everywhere : InheritedDependencyDetail → Manifest
 everywhere i =
     let each : Entries Dependency = (codes "a", by_workspace i) ∷ [] in
     record empty_manifest {

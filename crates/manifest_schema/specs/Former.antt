@@ -6,7 +6,7 @@ use Rattle.manifest_schema.specs.Slots.{only, also_underscored, first}
 use Rattle.manifest_schema.specs.Kinds.{Kind, Entries, text, map_of, split, is_text, inherits}
 use Rattle.manifest_schema.specs.Needs.{optional, default, never}
 use Rattle.manifest_schema.specs.Forms.{Row, Rows, row, no_more, ◌⨾◌, form}
-use Rattle.manifest_schema.specs.Contents.{InheritedDependency, Dependency, by_workspace, Platform, Workspace, Manifest}
+use Rattle.manifest_schema.specs.Contents.{InheritedDependencyDetail, Dependency, by_workspace, Target, Workspace, Manifest}
 use Rattle.manifest_schema.specs.PartForms.{inherited_rows, detailed_rows, dependency_side, platform_rows}
 use Rattle.manifest_schema.specs.ManifestForms.{workspace_rows, manifest_rows}
 use Rattle.manifest_schema.specs.Meaning.{reads_manifest, well_formed, written_manifest}
@@ -32,14 +32,14 @@ amended (s ⨾ ss) rows = put_instead s (amended ss rows)
 amended _ rows = rows
 
 -- THE FORMER FORMS: that of an inherited dependency had one row less
-abbrev pub former_inherited_rows : Rows InheritedDependency
+abbrev pub former_inherited_rows : Rows InheritedDependencyDetail
 former_inherited_rows = leave_out (codes "default-features") inherited_rows
 
 abbrev pub former_dependency : Kind Dependency
 former_dependency = split is_text text (split inherits (form former_inherited_rows) (form detailed_rows) (λ x. x)) dependency_side
 
 -- and each form with dependencies in it had these
-abbrev pub former_platform_rows : Rows Platform
+abbrev pub former_platform_rows : Rows Target
 former_platform_rows = amended (
     row (λ p. p.dependencies) (only (codes "dependencies")) (default (map_of former_dependency) [] never)
     ⨾ row (λ p. p.dev_dependencies) (also_underscored (codes "dev-dependencies")) (default (map_of former_dependency) [] never)
@@ -80,7 +80,7 @@ abbrev pub OfSome : {A : Type 0} → (A → Type 0) → Option A → Type 0
 OfSome P None = Unit {0}
 OfSome P (Some x) = P x
 
-abbrev pub PlatformLeavesDefaults : Platform → Type 0
+abbrev pub PlatformLeavesDefaults : Target → Type 0
 PlatformLeavesDefaults p =
     OfEach LeavesDefaults p.dependencies
     × OfEach LeavesDefaults p.dev_dependencies

@@ -6,7 +6,7 @@ use Rattle.manifest_schema.specs.Slots.{only, also_underscored}
 use Rattle.manifest_schema.specs.Kinds.{Kind, text, flag, whole, truth, list_of, map_of, kept, split, is_text, is_flag, inherits}
 use Rattle.manifest_schema.specs.Needs.{required, optional, default, never, if_true, if_false, lenient_optional, lenient_default}
 use Rattle.manifest_schema.specs.Forms.{Rows, row, no_more, others, ◌⨾◌, form}
-use Rattle.manifest_schema.specs.Contents.{TextOrFlag, a_text, a_flag, Publish, publish_flag, registries, InheritedDependency, DependencyDetail, Dependency, simple, by_workspace, detailed, Level, LintConfig, Lint, lint_level, lint_config, Product, Badge, Maintenance, no_status, Badges, Profile, Profiles, Lints, Platform}
+use Rattle.manifest_schema.specs.Contents.{StringOrBool, a_text, a_flag, Publish, publish_flag, registries, InheritedDependencyDetail, DependencyDetail, Dependency, simple, by_workspace, detailed, LintLevel, LintConfig, Lint, lint_level, lint_config, Product, Badge, Maintenance, no_status, Badges, Profile, Profiles, MaybeInheritedLintsSet, Target}
 use Rattle.manifest_schema.specs.Choices.{edition, level, status, strip}
 
 -- SMALL KINDS
@@ -14,11 +14,11 @@ abbrev pub texts : Kind (List Text)
 texts = list_of text
 
 -- a text or a boolean
-abbrev pub text_or_flag_side : TextOrFlag → Bool ⊎ Text
+abbrev pub text_or_flag_side : StringOrBool → Bool ⊎ Text
 text_or_flag_side (a_flag b) = inl b
 text_or_flag_side (a_text s) = inr s
 
-abbrev pub text_or_flag : Kind TextOrFlag
+abbrev pub text_or_flag : Kind StringOrBool
 text_or_flag = split is_flag flag text text_or_flag_side
 
 -- a boolean, or the list of the registries
@@ -38,7 +38,7 @@ abbrev pub priority : Kind ℤ
 priority = whole (negsuc 127) (pos 127)
 
 -- DEPENDENCIES: a text, a table whose `workspace` is the boolean true, or any other table
-unfoldable pub inherited_rows : Rows InheritedDependency
+unfoldable pub inherited_rows : Rows InheritedDependencyDetail
 inherited_rows =
     row (λ d. tt) (only (codes "workspace")) (required truth)
     ⨾ row (λ d. d.features) (only (codes "features")) (optional texts)
@@ -62,12 +62,12 @@ detailed_rows =
     ⨾ row (λ d. d.package) (only (codes "package")) (optional text)
     ⨾ no_more
 
-abbrev pub dependency_side : Dependency → Text ⊎ (InheritedDependency ⊎ DependencyDetail)
+abbrev pub dependency_side : Dependency → Text ⊎ (InheritedDependencyDetail ⊎ DependencyDetail)
 dependency_side (simple s) = inl s
 dependency_side (by_workspace i) = inr (inl i)
 dependency_side (detailed d) = inr (inr d)
 
-abbrev pub dependency_table : Kind (InheritedDependency ⊎ DependencyDetail)
+abbrev pub dependency_table : Kind (InheritedDependencyDetail ⊎ DependencyDetail)
 dependency_table = split inherits (form inherited_rows) (form detailed_rows) (λ x. x)
 
 abbrev pub dependency : Kind Dependency
@@ -80,7 +80,7 @@ lint_rows =
     ⨾ row (λ l. l.priority) (only (codes "priority")) (default priority (pos 0) never)
     ⨾ no_more
 
-abbrev pub lint_side : Lint → Level ⊎ LintConfig
+abbrev pub lint_side : Lint → LintLevel ⊎ LintConfig
 lint_side (lint_level l) = inl l
 lint_side (lint_config c) = inr c
 
@@ -160,11 +160,11 @@ profiles_rows =
     ⨾ others (λ p. p.custom) (form profile_rows)
 
 -- LINTS OF A MANIFEST: each other key is a tool
-unfoldable pub lints_rows : Rows Lints
+unfoldable pub lints_rows : Rows MaybeInheritedLintsSet
 lints_rows = row (λ l. l.workspace) (only (codes "workspace")) (optional truth) ⨾ others (λ l. l.lints) (map_of lint)
 
 -- PLATFORM
-unfoldable pub platform_rows : Rows Platform
+unfoldable pub platform_rows : Rows Target
 platform_rows =
     row (λ p. p.dependencies) (only (codes "dependencies")) (default (map_of dependency) [] never)
     ⨾ row (λ p. p.dev_dependencies) (also_underscored (codes "dev-dependencies")) (default (map_of dependency) [] never)
