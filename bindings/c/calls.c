@@ -260,7 +260,7 @@ static const struct call DEPTHS[] = {
     {DOCUMENT, .bytes = "k = \"\\\"" TIMES_510(".") "\"", .text = KEY "\x01\xff\x03\"" TIMES_510(".")},
 };
 
-/* Of two steps that refuse, the one that goes before the other is told. */
+/* Of two steps that refuse, the one that goes before the other is reported. */
 static const struct call ORDERS[] = {
     {COMPLETED, .bytes = CUT, FOLDERS(HERE, HERE), .status = MANIFEST_LISTINGS, .text = ""},
     {RESOLVED_COMPLETED, .bytes = OWN, .root = CUT, FOLDERS(HERE, HERE), .status = MANIFEST_LISTINGS, .text = ""},

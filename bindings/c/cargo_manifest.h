@@ -18,15 +18,15 @@
        if (answer.status == MANIFEST_ACCEPTED && answer.length <= sizeof out)
            fwrite(out, 1, answer.length, stdout);
 
-   - Each slice that is handed in is a pointer and a length. It may be empty: the length is 0, and the pointer may be null.
+   - Each slice that is passed in is a pointer and a length. It may be empty: the length is 0, and the pointer may be null.
    - `most` is how many bytes the text or the table may take at most: SIZE_MAX for any number. A text that could take more is
      not made, and the status is MANIFEST_TOO_LONG. Some kilobytes can mean a text of many megabytes, as where a long key
      stands above many tables. The text of a refusal is put whatever `most` is.
    - `out` is memory for the text. It need not be set before: it is only written, which is tested. It overlaps nothing else
-     that is handed in. Without any (null and 0) the call tells how long the text is. As want of memory can end one call and
+     that is passed in. Without any (null and 0) the call tells how long the text is. As lack of memory can end one call and
      not the next, `length` is looked at after each call.
-   - Another thread may read what is handed in meanwhile, and may not write to it, nor read or write `out`.
-   - The answer depends on what is handed in, and on nothing else but whether there is memory.
+   - Another thread may read what is passed in meanwhile, and may not write to it, nor read or write `out`.
+   - The answer depends on what is passed in, and on nothing else but whether there is memory.
    - The library keeps nothing from one call to the next, keeps no pointer that it is given, frees nothing that it is given,
      and gives nothing that has to be freed.
 
@@ -35,7 +35,7 @@
    a call that is broken off, by longjmp or by cancelling its thread, leaves its memory behind, and of later calls of that
    thread nothing is said.
 
-   STACK. 256 KiB of stack are enough for each call, whatever is handed in, which is tested: what nests deeper than
+   STACK. 256 KiB of stack are enough for each call, whatever is passed in, which is tested: what nests deeper than
    MANIFEST_DEPTH_LIMIT is refused, and a text that could nest more than 384 deep is not even parsed.
 
    MEMORY is asked for by three functions over malloc, realloc and free, which a program may replace: see the end. */
@@ -50,18 +50,18 @@ extern "C" {
 #endif
 
 /* The status of an answer: whether the text is what was asked for, or else why it is not. The steps of a call go in this
-   order, as far as it has them, and the first that refuses is told:
+   order, as far as it has them, and the first that refuses is reported:
 
        the folders                8
        the bytes                  4, 15, 1, 15, 2, or 14 and 15, then 2
        the root                   20, 31, 17, 31, 18, or 30 and 31, then 18   (it is read also where the manifest inherits nothing)
        its workspace              9
-       what the workspace lends   10, 11, 12, 13
+       what is inherited from the workspace   10, 11, 12, 13
        the completion             3, 5
        the printing               32, 7
 
    A text is refused as too deep before it is read (by its brackets and dots) or behind that (by its table). Of tagged
-   bytes 14 or 15 is told, by which is met first.
+   bytes 14 or 15 is reported, by which is met first.
    MANIFEST_MEMORY may stand in the place of any of them. There are no other numbers than these. */
 enum manifest_status {
     /* the text is what was asked for */
@@ -81,7 +81,7 @@ enum manifest_status {
     MANIFEST_OTHER = 5,
     /* no memory was left */
     MANIFEST_MEMORY = 6,
-    /* the manifest keeps a date-time that cannot be written, as the text says: one of a table that was handed in. (No text is
+    /* the manifest keeps a date-time that cannot be written, as the text says: one of a table that was passed in. (No text is
        read as one, which is proved.) */
     MANIFEST_DATE = 7,
     /* the folders are no listings: a path or a name is not UTF-8, the names of a folder do not ascend, or two folders have
@@ -174,9 +174,9 @@ enum manifest_fault {
    bytes. Where there is a fault the names count nothing, and have to be such names all the same.
 
    A completion asks for `src`, `src/bin`, `examples`, `tests` and `benches`, for each entry of the last four, as if it were
-   a folder, and for `.` where the manifest's `build` is absent or true. A folder that is not handed in is not found, which
-   refuses a completion where it is `.`, and nowhere else: so hand in `.` always. What is not asked for makes no difference,
-   so all folders may be handed in. */
+   a folder, and for `.` where the manifest's `build` is absent or true. A folder that is not passed in is not found, which
+   refuses a completion where it is `.`, and nowhere else: so pass in `.` always. What is not asked for makes no difference,
+   so all folders may be passed in. */
 struct manifest_folder {
     struct manifest_bytes path;
     struct manifest_names names;

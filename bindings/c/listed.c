@@ -57,7 +57,7 @@ static int order(struct manifest_bytes left, struct manifest_bytes right)
     return first ? first : (left.length > right.length) - (left.length < right.length);
 }
 
-/* The same of entries: by their folders, and then by their names. */
+/* The same for entries: by their folders, and then by their names. */
 static int order_of_entries(const void *left, const void *right)
 {
     const struct entry *one = left, *other = right;

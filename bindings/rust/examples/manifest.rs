@@ -43,7 +43,7 @@ fn line(error: &Refusal) -> String {
     format!("error: {said}")
 }
 
-/// The bytes of a file; what cannot be read is told by `error: io`.
+/// The bytes of a file; what cannot be read is reported by `error: io`.
 fn file(path: &str) -> Result<Vec<u8>, String> {
     fs::read(path).map_err(|_| "error: io".into())
 }
@@ -67,7 +67,7 @@ fn text(words: &[&str]) -> Result<String, (String, u8)> {
     printed(words).map_err(|line| (line, 1))
 }
 
-/// The same of words that ask for something.
+/// The same for words that ask for something.
 fn printed(words: &[&str]) -> Result<String, String> {
     let answer = match words {
         [] | ["canon", "-"] => {

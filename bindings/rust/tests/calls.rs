@@ -96,7 +96,7 @@ fn nested(depth: usize) -> Result<String, Refusal> {
 #[test]
 fn nesting_on_a_small_stack() {
     assert!(nested(20).unwrap().contains(&format!("a = {}{}", "[".repeat(20), "]".repeat(20))));
-    // more than 80 brackets in one another are not read, and of many more that is told before they are
+    // more than 80 brackets in one another are not read, and of many more that is reported before they are
     assert!(matches!(nested(100), Err(Refusal::Toml { .. })));
     for depth in [1_000, 1_000_000] {
         assert_eq!(nested(depth), Err(Refusal::TooDeep(Part::Manifest)), "{depth}");
@@ -294,7 +294,7 @@ fn a_bound_on_what_is_answered() {
         let most = text.as_ref().unwrap().len() - 1;
         assert_eq!(each(most, MEMBER, ROOT)[which], Err(Refusal::TooLong));
     }
-    // what refuses before is told whatever the bound is
+    // what refuses before is reported whatever the bound is
     for (bytes, root) in [(&b""[..], ROOT), (b"\xff", ROOT), (b"[package", ROOT), (MEMBER, b"[workspace]\nmembers = 1")]
     {
         assert_eq!(each(0, bytes, root)[3], each(usize::MAX, bytes, root)[3]);

@@ -22,7 +22,7 @@ fn under_each_header() {
     assert_eq!(metadata(&half_at("workspace.metadata")), (None, half()));
     let both = format!("[package]\nname = 'p'\nmetadata = 0.25\n{}", half_at("workspace.metadata"));
     assert_eq!(metadata(&both), (Some(Value::Float(0.25)), half()));
-    // beside `workspace` an old header is none
+    // next to `workspace` an old header is none
     let workspace = format!("name = 'p'\n{}{}", half_at("metadata"), half_at("workspace.metadata"));
     assert_eq!(metadata(&workspace), (None, half()));
 }

@@ -151,7 +151,7 @@ fn change(manifest: &mut Manifest, numbers: &mut Numbers) {
     }
 }
 
-/// The same of a field with tables in it.
+/// The same for a field with tables in it.
 fn change_deep(manifest: &mut Manifest, which: usize, numbers: &mut Numbers) {
     match which {
         10 => manifest.workspace = Some(numbers.workspace()),

@@ -74,7 +74,7 @@ abbrev pub IsOver : ℕ → Members → Type 0
 IsOver most t =
     (most < printed_bound t) ⊎ ((text : List ℕ) × IsDocumentText false t text × (most < length text))
 
--- the text is that of the table, and takes at most so many bytes
+-- the text is that of the table, and takes at most a given number of bytes
 pub record IsTextWithin (most : ℕ) (t : Members) (text : List ℕ) : Type 0 where
   pub document : IsDocumentText false t text
   pub reads_back : members_depth t ≤ 80 → parse_document text ≡ Some t

@@ -34,7 +34,7 @@ abbrev pub CompletedIn : Option Text → Manifest → Manifest → Type 0
 CompletedIn (Some folder) old new = ComesTo AnyAscending old (completed_to new)
 CompletedIn None old new = ⊥
 
--- the refusal to complete the manifest: that of such a map, or want of memory; without a folder it is Io of the kind Other
+-- the refusal to complete the manifest: that of such a map, or out of memory; without a folder it is Io of the kind Other
 abbrev pub RefusesIn : Option Text → Manifest → Error → Type 0
 RefusesIn (Some folder) m e = RefusesToComplete AnyAscending m e
 RefusesIn None m e = IsOtherIo e

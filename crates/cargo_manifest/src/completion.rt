@@ -43,7 +43,7 @@ fn declared_targets<'a, P: Metadata>(
     }
 }
 
-/// Puts the completed targets in the place of the declared ones. Nothing is grown.
+/// Puts the completed targets in the place of the declared ones. Nothing is allocated.
 fn put_targets<P: Metadata>(manifest: &mut Manifest<P, Value>, completed: CompletedTargets)
     ensures { let old = manifest_kept P.kind P.content manifest.old in
         (p : Contents.Package) → old.«package» ≡ Some p
@@ -143,8 +143,8 @@ impl<P: Metadata> Manifest<P, Value> {
     ///
     /// It asks for `src`; `src/bin` and each of its entries; `examples`, `tests`, `benches`, each with its entries; and `.`,
     /// where `build` is absent or true. Refuses with [`Error::Io`] where `src` has another fault than that it is not there,
-    /// where a listing of a target folder or of an entry finds no memory, and where `.` has a fault; with [`Error::Other`]
-    /// where a declared library has no file; and with [`Error::Memory`] where memory is wanting. After a refusal the manifest
+    /// where a listing of a target folder or of an entry runs out of memory, and where `.` has a fault; with [`Error::Other`]
+    /// where a declared library has no file; and with [`Error::Memory`] when out of memory. After a refusal the manifest
     /// is what it was.
     ///
     /// ```ignore

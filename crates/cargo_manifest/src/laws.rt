@@ -87,7 +87,7 @@ pub fn old_written_is_read<P: Metadata, W: Metadata>()
 
 /// Over a filesystem that has one answer stored for each path text, as [`Listings`](crate::Listings) has, the answer of
 /// [`Manifest::complete_from_abstract_filesystem`](crate::Manifest::complete_from_abstract_filesystem) is the completion of
-/// the map of what is stored; a listing for which no memory was found, or other want of memory, aside.
+/// the map of what is stored; a listing for which memory ran out, or other lack of memory, aside.
 #[tactic(auto, using(crate::proofs::StoredLaws::stored_decides))]
 pub fn stored_decides()
     ensures { StoredDecides }

@@ -1,7 +1,7 @@
 -- Whole numbers as bytes.
 use Rattle.std.specs.Prelude.{ℕ, zero, suc, ◌+◌, ◌-◌, ◌*◌, ◌/◌, ◌%◌, nat_lt, if◌then◌else◌, List, [], ◌∷◌, Option, Some, None}
 
--- at most so many bytes and one more
+-- at most a given number of bytes and one more
 unfoldable pub groups : ℕ → ℕ → List ℕ
 groups zero n = n ∷ []
 groups (suc more) n = if nat_lt n 128 then n ∷ [] else (n % 128 + 128) ∷ groups more (n / 128)

@@ -28,7 +28,7 @@ abbrev pub IsRequestOf : List (String Global) → Option Request → Type 0
 IsRequestOf words (Some r) = AskFor (asked_by r) words
 IsRequestOf words None = AreWrong words
 
--- the same of two words
+-- the same for two words
 abbrev pub IsPairOf : List ℕ → List ℕ → Option Request → Type 0
 IsPairOf verb file (Some CanonInput) = (verb ≡ codes "canon") × (file ≡ codes "-")
 IsPairOf verb file (Some (CanonFile f)) = (verb ≡ codes "canon") × IsFile file

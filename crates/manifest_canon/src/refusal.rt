@@ -57,7 +57,7 @@ fn line_of(alloc: Global, refusal: &FinishError) -> Result<String, AllocError> {
     }
 }
 
-/// Tells a refusal by one line, or want of memory where the line finds none. A fault of `errors` is let go.
+/// Tells a refusal by one line, or out of memory where the line finds none. A fault of `errors` is ignored.
 pub fn tell<E: Write>(alloc: Global, errors: &mut E, refusal: &FinishError) {
     let _ = match line_of(alloc, refusal) {
         Ok(line) => errors.write_all(line.as_bytes()),

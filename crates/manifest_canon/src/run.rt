@@ -94,7 +94,7 @@ fn serve<H: Files + AllocGlobal + Clone + Drop, R: Read, W: Write>(
 /// ROOT.
 ///
 /// `canon` prints the canonical text of the manifest; `complete` first completes the manifest over the folder that FILE
-/// stands in; with a ROOT, what the workspace of ROOT lends is put in before.
+/// stands in; with a ROOT, what is inherited from the workspace of ROOT is put in before.
 ///
 /// The lines are `error: toml`, `error: schema: CAUSE at PATH`, `error: io`, `error: utf8`, `error: memory` and
 /// `error: other: TEXT`; and with a ROOT `error: no workspace`, `error: not in workspace: KEY`, `error: inherited in

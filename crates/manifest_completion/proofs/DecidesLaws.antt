@@ -29,7 +29,7 @@ neither : (x y : Bool) → (x || y) ≡ false → (x ≡ false) × (y ≡ false)
 neither true y e = cc
 neither false y e = (refl, e)
 
--- a place for which no memory was found is among those up to the first
+-- a place for which memory ran out is among those up to the first
 memory_seen : (f : Place → Answer) (ps : List Place) → has_memory_fault f (up_to_memory_fault f ps) ≡ has_memory_fault f ps
 memory_seen f [] = refl
 memory_seen f (p ∷ ps) = one (is_memory_fault (f p)) (memory_seen f ps)
@@ -44,7 +44,7 @@ pub with_library : (t : PackageTargets) (l : ListingMap) (lib : Option Product) 
 with_library t l lib none got = rw (none, got) refl
 
 module _ (l k : ListingMap) where
-  -- the maps agree at these places, up to the first for which no memory was found
+  -- the maps agree at these places, up to the first for which memory ran out
   abbrev AgreeUpTo : List Place → Type 0
   AgreeUpTo ps = AgreeAt l k (up_to_memory_fault (at l) ps)
 
@@ -101,7 +101,7 @@ module _ (l k : ListingMap) where
         (λ e. front_agrees ps xs (goes_on (λ q. at l q ≡ at k q) (is_memory_fault (at l p)) (up_to_memory_fault (at l) (ps ++ xs)) h.1 e)),
   )
 
-  -- where no memory was wanting at the first places, all of them were asked, and those after them
+  -- where no memory ran out at the first places, all of them were asked, and those after them
   all_asked : (ps xs : List Place) → has_memory_fault (at l) ps ≡ false → AgreeUpTo (ps ++ xs) → AgreeAt l k ps × AgreeUpTo xs
   all_asked [] xs e h = (tt, h)
   all_asked (p ∷ ps) xs e h =

@@ -58,7 +58,7 @@ any_map p f (x ∷ xs) = ap (λ b. p (f x) || b) (any_map p f xs)
 pub entry_answers : (l : ListingMap) (d : TargetFolder) (a : FolderAnswers) → folder_of l d ≡ folder_listing a → IsDistinct bytes_eq (names_of (answer_of a.own)) → map (λ n. at l (entry d n)) (names_of (answer_of a.own)) ≡ padded (names_of (answer_of a.own)) (answers_of a.entries)
 entry_answers l d a e h = rw e (lookups (names_of (answer_of a.own)) (answers_of a.entries) h)
 
--- whether the folder or an entry found no memory
+-- whether the folder or an entry ran out of memory
 pub folder_fault : (l : ListingMap) (d : TargetFolder) (a : FolderAnswers) → folder_of l d ≡ folder_listing a → HeardInTurn d a → has_memory_fault (at l) (folder_places l d) ≡ ran_out_of_memory a
 folder_fault l d a e h =
     let ns = names_of (answer_of a.own) in
@@ -94,7 +94,7 @@ module _ (allows : Text → Answer → Type 0) (l : ListingMap) where
   stop_if true us h = tt
   stop_if false us h = h refl
 
-  -- the answers for the entries are allowed, up to the first that found no memory
+  -- the answers for the entries are allowed, up to the first that ran out of memory
   entries_held : (d : TargetFolder) (ns : List Text) (heard : List Answer) → map (λ n. at l (entry d n)) ns ≡ padded ns heard → EntriesHeard allows (folder_text d) ns heard → AllByRecursion Holds (up_to_memory_fault (at l) (map (entry d) ns))
   entries_held d [] heard e h = tt
   entries_held d (n ∷ ns) [] e h = absurd h
@@ -107,7 +107,7 @@ module _ (allows : Text → Answer → Type 0) (l : ListingMap) where
             (λ q. entries_held d ns heard there (match_false (is_memory_fault a) (heard ≡ []) (EntriesHeard allows (folder_text d) ns heard) h.1 q)),
       )
 
-  -- the same of the folder before them
+  -- the same for the folder before them
   pub folder_held : (d : TargetFolder) (a : FolderAnswers) → folder_of l d ≡ folder_listing a → FolderHeard allows (folder_text d) a → AllByRecursion Holds (up_to_memory_fault (at l) (folder_places l d))
   folder_held d a e h =
       let own : (folder_of l d).own ≡ answer_of a.own = ap (λ (f : FolderListing). f.own) e in

@@ -31,7 +31,7 @@ second : (x y : Bool) → x ≡ false → (x || y) ≡ true → y ≡ true
 second true y e f = cc
 second false y e f = f
 
--- no memory was found for the folder of the manifest, which was asked
+-- memory ran out for the folder of the manifest, which was asked
 root_lost : (b : Option StringOrBool) (l : ListingMap) → has_memory_fault (at l) (root_places (asks_root b)) ≡ true → root_fault b l.root ≡ Some OutOfMemory
 root_lost b l h = asked_root b h
   where
@@ -89,7 +89,7 @@ module _ (stored : Text → Answer) where
     abbrev IsAllowed : Place → Type 0
     IsAllowed p = AnswersAsStored stored (path_text p) (at l p)
 
-    -- the answers of these places, up to the first for which no memory was found, are those that are stored; or there is one
+    -- the answers of these places, up to the first for which memory ran out, are those that are stored; or there is one
     abbrev Settles : List Place → Type 0
     Settles ps = AgreeAt l (stored_map stored) (up_to_memory_fault (at l) ps) ⊎ (has_memory_fault (at l) ps ≡ true)
 
@@ -169,7 +169,7 @@ module _ (stored : Text → Answer) where
         one None g = inl refl
         one (Some p) g = ⊎_elim (λ same. inl (ap (completion_with p m) same)) (λ lost. inr (ap (completion_with p m) lost)) (targets_settled (targets_of p m) g)
 
--- what came of a map that explains the answers, or a listing found no memory
+-- what came of a map that explains the answers, or a listing ran out of memory
 pub by_stored : {A : Type 0} (c d e : Completion A) → (c ≡ d) ⊎ (c ≡ refused OutOfMemory) → c ≡ e → (d ≡ e) ⊎ (e ≡ refused OutOfMemory)
 by_stored c d e h f = ⊎_elim (λ same. inl (sym same ∙ f)) (λ lost. inr (sym f ∙ lost)) h
 

@@ -13,23 +13,23 @@ use Rattle.manifest_completion.specs.Answered.{answer_of, answers_of}
 abbrev pub Heard : (Text → Answer → Type 0) → Text → Answer → Type 0
 Heard allows path a = IsAscending (names_of a) × allows path a
 
--- the answers for the names in a folder, in order, up to the first that found no memory
+-- the answers for the names in a folder, in order, up to the first that ran out of memory
 abbrev pub EntriesHeard : (Text → Answer → Type 0) → Text → List Text → List Answer → Type 0
 EntriesHeard allows d [] [] = Unit {0}
 EntriesHeard allows d [] (a ∷ heard) = ⊥
 EntriesHeard allows d (n ∷ ns) [] = ⊥
 EntriesHeard allows d (n ∷ ns) (a ∷ heard) = Heard allows (joined d n) a × MatchBool (is_memory_fault a) (heard ≡ []) (EntriesHeard allows d ns heard)
 
--- what was heard at a folder and at its entries
+-- what was answered at a folder and at its entries
 pub record FolderHeard (allows : Text → Answer → Type 0) (d : Text) (a : FolderAnswers) : Type 0 where
   pub own : Heard allows d (answer_of a.own)
   pub entries : EntriesHeard allows d (names_of (answer_of a.own)) (answers_of a.entries)
 
--- the names in the folder ascend, and its entries were answered in turn, up to the first that found no memory
+-- the names in the folder ascend, and its entries were answered in turn, up to the first that ran out of memory
 abbrev pub HeardInTurn : TargetFolder → FolderAnswers → Type 0
 HeardInTurn d a = FolderHeard (λ path answer. Unit {0}) (folder_text d) a
 
--- the map of what was heard
+-- the map of what was answered
 abbrev pub folder_listing : FolderAnswers → FolderListing
 folder_listing a = record { own = answer_of a.own; entries = zip (names_of (answer_of a.own)) (answers_of a.entries) }
 
@@ -47,7 +47,7 @@ listing_map a = record {
 abbrev pub all_places : Bool → ListingMap → List Place
 all_places asks l = source ∷ up_to_memory_fault (at l) (target_places l ++ root_places asks)
 
--- what was heard at `src`, at all folders of targets, their entries, and at the folder of the manifest where it was asked
+-- what was answered at `src`, at all folders of targets, their entries, and at the folder of the manifest where it was asked
 pub record AllHeard (allows : Text → Answer → Type 0) (asks : Bool) (a : Answers) : Type 0 where
   pub bins : HeardInTurn bins a.bins
   pub examples : HeardInTurn examples a.examples
@@ -55,10 +55,10 @@ pub record AllHeard (allows : Text → Answer → Type 0) (asks : Bool) (a : Ans
   pub benches : HeardInTurn benches a.benches
   pub explained : Explains allows (listing_map a) (all_places asks (listing_map a))
 
--- the folder's answer or one of its entries' found no memory
+-- the folder's answer or one of its entries' ran out of memory
 abbrev pub ran_out_of_memory : FolderAnswers → Bool
 ran_out_of_memory a = is_memory_fault (answer_of a.own) || list_any (λ x. is_memory_fault (answer_of x)) a.entries.items
 
--- some answer found no memory
+-- some answer ran out of memory
 abbrev pub some_ran_out_of_memory : Answers → Bool
 some_ran_out_of_memory a = ran_out_of_memory a.bins || (ran_out_of_memory a.examples || (ran_out_of_memory a.tests || ran_out_of_memory a.benches))

@@ -44,7 +44,7 @@ abbrev pub own_edition : Option (Inheritable Edition) → Option Edition
 own_edition (Some (local e)) = Some e
 own_edition _ = None
 
--- FLAGS: whether the finds are added to a list of targets: as the package says, or else unless it is discovered in the old way and the list has a target
+-- FLAGS: whether the finds are added to a list of targets: as the package says, or else unless it is discovered by the legacy rule and the list has a target
 abbrev pub discovers : {A : Type 0} → Option Bool → Bool → List A → Bool
 discovers own legacy ps = unwrap_or own (not (legacy && not (is_empty ps)))
 
@@ -56,7 +56,7 @@ underscored bs = map (λ b. if nat_eq b 45 then 95 else b) bs
 abbrev pub library_type : List Text
 library_type = codes "lib" ∷ []
 
--- the file of a library without a path: `src/lib.rs`, or in the old way the file of its name
+-- the file of a library without a path: `src/lib.rs`, or by the legacy rule the file of its name
 abbrev pub library_file : Bool → Answer → Text → Option Text
 library_file legacy src file =
     if lists src (codes "lib.rs") then Some (codes "src/lib.rs")
@@ -131,7 +131,7 @@ filled t lib l = record t {
   bench = targets (test_defaults t) (discovers t.autobenches (is_legacy t.edition) t.bench) (finds l benches) t.bench;
 }
 
--- WHAT COMPLETION COMES TO: what it makes, or a refusal for a listing's fault of this kind, or for want of a library's file
+-- WHAT COMPLETION COMES TO: what it makes, or a refusal for a listing's fault of this kind, or for lack of a library's file
 pub data Completion (A : Type 0) : Type 0 where
   completed_to : A → Completion A
   refused : ErrorKind → Completion A
@@ -144,7 +144,7 @@ folder_places l d = folder d ∷ map (entry d) (names_of (at l (folder d)))
 abbrev pub target_places : ListingMap → List Place
 target_places l = folder_places l bins ++ (folder_places l examples ++ (folder_places l tests ++ folder_places l benches))
 
--- the filesystem found no memory at one of these places
+-- the filesystem ran out of memory at one of these places
 abbrev pub has_memory_fault : (Place → Answer) → List Place → Bool
 has_memory_fault f ps = list_any (λ p. is_memory_fault (f p)) ps
 
@@ -162,7 +162,7 @@ root_fault_if asks (fault k) = if asks then Some k else None
 abbrev pub root_fault : Option StringOrBool → Answer → Option ErrorKind
 root_fault b a = root_fault_if (asks_root b) a
 
--- the first that applies of: a fault of `src`, a library without a file, a target folder or an entry of one for which no memory was found, a fault of the manifest's folder; else the targets filled in
+-- the first that applies of: a fault of `src`, a library without a file, a target folder or an entry of one for which memory ran out, a fault of the manifest's folder; else the targets filled in
 abbrev pub after_root : PackageTargets → Option Product → ListingMap → Option ErrorKind → Completion PackageTargets
 after_root t lib l (Some k) = refused k
 after_root t lib l None = completed_to (filled t lib l)
@@ -240,7 +240,7 @@ abbrev pub autobenches : Manifest → Bool
 autobenches m = flag_by m.«package» (λ p. p.autobenches) m.bench
 
 -- WHAT IS ASKED
--- the places up to the first for which no memory was found
+-- the places up to the first for which memory ran out
 abbrev pub up_to_memory_fault : (Place → Answer) → List Place → List Place
 up_to_memory_fault f [] = []
 up_to_memory_fault f (p ∷ ps) = p ∷ (if is_memory_fault (f p) then [] else up_to_memory_fault f ps)

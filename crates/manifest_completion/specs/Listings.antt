@@ -23,7 +23,7 @@ names_of (fault k) = []
 abbrev pub lists : Answer → Text → Bool
 lists a n = list_any (bytes_eq n) (names_of a)
 
--- the filesystem found no memory for the answer
+-- the filesystem ran out of memory for the answer
 abbrev pub is_memory_kind : ErrorKind → Bool
 is_memory_kind OutOfMemory = true
 is_memory_kind _ = false

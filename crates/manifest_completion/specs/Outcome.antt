@@ -76,13 +76,13 @@ abbrev pub IsFault : Option ErrorKind → Error → Type 0
 IsFault k (Io e) = k ≡ Some (error_kind e)
 IsFault k _ = ⊥
 
--- the error of a library without a file, or want of memory
+-- the error of a library without a file, or out of memory
 abbrev pub RefusesLibrary : Library → Error → Type 0
 RefusesLibrary lib (Other t) = (lib ≡ no_file) × (string_bytes t ≡ library_text)
 RefusesLibrary lib (Memory e) = Unit {0}
 RefusesLibrary lib _ = ⊥
 
--- WHAT COMPLETING ANSWERS: there is one map of listings, by answers that the filesystem allows, of which it is the completion; or memory was wanting
+-- WHAT COMPLETING ANSWERS: there is one map of listings, by answers that the filesystem allows, of which it is the completion; or memory ran out
 abbrev pub TargetsComeTo : (Text → Answer → Type 0) → PackageTargets → Completion PackageTargets → Type 0
 TargetsComeTo allows t c = ByOneMap allows (asked_targets t) (completed_targets t) c
 
@@ -97,7 +97,7 @@ TargetsCompleted allows t (Ok c) = TargetsComeTo allows t (completed_to (complet
 TargetsCompleted allows t (Err e) = TargetsRefused allows t e
 
 -- WHAT IT ANSWERS where one answer is stored for each path text
--- the refusal that this completion is; or memory was wanting, for a listing or for what is made
+-- the refusal that this completion is; or memory ran out, for a listing or for what is made
 abbrev pub IsRefusalOf : {A : Type 0} → Completion A → Error → Type 0
 IsRefusalOf c (Io e) = (c ≡ refused (error_kind e)) ⊎ (error_kind e ≡ OutOfMemory)
 IsRefusalOf c (Other s) = (c ≡ no_library) × (string_bytes s ≡ library_text)
@@ -120,20 +120,20 @@ paired_finds d (n ∷ ns) (a ∷ heard) = entry_finds d n a ++ paired_finds d ns
 abbrev pub folder_paired : Text → FolderAnswers → List Find
 folder_paired d a = paired_finds d (names_of (answer_of a.own)) (answers_of a.entries)
 
--- the four lists are completed, by what was heard
+-- the four lists are completed, by what was answered
 pub record ListsCompleted (t : PackageTargets) (a : Answers) (lists : CompletedLists) : Type 0 where
   pub bin : map product_content lists.bin.items ≡ targets (bin_defaults t (answer_of a.source)) (discovers t.autobins (is_legacy t.edition) t.bin) (folder_paired (folder_text bins) a.bins ++ main_find t.name (answer_of a.source)) t.bin
   pub example : map product_content lists.example.items ≡ targets (example_defaults t) (discovers t.autoexamples (is_legacy t.edition) t.example) (folder_paired (folder_text examples) a.examples) t.example
   pub test : map product_content lists.test.items ≡ targets (test_defaults t) (discovers t.autotests (is_legacy t.edition) t.test) (folder_paired (folder_text tests) a.tests) t.test
   pub bench : map product_content lists.bench.items ≡ targets (test_defaults t) (discovers t.autobenches (is_legacy t.edition) t.bench) (folder_paired (folder_text benches) a.benches) t.bench
 
--- the targets are completed with this library, by what was heard
+-- the targets are completed with this library, by what was answered
 pub record TargetsMade (t : PackageTargets) (lib : Option Product) (a : Answers) (c : CompletedTargets) : Type 0 where
   pub build : option_map text_or_flag_content c.build ≡ build_of t.build (answer_of a.root)
   pub library : option_map product_content c.lib ≡ lib
   pub lists : ListsCompleted t a (record { bin = c.bin; example = c.example; test = c.test; bench = c.bench })
 
--- the fault that refuses after all was heard: that no memory was found for a folder of targets or an entry, or that of the folder of the manifest
+-- the fault that refuses after all was heard: that memory ran out for a folder of targets or an entry, or that of the folder of the manifest
 abbrev pub heard_fault : PackageTargets → Answers → Option ErrorKind
 heard_fault t a = if some_ran_out_of_memory a then Some OutOfMemory else root_fault t.build (answer_of a.root)
 
@@ -142,7 +142,7 @@ RefusesHeard t a (Io e) = heard_fault t a ≡ Some (error_kind e)
 RefusesHeard t a (Memory e) = Unit {0}
 RefusesHeard t a _ = ⊥
 
--- what is answered, by what was heard
+-- what is answered, by what was answered
 abbrev pub CompletesHeard : PackageTargets → Option Product → Answers → Result CompletedTargets Error → Type 0
 CompletesHeard t lib a (Ok c) = (heard_fault t a ≡ None) × TargetsMade t lib a c
 CompletesHeard t lib a (Err e) = RefusesHeard t a e

@@ -41,7 +41,7 @@ pub struct Answers {
     pub root: io::Result<BTreeSet<String>>,
 }
 
-/// Whether the filesystem found no memory for an answer.
+/// Whether the filesystem ran out of memory for an answer.
 fn is_memory_fault(answer: &io::Result<BTreeSet<String>>) -> bool
     ensures { result ≡ is_memory_fault (answer_of answer.now) }
 {
@@ -77,7 +77,7 @@ pub fn ask<FS: AbstractFilesystem>(
     }
 }
 
-/// Asks at each name in a folder, up to a first answer that found no memory.
+/// Asks at each name in a folder, up to a first answer that ran out of memory.
 fn ask_entries<FS: AbstractFilesystem>(
     alloc: Global,
     fs: &FS,
@@ -128,7 +128,7 @@ impl FolderAnswers {
         }
     }
 
-    /// Whether one of them found no memory.
+    /// Whether one of them ran out of memory.
     fn ran_out_of_memory(&self) -> bool
         ensures { result ≡ ran_out_of_memory self.now }
     {
@@ -137,7 +137,7 @@ impl FolderAnswers {
 }
 
 impl Answers {
-    /// Whether a folder of targets or an entry of one found no memory.
+    /// Whether a folder of targets or an entry of one ran out of memory.
     pub fn ran_out_of_memory(&self) -> bool
         ensures { result ≡ some_ran_out_of_memory self.now }
     {
@@ -147,7 +147,7 @@ impl Answers {
     }
 }
 
-/// Asks at a folder of targets, unless an answer before it found no memory.
+/// Asks at a folder of targets, unless an answer before it ran out of memory.
 fn ask_folder_unless<FS: AbstractFilesystem>(
     stopped: bool,
     alloc: Global,
@@ -181,7 +181,7 @@ fn ask_root_if<FS: AbstractFilesystem>(
 }
 
 /// Asks, after `src` was answered, at the folders of targets, at their entries and, where it is to be asked, at the folder
-/// of the manifest, up to a first answer that found no memory.
+/// of the manifest, up to a first answer that ran out of memory.
 pub fn ask_folders<FS: AbstractFilesystem>(
     alloc: Global,
     fs: &FS,

@@ -84,7 +84,7 @@ pub struct CompletedLists {
     pub bench: Vec<Product>,
 }
 
-/// Whether targets are discovered in the old way: the edition is absent, or 2015 and the package's own. One that is
+/// Whether targets are discovered by the legacy rule: the edition is absent, or 2015 and the package's own. One that is
 /// inherited is not the old way, whatever the workspace says.
 ///
 /// ```ignore
@@ -116,7 +116,7 @@ pub fn own_edition(edition: &Option<MaybeInherited<Edition>>) -> Option<Edition>
 }
 
 /// Whether found targets are added to a list: as the package says, and where it says nothing, unless targets are
-/// discovered in the old way and the list has one.
+/// discovered by the legacy rule and the list has one.
 ///
 /// ```ignore
 /// let adds = discovers(None, false, &declared); // true: the package says nothing, and it is not the old way
@@ -217,7 +217,7 @@ fn example_defaults(declared: &DeclaredTargets<'_>) -> TargetDefaults
     }
 }
 
-/// What binaries take: in the old way also the path `src/main.rs`, where `src` lists it.
+/// What binaries take: by the legacy rule also the path `src/main.rs`, where `src` lists it.
 fn bin_defaults(
     declared: &DeclaredTargets<'_>,
     source: &io::Result<BTreeSet<String>>,
@@ -358,8 +358,8 @@ fn complete_by_answers(
 /// Asks the filesystem, and completes the targets by what it answers. Nothing that was declared is changed.
 ///
 /// Refuses with `Io` where `src` has another fault than that it is not there, where a folder of targets or an entry of
-/// one finds no memory, and where the folder of the manifest is asked and has a fault; with `Other` where a declared
-/// library has no file; and with `Memory` where memory is wanting.
+/// one runs out of memory, and where the folder of the manifest is asked and has a fault; with `Other` where a declared
+/// library has no file; and with `Memory` when out of memory.
 ///
 /// ```ignore
 /// let completed = complete(alloc, &listings, &declared)?;

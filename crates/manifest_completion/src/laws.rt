@@ -27,8 +27,8 @@ pub fn asked_decides()
 {}
 
 /// Over a filesystem that has one answer stored for each path text, as [`Listings`](crate::Listings) has, the answer of
-/// [`complete`](crate::complete) is the completion of the map of what is stored; a listing for which no memory was found,
-/// or other want of memory, aside.
+/// [`complete`](crate::complete) is the completion of the map of what is stored; a listing for which memory ran out,
+/// or other lack of memory, aside.
 #[tactic(auto, using(crate::proofs::StoredLaws::stored_decides))]
 pub fn stored_decides()
     ensures { StoredDecides }

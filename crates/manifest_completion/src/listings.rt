@@ -22,7 +22,7 @@ pub enum Listing {
 }
 
 /// A filesystem in memory: at each path it answers what was put there last, and `NotFound` elsewhere. Where the copy of
-/// its names finds no memory it answers `OutOfMemory`. So what was put decides a completion over it: `laws::stored_decides`.
+/// its names runs out of memory it answers `OutOfMemory`. So what was put decides a completion over it: `laws::stored_decides`.
 #[derive(Debug, Drop)]
 pub struct Listings {
     /// What was put last at each path.
@@ -43,7 +43,7 @@ impl Listings {
         }
     }
 
-    /// Puts a listing at a path, in place of one that is there. Where it finds no memory nothing changes.
+    /// Puts a listing at a path, in place of one that is there. Where it runs out of memory nothing changes.
     ///
     /// ```ignore
     /// let mut names = BTreeSet::new(alloc);

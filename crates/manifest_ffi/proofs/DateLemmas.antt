@@ -47,7 +47,7 @@ made_keeps : (bytes : List ℕ) (root : Option (List ℕ)) (folders : Option (Li
 made_keeps bytes root folders m (listings, (n, is, (r, is_root, (o, inherits, completes)))) =
     completes_keeps _ o m (inherits_keeps r n o (read_keeps bytes n is) inherits) completes
 
--- THE NUMBERS: no other refusal than that of a date-time is told by 7
+-- THE NUMBERS: no other refusal than that of a date-time is reported by 7
 is_other : (t : Told) (n : ℕ) → (n == 7) ≡ false → t.status ≡ n → t.status ≡ 7 → ⊥
 is_other t n other is seven = let same : (n == 7) ≡ true = ap (λ k. k == 7) (sym is ∙ seven) in let both : true ≡ false = sym same ∙ other in cc
 
@@ -112,7 +112,7 @@ refusal_is_not_seven output most bytes root folders (Printing e) t r h seven = p
 refusal_is_not_seven output most bytes root folders TooLong t r h seven = is_other t 32 refl h.0 seven
 refusal_is_not_seven output most bytes root folders (Memory e) t r h seven = is_other t 6 refl h.0 seven
 
--- of texts nothing is told by 7
+-- of texts nothing is reported by 7
 pub is_not_seven : (output : Output) (most : ℕ) (bytes : List ℕ) (root : Option (List ℕ)) (folders : Option (List Folder)) (made : Result (Vec ℕ Global) Refusal) (t : Told)
     → IsMade (Gives output most (Makes Toml bytes root folders)) (OrOutput output most (Makes Toml bytes root folders) (RefusesToMake Toml bytes root folders)) made → Outcome made t → t.status ≡ 7 → ⊥
 is_not_seven output most bytes root folders (Ok v) t r h seven = is_other t 0 refl h.0 seven

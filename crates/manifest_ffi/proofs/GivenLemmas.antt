@@ -1,4 +1,4 @@
--- Lemmas on folders that a caller hands in.
+-- Lemmas on folders that a caller passes in.
 use Rattle.std.proofs.Common.{◌≡◌, List, [], ◌∷◌, ◌++◌, map, Option, Some, None, Bool, true, false, cond, String, Global, string_bytes, nat_cmp, refl, sym, ap, get_or, option_map, is_some, if◌then◌else◌}
 use Rattle.std.specs.Borrow.{Bor}
 use Rattle.std.specs.BTreeMap.{BTreeMap, get_by}

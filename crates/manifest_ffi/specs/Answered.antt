@@ -1,4 +1,4 @@
--- What a call leaves: an answer, and a text in the memory that the caller lent.
+-- What a call leaves: an answer, and a text in the caller's memory.
 use Rattle.std.specs.Prelude.{◌≡◌, ◌⊎◌, ℕ, ◌<◌, ◌≤◌, ◌++◌, List, length, drop, Vec, Result, Ok, Err, IsUtf8}
 use Rattle.std.specs.declared.alloc.Global.{Global}
 use Rattle.manifest_schema.specs.Paths.{Text}
@@ -16,7 +16,7 @@ pub record IsHanded (text : List ℕ) (size : ℕ) (old new : List ℕ) : Type 0
   pub put : length text ≤ length old → new ≡ text ++ drop (length text) old
   pub kept : length old < length text → new ≡ old
 
--- the answer has these numbers, and hands out this text
+-- the answer has these numbers, and returns this text
 pub record Hands (told : Told) (old new : List ℕ) (a : Answer) : Type 0 where
   pub status : a.status ≡ told.status
   pub cause : a.cause ≡ told.cause
@@ -37,7 +37,7 @@ pub record IsAnswered (gives : Text → Type 0) (refuses : Refusals) (old new : 
   pub outcome : Outcome made told
   pub hands : Hands told old new a
 
--- the answer of a call that makes these manifests, has these refusals on the way, and is asked for this of one of them, in at most so many bytes
+-- the answer of a call that makes these manifests, has these refusals on the way, and is asked for this of one of them, in at most a given number of bytes
 abbrev pub Answers : Output → ℕ → (Manifest → Type 0) → Refusals → List ℕ → List ℕ → Answer → Type 0
 Answers output most makes refuses =
     IsAnswered (Gives output most makes) (OrOutput output most makes refuses)

@@ -1,4 +1,4 @@
--- The listings that a caller hands in.
+-- The listings that a caller passes in.
 use Rattle.std.specs.Prelude.{◌≡◌, ℕ, ◌==◌, Bool, true, List, [], ◌∷◌, map, if◌then◌else◌, Option, Some, None, option_map, unwrap_or, IsUtf8}
 use Rattle.std.specs.Borrow.{Bor}
 use Rattle.std.specs.Ordering.{nat_cmp, is_lt}

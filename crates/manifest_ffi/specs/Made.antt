@@ -27,7 +27,7 @@ use Rattle.manifest_ffi.specs.declared.refusal.Refusal.TheVariants.{Bytes, Root,
 use Rattle.manifest_ffi.specs.Given.{given, given_by, AreListings}
 use Rattle.manifest_ffi.specs.Read.{Are, RefusesToRead}
 
--- REFUSALS are told by this
+-- REFUSALS are reported by this
 abbrev pub Refusals : Type 1
 Refusals = Refusal → Type 0
 
@@ -108,7 +108,7 @@ RefusesToMake input bytes root folders e =
     RefusesUnless (AreAllListings folders) e
     ⊎ RefusesOver input bytes root (option_map given folders) e
 
--- TAGGED BYTES that take at most so many bytes; they are refused where they take more, and else where memory ran out
+-- TAGGED BYTES that take at most a given number of bytes; they are refused where they take more, and else where memory ran out
 abbrev pub AreWithin : ℕ → List ℕ → Text → Type 0
 AreWithin most tagged text = (text ≡ tagged) × (length text ≤ most)
 
@@ -116,7 +116,7 @@ abbrev pub RefusesTagged : ℕ → List ℕ → Refusals
 RefusesTagged most tagged TooLong = most < length tagged
 RefusesTagged most tagged e = IsOutOfMemory e
 
--- WHAT IS ASKED FOR of a manifest, in at most so many bytes: its canonical text, which is UTF-8, or the tagged bytes of its table
+-- WHAT IS ASKED FOR of a manifest, in at most a given number of bytes: its canonical text, which is UTF-8, or the tagged bytes of its table
 abbrev pub Writes : Output → ℕ → Manifest → Text → Type 0
 Writes CanonicalText most m text = IsTextOf m text × IsUtf8 text × (length text ≤ most)
 Writes TaggedTable most m text = AreWithin most (encoded (table (rewritten m))) text

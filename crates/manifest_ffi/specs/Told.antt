@@ -48,11 +48,11 @@ abbrev pub IsTold : Told → ℕ → ℕ → Text → Type 0
 IsTold t status cause text =
     (t.status ≡ status) × (t.cause ≡ cause) × (t.text.items ≡ text) × (t.start ≡ 0) × (t.end ≡ 0)
 
--- want of memory
+-- out of memory
 abbrev pub TellsMemory : Told → Type 0
 TellsMemory t = IsTold t 6 0 []
 
--- a text that is no TOML, by the words of `toml` and the place in it; want of memory is told as such
+-- a text that is no TOML, by the words of `toml` and the place in it; lack of memory is reported as such
 pub record TellsToml (is_root : Bool) (e : TomlError) (t : Told) : Type 0 where
   pub refused : ¬ IsMemory e
   pub status : t.status ≡ at_root is_root 1

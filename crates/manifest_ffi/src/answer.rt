@@ -1,4 +1,4 @@
-//! What a call answers, and how its text comes into memory that the caller lent.
+//! What a call answers, and how its text comes into the caller's memory.
 
 ghost use Rattle.std.specs.Prelude.{◌≡◌, option_copied};
 ghost use Rattle.manifest_ffi.specs.declared.reading.Input.TheVariants.{Toml};
@@ -52,7 +52,7 @@ pub(crate) fn outcome(alloc: Global, made: Result<Vec<u8>, Refusal>) -> Told
     }
 }
 
-/// Hands out what is told.
+/// Returns what is reported.
 pub(crate) fn write_answer(told: &Told, out: &mut [u8]) -> Answer
     ensures { Hands told.now out.old out.new result }
 {

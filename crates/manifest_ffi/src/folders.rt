@@ -1,4 +1,4 @@
-//! Listings of folders, as a caller hands them in, and the filesystem that they are.
+//! Listings of folders, as a caller passes them in, and the filesystem that they are.
 
 ghost use Rattle.std.specs.Prelude.{◌≡◌, IfOk, IfErr};
 ghost use Rattle.std.specs.IoError.{error_kind};
@@ -15,7 +15,7 @@ use std::io;
 use std::io::ErrorKind;
 
 /// A folder, as a caller hands it in: its path, the names in it, and its fault, which is 0 where it has none, 1 where it
-/// is not found, 2 where memory was wanting, and otherwise any other number.
+/// is not found, 2 where memory ran out, and otherwise any other number.
 #[repr(C)]
 #[derive(Clone, Copy)]
 pub struct Folder<'a> {
@@ -36,7 +36,7 @@ pub enum Listed {
     Fault(ErrorKind),
 }
 
-/// The folders that a caller handed in, as a filesystem. What is not among them is not there.
+/// The folders that a caller passed in, as a filesystem. What is not among them is not there.
 #[derive(Drop)]
 pub struct GivenFolders<'a> {
     by_path: BTreeMap<&'a str, Listed>,

@@ -53,7 +53,7 @@ pub extern "C" fn manifest_canonical(
     respond(alloc, asked, bytes, None, None, out)
 }
 
-/// The same of the manifest completed over the folders: a path that none of them has is not there, and what is not asked
+/// The same for the manifest completed over the folders: a path that none of them has is not there, and what is not asked
 /// for makes no difference.
 ///
 /// ```ignore
@@ -79,7 +79,7 @@ pub extern "C" fn manifest_completed(
     respond(alloc, asked, bytes, None, Some(folders), out)
 }
 
-/// The same of the manifest with what it inherits from the workspace of `root`, the bytes of another `Cargo.toml`.
+/// The same for the manifest with what it inherits from the workspace of `root`, the bytes of another `Cargo.toml`.
 ///
 /// ```ignore
 /// let answer = manifest_resolved(alloc, member, root, usize::MAX, &mut out);
@@ -149,7 +149,7 @@ pub extern "C" fn manifest_table(alloc: Global, bytes: &[u8], most: usize, out: 
     respond(alloc, asked, bytes, None, None, out)
 }
 
-/// The same of the manifest completed over the folders, as by [`manifest_completed`].
+/// The same for the manifest completed over the folders, as by [`manifest_completed`].
 ///
 /// ```ignore
 /// let answer = manifest_completed_table(alloc, bytes, &[src, root], usize::MAX, &mut out);
@@ -173,7 +173,7 @@ pub extern "C" fn manifest_completed_table(
     respond(alloc, asked, bytes, None, Some(folders), out)
 }
 
-/// The same of the manifest with what it inherits, as by [`manifest_resolved`].
+/// The same for the manifest with what it inherits, as by [`manifest_resolved`].
 ///
 /// ```ignore
 /// let answer = manifest_resolved_table(alloc, member, root, usize::MAX, &mut out);

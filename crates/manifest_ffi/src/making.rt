@@ -47,7 +47,7 @@ fn finish_by(
     }
 }
 
-/// The same of a root that is still bytes.
+/// The same for a root that is still bytes.
 fn finish_by_bytes(
     alloc: Global,
     input: Input,

@@ -40,7 +40,7 @@ fn count_up(count: u16) -> u16
     }
 }
 
-/// Behind an opening bracket.
+/// After an opening bracket.
 #[inline(always)]
 fn after_opening_bracket(nesting: Nesting) -> Nesting
     ensures { result ≡ after_opening_bracket nesting }
@@ -54,7 +54,7 @@ fn after_opening_bracket(nesting: Nesting) -> Nesting
     }
 }
 
-/// Behind a closing bracket.
+/// After a closing bracket.
 #[inline(always)]
 fn after_closing_bracket(nesting: Nesting) -> Nesting
     ensures { result ≡ after_closing_bracket nesting }
@@ -67,7 +67,7 @@ fn after_closing_bracket(nesting: Nesting) -> Nesting
     }
 }
 
-/// Behind a dot.
+/// After a dot.
 #[inline(always)]
 fn after_dot(nesting: Nesting) -> Nesting
     ensures { result ≡ after_dot nesting }
@@ -81,7 +81,7 @@ fn after_dot(nesting: Nesting) -> Nesting
     }
 }
 
-/// Behind the end of a key.
+/// After the end of a key.
 #[inline(always)]
 fn after_key(nesting: Nesting) -> Nesting
     ensures { result ≡ after_key nesting }
@@ -94,7 +94,7 @@ fn after_key(nesting: Nesting) -> Nesting
     }
 }
 
-/// Behind a byte outside strings and comments.
+/// After a byte outside strings and comments.
 #[inline(always)]
 fn after_byte(byte: u8, nesting: Nesting) -> Nesting
     ensures { result ≡ after_byte byte nesting }
@@ -112,7 +112,7 @@ fn after_byte(byte: u8, nesting: Nesting) -> Nesting
     }
 }
 
-/// Behind the next string, comment or byte; `None` at the end of the text, or where it is no TOML from here on.
+/// After the next string, comment or byte; `None` at the end of the text, or where it is no TOML from here on.
 #[inline(always)]
 fn step<'t>(
     alloc: Global,

@@ -13,7 +13,7 @@ use std::alloc::{AllocError, Global};
 use std::io;
 use std::io::ErrorKind;
 
-/// What is told: the numbers of an answer, and its text.
+/// What is reported: the numbers of an answer, and its text.
 #[derive(Debug, Drop)]
 pub struct Told {
     pub status: u8,
@@ -48,7 +48,7 @@ fn with_string(status: u8, cause: u8, text: String) -> Told
     with_text(status, cause, text.into_bytes())
 }
 
-/// Want of memory, which was met: there is none without what was refused.
+/// Lack of memory, which was met: there is none without what was refused.
 fn memory(alloc: Global, _refused: AllocError) -> Told
     ensures told { TellsMemory result }
     ensures utf8 { IsUtf8 result.text.items }

@@ -64,7 +64,7 @@ impl Document {
         }
     }
 
-    /// Reads the manifest and prints what came of it. Where memory was wanting, it is read again.
+    /// Reads the manifest and prints what came of it. Where memory ran out, it is read again.
     pub fn read<W: Write>(self, alloc: Global, output: &mut W) -> Result<(), Error> {
         let bytes = self.bytes();
         let first = Manifest::from_slice(alloc, bytes);
@@ -78,7 +78,7 @@ impl Document {
     }
 }
 
-/// The line that tells where memory was wanting, or nothing.
+/// The line that tells where memory ran out, or nothing.
 fn cause(read: &Answer) -> &'static str {
     match read {
         Err(Error::Memory(_)) => "memory\n",

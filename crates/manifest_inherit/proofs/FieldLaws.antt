@@ -1,4 +1,4 @@
--- The fields of a package that a workspace may lend, by their table.
+-- The fields of a package that may be inherited from a workspace, by their table.
 use Rattle.std.proofs.Common.{rules, ◌≡◌, ℕ, zero, suc, inl, inr, refl, sym, subst, Option, Some, None}
 use Rattle.toml.specs.Data.{table, no_members}
 use Rattle.manifest_schema.specs.Paths.{Text}

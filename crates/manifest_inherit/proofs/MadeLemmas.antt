@@ -1,4 +1,4 @@
--- What is made beside a manifest is what it becomes.
+-- What is made apart from a manifest is what it becomes.
 use Rattle.std.proofs.Common.{inl, inr, refl, Some, option_map}
 use Rattle.manifest_schema.specs.Contents.{Manifest, Workspace}
 use Rattle.manifest_value.specs.Entries.{entries_content}

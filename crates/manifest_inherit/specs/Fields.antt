@@ -1,4 +1,4 @@
--- The fields of a package that a workspace may lend.
+-- The fields of a package that may be inherited from a workspace.
 use Rattle.std.specs.Prelude.{Option, codes}
 use Rattle.std.specs.Option.{option_and_then}
 use Rattle.manifest_schema.specs.Paths.{Text}

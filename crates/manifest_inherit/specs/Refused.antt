@@ -12,7 +12,7 @@ pub data Refusal : Type 0 where
   not_in_workspace : Text → Refusal
   -- the workspace's own dependency of this name is inherited
   inherited_in_workspace : Text → Refusal
-  -- lints that are inherited have a tool beside
+  -- lints that are inherited have a tool as well
   mixed_lints : Refusal
   -- the workspace has lints of a tool `workspace`, and lints of a member can have no such tool
   tool_named_workspace : Refusal
@@ -62,7 +62,7 @@ refuses_platform lent p r =
 abbrev pub refuses_platforms : Entries Dependency → Entries Target → Refusals
 refuses_platforms lent = refuses_entries (λ name. refuses_platform lent)
 
--- LINTS: they are inherited, and have a tool beside; or the workspace has none, or has a tool `workspace`
+-- LINTS: they are inherited, and have a tool as well; or the workspace has none, or has a tool `workspace`
 abbrev pub refuses_tools : Entries (Entries Lint) → Refusals
 refuses_tools [] r = ⊥
 refuses_tools (tool ∷ tools) r = r ≡ mixed_lints

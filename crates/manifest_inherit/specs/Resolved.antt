@@ -107,7 +107,7 @@ resolved_lints_by inherits lent own = own
 abbrev pub resolved_lints : Option (Entries (Entries Lint)) → MaybeInheritedLintsSet → MaybeInheritedLintsSet
 resolved_lints lent own = resolved_lints_by own.workspace lent own
 
--- the dependencies that a workspace lends
+-- the dependencies inherited from a workspace
 abbrev pub lent_dependencies : Workspace → Entries Dependency
 lent_dependencies w = unwrap_or w.dependencies []
 

@@ -17,7 +17,7 @@ pub enum ResolveError {
     /// The workspace's dependency of this name is itself inherited.
     #[error("inherited in workspace: {0}")]
     InheritedInWorkspace(String),
-    /// The lints are inherited, and a tool stands beside.
+    /// The lints are inherited, and there is a tool as well.
     #[error("mixed lints")]
     MixedLints,
     /// The lints are inherited, and the workspace has lints of a tool named `workspace`.

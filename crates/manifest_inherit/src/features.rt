@@ -1,4 +1,4 @@
-//! The features of a dependency that the workspace lends: the workspace's, and those that the member adds.
+//! The features of a dependency inherited from the workspace: the workspace's, and those that the member adds.
 
 ghost use Rattle.std.specs.Prelude.{◌≡◌, ◌++◌, OnOk, map, option_map, string_bytes};
 ghost use Rattle.manifest_inherit.specs.Resolved.{new_features, joined_features};

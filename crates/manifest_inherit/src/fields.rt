@@ -1,4 +1,4 @@
-//! The fields of a package that a workspace may lend.
+//! The fields of a package that may be inherited from a workspace.
 
 ghost use Rattle.std.specs.Prelude.{◌≡◌, ◌<◌, Some, OnOk, IfErr, length, option_map};
 ghost use Rattle.manifest_parts.specs.Parts.{inh_content};
@@ -33,7 +33,7 @@ fn check_field<T: Schema>(
     }
 }
 
-/// The fields that a workspace may lend, each with its key, in the order of the definitions.
+/// The fields that may be inherited from a workspace, each with its key, in the order of the definitions.
 macro_rules! lendable {
     ($make:ident $given:tt) => {
         $make! { $given
@@ -125,7 +125,7 @@ pub(crate) fn check_fields<M: Metadata>(
     Ok(())
 }
 
-/// Puts what is lent in the place of the mark that a field is inherited. Nothing is grown.
+/// Puts what is lent in the place of the mark that a field is inherited. Nothing is allocated.
 fn put_field<T: Schema>(place: &mut Option<MaybeInherited<T>>, lent: Option<T>)
     ensures { option_map (inh_content T.content) place.new
         ≡ resolved_field (option_map (inh_content T.content) place.old)
@@ -142,7 +142,7 @@ fn put_field<T: Schema>(place: &mut Option<MaybeInherited<T>>, lent: Option<T>)
     }
 }
 
-/// Puts the fields that are lent in the places of those that a package inherits. Nothing is grown.
+/// Puts the fields that are lent in the places of those that a package inherits. Nothing is allocated.
 #[tactic(auto, unfolding(crate::specs::Resolved::resolved_package, crate::specs::Fields::lendable))]
 pub(crate) fn put_fields<M: Metadata>(own: &mut Package<M>, lent: WorkspacePackage)
     ensures { package_of M.kind M.content own.new

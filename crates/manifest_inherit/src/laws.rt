@@ -8,7 +8,7 @@ ghost use Rattle.manifest_inherit.specs.Laws.{ResolvedIsSettled, OwnIsSettled, R
 
 use cargo_manifest::Metadata;
 
-/// A resolved manifest inherits nothing that a workspace may lend, and is resolved to itself. Where it and the workspace
+/// A resolved manifest inherits nothing that may be inherited from a workspace, and is resolved to itself. Where it and the workspace
 /// were well-formed, it is well-formed too; and when it is then completed, resolving it and completing it again over the
 /// same workspace and listings changes nothing.
 pub fn resolved_is_fixed<P: Metadata, W: Metadata, V: Metadata>()

@@ -1,4 +1,4 @@
-//! What a workspace lends its members: a manifest with the package fields, dependencies and lints that it inherits put in.
+//! What members inherit from a workspace: a manifest with the package fields, dependencies and lints that it inherits put in.
 //! `docs/INHERITING.md` says how to read the definitions.
 #![tactic(auto)]
 

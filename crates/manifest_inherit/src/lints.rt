@@ -1,4 +1,4 @@
-//! The lints that a workspace lends.
+//! The lints inherited from a workspace.
 
 ghost use Rattle.std.specs.Prelude.{◌≡◌, OnOk, IfErr, option_map};
 ghost use Rattle.manifest_parts.specs.Records.{lints_content};
@@ -50,7 +50,7 @@ pub(crate) fn make_lints(
     }
 }
 
-/// Puts the lints that are lent in the place of the mark that they are inherited. Nothing is grown.
+/// Puts the lints that are lent in the place of the mark that they are inherited. Nothing is allocated.
 pub(crate) fn put_lints(own: &mut Option<MaybeInheritedLintsSet>, lent: Option<LintsSet>)
     ensures { option_map lints_content own.new
         ≡ option_map (resolved_lints (option_map tools_content lent))

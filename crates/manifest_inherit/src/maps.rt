@@ -27,7 +27,7 @@ pub(crate) trait Heir: Sized + Drop {
 
     ghost refuses: { Entries Contents.Dependency → List ℕ → Content → Refusal → Type 0 };
 
-    /// What it becomes under this name, made beside it.
+    /// What it becomes under this name, made apart from it.
     fn resolve_under_name(
         &self,
         alloc: Global,

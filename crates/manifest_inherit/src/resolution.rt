@@ -20,7 +20,7 @@ use manifest_value::copy_of;
 use std::alloc::Global;
 use std::mem;
 
-/// What is made beside a manifest, to be put into it when nothing can fail any more: the fields that are lent to it, its
+/// What is made apart from a manifest, to be put into it when nothing can fail any more: the fields that are lent to it, its
 /// maps of dependencies as they become, and the lints that are lent to it.
 #[derive(Drop)]
 pub(crate) struct Made {
@@ -141,7 +141,7 @@ fn make<P: Metadata, W: Metadata, V: Metadata>(
     }
 }
 
-/// Puts what is made into the manifest. Nothing is grown.
+/// Puts what is made into the manifest. Nothing is allocated.
 fn put_made<P: Metadata, W: Metadata>(manifest: &mut Manifest<P, W>, made: Made)
     ensures { manifest_of P.kind W.kind P.content W.content manifest.new
         ≡ with_made made (manifest_of P.kind W.kind P.content W.content manifest.old) }
@@ -175,9 +175,9 @@ fn put_made<P: Metadata, W: Metadata>(manifest: &mut Manifest<P, W>, made: Made)
 ///
 /// Refuses with [`ResolveError::NotInWorkspace`] of a field's key, of a dependency's name, or of `lints`, where the
 /// workspace has none; with [`ResolveError::InheritedInWorkspace`] of the name of a dependency that the workspace itself
-/// inherits; with [`ResolveError::MixedLints`] where lints are inherited and have a tool beside; with
+/// inherits; with [`ResolveError::MixedLints`] where lints are inherited and have a tool as well; with
 /// [`ResolveError::ToolNamedWorkspace`] where the lints of the workspace that are inherited have a tool of that name; and
-/// with [`ResolveError::Memory`] where memory is wanting. After a refusal the manifest is what it was.
+/// with [`ResolveError::Memory`] when out of memory. After a refusal the manifest is what it was.
 ///
 /// ```ignore
 /// resolve(alloc, manifest, workspace)?; // `version.workspace = true` becomes the workspace's `version = '2.0.0'`

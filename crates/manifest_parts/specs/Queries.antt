@@ -64,7 +64,7 @@ git_of (simple v) = None
 git_of (by_workspace i) = None
 git_of (detailed d) = d.git
 
--- it comes from crates.io: no other place is named; what the workspace lends may come from anywhere
+-- it comes from crates.io: no other place is named; what is inherited from the workspace may come from anywhere
 abbrev pub is_crates_io : Contents.Dependency → Bool
 is_crates_io (simple v) = true
 is_crates_io (by_workspace i) = false
@@ -88,7 +88,7 @@ features_part (Dependency.Inherited i) = items_part i.features
 features_part (Dependency.Detailed d) = items_part d.features
 
 -- WHAT THE WORKSPACE MAY LEND
--- the value of the code itself, or the word that the workspace lends it
+-- the value of the code itself, or the mark that it is inherited from the workspace
 abbrev pub as_inheritable : {T : Type 0} → MaybeInherited T → Inheritable T
 as_inheritable = inh_content (λ x. x)
 
@@ -112,7 +112,7 @@ abbrev pub priority_of : Contents.Lint → ℤ
 priority_of (lint_level l) = pos 0
 priority_of (lint_config c) = c.priority
 
--- the workspace lends the lints
+-- the lints come from the workspace
 abbrev pub is_inherited : Contents.MaybeInheritedLintsSet → Bool
 is_inherited l = is_some l.workspace
 

@@ -225,7 +225,7 @@ fn simplify_detail(mut detail: DependencyDetail) -> Dependency
 }
 
 impl<T> MaybeInherited<T> {
-    /// The word that the workspace lends the value.
+    /// The mark that the value is inherited from the workspace.
     ///
     /// ```ignore
     /// let edition = MaybeInherited::<Edition>::inherited();
@@ -298,7 +298,7 @@ impl Lint {
 }
 
 impl MaybeInheritedLintsSet {
-    /// Whether the workspace lends the lints. See the
+    /// Whether the lints come from the workspace. See the
     /// [Cargo reference](https://doc.rust-lang.org/cargo/reference/workspaces.html#the-lints-table).
     ///
     /// ```ignore

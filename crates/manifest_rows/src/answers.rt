@@ -5,7 +5,7 @@ use std::process::Abort;
 use std::test::Fail;
 use toml::{Table, Value};
 
-/// A text that is read, and the answer: the text that is written of it, or how it is told to be refused.
+/// A text that is read, and the answer: the text that is written of it, or the text of its refusal.
 pub type Row = (&'static str, Result<&'static str, &'static str>);
 
 /// The head of a package.
@@ -27,7 +27,7 @@ pub fn error_text(alloc: Global, error: &Error) -> Result<String, AllocError> {
     }
 }
 
-/// The text that is written of a manifest, or what was told in its place.
+/// The text that is written of a manifest, or what was reported in its place.
 pub fn written<P: Metadata, W: Metadata>(
     alloc: Global,
     read: Result<Manifest<P, W>, Error>,
@@ -59,7 +59,7 @@ pub fn text_of_value(alloc: Global, value: Value) -> Result<String, Fail> {
     Ok(toml::table_to_string(alloc, &table)?)
 }
 
-/// What is written of a value that was read, or how it is told to be refused.
+/// What is written of a value that was read, or the text of its refusal.
 pub fn answer_of<T: Schema>(alloc: Global, read: Result<T, Error>) -> Result<String, Fail> {
     match read {
         Ok(x) => text_of_value(alloc, x.to_value(alloc)?),
@@ -99,7 +99,7 @@ pub fn assert_written<T: Schema>(
     assert_is(rt, Ok(got), expected.as_str(), text)
 }
 
-/// What is written of the manifest of a document, or how it is told to be refused: one answer for its bytes and its text.
+/// What is written of the manifest of a document, or the text of its refusal: one answer for its bytes and its text.
 pub fn document_answer(alloc: Global, document: &str) -> Result<String, Fail> {
     let by_bytes = written(alloc, Manifest::from_slice(alloc, document.as_bytes()))?;
     let by_text = written(alloc, Manifest::from_str(alloc, document))?;
@@ -110,7 +110,7 @@ pub fn document_answer(alloc: Global, document: &str) -> Result<String, Fail> {
     }
 }
 
-/// The answer that a row expects of a document: the table that is written, behind the head, or how it is told.
+/// The answer that a row expects of a document: the table that is written, behind the head, or how it is reported.
 pub fn expected_behind(
     alloc: Global,
     head: &str,
@@ -138,7 +138,7 @@ pub fn assert_documents(
     Ok(())
 }
 
-/// What is written of the value of a text, read as a `T`, or how it is told to be refused.
+/// What is written of the value of a text, read as a `T`, or the text of its refusal.
 fn value_answer<T: Schema>(alloc: Global, text: &str) -> Result<String, Fail> {
     answer_of(alloc, T::from_value(alloc, &value(alloc, text)?))
 }
@@ -152,7 +152,7 @@ pub fn assert_values<T: Schema>(rt: &impl Abort, alloc: Global, rows: &[Row]) ->
     Ok(())
 }
 
-/// Asserts that the first of two keys is told, where a number stands under both and fits neither, behind these entries.
+/// Asserts that the first of two keys is reported, where a number stands under both and fits neither, behind these entries.
 fn assert_told_first<T: Schema>(
     rt: &impl Abort,
     alloc: Global,
@@ -170,7 +170,7 @@ fn assert_told_first<T: Schema>(
     )
 }
 
-/// The same of each two neighbouring keys.
+/// The same for each two neighbouring keys.
 pub fn assert_told_in_order<T: Schema>(
     rt: &impl Abort,
     alloc: Global,

@@ -16,7 +16,7 @@ use std::process::Abort;
 use std::test::Fail;
 use toml::{Table, Value};
 
-/// How a fault is told.
+/// How a fault is reported.
 fn fault_text(alloc: Global, fault: ReadFault) -> Result<String, Fail> {
     Ok(error_text(alloc, &refusal(fault))?)
 }
@@ -39,7 +39,7 @@ fn faults_behind_steps(rt: HostRuntime) -> Result<(), Fail> {
     Ok(())
 }
 
-/// What is written of the value of a text, read as a `T` under a key, or how it is told to be refused.
+/// What is written of the value of a text, read as a `T` under a key, or the text of its refusal.
 fn answer_under<T: Schema>(alloc: Global, text: &str) -> Result<String, Fail> {
     match read_under::<T>(alloc, &value(alloc, text)?, "k") {
         Ok(x) => answer_of(alloc, Ok(x)),

@@ -78,7 +78,7 @@ fn readers_of_one_value(rt: HostRuntime) -> Result<(), Fail> {
     Ok(())
 }
 
-/// How many entries the table of a text has, or how it is told to be refused.
+/// How many entries the table of a text has, or the text of its refusal.
 fn entries_of(alloc: Global, shown: &str) -> Result<String, Fail> {
     let value = value(alloc, shown)?;
     match table(alloc, &value) {
@@ -121,7 +121,7 @@ fn whole_numbers_between_limits(rt: HostRuntime) -> Result<(), Fail> {
     Ok(())
 }
 
-/// The number that a field has in a document, or how it is told to be refused.
+/// The number that a field has in a document, or the text of its refusal.
 fn number_of(alloc: Global, document: &str, second: Option<&str>) -> Result<String, Fail> {
     let entries = toml::table_from_str(alloc, document)?;
     match field(alloc, &entries, "crate-type", second) {

@@ -20,7 +20,7 @@ type Row = (
     Result<&'static str, &'static str>,
 );
 
-/// What completing a manifest leaves: how it is told to be refused, or nothing; and the text that is written of it.
+/// What completing a manifest leaves: the text of its refusal, or nothing; and the text that is written of it.
 pub fn completion<FS: AbstractFilesystem>(
     alloc: Global,
     manifest: &mut Manifest<Value, Value>,
@@ -33,7 +33,7 @@ pub fn completion<FS: AbstractFilesystem>(
     Ok((answer, manifest.to_toml_string(alloc)?))
 }
 
-/// Completes a manifest twice: its table, or what was told. A refusal has to leave it as it was, and completing it again has
+/// Completes a manifest twice: its table, or what was reported. A refusal has to leave it as it was, and completing it again has
 /// to answer the same and change nothing.
 fn complete_twice(
     alloc: Global,
@@ -81,7 +81,7 @@ const LIBRARY_AND_MAIN: &[Row] = &[
             "[package]\nname = 'foo-bar'\nedition = '2021'\n[lib]\npath = 'src/lib.rs'\nname = 'foo_bar'\nedition = '2021'\nrequired-features = []\ncrate-type = ['lib']\n[[bin]]\npath = 'src/main.rs'\nname = 'foo-bar'\nedition = '2021'\nrequired-features = []",
         ),
     ),
-    // a library in the old way, by its own name
+    // a library by the legacy rule, by its own name
     (
         "[package]\nname = 'foo'\n[lib]",
         "src|foo.rs;.",

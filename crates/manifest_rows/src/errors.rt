@@ -35,7 +35,7 @@ fn refusal(alloc: Global, document: &[u8]) -> Result<Error, Fail> {
     }
 }
 
-/// Asserts that a copy of an error says the same, and how it is told.
+/// Asserts that a copy of an error says the same, and how it is reported.
 fn assert_copied(
     rt: &impl Abort,
     alloc: Global,
@@ -113,7 +113,7 @@ fn texts_of_errors(rt: HostRuntime) -> Result<(), Fail> {
     Ok(())
 }
 
-/// A text in a list, and then a value that is none: `?` hands on a reader's fault, and want of memory of every kind.
+/// A text in a list, and then a value that is none: `?` passes on a reader's fault, and lack of memory of every kind.
 fn list_with_a_fault(alloc: Global, value: &str) -> Result<Vec<String>, Error> {
     let value = Value::string(alloc, value)?;
     let mut texts = Vec::new(alloc);
@@ -131,7 +131,7 @@ fn faults_of_readers_are_errors_by_a_question_mark(rt: HostRuntime) -> Result<()
     assert_is(&rt, Ok(told), "wrong kind at (top)", "a list")
 }
 
-/// The setting that a value stands for, or how it is told to be refused.
+/// The setting that a value stands for, or the text of its refusal.
 fn setting(alloc: Global, text: &str) -> Result<String, Fail> {
     let value = Value::from_str(alloc, text)?;
     Ok(match StripSetting::try_from(alloc, value) {

@@ -7,7 +7,7 @@ use std::process::Abort;
 use std::test::Fail;
 use toml::Value;
 
-/// What is written of the manifest of a document with metadata of the type, or how it is told to be refused.
+/// What is written of the manifest of a document with metadata of the type, or the text of its refusal.
 fn answer_with<P: Metadata>(alloc: Global, document: &str) -> Result<String, Fail> {
     let read = Manifest::<P, Value>::from_slice_with_metadata(alloc, document.as_bytes());
     Ok(written(alloc, read)?)

@@ -10,7 +10,7 @@ use std::process::Abort;
 use std::test::Fail;
 
 /// A document, the folders that are listed, the question that is refused and with which kind of fault, the paths that are
-/// asked, and the answer: the text that is written of the completed manifest, or how it is told to be refused.
+/// asked, and the answer: the text that is written of the completed manifest, or the text of its refusal.
 type Row = (
     &'static str,
     &'static str,
@@ -153,7 +153,7 @@ fn answer(
     }
 }
 
-/// The same of a row.
+/// The same for a row.
 fn answer_to(alloc: Global, row: &Row) -> Result<String, Fail> {
     let (document, folders, refused, asked, _) = row;
     let listings = listings(alloc, folders)?;

@@ -1,4 +1,4 @@
-//! Manifests that are refused, and the causes and paths that are told.
+//! Manifests that are refused, and the causes and paths that are reported.
 use crate::answers::{PACKAGE, Row, assert_documents, written};
 use cargo_manifest::Manifest;
 use std::test::Fail;
@@ -262,7 +262,7 @@ fn behind_a_package(rt: HostRuntime) -> Result<(), Fail> {
     assert_documents(&rt, rt.alloc(), PACKAGE, BEHIND_A_PACKAGE)
 }
 
-/// Of several faults the one is told that comes first in the order of the rows.
+/// Of several faults the one is reported that comes first in the order of the rows.
 #[test]
 fn the_first_of_several_faults(rt: HostRuntime) -> Result<(), Fail> {
     assert_documents(&rt, rt.alloc(), PACKAGE, SEVERAL_FAULTS)

@@ -7,7 +7,7 @@ use std::alloc::Global;
 use std::process::Abort;
 use std::test::Fail;
 
-/// What a workspace lends.
+/// What is inherited from a workspace.
 const LENT: &str =
     "[workspace]\npackage = { version = '2.0.0', edition = '2021' }\nlints = { rust = { q = 'deny' } }\n[workspace.dependencies]\na = '1'\nb = { version = '1', features = ['x', 'y'], default-features = false }\nc = { version = '1', optional = true }\nd = { workspace = true }\ne = { version = '1', features = ['x', 'x'] }\n'a b' = { git = 'https://example.com/a', package = 'a' }";
 
@@ -16,7 +16,7 @@ const ALL_FIELDS: &str =
     "[workspace.package]\nedition = '2018'\nversion = '1.2.3'\nauthors = ['a']\ndescription = 'b'\nhomepage = 'c'\ndocumentation = 'd'\nreadme = false\nkeywords = ['e', 'f']\ncategories = []\nlicense = 'g'\nlicense-file = 'h'\nrepository = 'i'\nrust-version = '1.70'\nexclude = ['j']\ninclude = ['k']\npublish = ['l']";
 
 /// The text of a workspace; what stands in its member behind the head of a package; and the answer: what is written of the
-/// resolved manifest behind the head, or how it is told to be refused.
+/// resolved manifest behind the head, or the text of its refusal.
 type Row = (
     &'static str,
     &'static str,
@@ -33,7 +33,7 @@ fn put_in(
     Ok(())
 }
 
-/// What resolving a manifest leaves: how it is told to be refused, or nothing; and the text that is written of it.
+/// What resolving a manifest leaves: the text of its refusal, or nothing; and the text that is written of it.
 fn resolution(
     alloc: Global,
     manifest: &mut Manifest<Value, Value>,
@@ -58,7 +58,7 @@ fn resolve_and_complete(
     Ok(manifest.to_toml_string(alloc)?)
 }
 
-/// Resolves a manifest twice: its table, or what was told. A refusal has to leave it as it was; resolving it again has to
+/// Resolves a manifest twice: its table, or what was reported. A refusal has to leave it as it was; resolving it again has to
 /// answer the same and change nothing; and so has resolving and completing it again, once it is completed.
 fn resolve_twice(
     alloc: Global,
@@ -102,7 +102,7 @@ fn resolve_over_root(
     answer
 }
 
-/// The same of a document.
+/// The same for a document.
 fn resolve_document(alloc: Global, root: &str, member: &str) -> Result<String, Fail> {
     let mut manifest = Manifest::from_str(alloc, member)?;
     let answer = resolve_over_root(alloc, &mut manifest, root);
@@ -253,7 +253,7 @@ fn complete_over_root(
     answer
 }
 
-/// The binary of a package whose edition is that of a workspace of 2015: it is found in the old way.
+/// The binary of a package whose edition is that of a workspace of 2015: it is found by the legacy rule.
 fn completed_in_the_old_way(alloc: Global) -> Result<String, Fail> {
     let listings = listings(alloc, "src|main.rs;.")?;
     let mut manifest = Manifest::from_str(

@@ -14,11 +14,11 @@ use Rattle.manifest_schema.specs.ManifestForms.{package_rows, workspace_package_
 pub record IsGood {A : Type 0} (K : Kind A) : Type 0 where
   pub good : (x : A) → K.good x
 
--- the same of a need
+-- the same for a need
 pub record IsGoodNeed {C : Type 0} (n : Need C) : Type 0 where
   pub good : (x : C) → n.good x
 
--- the same of all rows; a map of all other keys may have the key of a row
+-- the same for all rows; a map of all other keys may have the key of a row
 abbrev pub AreGood : {A : Type 0} → Rows A → Type 0
 AreGood (r ⨾ rs) = IsGoodNeed r.need × AreGood rs
 AreGood (others get K) = ⊥

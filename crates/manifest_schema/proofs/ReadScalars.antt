@@ -76,7 +76,7 @@ module _ (test : Data → Bool) where
 pub record Turns {A : Type 0} (pre test : Data → Bool) (K : Kind A) : Type 0 where
   pub reads : Reads pre K (Passes test K)
 
--- the same of a need, and of all rows of a form
+-- the same for a need, and of all rows of a form
 record TurnsNeed {C : Type 0} (pre test : Data → Bool) (n : Need C) : Type 0 where
   meets : (s : Slot) (x : C) → SlotPasses pre s → n.meets s x → PassesNeed test n x
 

@@ -40,7 +40,7 @@ of_version v = record no_detail { version = Some v }
 abbrev pub only_package : Package → Manifest
 only_package p = record empty_manifest { «package» = Some p }
 
--- a dependency that the workspace lends, without its default features
+-- a dependency inherited from the workspace, without its default features
 abbrev pub bare : InheritedDependencyDetail
 bare = record lent { default_features = Some false }
 

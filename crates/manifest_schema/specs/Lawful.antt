@@ -18,7 +18,7 @@ pub record IsLawful {A : Type 0} (K : Kind A) : Type 0 where
   -- what is written of a well-formed one is read back
   pub back : (x : A) → K.good x → K.reads (K.written x) x
 
--- the same of a need
+-- the same for a need
 pub record IsLawfulNeed {C : Type 0} (n : Need C) : Type 0 where
   pub single : (s : Slot) (x y : C) → n.meets s x → n.meets s y → x ≡ y
   pub apart : (names : Spellings) (s : Slot) (p : Path) (c : Cause) (x : C) → n.faulty names s p c → n.meets s x → ⊥

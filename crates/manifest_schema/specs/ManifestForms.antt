@@ -42,7 +42,7 @@ package_rows metadata =
     ⨾ row (λ p. p.resolver) (only (codes "resolver")) (optional resolver)
     ⨾ no_more
 
--- THE PACKAGE FIELDS that a workspace lends
+-- THE PACKAGE FIELDS inherited from a workspace
 unfoldable pub workspace_package_rows : Rows WorkspacePackage
 workspace_package_rows =
     row (λ p. p.edition) (only (codes "edition")) (optional edition)

@@ -17,7 +17,7 @@ pub record Need (C : Type 0) : Type 1 where
   pub good : C → Type 0
 
 -- FAULTS OF A FIELD
--- a clash and an absence are told under the first spelling
+-- a clash and an absence are reported under the first spelling
 abbrev pub clash_at : Spellings → Faults
 clash_at names = behind (key (first names)) (itself two_spellings)
 

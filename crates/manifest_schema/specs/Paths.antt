@@ -14,7 +14,7 @@ pub data Step : Type 0 where
   key : Text → Step
   index : ℕ → Step
 
--- the steps from the value that was handed in
+-- the steps from the value that was passed in
 abbrev pub Path : Type 0
 Path = List Step
 

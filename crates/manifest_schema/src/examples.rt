@@ -26,7 +26,7 @@ pub fn unlisted_key()
         ≡ table (one_entry (codes "name") (string (codes "p"))) }
 {}
 
-/// `workspace = true` beside `version`: the workspace lends the dependency, and `version` is ignored.
+/// `workspace = true` next to `version`: the dependency comes from the workspace, and `version` is ignored.
 #[tactic(auto, unfolding(crate::specs::PartForms::inherited_rows, crate::specs::Slots::put_some))]
 pub fn lent_dependency()
     ensures reads { dependency.reads
@@ -51,7 +51,7 @@ pub fn former_tables()
     ensures left { ManifestLeavesDefaults (everywhere lent) }
 {}
 
-/// `workspace = false` beside `version`: the dependency is the member's own, and `workspace` is ignored.
+/// `workspace = false` next to `version`: the dependency is the member's own, and `workspace` is ignored.
 #[tactic(auto, unfolding(crate::specs::PartForms::detailed_rows, crate::specs::Slots::put_some))]
 pub fn own_dependency()
     ensures reads { dependency.reads
@@ -62,7 +62,7 @@ pub fn own_dependency()
         ≡ table (one_entry (codes "version") (string (codes "1"))) }
 {}
 
-/// Either spelling is read, the first one is written, and both are a clash that is told under the first.
+/// Either spelling is read, the first one is written, and both are a clash that is reported under the first.
 #[tactic(auto, unfolding(crate::specs::Slots::put_some))]
 pub fn second_spelling()
     ensures reads { (form spelled_rows).reads (table (one_entry (codes "a_b") (string (codes "x"))))
@@ -141,7 +141,7 @@ pub fn only_a_clash()
         (at_key (codes "a-b")) two_spellings }
 {}
 
-/// A value that does not fit is told under the spelling that the table has, and nowhere else.
+/// A value that does not fit is reported under the spelling that the table has, and nowhere else.
 pub fn only_the_second_spelling()
     ensures { OnlyFault
         ((form spelled_rows).faulty (table (one_entry (codes "a_b") (integer (pos 1)))))

@@ -68,7 +68,7 @@ pub struct Package<M = Value> {
     pub metadata: Option<M>,
     /// The oldest version of Rust that it supports, such as `1.75`: a bare version, no requirement.
     pub rust_version: Option<MaybeInherited<String>>,
-    /// The files that are not packaged, by patterns as of gitignore; of no effect beside `include`.
+    /// The files that are not packaged, by patterns as of gitignore; of no effect next to `include`.
     pub exclude: Option<MaybeInherited<Vec<String>>>,
     /// The files that are packaged, by patterns as of gitignore.
     pub include: Option<MaybeInherited<Vec<String>>>,
@@ -147,7 +147,7 @@ impl<M> Package<M> {
         }
     }
 
-    /// The version of the package, or the word that the workspace lends it. A package that names none has the version
+    /// The version of the package, or the mark that it is inherited from the workspace. A package that names none has the version
     /// 0.0.0, as the [Cargo reference](https://doc.rust-lang.org/cargo/reference/manifest.html#the-version-field) says.
     ///
     /// ```ignore
@@ -176,7 +176,7 @@ fn package_with_name<M>(name: String) -> Package<M>
 
 /// Reads a package from a table: the one reading of the table by the form of a package, as of a value that is this table.
 ///
-/// Refuses with the fault of a row, its key path beginning at the table, or with want of memory. The package under an
+/// Refuses with the fault of a row, its key path beginning at the table, or as out of memory. The package under an
 /// old header, which is the whole manifest, is read by it.
 ///
 /// ```ignore

@@ -32,7 +32,7 @@ cause_of Metadata = metadata_fault
 abbrev pub IsOneOf : Faults → SchemaFault → Type 0
 IsOneOf F f = F (path_of f.path) (cause_of f.cause)
 
--- the fault, where it is one of the schema and not want of memory, is one of these
+-- the fault, where it is one of the schema and not lack of memory, is one of these
 abbrev pub FaultIn : Faults → ReadFault → Type 0
 FaultIn F (Schema f) = IsOneOf F f
 FaultIn F (Memory e) = Unit {0}
@@ -42,7 +42,7 @@ abbrev pub IsSchema : ReadFault → Type 0
 IsSchema (Schema f) = Unit {0}
 IsSchema (Memory e) = ⊥
 
--- the fault is f with one step before its path, or want of memory
+-- the fault is f with one step before its path, or out of memory
 abbrev pub IsBehind : PathStep → ReadFault → ReadFault → Type 0
 IsBehind s (Memory e) g = FaultIn no_fault g
 IsBehind s (Schema f) g = FaultIn (λ p c. (p ≡ s ∷ path_of f.path) × (c ≡ cause_of f.cause)) g

@@ -9,7 +9,7 @@ use Rattle.manifest_value.specs.declared.error.Error.{Error}
 use Rattle.manifest_value.specs.declared.error.Error.TheVariants.{Parse, Io, Utf8, Other, Memory}
 use Rattle.manifest_value.specs.declared.error.ParseFault.TheVariants.{Toml, Schema}
 
--- the error tells one of these faults of the schema, or want of memory
+-- the error tells one of these faults of the schema, or out of memory
 abbrev pub RefusedIn : Faults → Error → Type 0
 RefusedIn F (Parse (Schema f)) = IsOneOf F f
 RefusedIn F (Memory e) = Unit {0}
@@ -20,7 +20,7 @@ abbrev pub TellsSchema : Error → Type 0
 TellsSchema (Parse (Schema f)) = Unit {0}
 TellsSchema _ = ⊥
 
--- want of memory
+-- out of memory
 abbrev pub IsOutOfMemory : Error → Type 0
 IsOutOfMemory (Memory e) = Unit {0}
 IsOutOfMemory _ = ⊥

@@ -14,7 +14,7 @@ use toml::Value;
 
 /// A type whose copies by `clone` hold what they are copied from.
 ///
-/// A copy is refused for want of memory alone.
+/// A copy is refused as out of memory alone.
 pub trait Copied: Clone {
     /// What a value holds. Of a type with a [`Schema`](crate::Schema) it is the content.
     ghost Held: { Type 0 };
@@ -24,7 +24,7 @@ pub trait Copied: Clone {
     ghost copies: { (x y : Self) → Self.is_clone x y → held y ≡ held x };
 }
 
-/// A copy of a value. It fails for want of memory alone.
+/// A copy of a value. It fails only when out of memory.
 ///
 /// ```ignore
 /// let copy = copy_of(&package)?; // copy == package

@@ -1,4 +1,4 @@
-//! The entries of a table that is read, one after the other, whether it is lent or taken apart.
+//! The entries of a table that is read, one after the other, whether it is borrowed or taken apart.
 
 ghost use Rattle.std.specs.Prelude.{◌≡◌, IfOk, string_bytes};
 ghost use Rattle.std.specs.Iterator.{at_most};
@@ -31,7 +31,7 @@ impl Key<'_> {
         }
     }
 
-    /// The key as a text of its own. It fails where the copy of a lent one finds no room, and only there.
+    /// The key as a text of its own. It fails where the copy of a lent one runs out of memory, and only there.
     ///
     /// ```ignore
     /// let name = Key::Lent("serde").into_string(alloc)?; // "serde"

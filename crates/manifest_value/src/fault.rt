@@ -13,7 +13,7 @@ pub enum Step {
     Index(usize),
 }
 
-/// The steps from the value that was handed in.
+/// The steps from the value that was passed in.
 #[derive(Debug, PartialEq, Eq, Drop)]
 pub struct KeyPath {
     pub steps: Vec<Step>,
@@ -73,7 +73,7 @@ impl KeyPath {
 }
 
 impl SchemaFault {
-    /// The same cause at the same path, in memory of its own, or `AllocError` where that finds no room.
+    /// The same cause at the same path, in memory of its own, or `AllocError` where that runs out of memory.
     ///
     /// ```ignore
     /// let copy = fault.clone(alloc)?; // the same path, the same cause
@@ -115,7 +115,7 @@ impl<T: Drop> From<AllocFailed<T>> for ReadFault {
 /// The fault at the value itself.
 ///
 /// ```ignore
-/// let fault = fault_here(alloc, Cause::WrongKind); // told as `wrong kind at (top)`
+/// let fault = fault_here(alloc, Cause::WrongKind); // reported as `wrong kind at (top)`
 /// ```
 #[cold]
 pub fn fault_here(alloc: Global, cause: Cause) -> ReadFault
@@ -130,10 +130,10 @@ pub fn fault_here(alloc: Global, cause: Cause) -> ReadFault
     })
 }
 
-/// The fault as it is seen one step further out, or want of memory where the step finds no room.
+/// The fault as it is seen one step further out, or out of memory where the step runs out of memory.
 ///
 /// ```ignore
-/// let fault = fault_behind_step(Step::Index(2), fault_here(alloc, Cause::WrongKind)); // told as `wrong kind at [2]`
+/// let fault = fault_behind_step(Step::Index(2), fault_here(alloc, Cause::WrongKind)); // reported as `wrong kind at [2]`
 /// ```
 #[cold]
 pub fn fault_behind_step(step: Step, fault: ReadFault) -> ReadFault
@@ -148,11 +148,11 @@ pub fn fault_behind_step(step: Step, fault: ReadFault) -> ReadFault
     }
 }
 
-/// The fault as it is seen from the table that has the value at the key, or want of memory where the step finds no
+/// The fault as it is seen from the table that has the value at the key, or out of memory where the step finds no
 /// room.
 ///
 /// ```ignore
-/// let fault = fault_under_key(alloc, "name", fault_here(alloc, Cause::WrongKind)); // told as `wrong kind at name`
+/// let fault = fault_under_key(alloc, "name", fault_here(alloc, Cause::WrongKind)); // reported as `wrong kind at name`
 /// ```
 #[cold]
 #[tactic(auto, using(crate::proofs::Behind::memory_behind))]

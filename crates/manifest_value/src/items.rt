@@ -1,4 +1,4 @@
-//! The items of a list that is read, one after the other, whether it is lent or taken apart.
+//! The items of a list that is read, one after the other, whether it is borrowed or taken apart.
 
 ghost use Rattle.std.specs.Prelude.{map, IfOk, IfErr};
 ghost use Rattle.std.specs.Iterator.{YieldsFirstBy, item_count};
@@ -61,7 +61,7 @@ fn read_item<T: Schema>(alloc: Global, source: Source<'_>, i: usize) -> Result<T
     }
 }
 
-/// What is read of items, in their order: the first fault is told where it is met.
+/// What is read of items, in their order: the first fault is reported where it is met.
 pub(crate) fn read_items<T: Schema>(
     alloc: Global,
     room: usize,

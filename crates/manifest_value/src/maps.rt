@@ -56,7 +56,7 @@ fn read_entry<T: Schema>(
     Ok((name, x))
 }
 
-/// What is read of entries, in their order: the first fault is told where it is met.
+/// What is read of entries, in their order: the first fault is reported where it is met.
 fn list_of_entries<T: Schema>(
     alloc: Global,
     room: usize,
@@ -91,8 +91,8 @@ fn read_map<T: Schema>(
     Ok(map_of_list(alloc, all)?)
 }
 
-/// The map of entries whose keys ascend, each value of one kind. The fault of the first entry that does not fit is told,
-/// with its key before the path. A key, an answer or the map that finds no room is want of memory.
+/// The map of entries whose keys ascend, each value of one kind. The fault of the first entry that does not fit is reported,
+/// with its key before the path. A key, an answer or the map that runs out of memory is refused as such.
 ///
 /// ```ignore
 /// let rest = walk(alloc, table, &spelled!["release", "dev"])?.rest;

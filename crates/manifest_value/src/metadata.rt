@@ -16,7 +16,7 @@ use crate::source::Source;
 use std::alloc::{AllocError, Global};
 use toml::{Table, Value};
 
-/// A type whose well-formed values are written without floats. Whether a value is well-formed is told by the tree that
+/// A type whose well-formed values are written without floats. Whether a value is well-formed is shown by the tree that
 /// is written of it: no two values with one tree are told apart.
 pub trait Metadata: Schema {
     ghost without_floats: { (x : Self.Content) → Self.kind.good x

@@ -42,7 +42,7 @@ impl fmt::Display for Cause {
 }
 
 impl KeyPath {
-    /// The path as a text, or `AllocError` where it finds no room.
+    /// The path as a text, or `AllocError` where it runs out of memory.
     ///
     /// Keys stand behind dots and indexes in brackets, as in `package.authors[0]`, and the path without steps is
     /// `(top)`. A key of the bytes `A` to `Z`, `a` to `z`, `0` to `9`, `_` and `-` stands as it is, as TOML's bare

@@ -8,7 +8,7 @@ ghost use Rattle.manifest_schema.proofs.RowLaws.{text_plain, texts_plain};
 
 use crate::schema::Schema;
 
-/// A type that may stand in a field that the workspace can lend.
+/// A type that may stand in a field that may be inherited from the workspace.
 ///
 /// Its calls are those of [`Schema`]: `from_value` and `to_value`. Its laws are those of its kind: a value with a
 /// fault has no reading, it has at most one reading, and what is written is read back. The law here adds that it

@@ -20,7 +20,7 @@ use toml::{Table, Value};
 
 /// Reads a text: a copy of the value's bytes.
 ///
-/// A value that is no text is refused at itself with `WrongKind`. A copy that finds no room is want of memory.
+/// A value that is no text is refused at itself with `WrongKind`. A copy that runs out of memory is refused as such.
 ///
 /// ```ignore
 /// let value = Value::string(alloc, "serde")?;
@@ -39,7 +39,7 @@ pub fn text(alloc: Global, value: &Value) -> Result<String, ReadFault>
 
 /// Reads a boolean.
 ///
-/// A value that is no boolean is refused at itself with `WrongKind`. It never wants memory.
+/// A value that is no boolean is refused at itself with `WrongKind`. It needs no memory.
 ///
 /// ```ignore
 /// let harness = boolean(alloc, &Value::Boolean(true))?; // true
@@ -59,7 +59,7 @@ pub fn boolean(alloc: Global, value: &Value) -> Result<bool, ReadFault>
 /// Reads a whole number from `low` to `high`, both included.
 ///
 /// A value that is no whole number is refused at itself with `WrongKind`, and one below `low` or above `high` with
-/// `OutOfRange`. So where `low` is above `high` each whole number is out of range. It never wants memory.
+/// `OutOfRange`. So where `low` is above `high` each whole number is out of range. It needs no memory.
 ///
 /// ```ignore
 /// let level = whole(alloc, &Value::Integer(3), 0, 3)?; // 3
@@ -86,7 +86,7 @@ pub fn whole(alloc: Global, value: &Value, low: i64, high: i64) -> Result<i64, R
 /// Reads a list of texts: a copy of each, in order.
 ///
 /// A value that is no list is refused at itself with `WrongKind`, and an item that is no text with `WrongKind` at its
-/// index. A copy that finds no room is want of memory.
+/// index. A copy that runs out of memory is refused as such.
 ///
 /// ```ignore
 /// let members = texts(alloc, &value)?; // of `["a", "b"]` the texts "a" and "b"
@@ -101,7 +101,7 @@ pub fn texts(alloc: Global, value: &Value) -> Result<Vec<String>, ReadFault>
 
 /// Reads a table: the one that stands in the value, not a copy.
 ///
-/// A value that is no table is refused at itself with `WrongKind`. It never wants memory.
+/// A value that is no table is refused at itself with `WrongKind`. It needs no memory.
 ///
 /// ```ignore
 /// let package = table(alloc, &value)?;
@@ -134,8 +134,8 @@ pub fn find<'a>(table: &'a Table, key: &str) -> Option<&'a Value>
 /// Finds the value of a field that has one spelling or two: `None` where the table has neither, and else the value
 /// under the spelling that it has, not a copy.
 ///
-/// A table that has both spellings is refused under the first one with `TwoSpellings`, or with want of memory where
-/// the key finds no room in the path. Nothing else is refused.
+/// A table that has both spellings is refused under the first one with `TwoSpellings`, or as out of memory where
+/// the key runs out of memory in the path. Nothing else is refused.
 ///
 /// ```ignore
 /// let kinds = field(alloc, library, "crate-type", Some("crate_type"))?;

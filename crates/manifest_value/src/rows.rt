@@ -17,7 +17,7 @@ use toml::{Table, Value};
 /// A fault at a key of the table.
 ///
 /// ```ignore
-/// let fault = at_key(alloc, "name", Cause::Missing); // told as `missing at name`
+/// let fault = at_key(alloc, "name", Cause::Missing); // reported as `missing at name`
 /// ```
 #[cold]
 #[tactic(auto, using(crate::proofs::Behind::fault_behind))]

@@ -31,10 +31,10 @@ pub trait Schema: Sized + Drop {
 
     ghost kind: { Kind Content };
 
-    /// Whether reading takes no memory, so that it is never refused for want of memory.
+    /// Whether reading takes no memory, so that it is never refused as out of memory.
     ghost takes_no_memory: { Type 0 } = { ⊥ };
 
-    /// The one reading of the value, or a fault that it has, or want of memory. What a value that nobody else wants holds
+    /// The one reading of the value, or a fault that it has, or out of memory. What a value that nobody else wants holds
     /// is moved where the type can, and copied else.
     fn read(alloc: Global, source: Source<'_>) -> Result<Self, ReadFault>
         ensures ok { IfOk result (Reads kind content (source_view source.entry)) }
@@ -44,7 +44,7 @@ pub trait Schema: Sized + Drop {
     /// The one reading of the value.
     ///
     /// Refuses with `Error::Parse(ParseFault::Schema(..))` of a cause that the value has and its key path in the value, and
-    /// for want of memory with [`Error::Memory`].
+    /// for lack of memory with [`Error::Memory`].
     ///
     /// ```ignore
     /// let value = Value::from_str(alloc, "'2021'")?;
@@ -58,7 +58,7 @@ pub trait Schema: Sized + Drop {
         Self::read(alloc, Source::Lent(value)).map_err(refusal)
     }
 
-    /// The value that is written. It fails for want of memory alone.
+    /// The value that is written. It fails only when out of memory.
     fn to_value(&self, alloc: Global) -> Result<Value, AllocError>
         ensures { IfOk result (λ v. view v ≡ kind.written (content self.now)) };
 

@@ -83,7 +83,7 @@ fn fill_slot<'t>(slots: &mut Vec<RowSlot<'t>>, i: usize, spelling: &'static str,
 /// lent is copied, what one that is taken holds is moved, and the values are not looked at.
 ///
 /// All spellings of the rows have to differ, which asks nothing where there is no row. It fails where the slots or the
-/// list of the other keys find no room, and only there.
+/// list of the other keys run out of memory, and only there.
 ///
 /// ```ignore
 /// let rows = spelled!["name", "proc-macro" | "proc_macro"];

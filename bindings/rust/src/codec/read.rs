@@ -66,7 +66,7 @@ pub(crate) fn optional<T: Form>(
     read.map(Some).map_err(|misfit| misfit.below(Step::Key(spelling.into())))
 }
 
-/// The same of a key that is needed.
+/// The same for a key that is needed.
 pub(crate) fn needed<T: Form>(
     members: &mut Map,
     key: &'static str,
