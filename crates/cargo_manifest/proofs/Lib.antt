@@ -1,3 +1,4 @@
+pub mod ProfileLemmas
 pub mod FaultLemmas
 pub mod StoredLaws
 pub mod WellFormedLaws

@@ -1,6 +1,7 @@
 pub use Rattle.manifest_schema.specs.Contents
 pub use Rattle.manifest_schema.specs.ManifestForms
 pub use Rattle.manifest_schema.specs.Meaning
+pub mod Tables
 pub mod WellFormed
 pub mod Whole
 pub mod Answers

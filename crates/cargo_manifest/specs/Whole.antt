@@ -10,7 +10,7 @@ use Rattle.manifest_schema.specs.Contents
 use Rattle.manifest_value.specs.Entries.{entries_content}
 use Rattle.manifest_value.specs.Reading.{written_as}
 use Rattle.manifest_parts.specs.Records.{product_content, badges_content, lints_content, platform_content}
-use Rattle.manifest_tables.specs.Tables.{dependencies_content, package_content, workspace_content, profiles_content}
+use Rattle.cargo_manifest.specs.Tables.{dependencies_content, package_content, workspace_content, profiles_content}
 use Rattle.cargo_manifest.specs.declared.manifest.Manifest.{Manifest}
 
 abbrev pub manifest_content : {P W : Type 0} → (P → Data) → (W → Data) → Manifest P W → Contents.Manifest

@@ -2,7 +2,7 @@
 
 ghost use Rattle.std.specs.Prelude.{◌≡◌, OnErr, Ok, Some, None};
 ghost use Rattle.manifest_schema.specs.Contents;
-ghost use Rattle.manifest_tables.specs.Tables.{package_of};
+ghost use Rattle.cargo_manifest.specs.Tables.{package_of};
 ghost use Rattle.manifest_completion.specs.Completed.{targets_of, with_targets, autobins, autoexamples, autotests, autobenches};
 ghost use Rattle.manifest_completion.specs.Outcome.{declared_content, completed_content};
 ghost use Rattle.cargo_manifest.specs.Completes.{Completes};
@@ -12,7 +12,7 @@ use crate::manifest::Manifest;
 use manifest_completion::{
     AbstractFilesystem, CompletedTargets, DeclaredTargets, complete, discovers, is_legacy,
 };
-use manifest_tables::Package;
+use crate::package::Package;
 use manifest_value::{Error, Metadata};
 use std::alloc::Global;
 use toml::Value;

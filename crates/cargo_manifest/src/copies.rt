@@ -19,16 +19,17 @@ ghost use Rattle.manifest_parts.specs.contracts.copies.MaybeInheritedLintsSetCop
 ghost use Rattle.manifest_parts.specs.contracts.copies.ProductCopied.TheImpl.Laws.{copies-law as product_copied};
 ghost use Rattle.manifest_parts.specs.contracts.copies_of_dependencies.DependencyCopied.TheImpl.Laws.{copies-law as dependency_copied};
 ghost use Rattle.manifest_parts.specs.contracts.copies_of_platforms.TargetCopied.TheImpl.Laws.{copies-law as platform_copied};
-ghost use Rattle.manifest_tables.specs.Tables.{dependencies_content, package_content, workspace_content, profiles_content};
-ghost use Rattle.manifest_tables.specs.contracts.copies.WorkspacePackageCopied.TheImpl.Laws.{copies-law as fields_copied};
-ghost use Rattle.manifest_tables.specs.contracts.copies.ProfilesCopied.TheImpl.Laws.{copies-law as profiles_copied};
-ghost use Rattle.manifest_tables.specs.declared.package.Package.{Package as APackage};
-ghost use Rattle.manifest_tables.specs.declared.workspace.Workspace.{Workspace as AWorkspace};
+ghost use Rattle.cargo_manifest.specs.Tables.{dependencies_content, package_content, workspace_content, profiles_content};
+ghost use Rattle.cargo_manifest.specs.contracts.copies_of_profiles.WorkspacePackageCopied.TheImpl.Laws.{copies-law as fields_copied};
+ghost use Rattle.cargo_manifest.specs.contracts.copies_of_profiles.ProfilesCopied.TheImpl.Laws.{copies-law as profiles_copied};
+ghost use Rattle.cargo_manifest.specs.declared.package.Package.{Package as APackage};
+ghost use Rattle.cargo_manifest.specs.declared.workspace.Workspace.{Workspace as AWorkspace};
 ghost use Rattle.cargo_manifest.specs.Whole.{manifest_content};
 
 use crate::manifest::Manifest;
 use manifest_parts::{FeatureSet, LintsSet, PatchSet, TargetDepsSet};
-use manifest_tables::{Package, Workspace};
+use crate::package::Package;
+use crate::workspace::Workspace;
 use manifest_value::Copied;
 
 impl<P: Copied, W: Copied> Copied for Manifest<P, W> {

@@ -15,12 +15,18 @@
 
 mod completion;
 pub mod copies;
+pub mod copies_of_packages;
+pub mod copies_of_profiles;
+pub mod copies_of_workspaces;
 mod files;
 pub mod laws;
 pub mod manifest;
 mod nesting;
+pub mod package;
 mod printed;
+pub mod profiles;
 mod reading;
+pub mod workspace;
 mod writing;
 
 pub use manifest::Manifest;
@@ -31,7 +37,9 @@ pub use manifest_parts::{
     MaintenanceStatus, MaybeInherited, MaybeInheritedLintsSet, PatchSet, Product, Profile, Publish,
     Resolver, StringOrBool, StripSetting, Target, TargetDepsSet, ToolLintsSet, True,
 };
-pub use manifest_tables::{Package, Profiles, Workspace, WorkspacePackage};
+pub use package::Package;
+pub use profiles::Profiles;
+pub use workspace::{Workspace, WorkspacePackage};
 pub use manifest_value::{
     Cause, Error, KeyPath, Metadata, ParseFault, Plain, ReadFault, Schema, SchemaFault, Step,
     Unread,

@@ -17,7 +17,9 @@ ghost use Rattle.manifest_value.specs.Reading.{IsOfTable};
 use manifest_parts::{
     Badges, DepsSet, FeatureSet, MaybeInheritedLintsSet, PatchSet, Product, TargetDepsSet,
 };
-use manifest_tables::{Package, Profiles, Workspace};
+use crate::package::Package;
+use crate::profiles::Profiles;
+use crate::workspace::Workspace;
 use manifest_value::form::{RowPut, RowRead, Rowed, Word, write_form};
 use manifest_value::row_slots::RowSlot;
 use manifest_value::{

@@ -6,13 +6,13 @@ ghost use Rattle.toml.specs.View.{view, table_view};
 ghost use Rattle.manifest_schema.specs.Kinds.{kept, tree_of};
 ghost use Rattle.manifest_schema.specs.Meaning.{has, has_header, old_package, faulty_old, means, means_by, unmeant, unmeant_by};
 ghost use Rattle.manifest_value.specs.Faults.{FaultIn};
-ghost use Rattle.manifest_tables.specs.Tables.{package_of, package_form};
+ghost use Rattle.cargo_manifest.specs.Tables.{package_of, package_form};
 ghost use Rattle.cargo_manifest.specs.Whole.{manifest_content, manifest_of, manifest_kept};
 ghost use Rattle.cargo_manifest.specs.Answers.{IsDocumentOf, Refuses, RefusesTable, RefusesText};
 
 use crate::manifest::Manifest;
-use manifest_tables::Package;
-use manifest_tables::package::package_from;
+use crate::package::Package;
+use crate::package::package_from;
 use manifest_value::error::refusal;
 use manifest_value::form::read_form_into;
 use manifest_value::readers::find;

@@ -3,7 +3,7 @@ use Rattle.std.proofs.Common.{inl, inr, refl, Some, option_map}
 use Rattle.manifest_schema.specs.Contents.{Manifest, Workspace}
 use Rattle.manifest_value.specs.Entries.{entries_content}
 use Rattle.manifest_parts.specs.Records.{platform_content}
-use Rattle.manifest_tables.specs.Tables.{dependencies_content, workspace_package_content}
+use Rattle.cargo_manifest.specs.Tables.{dependencies_content, workspace_package_content}
 use Rattle.manifest_inherit.specs.Fields.{lendable}
 use Rattle.manifest_inherit.specs.Resolved.{resolved_package, resolved_dependencies, resolved_platforms, resolved_lints, lent_dependencies, resolved}
 use Rattle.manifest_inherit.specs.Refused.{NoneHolds, refuses_fields, refuses_dependencies, refuses_platforms, refuses_lints, refuses_some, refuses}

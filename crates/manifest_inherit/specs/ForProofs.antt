@@ -8,7 +8,7 @@ use Rattle.manifest_value.specs.Entries.{entries_content}
 use Rattle.manifest_parts.specs.Records.{platform_content, lint_content}
 use Rattle.manifest_parts.specs.declared.dependency.Dependency.{Dependency as DependencyOfCode}
 use Rattle.manifest_parts.specs.declared.lints.Lint.{Lint as LintOfCode}
-use Rattle.manifest_tables.specs.Tables.{dependencies_content, workspace_package_content}
+use Rattle.cargo_manifest.specs.Tables.{dependencies_content, workspace_package_content}
 use Rattle.manifest_inherit.specs.Fields.{Fields, no_more, ◌⨾◌}
 use Rattle.manifest_inherit.specs.Resolved.{resolved_package, resolved_lints}
 use Rattle.manifest_inherit.specs.Refused.{Refusals, NoneHolds, refuses_field}

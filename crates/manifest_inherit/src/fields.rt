@@ -2,7 +2,7 @@
 
 ghost use Rattle.std.specs.Prelude.{◌≡◌, ◌<◌, Some, OnOk, IfErr, length, option_map};
 ghost use Rattle.manifest_parts.specs.Parts.{inh_content};
-ghost use Rattle.manifest_tables.specs.Tables.{workspace_package_content, package_of};
+ghost use Rattle.cargo_manifest.specs.Tables.{workspace_package_content, package_of};
 ghost use Rattle.manifest_inherit.specs.Fields.{lendable};
 ghost use Rattle.manifest_inherit.specs.Resolved.{resolved_field, resolved_package};
 ghost use Rattle.manifest_inherit.specs.Refused.{NoneHolds, refuses_field, refuses_fields};
@@ -11,7 +11,7 @@ ghost use Rattle.manifest_inherit.specs.ForProofs.{how_many, refuses_at, IsLent,
 
 use crate::error::{ResolveError, not_in_workspace};
 use manifest_parts::MaybeInherited;
-use manifest_tables::{Package, WorkspacePackage};
+use cargo_manifest::{Package, WorkspacePackage};
 use manifest_value::{Metadata, Schema, at_place};
 use std::alloc::Global;
 

@@ -1,7 +1,7 @@
 //! Resolving a manifest over the workspace that it belongs to.
 
 ghost use Rattle.std.specs.Prelude.{◌≡◌, OnOk, OnErr, IfOk, IfErr, Some, option_map};
-ghost use Rattle.manifest_tables.specs.Tables.{workspace_package_content, package_of, workspace_of};
+ghost use Rattle.cargo_manifest.specs.Tables.{workspace_package_content, package_of, workspace_of};
 ghost use Rattle.cargo_manifest.specs.Whole.{manifest_of};
 ghost use Rattle.manifest_inherit.specs.Fields.{lendable};
 ghost use Rattle.manifest_inherit.specs.Resolved.{resolved_package, resolved};

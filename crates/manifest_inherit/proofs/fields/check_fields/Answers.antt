@@ -1,5 +1,5 @@
 use Rattle.std.proofs.Common.{rules, ◌≡◌, Some, arith, add-one, subst}
-use Rattle.manifest_tables.specs.Tables.{workspace_package_content, package_of}
+use Rattle.cargo_manifest.specs.Tables.{workspace_package_content, package_of}
 use Rattle.manifest_inherit.specs.Fields.{lendable}
 use Rattle.manifest_inherit.specs.Refused.{refuses_fields}
 use Rattle.manifest_inherit.specs.ForProofs.{how_many, refuses_at, first_lent}

@@ -1,5 +1,5 @@
 use Rattle.std.specs.Prelude.{Some}
-use Rattle.manifest_tables.specs.Tables.{workspace_package_content, package_of}
+use Rattle.cargo_manifest.specs.Tables.{workspace_package_content, package_of}
 use Rattle.manifest_inherit.specs.Fields.{lendable}
 use Rattle.manifest_inherit.specs.ForProofs.{first_lent}
 use Rattle.manifest_inherit.proofs.fields.check_fields.Given as goal

@@ -1,5 +1,5 @@
 use Rattle.std.proofs.Common.{◌≡◌, Result, Ok, Err, Some, None, OnOk, IfErr, refl, ap}
-use Rattle.manifest_tables.specs.Tables.{workspace_package_content, package_of}
+use Rattle.cargo_manifest.specs.Tables.{workspace_package_content, package_of}
 use Rattle.manifest_inherit.specs.Fields.{lendable}
 use Rattle.manifest_inherit.specs.Resolved.{resolved_package}
 use Rattle.manifest_inherit.specs.Refused.{Refusal, Refusals, NoneHolds, refuses_fields}

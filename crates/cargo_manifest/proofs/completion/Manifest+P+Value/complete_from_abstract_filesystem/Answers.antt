@@ -1,7 +1,7 @@
 use Rattle.std.proofs.Common.{◌≡◌, ap, None}
 use Rattle.std.specs.Prelude.{option_map}
 use Rattle.toml.specs.View.{view}
-use Rattle.manifest_tables.specs.Tables.{package_content}
+use Rattle.cargo_manifest.specs.Tables.{package_content}
 use Rattle.cargo_manifest.specs.Whole.{manifest_content}
 use Rattle.manifest_completion.proofs.CompleteLemmas.{without_package}
 use Rattle.cargo_manifest.proofs.completion.Manifest+P+Value.complete_from_abstract_filesystem.Goals as goal

@@ -1,6 +1,6 @@
 use Rattle.std.proofs.Common.{refl}
 use Rattle.manifest_schema.specs.ManifestForms.{package_rows}
-use Rattle.manifest_tables.proofs.package.Package.new.Goals as goal
+use Rattle.cargo_manifest.proofs.package.Package.new.Goals as goal
 
 pub returns : goal.returns
 unfolding package_rows

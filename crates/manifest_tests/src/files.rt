@@ -19,7 +19,7 @@ const FOUND: &str =
 /// The folder of a test: a new one in the system's for temporary files.
 fn test_folder(rt: HostRuntime, test: &str) -> Result<PathBuf, Fail> {
     let id = process::id(rt.process());
-    let name = format!(in rt.alloc(); "manifest_rows-{id}-{test}")?;
+    let name = format!(in rt.alloc(); "manifest_tests-{id}-{test}")?;
     let folder = env::temp_dir(&rt)?.join(rt.alloc(), name.as_str())?;
     fs::create_dir(&rt, folder.as_path())?;
     Ok(folder)

@@ -12,10 +12,10 @@ use Rattle.manifest_value.specs.Reading.{written_as}
 use Rattle.manifest_parts.specs.Parts.{edition_content, resolver_content, text_or_flag_content, publish_content, inh_content}
 use Rattle.manifest_parts.specs.Records.{dependency_content, lint_content, profile_content}
 use Rattle.manifest_parts.specs.declared.dependency.Dependency.{Dependency}
-use Rattle.manifest_tables.specs.declared.package.Package.{Package}
-use Rattle.manifest_tables.specs.declared.workspace.WorkspacePackage.{WorkspacePackage}
-use Rattle.manifest_tables.specs.declared.workspace.Workspace.{Workspace}
-use Rattle.manifest_tables.specs.declared.profiles.Profiles.{Profiles}
+use Rattle.cargo_manifest.specs.declared.package.Package.{Package}
+use Rattle.cargo_manifest.specs.declared.workspace.WorkspacePackage.{WorkspacePackage}
+use Rattle.cargo_manifest.specs.declared.workspace.Workspace.{Workspace}
+use Rattle.cargo_manifest.specs.declared.profiles.Profiles.{Profiles}
 
 abbrev pub dependencies_content : BTreeMap (String Global) Dependency → Entries Contents.Dependency
 dependencies_content m = entries_content dependency_content m.entries

@@ -16,8 +16,8 @@ ghost use Rattle.manifest_parts.specs.Parts.{resolver_content};
 ghost use Rattle.manifest_parts.specs.Records.{lint_content};
 ghost use Rattle.manifest_parts.specs.contracts.copies_of_dependencies.DependencyCopied.TheImpl.Laws.{copies-law as dependency_copied};
 ghost use Rattle.manifest_parts.specs.contracts.copies.LintCopied.TheImpl.Laws.{copies-law as lint_copied};
-ghost use Rattle.manifest_tables.specs.Tables.{workspace_package_content, workspace_content, dependencies_content};
-ghost use Rattle.manifest_tables.specs.contracts.copies.WorkspacePackageCopied.TheImpl.Laws.{copies-law as package_copied};
+ghost use Rattle.cargo_manifest.specs.Tables.{workspace_package_content, workspace_content, dependencies_content};
+ghost use Rattle.cargo_manifest.specs.contracts.copies_of_profiles.WorkspacePackageCopied.TheImpl.Laws.{copies-law as package_copied};
 
 use crate::workspace::Workspace;
 use manifest_parts::LintsSet;

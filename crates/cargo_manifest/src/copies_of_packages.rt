@@ -19,7 +19,7 @@ ghost use Rattle.manifest_parts.specs.Parts.{
   inh_content,
 };
 ghost use Rattle.manifest_parts.proofs.CopyLaws.{lent_copied};
-ghost use Rattle.manifest_tables.specs.Tables.{package_content};
+ghost use Rattle.cargo_manifest.specs.Tables.{package_content};
 
 use crate::package::Package;
 use manifest_value::Copied;

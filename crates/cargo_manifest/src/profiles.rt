@@ -9,7 +9,7 @@ ghost use Rattle.manifest_schema.proofs.PartLaws.{profiles_lawful};
 ghost use Rattle.manifest_value.specs.Faults.{FaultIn};
 ghost use Rattle.manifest_value.specs.Reading.{Reads, IsOfTable};
 ghost use Rattle.manifest_value.specs.Sources.{table_source};
-ghost use Rattle.manifest_tables.specs.Tables.{profiles_content};
+ghost use Rattle.cargo_manifest.specs.Tables.{profiles_content};
 ghost use Rattle.toml.specs.Data.{no_members};
 
 use manifest_parts::Profile;

@@ -8,7 +8,7 @@ ghost use Rattle.manifest_schema.specs.Contents;
 ghost use Rattle.manifest_schema.specs.ManifestForms.{workspace_package_rows, workspace_rows};
 ghost use Rattle.manifest_schema.proofs.KindLaws.{tree_lawful};
 ghost use Rattle.manifest_schema.proofs.ManifestLaws.{workspace_package_lawful, workspace_lawful};
-ghost use Rattle.manifest_tables.specs.Tables.{workspace_package_content, workspace_content, workspace_of};
+ghost use Rattle.cargo_manifest.specs.Tables.{workspace_package_content, workspace_content, workspace_of};
 ghost use Rattle.manifest_value.specs.Reading.{IsOfTable};
 
 use manifest_parts::{DepsSet, Edition, LintsSet, Publish, Resolver, StringOrBool};

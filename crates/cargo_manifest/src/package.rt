@@ -13,7 +13,7 @@ ghost use Rattle.manifest_value.specs.Faults.{FaultIn};
 ghost use Rattle.manifest_value.specs.Reading.{data_of, Reads, IsOfTable};
 ghost use Rattle.manifest_parts.specs.Parts.{inh_content};
 ghost use Rattle.manifest_parts.specs.Queries.{version_of};
-ghost use Rattle.manifest_tables.specs.Tables.{package_content, package_of, package_form};
+ghost use Rattle.cargo_manifest.specs.Tables.{package_content, package_of, package_form};
 
 use manifest_parts::{Edition, MaybeInherited, Publish, Resolver, StringOrBool};
 use manifest_value::form::{RowPut, RowRead, Rowed, Word, read_form};

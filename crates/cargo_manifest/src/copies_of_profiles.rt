@@ -9,7 +9,7 @@ ghost use Rattle.manifest_schema.specs.ManifestForms.{workspace_package_rows};
 ghost use Rattle.manifest_schema.proofs.PartLaws.{profiles_built};
 ghost use Rattle.manifest_schema.proofs.ManifestLaws.{workspace_package_built};
 ghost use Rattle.manifest_value.proofs.FormLemmas.{by_rows};
-ghost use Rattle.manifest_tables.specs.Tables.{workspace_package_content, profiles_content};
+ghost use Rattle.cargo_manifest.specs.Tables.{workspace_package_content, profiles_content};
 ghost use Rattle.manifest_value.specs.Entries.{entries_content};
 ghost use Rattle.manifest_parts.specs.Parts.{edition_content, text_or_flag_content, publish_content};
 ghost use Rattle.manifest_parts.specs.Records.{profile_content};

@@ -1,6 +1,6 @@
 use Rattle.manifest_value.specs.Sources.{members_of}
-use Rattle.manifest_tables.proofs.ProfileLemmas.{custom_fault}
-use Rattle.manifest_tables.proofs.profiles.profiles_from.Goals as goal
+use Rattle.cargo_manifest.proofs.ProfileLemmas.{custom_fault}
+use Rattle.cargo_manifest.proofs.profiles.profiles_from.Goals as goal
 
 pub returns-in-Err-clause-fault : goal.returns-in-Err-clause-fault
 returns-in-Err-clause-fault c =
