@@ -9,10 +9,10 @@ ghost use Rattle.cargo_manifest.specs.Completes.{Completes};
 ghost use Rattle.cargo_manifest.specs.Whole.{manifest_kept};
 
 use crate::manifest::Manifest;
+use crate::package::Package;
 use manifest_completion::{
     AbstractFilesystem, CompletedTargets, DeclaredTargets, complete, discovers, is_legacy,
 };
-use crate::package::Package;
 use manifest_value::{Error, Metadata};
 use std::alloc::Global;
 use toml::Value;

@@ -27,9 +27,9 @@ ghost use Rattle.cargo_manifest.specs.declared.workspace.Workspace.{Workspace as
 ghost use Rattle.cargo_manifest.specs.Whole.{manifest_content};
 
 use crate::manifest::Manifest;
-use manifest_parts::{FeatureSet, LintsSet, PatchSet, TargetDepsSet};
 use crate::package::Package;
 use crate::workspace::Workspace;
+use manifest_parts::{FeatureSet, LintsSet, PatchSet, TargetDepsSet};
 use manifest_value::Copied;
 
 impl<P: Copied, W: Copied> Copied for Manifest<P, W> {

@@ -37,14 +37,14 @@ pub use manifest_parts::{
     MaintenanceStatus, MaybeInherited, MaybeInheritedLintsSet, PatchSet, Product, Profile, Publish,
     Resolver, StringOrBool, StripSetting, Target, TargetDepsSet, ToolLintsSet, True,
 };
-pub use package::Package;
-pub use profiles::Profiles;
-pub use workspace::{Workspace, WorkspacePackage};
 pub use manifest_value::{
     Cause, Error, KeyPath, Metadata, ParseFault, Plain, ReadFault, Schema, SchemaFault, Step,
     Unread,
 };
 pub use nesting::depth;
+pub use package::Package;
 pub use printed::printed_bound;
+pub use profiles::Profiles;
 pub use toml::Value;
+pub use workspace::{Workspace, WorkspacePackage};
 pub use writing::INVALID_DATE;

@@ -14,12 +14,12 @@ ghost use Rattle.manifest_schema.proofs.ManifestLaws.{manifest_lawful};
 ghost use Rattle.cargo_manifest.specs.Whole.{manifest_content, manifest_of};
 ghost use Rattle.manifest_value.specs.Reading.{IsOfTable};
 
-use manifest_parts::{
-    Badges, DepsSet, FeatureSet, MaybeInheritedLintsSet, PatchSet, Product, TargetDepsSet,
-};
 use crate::package::Package;
 use crate::profiles::Profiles;
 use crate::workspace::Workspace;
+use manifest_parts::{
+    Badges, DepsSet, FeatureSet, MaybeInheritedLintsSet, PatchSet, Product, TargetDepsSet,
+};
 use manifest_value::form::{RowPut, RowRead, Rowed, Word, write_form};
 use manifest_value::row_slots::RowSlot;
 use manifest_value::{

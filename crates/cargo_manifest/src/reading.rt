@@ -11,8 +11,7 @@ ghost use Rattle.cargo_manifest.specs.Whole.{manifest_content, manifest_of, mani
 ghost use Rattle.cargo_manifest.specs.Answers.{IsDocumentOf, Refuses, RefusesTable, RefusesText};
 
 use crate::manifest::Manifest;
-use crate::package::Package;
-use crate::package::package_from;
+use crate::package::{Package, package_from};
 use manifest_value::error::refusal;
 use manifest_value::form::read_form_into;
 use manifest_value::readers::find;

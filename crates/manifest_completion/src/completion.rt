@@ -142,9 +142,7 @@ fn asks_root(build: &Option<StringOrBool>) -> bool
 }
 
 /// The answer at `src`, unless it is a fault other than that it is not there.
-fn check_source(
-    source: io::Result<BTreeSet<String>>,
-) -> Result<io::Result<BTreeSet<String>>, Error>
+fn check_source(source: io::Result<BTreeSet<String>>) -> Result<io::Result<BTreeSet<String>>, Error>
     ensures { MatchResult result (λ s. (s ≡ source) × (source_fault (answer_of source) ≡ None))
         (IsFault (source_fault (answer_of source))) }
 {

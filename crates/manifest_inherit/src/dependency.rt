@@ -86,7 +86,9 @@ pub(crate) fn resolved_dependency(
             Some(Dependency::Simple(version)) => {
                 Ok(join_dependency(alloc, own, version_alone(version)?)?)
             }
-            Some(Dependency::Detailed(detail)) => { Ok(join_dependency(alloc, own, copy_of(detail)?)?) }
+            Some(Dependency::Detailed(detail)) => {
+                Ok(join_dependency(alloc, own, copy_of(detail)?)?)
+            }
         },
     }
 }

@@ -10,8 +10,8 @@ ghost use Rattle.manifest_inherit.specs.Answers.{RefusedIn};
 ghost use Rattle.manifest_inherit.specs.ForProofs.{how_many, refuses_at, IsLent, lent_at};
 
 use crate::error::{ResolveError, not_in_workspace};
-use manifest_parts::MaybeInherited;
 use cargo_manifest::{Package, WorkspacePackage};
+use manifest_parts::MaybeInherited;
 use manifest_value::{Metadata, Schema, at_place};
 use std::alloc::Global;
 

@@ -222,7 +222,11 @@ fn expected_at_place(
 }
 
 /// The same by the call of the type.
-fn expected_by_call(alloc: Global, written: &str, refusal: Option<Refusal<'_>>) -> Result<String, Fail> {
+fn expected_by_call(
+    alloc: Global,
+    written: &str,
+    refusal: Option<Refusal<'_>>,
+) -> Result<String, Fail> {
     match refusal {
         None => text_of_value(alloc, Value::Table(toml::table_from_str(alloc, written)?)),
         Some((cause, key, rest)) => Ok(format!(in alloc; "{cause} at {key}{rest}")?),

@@ -28,7 +28,10 @@ fn faults_behind_steps(rt: HostRuntime) -> Result<(), Fail> {
     for (fault, expected) in [
         (fault_here(alloc, Cause::Missing), "missing at (top)"),
         (not_true(), "not true at \"a b\""),
-        (fault_under_key(alloc, "x", not_true()), "not true at x.\"a b\""),
+        (
+            fault_under_key(alloc, "x", not_true()),
+            "not true at x.\"a b\"",
+        ),
         (
             fault_behind_step(Step::Index(3), not_true()),
             "not true at [3].\"a b\"",

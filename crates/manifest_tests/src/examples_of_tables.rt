@@ -1,7 +1,7 @@
 //! The examples of the calls of `manifest_tables`, each as it stands in the call's comment, and their answers.
 use crate::answers::assert_written;
-use cargo_manifest::{Package, Profiles, Schema, Workspace, WorkspacePackage};
 use cargo_manifest::package::package_from;
+use cargo_manifest::{Package, Profiles, Schema, Workspace, WorkspacePackage};
 use std::alloc::Global;
 use std::process::Abort;
 use std::test::Fail;
