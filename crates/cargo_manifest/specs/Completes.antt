@@ -14,7 +14,7 @@ use Rattle.manifest_completion.specs.Outcome.{library_text, IsRefusalOf}
 abbrev pub ComesTo : (Text → Answer → Type 0) → Manifest → Completion Manifest → Type 0
 ComesTo allows m c = ByOneMap allows (asked m) (completed m) c
 
--- the refusal to complete: for a fault that the map has, for lack of a library's file, or as out of memory
+-- the refusal to complete: for a fault that the map has, a missing library file, or out of memory
 abbrev pub RefusesToComplete : (Text → Answer → Type 0) → Manifest → Error → Type 0
 RefusesToComplete allows m (Io e) = ComesTo allows m (refused (error_kind e))
 RefusesToComplete allows m (Other s) = ComesTo allows m no_library × (string_bytes s ≡ library_text)

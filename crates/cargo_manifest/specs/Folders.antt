@@ -29,7 +29,7 @@ IsOtherIo _ = ⊥
 abbrev pub folder_of : Path → Option Text
 folder_of p = path_parent (path_bytes p)
 
--- the first manifest comes to the second by some map of listings whose names ascend
+-- the first manifest becomes the second by some map of listings whose names ascend
 abbrev pub CompletedIn : Option Text → Manifest → Manifest → Type 0
 CompletedIn (Some folder) old new = ComesTo AnyAscending old (completed_to new)
 CompletedIn None old new = ⊥

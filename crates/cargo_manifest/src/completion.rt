@@ -143,9 +143,9 @@ impl<P: Metadata> Manifest<P, Value> {
     ///
     /// It asks for `src`; `src/bin` and each of its entries; `examples`, `tests`, `benches`, each with its entries; and `.`,
     /// where `build` is absent or true. Refuses with [`Error::Io`] where `src` has another fault than that it is not there,
-    /// where a listing of a target folder or of an entry runs out of memory, and where `.` has a fault; with [`Error::Other`]
-    /// where a declared library has no file; and with [`Error::Memory`] when out of memory. After a refusal the manifest
-    /// is what it was.
+    /// where memory runs out for the listing of a target folder or of an entry, and where `.` has a fault; with
+    /// [`Error::Other`] where a declared library has no file; and with [`Error::Memory`] when out of memory. After a
+    /// refusal the manifest is what it was.
     ///
     /// ```ignore
     /// let mut names = BTreeSet::new(alloc);

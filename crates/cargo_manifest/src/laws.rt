@@ -80,14 +80,14 @@ pub fn accepted_or_faulty()
 {}
 
 /// Where no inherited dependency of a manifest chooses its default features, what is written of the manifest is what was
-/// written before they could; where it is well-formed besides, what was written then is read as it.
+/// written before they could; where it is also well-formed, what was written then is read as it.
 pub fn old_written_is_read<P: Metadata, W: Metadata>()
     ensures { OldWrittenIsRead (tree_of P.kind) (tree_of W.kind) }
 {}
 
 /// Over a filesystem that has one answer stored for each path text, as [`Listings`](crate::Listings) has, the answer of
 /// [`Manifest::complete_from_abstract_filesystem`](crate::Manifest::complete_from_abstract_filesystem) is the completion of
-/// the map of what is stored; a listing for which memory ran out, or other lack of memory, aside.
+/// the map of what is stored; unless memory runs out, for a listing or otherwise.
 #[tactic(auto, using(crate::proofs::StoredLaws::stored_decides))]
 pub fn stored_decides()
     ensures { StoredDecides }

@@ -31,7 +31,7 @@ impl Write for Count {
     }
 }
 
-/// What a key takes, with a dot or a blank behind it.
+/// What a key takes, with a dot or a blank after it.
 fn key_size(key: &str) -> Option<usize>
     ensures { IfSome result (λ n. n ≡ spec.key_size key.now) }
 {
@@ -54,7 +54,7 @@ fn shown_size(value: &Value) -> Option<usize>
     }
 }
 
-/// What a value takes behind a path of keys with so many bytes.
+/// What a value takes after a path of keys of a given length in bytes.
 #[cycle(printed)]
 fn value_size(path: usize, value: &Value) -> Option<usize>
     ensures { IfSome result (λ n. n ≡ spec.printed_size path (view value.now)) }

@@ -185,7 +185,7 @@ impl<P: Metadata, W: Metadata> Manifest<P, W> {
     /// a caller can look at the table first, as at its [`depth`](crate::depth).
     ///
     /// Refuses a table that means no manifest with `Error::Parse(ParseFault::Schema(..))`, which tells a key path and a
-    /// cause that stand there, and else only where it is out of memory.
+    /// cause that stand there, and else only when out of memory.
     ///
     /// ```ignore
     /// let table = toml::table_from_str(alloc, "name = 'a'")?;
@@ -210,8 +210,8 @@ impl<P: Metadata> Manifest<P, Value> {
     ///
     /// Refuses bytes that are not UTF-8 with [`Error::Utf8`]; then a text that is no TOML with
     /// `Error::Parse(ParseFault::Toml(..))`; then a table that means no manifest with
-    /// `Error::Parse(ParseFault::Schema(..))`, which tells a key path and a cause that stand there. Besides, want of
-    /// memory is [`Error::Memory`], or a memory fault inside `ParseFault::Toml`.
+    /// `Error::Parse(ParseFault::Schema(..))`, which tells a key path and a cause that stand there. When out of memory
+    /// it fails with [`Error::Memory`], or with a memory fault inside `ParseFault::Toml`.
     ///
     /// Nothing is completed from folders.
     ///

@@ -1,4 +1,4 @@
--- A value as bytes: a tag, and behind it what the value holds.
+-- A value as bytes: a tag, and after it what the value holds.
 use Rattle.std.specs.Prelude.{ℕ, suc, List, [], ◌∷◌, ◌++◌, length, Bool, true, false, ℤ, pos, negsuc, Option, Some, None, to_bits}
 use lib.Ieee.{binary64}
 use Rattle.toml_datetime.specs.declared.datetime.Date.{Date}
@@ -74,7 +74,7 @@ abbrev mutual
   items_bytes no_items = []
   items_bytes (item d ds) = encoded d ++ items_bytes ds
 
-  -- the keys in a row, each a text with its value behind it
+  -- the keys in a row, each a text with its value after it
   pub members_bytes : Members → List ℕ
   members_bytes no_members = []
   members_bytes (member k d ms) = text_bytes k ++ (encoded d ++ members_bytes ms)

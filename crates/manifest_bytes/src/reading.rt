@@ -12,7 +12,7 @@ use toml_datetime::{Date, Datetime, Offset, Time};
 /// What is read, or nothing where the bytes hold none; and an error where it nests too deep or there is no memory for it.
 type Read<T> = Result<Option<T>, DecodeError>;
 
-/// Bytes that are read from the front.
+/// Bytes that are read from the beginning.
 #[derive(Drop)]
 pub(crate) struct Reader<'a> {
     pub(crate) left: &'a [u8],
@@ -127,7 +127,7 @@ impl<'a> Reader<'a> {
         Some(Datetime { date, time, offset })
     }
 
-    /// What stands behind the tag of a value that holds no other, where that is no text.
+    /// What stands after the tag of a value that holds no other, where that is no text.
     fn simple(&mut self, tag: u8) -> Option<Value> {
         match tag {
             2 => Some(Value::Integer(i64::try_from(self.number()?).ok()?)),

@@ -1,4 +1,4 @@
--- What the functions that ask a filesystem say of what they heard.
+-- What the functions that ask a filesystem say of what it answered.
 use Rattle.std.specs.Prelude.{◌≡◌, List, [], ◌∷◌, ◌++◌, Bool, ◌||◌}
 use Rattle.std.specs.List.{list_any, zip}
 use Rattle.std.specs.Bool.{MatchBool}

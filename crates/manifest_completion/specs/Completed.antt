@@ -93,7 +93,7 @@ abbrev pub library_of : PackageTargets → Option Product → Answer → Library
 library_of t None src = known (inferred_library t src)
 library_of t (Some lib) src = declared_library t lib (library_path t src lib)
 
--- THE LIBRARY that a package comes to have
+-- THE LIBRARY of a completed package
 abbrev pub library : PackageTargets → Answer → Library
 library t src = library_of t t.lib src
 

@@ -26,7 +26,7 @@ AscendingDiffer = (l : ListingMap) → NamesAscend l → HasNoNameTwice l
 abbrev pub AgreeAt : ListingMap → ListingMap → List Place → Type 0
 AgreeAt l k ps = AllByRecursion (λ p. at l p ≡ at k p) ps
 
--- what is asked and what a manifest comes to depend on the answers at the places that are asked alone
+-- what is asked and what a manifest becomes depend on the answers at the places that are asked alone
 abbrev pub AskedDecides : Type 0
 AskedDecides =
     (m : Manifest) (l k : ListingMap) → AgreeAt l k (asked m l) →

@@ -111,7 +111,7 @@ CompletedAsStored stored t (Ok c) =
     completed_targets t (stored_map stored) ≡ completed_to (completed_content t c)
 CompletedAsStored stored t (Err e) = IsRefusalOf (completed_targets t (stored_map stored)) e
 
--- THE FINDS of a folder's names beside the answers for its entries
+-- THE FINDS of a folder's names, with the answers for its entries
 abbrev pub paired_finds : Text → List Text → List Answer → List Find
 paired_finds d [] heard = []
 paired_finds d (n ∷ ns) [] = []

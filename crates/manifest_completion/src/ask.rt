@@ -77,7 +77,7 @@ pub fn ask<FS: AbstractFilesystem>(
     }
 }
 
-/// Asks at each name in a folder, up to a first answer that ran out of memory.
+/// Asks at each name in a folder, up to the first answer that is out of memory.
 fn ask_entries<FS: AbstractFilesystem>(
     alloc: Global,
     fs: &FS,

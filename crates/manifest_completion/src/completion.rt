@@ -355,9 +355,9 @@ fn complete_by_answers(
 
 /// Asks the filesystem, and completes the targets by what it answers. Nothing that was declared is changed.
 ///
-/// Refuses with `Io` where `src` has another fault than that it is not there, where a folder of targets or an entry of
-/// one runs out of memory, and where the folder of the manifest is asked and has a fault; with `Other` where a declared
-/// library has no file; and with `Memory` when out of memory.
+/// Refuses with `Io` where `src` has another fault than that it is not there, where memory runs out for the listing of
+/// a folder of targets or of an entry of one, and where the folder of the manifest is asked and has a fault; with
+/// `Other` where a declared library has no file; and with `Memory` when out of memory.
 ///
 /// ```ignore
 /// let completed = complete(alloc, &listings, &declared)?;

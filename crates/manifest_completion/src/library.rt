@@ -130,7 +130,7 @@ fn inferred_library(
     }))
 }
 
-/// The library that the package comes to have. Refuses a declared one that has no file with `Other` and its text.
+/// The library that the completed package has. Refuses a declared one that has no file with `Other` and its text.
 pub fn completed_library(
     alloc: Global,
     declared: &DeclaredTargets<'_>,

@@ -31,7 +31,7 @@ impl Key<'_> {
         }
     }
 
-    /// The key as a text of its own. It fails where the copy of a lent one runs out of memory, and only there.
+    /// The key as a text of its own. It fails where there is no memory for the copy of a borrowed one, and only there.
     ///
     /// ```ignore
     /// let name = Key::Lent("serde").into_string(alloc)?; // "serde"

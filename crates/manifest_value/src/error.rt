@@ -13,7 +13,7 @@ use thiserror::Error;
 /// Why a text is no manifest.
 #[derive(Debug, Drop, Error)]
 pub enum ParseFault {
-    /// `toml` refuses the text, or ran out of memory in it.
+    /// `toml` refuses the text, or ran out of memory while parsing it.
     #[error("toml: {0}")]
     Toml(Rc<toml::de::Error>),
     /// The text is a document, and the cause stands in its table at the path.
