@@ -10,7 +10,7 @@ use Rattle.manifest_completion.specs.Completed.{Completion, completed_to, refuse
 use Rattle.manifest_completion.specs.Stored.{AnswersAsStored, stored_map}
 use Rattle.manifest_completion.specs.Outcome.{library_text, IsRefusalOf}
 
--- completion brings the manifest to this by one map of listings, with an answer that the filesystem allows at each place that is asked for it
+-- the manifest becomes this by one map of listings, whose answer at each place that is asked the filesystem allows
 abbrev pub ComesTo : (Text → Answer → Type 0) → Manifest → Completion Manifest → Type 0
 ComesTo allows m c = ByOneMap allows (asked m) (completed m) c
 
@@ -26,7 +26,7 @@ abbrev pub Completes : (Text → Answer → Type 0) → Manifest → Manifest �
 Completes allows old new (Ok u) = ComesTo allows old (completed_to new)
 Completes allows old new (Err e) = RefusesToComplete allows old e
 
--- what completing answers where one answer is stored for each path text: the manifest is left as what the map of what is stored completes it to, or the refusal is that map's
+-- completing over one stored answer for each path text: the manifest, or the refusal, is that of the map of these answers
 abbrev pub CompletesAsStored :
     (Text → Answer) → Manifest → Manifest → Result (Unit {0}) Error → Type 0
 CompletesAsStored stored old new (Ok u) = completed old (stored_map stored) ≡ completed_to new

@@ -101,8 +101,8 @@ fn members_size(path: usize, members: &Table) -> Option<usize>
     Some(size)
 }
 
-/// How long the document of a table is at most, counted without making the text: `toml` writes no more bytes of it. None
-/// where the number does not fit a `usize`.
+/// How long the document of a table is at most, counted without making the text: `toml` writes no more bytes of it.
+/// None where the number does not fit a `usize`.
 ///
 /// ```ignore
 /// let bound = printed_bound(&table); // of `name = "a"` 12, and the text has 11 bytes

@@ -58,7 +58,7 @@ abbrev pub member_count : Members → ℕ
 member_count no_members = 0
 member_count (member k d ms) = suc (member_count ms)
 
--- A VALUE. A float is its 64 bits as a number, the same ones for everything that is not a number. No table of a manifest has one.
+-- A VALUE. A float is its 64 bits as a number, the same bits for every NaN. No table of a manifest has one.
 abbrev mutual
   pub encoded : Data → List ℕ
   encoded (string s) = 1 ∷ text_bytes s

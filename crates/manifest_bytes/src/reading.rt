@@ -1,5 +1,5 @@
-//! The value that some bytes may hold: the way back from `values`. What is read here is only sought, and `value_of_bytes`
-//! keeps it where its bytes are those that were read.
+//! The value that some bytes may hold: the way back from `values`. What is read here is only sought, and
+//! `value_of_bytes` keeps it where its bytes are those that were read.
 
 ghost use Rattle.std.specs.Prelude.{◌≡◌, ◌+◌, IfOk};
 
@@ -9,7 +9,8 @@ use std::num::f64_from_bits_with_nan;
 use toml::{Table, Value};
 use toml_datetime::{Date, Datetime, Offset, Time};
 
-/// What is read, or nothing where the bytes hold none; and an error where it nests too deep or there is no memory for it.
+/// What is read, or nothing where the bytes hold none; and an error where it nests too deep or there is no memory for
+/// it.
 type Read<T> = Result<Option<T>, DecodeError>;
 
 /// Bytes that are read from the beginning.

@@ -27,21 +27,21 @@ pub fn asked_decides()
 {}
 
 /// Over a filesystem that has one answer stored for each path text, as [`Listings`](crate::Listings) has, the answer of
-/// [`complete`](crate::complete) is the completion of the map of what is stored; unless memory runs out, for a listing
+/// [`complete`](crate::complete) is the completion of the map of what is stored, unless memory runs out, for a listing
 /// or otherwise.
 #[tactic(auto, using(crate::proofs::StoredLaws::stored_decides))]
 pub fn stored_decides()
     ensures { StoredDecides }
 {}
 
-/// Completing a well-formed manifest, writing it, reading it and completing it again over the same listings changes nothing
-/// and asks no other place.
+/// Completing a well-formed manifest, writing it, reading it and completing it again over the same listings changes
+/// nothing and asks no other place.
 pub fn completed_is_fixed<P: LawfulKind, W: LawfulKind>()
     ensures { CompletedIsFixed (tree_of P.kind) (tree_of W.kind) }
 {}
 
-/// In every completion a declared target stays in its place, with its name and the path, edition and crate type that it has;
-/// but for these three nothing of it changes. A declared library keeps the same four.
+/// In every completion a declared target stays in its place, with its name and the path, edition and crate type that it
+/// has; but for these three nothing of it changes. A declared library keeps the same four.
 pub fn declared_stays()
     ensures { DeclaredStays }
 {}

@@ -87,8 +87,8 @@ features_part (Dependency.Simple v) = []
 features_part (Dependency.Inherited i) = items_part i.features
 features_part (Dependency.Detailed d) = items_part d.features
 
--- WHAT THE WORKSPACE MAY LEND
--- the value of the code itself, or the mark that it is inherited from the workspace
+-- WHAT MAY BE INHERITED FROM THE WORKSPACE the value of the code itself, or the mark that it is inherited from the
+-- workspace
 abbrev pub as_inheritable : {T : Type 0} → MaybeInherited T → Inheritable T
 as_inheritable = inh_content (λ x. x)
 

@@ -32,8 +32,8 @@ impl Dependency {
     }
 
     /// A `Detailed` dependency that says a version and nothing else becomes `Simple`; any other stays as it is. See the
-    /// [Cargo reference](https://doc.rust-lang.org/cargo/reference/specifying-dependencies.html): `a = "1"` is short for
-    /// `a = { version = "1" }`.
+    /// [Cargo reference](https://doc.rust-lang.org/cargo/reference/specifying-dependencies.html): `a = "1"` is short
+    /// for `a = { version = "1" }`.
     ///
     /// ```ignore
     /// let dependency = dependency.simplify(); // of `{ workspace = false, version = '1' }`, `Simple` of this version
@@ -48,9 +48,9 @@ impl Dependency {
         }
     }
 
-    /// The version requirement. Where none is said, as of what comes from a folder, a repository or the workspace, it is
-    /// `*`, which any version meets. See the
-    /// [Cargo reference](https://doc.rust-lang.org/cargo/reference/specifying-dependencies.html#wildcard-requirements).
+    /// The version requirement. Where none is said, as of what comes from a folder, a repository or the workspace, it
+    /// is `*`, which any version meets. See the [Cargo
+    /// reference](https://doc.rust-lang.org/cargo/reference/specifying-dependencies.html#wildcard-requirements).
     ///
     /// ```ignore
     /// let req = dependency.req(); // of `{ path = '../a' }`, "*"
@@ -100,7 +100,8 @@ impl Dependency {
 
     /// The name of the package, where the dependency stands under another; without one its own name is the package's.
     /// See the
-    /// [Cargo reference](https://doc.rust-lang.org/cargo/reference/specifying-dependencies.html#renaming-dependencies-in-cargotoml).
+    /// [Cargo
+    /// reference](https://doc.rust-lang.org/cargo/reference/specifying-dependencies.html#renaming-dependencies-in-cargotoml).
     ///
     /// ```ignore
     /// let package = dependency.package(); // of `{ version = '1', package = 'b' }`, "b"
@@ -116,7 +117,8 @@ impl Dependency {
     }
 
     /// The repository that the dependency comes from. See the
-    /// [Cargo reference](https://doc.rust-lang.org/cargo/reference/specifying-dependencies.html#specifying-dependencies-from-git-repositories).
+    /// [Cargo
+    /// reference](https://doc.rust-lang.org/cargo/reference/specifying-dependencies.html#specifying-dependencies-from-git-repositories).
     ///
     /// ```ignore
     /// let git = dependency.git(); // of `{ git = 'https://example.com/a' }`, this address
@@ -131,10 +133,10 @@ impl Dependency {
         }
     }
 
-    /// Whether the dependency comes from crates.io: it is `Simple`, or `Detailed` and names neither a folder, nor another
-    /// registry, nor a repository, nor a part of one. An `Inherited` one is not, since only the workspace says where it
-    /// comes from. See the
-    /// [Cargo reference](https://doc.rust-lang.org/cargo/reference/specifying-dependencies.html).
+    /// Whether the dependency comes from crates.io: it is `Simple`, or `Detailed` and names neither a folder, nor
+    /// another registry, nor a repository, nor a part of one. An `Inherited` one is not, since only the workspace says
+    /// where it comes from. See the [Cargo
+    /// reference](https://doc.rust-lang.org/cargo/reference/specifying-dependencies.html).
     ///
     /// ```ignore
     /// let is_crates_io = dependency.is_crates_io(); // of `{ version = '1', path = '../a' }`, false
@@ -281,8 +283,8 @@ impl Lint {
         }
     }
 
-    /// The priority of the lint, 0 of a level alone: where lints of one name or group overlap, the higher priority wins.
-    /// See the [Cargo reference](https://doc.rust-lang.org/cargo/reference/manifest.html#the-lints-section).
+    /// The priority of the lint, 0 of a level alone: where lints of one name or group overlap, the higher priority
+    /// wins. See the [Cargo reference](https://doc.rust-lang.org/cargo/reference/manifest.html#the-lints-section).
     ///
     /// ```ignore
     /// let priority = lint.priority(); // of `'deny'`, 0
@@ -312,9 +314,9 @@ impl MaybeInheritedLintsSet {
 }
 
 impl Publish {
-    /// Whether this says whether the package may be published at all: `Flag` of this boolean; a `Registry` with a name in
-    /// it stands for true, one without for false. See the
-    /// [Cargo reference](https://doc.rust-lang.org/cargo/reference/manifest.html#the-publish-field).
+    /// Whether this says whether the package may be published at all: `Flag` of this boolean; a `Registry` with a name
+    /// in it stands for true, one without for false. See the [Cargo
+    /// reference](https://doc.rust-lang.org/cargo/reference/manifest.html#the-publish-field).
     ///
     /// ```ignore
     /// let may_be_published = publish.eq_bool(true); // of `['crates-io']`, true

@@ -1,4 +1,4 @@
--- What the contracts of single steps and the laws of impls cite. The meaning of a table needs none of it: who reads for that may pass over this file.
+-- What the contracts of single steps and the laws of impls cite. It is not needed to read the meaning of a table.
 use Rattle.std.specs.Prelude.{ℕ, suc, [], Option, Some, None, refl}
 use Rattle.std.proofs.Common.{inr}
 use Rattle.toml.specs.Data.{Members}

@@ -1,4 +1,4 @@
-//! Values as tagged bytes. The bytes that are due come from the table of docs/LIBRARY.md.
+//! Values as tagged bytes. The bytes that are expected come from the table of docs/LIBRARY.md.
 use crate::answers::value;
 use manifest_bytes::{DecodeError, value_bytes, value_of_bytes};
 use std::alloc::Global;
@@ -79,8 +79,8 @@ fn values_of_bytes(rt: HostRuntime) -> Result<(), Fail> {
     Ok(())
 }
 
-/// Bytes of no value: none, an unknown tag, one byte too many or too few, a text that is not UTF-8, a number in more groups
-/// than it takes or in too many, keys that do not ascend, a part that is neither there nor not.
+/// Bytes of no value: none, an unknown tag, one byte too many or too few, a text that is not UTF-8, a number in more
+/// groups than it takes or in too many, keys that do not ascend, a part that is neither there nor not.
 const NO_VALUES: &[&[u8]] = &[
     b"",
     b"\x00",

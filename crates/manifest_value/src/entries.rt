@@ -1,4 +1,4 @@
-//! The entries of a table that is read, one after the other, whether it is borrowed or taken apart.
+//! The entries of a table that is read, one after the other, whether it is borrowed or owned.
 
 ghost use Rattle.std.specs.Prelude.{◌≡◌, IfOk, string_bytes};
 ghost use Rattle.std.specs.Iterator.{at_most};
@@ -15,7 +15,7 @@ use toml::Value;
 pub enum Key<'t> {
     /// The table stays where it is: the key is copied where it is kept.
     Lent(&'t str),
-    /// The table is wanted by nobody else: the key is moved.
+    /// The table is owned: the key is moved.
     Taken(String),
 }
 
@@ -55,7 +55,7 @@ pub type Entry<'t> = (Key<'t>, Source<'t>);
 pub(crate) enum Entries<'t> {
     /// All entries of a table that stays where it is.
     Lent(Iter<'t, String, Value>),
-    /// All entries of a table that is taken apart.
+    /// All entries of an owned table.
     Taken(IntoIter<String, Value, Global>),
     /// Those that a walk left over.
     Rest(vec::IntoIter<Entry<'t>, Global>),

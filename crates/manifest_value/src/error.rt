@@ -68,7 +68,7 @@ impl Error {
     }
 }
 
-/// The error that tells a reader's fault.
+/// The error of a reader's fault.
 ///
 /// ```ignore
 /// match text(alloc, value) {

@@ -43,8 +43,8 @@ pub trait Schema: Sized + Drop {
 
     /// The one reading of the value.
     ///
-    /// Refuses with `Error::Parse(ParseFault::Schema(..))` of a cause that the value has and its key path in the value, and
-    /// when out of memory with [`Error::Memory`].
+    /// Refuses with `Error::Parse(ParseFault::Schema(..))` of a cause that the value has and its key path in the value,
+    /// and when out of memory with [`Error::Memory`].
     ///
     /// ```ignore
     /// let value = Value::from_str(alloc, "'2021'")?;
