@@ -1,4 +1,4 @@
--- What each answer says of the bytes that were read. K and W are the kinds of the package's and the workspace's metadata.
+-- What each answer says of the bytes that were read. K and W are the kinds of metadata of package and workspace.
 use Rattle.std.specs.Prelude.{◌≡◌, ◌<◌, ◌≤◌, ◌⊎◌, ℕ, List, length, true, false, Some, None, IsUtf8, codes, string_bytes}
 use Rattle.toml.specs.Data.{Data, Members, members_depth, members_have_valid_dates}
 use Rattle.toml.specs.Parse.{parse_document}

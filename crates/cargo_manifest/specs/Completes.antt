@@ -26,7 +26,7 @@ abbrev pub Completes : (Text → Answer → Type 0) → Manifest → Manifest �
 Completes allows old new (Ok u) = ComesTo allows old (completed_to new)
 Completes allows old new (Err e) = RefusesToComplete allows old e
 
--- completing over one stored answer for each path text: the manifest, or the refusal, is that of the map of these answers
+-- completing over one stored answer for each path text: what the map of these answers gives, or its refusal
 abbrev pub CompletesAsStored :
     (Text → Answer) → Manifest → Manifest → Result (Unit {0}) Error → Type 0
 CompletesAsStored stored old new (Ok u) = completed old (stored_map stored) ≡ completed_to new

@@ -20,7 +20,7 @@ IsCanonInput [] = Unit {0}
 IsCanonInput (v ∷ w ∷ []) = (string_bytes v ≡ codes "canon") × (string_bytes w ≡ codes "-")
 IsCanonInput _ = ⊥
 
--- words may also ask for: a file's manifest; completed over its folder; first resolved over the workspace of another file
+-- words may also ask for a file's manifest: as it is, completed, or first resolved over another file's workspace
 pub data Asked : Type 0 where
   canon_file complete_file complete_member : Asked
 

@@ -44,7 +44,7 @@ abbrev pub own_edition : Option (Inheritable Edition) → Option Edition
 own_edition (Some (local e)) = Some e
 own_edition _ = None
 
--- FLAGS: whether finds are added to a list: as the package says, else unless the legacy rule holds and the list has a target
+-- FLAGS: whether finds are added to a list: as the package says, else if not legacy or the list has no target
 abbrev pub discovers : {A : Type 0} → Option Bool → Bool → List A → Bool
 discovers own legacy ps = unwrap_or own (not (legacy && not (is_empty ps)))
 
@@ -131,7 +131,7 @@ filled t lib l = record t {
   bench = targets (test_defaults t) (discovers t.autobenches (is_legacy t.edition) t.bench) (finds l benches) t.bench;
 }
 
--- THE OUTCOME OF COMPLETION: what it makes, or a refusal for a listing's fault of this kind, or for a missing library file
+-- THE OUTCOME OF COMPLETION: what it makes, a refusal for a listing's fault of this kind, or for a missing library file
 pub data Completion (A : Type 0) : Type 0 where
   completed_to : A → Completion A
   refused : ErrorKind → Completion A
@@ -162,7 +162,7 @@ root_fault_if asks (fault k) = if asks then Some k else None
 abbrev pub root_fault : Option StringOrBool → Answer → Option ErrorKind
 root_fault b a = root_fault_if (asks_root b) a
 
--- the first of: a fault of `src`, no library file, out of memory at a target place, a fault of the root; else the targets
+-- the first of: a fault of `src`, no library file, out of memory at a target, a fault of the root; else the targets
 abbrev pub after_root : PackageTargets → Option Product → ListingMap → Option ErrorKind → Completion PackageTargets
 after_root t lib l (Some k) = refused k
 after_root t lib l None = completed_to (filled t lib l)

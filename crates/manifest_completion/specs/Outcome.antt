@@ -133,7 +133,7 @@ pub record TargetsMade (t : PackageTargets) (lib : Option Product) (a : Answers)
   pub library : option_map product_content c.lib ≡ lib
   pub lists : ListsCompleted t a (record { bin = c.bin; example = c.example; test = c.test; bench = c.bench })
 
--- the fault that refuses after all answers: out of memory for a target folder or an entry, or that of the manifest's folder
+-- the fault that refuses after all answers: out of memory at a target folder or an entry, or that of the root folder
 abbrev pub heard_fault : PackageTargets → Answers → Option ErrorKind
 heard_fault t a = if some_ran_out_of_memory a then Some OutOfMemory else root_fault t.build (answer_of a.root)
 

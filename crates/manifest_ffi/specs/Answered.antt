@@ -24,7 +24,7 @@ pub record Hands (told : Told) (old new : List ℕ) (a : Answer) : Type 0 where
   pub end : a.end ≡ told.end
   pub handed : IsHanded told.text.items a.length old new
 
--- what is reported: status 0 with the text, or the refusal, whose text is UTF-8; or that no memory was left to report it
+-- what is reported: status 0 with the text, or the refusal, whose text is UTF-8; or out of memory while reporting it
 abbrev pub Outcome : Result (Vec ℕ Global) Refusal → Told → Type 0
 Outcome (Ok v) t = IsTold t 0 0 v.items
 Outcome (Err r) t = (TellsMemory t ⊎ Tells r t) × IsUtf8 t.text.items
@@ -37,7 +37,7 @@ pub record IsAnswered (gives : Text → Type 0) (refuses : Refusals) (old new : 
   pub outcome : Outcome made told
   pub hands : Hands told old new a
 
--- the answer of a call that makes these manifests or has these refusals, and is asked for this in at most that many bytes
+-- the answer of a call that makes these manifests or has these refusals, and is asked for this within a bound in bytes
 abbrev pub Answers : Output → ℕ → (Manifest → Type 0) → Refusals → List ℕ → List ℕ → Answer → Type 0
 Answers output most makes refuses =
     IsAnswered (Gives output most makes) (OrOutput output most makes refuses)

@@ -116,7 +116,7 @@ abbrev pub RefusesTagged : ℕ → List ℕ → Refusals
 RefusesTagged most tagged TooLong = most < length tagged
 RefusesTagged most tagged e = IsOutOfMemory e
 
--- WHAT IS ASKED FOR, in at most a given number of bytes: the canonical text, which is UTF-8, or the table's tagged bytes
+-- WHAT IS ASKED FOR, within a bound in bytes: the canonical text, which is UTF-8, or the table's tagged bytes
 abbrev pub Writes : Output → ℕ → Manifest → Text → Type 0
 Writes CanonicalText most m text = IsTextOf m text × IsUtf8 text × (length text ≤ most)
 Writes TaggedTable most m text = AreWithin most (encoded (table (rewritten m))) text

@@ -38,7 +38,7 @@ AreTooDeep bytes =
     (nests_densely bytes ≡ true)
     ⊎ ((document : Members) × (parse_document bytes ≡ Some document) × (128 < members_depth document))
 
--- the text is no such document: it nests densely, or is no TOML, with a place in it, unless out of memory; or out of memory
+-- the text is no such document: it nests densely; it is no TOML, at a place in it, memory aside; or out of memory
 abbrev pub RefusesToParse : Text → InputError → Type 0
 RefusesToParse text TooDeep = AreTooDeep text
 RefusesToParse text (NoManifest (Parse (NoToml e))) =

@@ -1,4 +1,4 @@
--- What is made of a manifest: resolved over a root's workspace, if there is a root, and completed over a filesystem, if any.
+-- What is made of a manifest: resolved over a root's workspace, if any, and completed over a filesystem, if any.
 use Rattle.std.specs.Prelude.{◌≡◌, ◌⊎◌, Option, Some, None, option_map}
 use Rattle.std.specs.Borrow.{Bor}
 use Rattle.toml.specs.View.{view}

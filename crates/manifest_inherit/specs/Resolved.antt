@@ -1,4 +1,4 @@
--- What a manifest becomes over a workspace. What the workspace does not have stays as it is; `Refused` says it is refused.
+-- What a manifest becomes over a workspace. What that does not have stays as it is; `Refused` says that it is refused.
 use Rattle.std.specs.Prelude.{List, [], ◌∷◌, ◌++◌, map, if◌then◌else◌, Option, Some, None, option_map, unwrap_or}
 use Rattle.std.specs.Option.{option_or}
 use Rattle.std.specs.List.{list_any}
@@ -64,7 +64,7 @@ abbrev pub joined_features : Option (List Text) → Option (List Text) → Optio
 joined_features None None = None
 joined_features lent own = Some (unwrap_or lent [] ++ new_features (unwrap_or lent []) (unwrap_or own []))
 
--- the workspace's detail with the features of both; `optional` is the member's, and the default features where it says so
+-- the workspace's detail with both features; `optional` is the member's, and the default features where it says so
 abbrev pub joined : InheritedDependencyDetail → DependencyDetail → DependencyDetail
 joined own lent = record lent {
   features = joined_features lent.features own.features;

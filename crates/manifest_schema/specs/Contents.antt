@@ -1,4 +1,4 @@
--- What each type holds: its fields, with lists of bytes for texts, lists of entries for maps, and trees for kept values.
+-- What each type holds: its fields; lists of bytes for texts, lists of entries for maps, and trees for kept values.
 use Rattle.std.specs.Prelude.{ℤ, Bool, List, Option}
 use Rattle.toml.specs.Data.{Data}
 use Rattle.manifest_schema.specs.Paths.{Text}
