@@ -56,7 +56,7 @@ underscored bs = map (λ b. if nat_eq b 45 then 95 else b) bs
 abbrev pub library_type : List Text
 library_type = codes "lib" ∷ []
 
--- the file of a library without a path: `src/lib.rs`, or by the legacy rule the file of its name
+-- the file of a library without a path: `src/lib.rs`, or in legacy mode the file of its name
 abbrev pub library_file : Bool → Answer → Text → Option Text
 library_file legacy src file =
     if lists src (codes "lib.rs") then Some (codes "src/lib.rs")

@@ -84,7 +84,7 @@ pub struct CompletedLists {
     pub bench: Vec<Product>,
 }
 
-/// Whether targets are discovered by the legacy rule: the edition is absent, or 2015 and the package's own. One that is
+/// Whether targets are discovered in legacy mode: the edition is absent, or 2015 and the package's own. One that is
 /// inherited is not the old way, whatever the workspace says.
 ///
 /// ```ignore
@@ -116,7 +116,7 @@ pub fn own_edition(edition: &Option<MaybeInherited<Edition>>) -> Option<Edition>
 }
 
 /// Whether found targets are added to a list: as the package says, and where it says nothing, unless targets are
-/// discovered by the legacy rule and the list has one.
+/// discovered in legacy mode and the list has one.
 ///
 /// ```ignore
 /// let adds = discovers(None, false, &declared); // true: the package says nothing, and it is not the old way
@@ -215,7 +215,7 @@ fn example_defaults(declared: &DeclaredTargets<'_>) -> TargetDefaults
     }
 }
 
-/// What binaries take: by the legacy rule also the path `src/main.rs`, where `src` lists it.
+/// What binaries take: in legacy mode also the path `src/main.rs`, where `src` lists it.
 fn bin_defaults(
     declared: &DeclaredTargets<'_>,
     source: &io::Result<BTreeSet<String>>,

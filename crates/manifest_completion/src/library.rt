@@ -27,7 +27,7 @@ fn library_name(alloc: Global, name: &str) -> Result<String, AllocError>
     name.replace(alloc, '-', "_")
 }
 
-/// The file of a library without a path: `src/lib.rs` where `src` lists it, or by the legacy rule `src/{name}.rs`.
+/// The file of a library without a path: `src/lib.rs` where `src` lists it, or in legacy mode `src/{name}.rs`.
 fn library_file(
     alloc: Global,
     legacy: bool,

@@ -81,7 +81,7 @@ const LIBRARY_AND_MAIN: &[Row] = &[
             "[package]\nname = 'foo-bar'\nedition = '2021'\n[lib]\npath = 'src/lib.rs'\nname = 'foo_bar'\nedition = '2021'\nrequired-features = []\ncrate-type = ['lib']\n[[bin]]\npath = 'src/main.rs'\nname = 'foo-bar'\nedition = '2021'\nrequired-features = []",
         ),
     ),
-    // a library by the legacy rule, by its own name
+    // a library in legacy mode, by its own name
     (
         "[package]\nname = 'foo'\n[lib]",
         "src|foo.rs;.",

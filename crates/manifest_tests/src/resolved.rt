@@ -254,7 +254,7 @@ fn complete_over_root(
     answer
 }
 
-/// The binary of a package whose edition is that of a workspace of 2015: it is found by the legacy rule.
+/// The binary of a package whose edition is that of a workspace of 2015: it is found in legacy mode.
 fn completed_in_the_old_way(alloc: Global) -> Result<String, Fail> {
     let listings = listings(alloc, "src|main.rs;.")?;
     let mut manifest = Manifest::from_str(
