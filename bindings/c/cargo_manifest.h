@@ -120,7 +120,7 @@ enum manifest_status {
    A text is refused before it is read where (B + 3) * (D + 1) is more than 384. B is how many brackets, `[` and `{`, are open
    at one place at most, and D how many dots stand at most between one of `,`, `=`, `[`, `{`, `#` and line ends and the next. Those in
    strings and comments are not counted, nor any after the first string that does not end, or character that TOML allows in
-   these alone. A text that people write has less: keys of 5 parts and 8 brackets in one another come to 55. */
+   these alone. A text that people write has less: keys of 5 parts and 8 brackets in one another give 55. */
 #define MANIFEST_DEPTH_LIMIT 128
 
 /* The cause of MANIFEST_SCHEMA and MANIFEST_ROOT_SCHEMA. */

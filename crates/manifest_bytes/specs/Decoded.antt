@@ -86,7 +86,7 @@ take_tagged read tag bs =
     else if tag == 8 then made table (behind (take_number bs) (take_members read))
     else None
 
--- A VALUE that nests at most so deep
+-- A VALUE that nests at most this deep
 abbrev pub take_value : ℕ → List ℕ → Taken Data
 take_value zero bs = None
 take_value (suc deep) [] = None

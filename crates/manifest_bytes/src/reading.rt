@@ -161,7 +161,7 @@ fn inside(deepest: usize) -> Result<usize, DecodeError>
     }
 }
 
-/// A value whose arrays and tables nest at most so deep.
+/// A value whose arrays and tables nest at most this deep.
 #[cycle(reading)]
 pub(crate) fn read_value(alloc: Global, deepest: usize, reader: &mut Reader<'_>) -> Read<Value> {
     match reader.byte() {

@@ -93,7 +93,7 @@ module _ (allows : Text → Answer → Type 0) (t : PackageTargets) (src : Answe
   library_error none (Other s) h = (library_refused none h.0, h.1)
   library_error none (Memory f) h = tt
 
--- all was heard
+-- all was answered
 module _ (allows : Text → Answer → Type 0) (t : PackageTargets) (a : Answers) (heard : AllHeard allows (asks_root t.build) a) (none : source_fault (answer_of a.source) ≡ None) (lib : Option Product) (got : library t (answer_of a.source) ≡ known lib) where
   explains_all : Explains allows (listing_map a) (asked_targets t (listing_map a))
   explains_all = rw (none, got) heard.explained

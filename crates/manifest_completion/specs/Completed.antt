@@ -33,7 +33,7 @@ abbrev pub is_2015 : Edition → Bool
 is_2015 e2015 = true
 is_2015 _ = false
 
--- the old way to discover targets: the edition is absent, or 2015 and the package's own
+-- LEGACY MODE of discovering targets: the edition is absent, or 2015 and the package's own
 abbrev pub is_legacy : Option (Inheritable Edition) → Bool
 is_legacy None = true
 is_legacy (Some inherited) = false

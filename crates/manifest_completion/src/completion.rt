@@ -85,7 +85,7 @@ pub struct CompletedLists {
 }
 
 /// Whether targets are discovered in legacy mode: the edition is absent, or 2015 and the package's own. One that is
-/// inherited is not the old way, whatever the workspace says.
+/// inherited is not legacy, whatever the workspace says.
 ///
 /// ```ignore
 /// let legacy = is_legacy(&None); // true: a package without an edition is of 2015
@@ -119,7 +119,7 @@ pub fn own_edition(edition: &Option<MaybeInherited<Edition>>) -> Option<Edition>
 /// discovered in legacy mode and the list has one.
 ///
 /// ```ignore
-/// let adds = discovers(None, false, &declared); // true: the package says nothing, and it is not the old way
+/// let adds = discovers(None, false, &declared); // true: the package says nothing, and it is not legacy mode
 /// ```
 pub fn discovers(own: Option<bool>, legacy: bool, list: &[Product]) -> bool
     ensures { result ≡ discovers (option_map (λ b. b) own) legacy (map product_content list.now) }

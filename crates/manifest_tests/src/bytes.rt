@@ -18,7 +18,7 @@ const VALUES: &[(&str, &[u8])] = &[
     ("-129", b"\x03\x80\x01"),
     ("false", b"\x04"),
     ("true", b"\x05"),
-    // a date, a time of minutes and one of nanoseconds, and offsets of none, of ahead and of behind
+    // a date, a time of minutes and one of nanoseconds, and no offset, one east and one west of UTC
     ("1979-05-27", b"\x06\x01\x05\x1b\xbb\x0f\x00\x00"),
     ("07:32", b"\x06\x00\x01\x07\x20\x00\x00\x00"),
     (

@@ -139,7 +139,7 @@ const SHAPES: &[Shape] = &[
     ("[x]\na", ".'b'", " = [[]]", "", 79),
 ];
 
-/// Asserts how a document is answered that is nested so deep in this shape, under a key that is not listed.
+/// Asserts how a document is answered that is nested this deep in this shape, under a key that is not listed.
 fn assert_nested(
     rt: &impl Abort,
     alloc: Global,

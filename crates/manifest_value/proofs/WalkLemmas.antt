@@ -75,7 +75,7 @@ or_later : (a b : Bool) → b ≡ true → (a || b) ≡ true
 or_later true b h = refl
 or_later false b h = h
 
--- a spelling of a row is none of the keys from which the row differs
+-- a spelling of a row is not among the keys from which the row differs
 pub apart : (s : Spellings) (ks : List Text) (k : Text) → differ s ks ≡ true → is_among (spell s []) k ≡ true → is_among ks k ≡ false
 apart (only l) ks k h g = subst (λ x. is_among ks x ≡ false) (same_key-true l k (or_nil (same_key l k) g)) (not-true (is_among ks l) h)
   where

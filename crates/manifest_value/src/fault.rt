@@ -28,7 +28,7 @@ pub enum Cause {
     Missing,
     /// A table has a key by both of its spellings.
     TwoSpellings,
-    /// The text is none of the choice.
+    /// The text is not one of the choice.
     NotAChoice,
     /// The whole number is out of range.
     OutOfRange,
