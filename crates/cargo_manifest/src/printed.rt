@@ -10,7 +10,7 @@ use std::fmt::{Display, Formatter, Write};
 use toml::{Table, Value};
 use toml_writer::write_key;
 
-/// Counts the bytes that are written to it, and keeps none.
+/// Counts the bytes that are written to it, and stores none.
 #[derive(Drop)]
 struct Count {
     bytes: usize,

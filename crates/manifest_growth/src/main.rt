@@ -1,6 +1,6 @@
 //! Reads a small manifest, completes one from listings in memory, resolves one over its workspace, or copies an error,
 //! and prints what came of it. It is run with each request for memory refused in turn, and reports whether a completion
-//! or a resolving that was refused kept the manifest, or a copy the error, and can be tried again.
+//! or a resolving that was refused left the manifest as it was, or a copy the error, and can be tried again.
 #![tactic(auto)]
 
 mod copying;

@@ -25,7 +25,7 @@ pub record IsLawfulNeed {C : Type 0} (n : Need C) : Type 0 where
   pub well : (s : Slot) (x : C) → n.meets s x → n.good x
   pub back : (k : Text) (x : C) → n.good x → n.meets (slot k (n.written x)) x
 
--- the rows of a form keep them
+-- the rows of a form satisfy them
 abbrev pub AreLawful : {A : Type 0} → Rows A → Type 0
 AreLawful (r ⨾ rs) = IsLawfulNeed r.need × AreLawful rs
 AreLawful (others get K) = IsLawful K

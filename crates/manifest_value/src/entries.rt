@@ -13,7 +13,7 @@ use toml::Value;
 /// A key of a table that is read.
 #[derive(Drop)]
 pub enum Key<'t> {
-    /// The table stays where it is: the key is copied where it is kept.
+    /// The table is borrowed: the key is copied where a text of its own is made of it.
     Lent(&'t str),
     /// The table is owned: the key is moved.
     Taken(String),

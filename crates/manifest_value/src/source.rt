@@ -17,7 +17,7 @@ use toml::{Table, Value};
 /// A value that is read.
 #[derive(Drop)]
 pub enum Source<'t> {
-    /// It stays where it is: what it holds is copied.
+    /// It is borrowed: what it holds is copied.
     Lent(&'t Value),
     /// It is owned: what it holds is moved.
     Taken(Value),
@@ -26,7 +26,7 @@ pub enum Source<'t> {
 /// A table that is read.
 #[derive(Drop)]
 pub enum TableSource<'t> {
-    /// It stays where it is: what its values hold is copied.
+    /// It is borrowed: what its values hold is copied.
     Lent(&'t Table),
     /// It is owned: what its keys and values hold is moved.
     Taken(Table),
