@@ -70,8 +70,8 @@ fn put_targets<P: Metadata>(manifest: &mut Manifest<P, Value>, completed: Comple
 
 impl<P: Metadata> Manifest<P, Value> {
     /// Whether found binaries are added to `bin`: as the package's `autobins` says, and where it says nothing, unless
-    /// the edition is absent or 2015 and there is a binary. False without a package. See the [Cargo
-    /// reference](https://doc.rust-lang.org/cargo/reference/cargo-targets.html#target-auto-discovery).
+    /// the edition is absent or 2015 and there is a binary. False without a package. See the
+    /// [Cargo reference](https://doc.rust-lang.org/cargo/reference/cargo-targets.html#target-auto-discovery).
     ///
     /// ```ignore
     /// let manifest = Manifest::from_str(alloc, "[package]\nname = 'a'\nautobins = false")?;

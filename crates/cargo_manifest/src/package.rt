@@ -149,8 +149,8 @@ impl<M> Package<M> {
     }
 
     /// The version of the package, or the mark that it is inherited from the workspace. A package that names none has
-    /// the version 0.0.0, as the [Cargo
-    /// reference](https://doc.rust-lang.org/cargo/reference/manifest.html#the-version-field) says.
+    /// the version 0.0.0, as the
+    /// [Cargo reference](https://doc.rust-lang.org/cargo/reference/manifest.html#the-version-field) says.
     ///
     /// ```ignore
     /// let version = package.version(); // of `{ name = 'a' }`, `Local("0.0.0")`

@@ -49,8 +49,8 @@ impl Dependency {
     }
 
     /// The version requirement. Where none is said, as of what comes from a folder, a repository or the workspace, it
-    /// is `*`, which any version meets. See the [Cargo
-    /// reference](https://doc.rust-lang.org/cargo/reference/specifying-dependencies.html#wildcard-requirements).
+    /// is `*`, which any version meets. See the
+    /// [Cargo reference](https://doc.rust-lang.org/cargo/reference/specifying-dependencies.html#wildcard-requirements).
     ///
     /// ```ignore
     /// let req = dependency.req(); // of `{ path = '../a' }`, "*"
@@ -100,8 +100,7 @@ impl Dependency {
 
     /// The name of the package, where the dependency stands under another; without one its own name is the package's.
     /// See the
-    /// [Cargo
-    /// reference](https://doc.rust-lang.org/cargo/reference/specifying-dependencies.html#renaming-dependencies-in-cargotoml).
+    /// [Cargo reference](https://doc.rust-lang.org/cargo/reference/specifying-dependencies.html#renaming-dependencies-in-cargotoml).
     ///
     /// ```ignore
     /// let package = dependency.package(); // of `{ version = '1', package = 'b' }`, "b"
@@ -117,8 +116,7 @@ impl Dependency {
     }
 
     /// The repository that the dependency comes from. See the
-    /// [Cargo
-    /// reference](https://doc.rust-lang.org/cargo/reference/specifying-dependencies.html#specifying-dependencies-from-git-repositories).
+    /// [Cargo reference](https://doc.rust-lang.org/cargo/reference/specifying-dependencies.html#specifying-dependencies-from-git-repositories).
     ///
     /// ```ignore
     /// let git = dependency.git(); // of `{ git = 'https://example.com/a' }`, this address
@@ -135,8 +133,8 @@ impl Dependency {
 
     /// Whether the dependency comes from crates.io: it is `Simple`, or `Detailed` and names neither a folder, nor
     /// another registry, nor a repository, nor a part of one. An `Inherited` one is not, since only the workspace says
-    /// where it comes from. See the [Cargo
-    /// reference](https://doc.rust-lang.org/cargo/reference/specifying-dependencies.html).
+    /// where it comes from. See the
+    /// [Cargo reference](https://doc.rust-lang.org/cargo/reference/specifying-dependencies.html).
     ///
     /// ```ignore
     /// let is_crates_io = dependency.is_crates_io(); // of `{ version = '1', path = '../a' }`, false
@@ -315,8 +313,8 @@ impl MaybeInheritedLintsSet {
 
 impl Publish {
     /// Whether this says whether the package may be published at all: `Flag` of this boolean; a `Registry` with a name
-    /// in it stands for true, one without for false. See the [Cargo
-    /// reference](https://doc.rust-lang.org/cargo/reference/manifest.html#the-publish-field).
+    /// in it stands for true, one without for false. See the
+    /// [Cargo reference](https://doc.rust-lang.org/cargo/reference/manifest.html#the-publish-field).
     ///
     /// ```ignore
     /// let may_be_published = publish.eq_bool(true); // of `['crates-io']`, true
