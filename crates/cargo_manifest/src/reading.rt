@@ -148,7 +148,7 @@ fn read_bytes<P: Metadata, W: Metadata>(
 }
 
 /// A manifest that is read in its place. Each public call makes its own: a manifest takes 5 kB, which every function
-/// that hands it on would clear once more.
+/// that passes it on would clear once more.
 macro_rules! manifest_by {
     ($read:ident, $alloc:ident, $input:ident) => {{
         let mut manifest = Manifest::default($alloc);

@@ -74,7 +74,7 @@ abbrev pub HoldFault : Text → Error → Type 0
 HoldFault bytes e =
     (value : Data) × (bytes ≡ encoded value) × RefusedAs (faulty_manifest metadata metadata value) e
 
--- they are not: those of a faulty value, or out of memory; of no tagged bytes and of too deep ones nothing is promised
+-- they are not: those of a value with this fault, or out of memory; of the two other refusals nothing is promised
 abbrev pub RefusesTagged : Text → InputError → Type 0
 RefusesTagged bytes (NoManifest e) = IsOutOfMemory e ⊎ HoldFault bytes e
 RefusesTagged bytes _ = Unit {0}

@@ -24,7 +24,7 @@ ResolvedIsSettled = (m n : Manifest) (w : Workspace) → ResolvesTo m w n → Is
 abbrev pub OwnIsSettled : Type 0
 OwnIsSettled = (m : Manifest) (w : Workspace) → InheritsNothing m → IsSettled m w
 
--- well-formed things are resolved to a well-formed manifest; K and W are its kinds of metadata, V is the workspace's
+-- resolving well-formed contents gives a well-formed manifest; K and W are its kinds of metadata, V the workspace's
 abbrev pub ResolvedIsWellFormed : Kind Data → Kind Data → Kind Data → Type 0
 ResolvedIsWellFormed K W V =
     (m n : Manifest) (w : Workspace) → well_formed K W m → (form (workspace_rows V)).good w →

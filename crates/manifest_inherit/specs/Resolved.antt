@@ -64,7 +64,7 @@ abbrev pub joined_features : Option (List Text) → Option (List Text) → Optio
 joined_features None None = None
 joined_features lent own = Some (unwrap_or lent [] ++ new_features (unwrap_or lent []) (unwrap_or own []))
 
--- the workspace's detail with both features; `optional` is the member's, and the default features where it says so
+-- the workspace's detail, with the features of both; `optional` and, where it says them, default features of the member
 abbrev pub joined : InheritedDependencyDetail → DependencyDetail → DependencyDetail
 joined own lent = record lent {
   features = joined_features lent.features own.features;

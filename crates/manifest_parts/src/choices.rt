@@ -237,7 +237,7 @@ pub enum MaintenanceStatus {
     AsIs,
     /// It is shared, but not meant to serve anyone's particular use.
     Experimental,
-    /// The maintainer would like to hand it over.
+    /// The maintainer is looking for someone to take it over.
     LookingForMaintainer,
     /// The maintainer advises against its use.
     Deprecated,

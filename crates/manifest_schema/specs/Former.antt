@@ -97,7 +97,7 @@ pub record ManifestLeavesDefaults (m : Manifest) : Type 0 where
   pub target : OfSome (OfEach PlatformLeavesDefaults) m.target
   pub patch : OfSome (OfEach (OfEach LeavesDefaults)) m.patch
 
--- WHAT IS PROMISED: of such a manifest both schemas write the same; the former's table of a well-formed one is read as it
+-- PROMISED: of such a manifest both schemas write the same; what the former wrote of a well-formed one is read as it
 abbrev pub OldWrittenIsRead : Kind Data → Kind Data → Type 0
 OldWrittenIsRead K W =
     (m : Manifest) → ManifestLeavesDefaults m →

@@ -8,7 +8,7 @@ use std::test::Fail;
 
 const DOCUMENT: &str = "[package]\nname = \"foo-bar\"\nedition = \"2021\"\n";
 
-/// The answer to the first bytes of the document, of which this is the number.
+/// The answer to the document, cut after this many bytes.
 fn answer_of_front(bytes: usize) -> Result<&'static str, &'static str> {
     match bytes {
         0 => Err("missing at name"),
@@ -44,7 +44,7 @@ fn every_front_of_a_document(rt: HostRuntime) -> Result<(), Fail> {
 const CHARACTERS: &str =
     "[package]\nname = \"\u{e9}\"\n# \u{2713}\u{1f600}\ndescription = 'na\u{ef}ve \u{2713} \u{1f600}'\n";
 
-/// The answer to its first bytes, of which this is the number, which end after a character.
+/// The answer to it, cut after this many bytes, which is after a character.
 fn answer_of_characters(bytes: usize) -> Result<&'static str, &'static str> {
     match bytes {
         0 => Err("missing at name"),

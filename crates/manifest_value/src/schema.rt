@@ -34,8 +34,8 @@ pub trait Schema: Sized + Drop {
     /// Whether reading takes no memory, so that it never fails as out of memory.
     ghost takes_no_memory: { Type 0 } = { ⊥ };
 
-    /// The one reading of the value, or a fault that it has, or `Memory`. What a value that nobody else needs holds is
-    /// moved where the type can, and copied else.
+    /// The one reading of the value, or a fault that it has, or `Memory`. What an owned value holds is moved where the
+    /// type can do so, and else copied.
     fn read(alloc: Global, source: Source<'_>) -> Result<Self, ReadFault>
         ensures ok { IfOk result (Reads kind content (source_view source.entry)) }
         ensures fault { IfErr result (FaultIn (kind.faulty (source_view source.entry))) }
