@@ -16,7 +16,7 @@ FLAGS = ["-std=c11", *WARNINGS]
 COUNTS = re.compile(r"^(\d+) passed, (\d+) failed$", re.M)
 RESULT = re.compile(r"^test result: \w+\. (\d+) passed; (\d+) failed", re.M)
 
-# the inputs of the examples: each with the status, standard output and a part of standard error that are wanted
+# the inputs of the examples: each with the status, standard output and a part of standard error that are expected
 EXAMPLES = [
     ("name = 'a'\nedition = '2021'", 0, '[package]\nedition = "2021"\nname = "a"\n', ""),
     ("[package]\nname = 'p'\nauthors = [true]", 1, "", "package.authors[0]"),
@@ -39,7 +39,7 @@ def ended(name, run):
 
 
 def counted(name, run, pattern):
-    """Counts what a run tells that passed and failed; a run that tells nothing, or ends otherwise, has failed once."""
+    """Counts what a run reports as passed and failed; a run that reports nothing, or ends otherwise, has failed once."""
     found = pattern.findall(run.stdout)
     failed = sum(int(no) for _, no in found)
     counts[0] += sum(int(yes) for yes, _ in found)
@@ -67,7 +67,7 @@ def declared_calls():
 
 
 def check_example(name, program):
-    """The example answers each input as wanted."""
+    """The example answers each input as expected."""
     for text, status, out, err in EXAMPLES:
         said = run([program], input=text)
         is_right = (said.returncode, said.stdout) == (status, out) and err in said.stderr

@@ -21,7 +21,7 @@ DATES = [
     "1979-05-27T07:32:00", "1979-05-27 07:32:00.25", "1979-05-27T07:32:00Z", "1979-05-27t07:32:00z",
     "1979-05-27T07:32:00-07:30", "2024-12-31T23:59:59.123456+14:00",
 ]
-# what may be read as a key that some form has, and is none
+# what looks like a key that some form has, and is not one
 FREE = ["zzz", "license_file", "cargo_features", "split_debuginfo", "rust_version", "workspace_", "Package", "project", "git"]
 SINGULAR = {
     "texts": "text", "dependencies": "dependency", "lints": "lint", "values without a float": "any value without a float",
@@ -44,7 +44,7 @@ class Literal(str):
     """What stands in the text as it is."""
 
 
-# so many parts a key may have, and so many arrays and inline tables may stand in one another: toml reads no more
+# how many parts a key may have, and how many arrays and inline tables may stand in one another: toml reads no more
 LIMIT = 80
 DEPTHS = [1, 3, 40, 77, 78, 79, 80, 81, 82, 200, 1000, 20000]
 SHAPES = ["arrays", "inline tables", "both", "dotted keys in both", "a dotted key", "a header", "a header of a list", "all"]
@@ -306,7 +306,7 @@ class Layout:
         return "[" + inner + "]" if is_list else "{" + inner + "}"
 
     def way(self, value, later):
-        """How the value of a key is told."""
+        """How the value of a key is written."""
         is_table = isinstance(value, dict)
         is_tables = isinstance(value, list) and value != [] and all(isinstance(item, dict) for item in value)
         can_have_header = later is not None and (is_table or is_tables)
@@ -415,7 +415,7 @@ class Nested:
         return value, "".join(opened) + "1" + "".join(reversed(closed))
 
     def document(self, header, is_list, parts, text):
-        """The text of the document: under a header with so many parts below the place of the value, or at its place."""
+        """The text of the document: under a header with this many parts below the place of the value, or at its place."""
         package = '[package]\nname = "p"\n'
         if header:
             path = ".".join(self.above + [self.key] * header)

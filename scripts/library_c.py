@@ -46,7 +46,7 @@ def built(compiler, archive, room, *more):
 
 
 def with_line(said):
-    """A run of canonical.c, with the line of manifest_canon where a fault of the schema is told."""
+    """A run of canonical.c, with the line of manifest_canon where a fault of the schema is reported."""
     status, out, err = said
     fault = SCHEMA.fullmatch(err.decode("utf-8", "replace"))
     if fault:
@@ -55,7 +55,7 @@ def with_line(said):
 
 
 def replay(cases):
-    """Runs, side by side: each has a name, the words, the input, and what is wanted of it."""
+    """Runs, side by side: each has a name, the words, the input, and what is expected of it."""
     def said(case):
         _, words, text, _ = case
         return with_line(run_on(words[0], words[1:], text))
@@ -66,12 +66,12 @@ def replay(cases):
 
 
 def replay_manifests(name, words):
-    """What the stored manifests come to by canonical.c, which is run by these words."""
+    """What the stored manifests become by canonical.c, which is run by these words."""
     replay([(f"{name}: {manifest}", words, text, wanted) for manifest, text, wanted in wanted_of_manifests()])
 
 
 def replay_folders(name, words, room):
-    """What the stored folders come to by the lists of their files, with no folder made. The words and a manifest's path run
+    """What the stored folders become by the lists of their files, with no folder made. The words and a manifest's path run
     a program that completes it by the list on standard input."""
     cases = []
     for number, case in enumerate(stored("completions.jsonl"), 1):
@@ -93,7 +93,7 @@ def run_all(name, runner, room):
 
 
 def check_valgrind(room):
-    """No program of bindings/c reads what is not set, writes beside its memory, or loses any."""
+    """No program of bindings/c reads what is not set, writes outside its memory, or loses any."""
     if not shutil.which("valgrind"):
         print("the calls from C are not run under valgrind: it is not there")
         return
@@ -109,7 +109,7 @@ def check_valgrind(room):
 
 
 def check_c(archive, room):
-    """The header, and the programs in C over the archive alone; what is told of the layout."""
+    """The header, and the programs in C over the archive alone; what is said of the layout."""
     check_header()
     if not shutil.which("cc"):
         print("nothing is called from C: there is no command cc")

@@ -1,7 +1,7 @@
 //! The driver of scripts/library_speed: the same steps by this library and by the Rust crate, in turns.
 //!
 //! - `library-speed times INPUT..`: the times of each step; an INPUT is a file, or a folder whose files are read one by one;
-//! - `library-speed calls STEP COUNT FILE`: so many calls of a step, to be counted from outside;
+//! - `library-speed calls STEP COUNT FILE`: this many calls of a step, to be counted from outside;
 //! - `library-speed peak STEP FILE`: the most memory that this process had, in kB, after one call of a step (or of `nothing`).
 
 use original::Manifest as Original;
@@ -41,8 +41,8 @@ fn table_alone(bytes: &[u8]) -> usize {
     answer.length
 }
 
-/// What the Rust crate prints. Its printer wants values before tables, which not each manifest of its has; then it goes by
-/// way of a value.
+/// What the Rust crate prints. Its printer needs values before tables, which not each of its manifests has; then it
+/// goes by way of a value.
 fn printed(manifest: &Original) -> String {
     toml::to_string(manifest).unwrap_or_else(|_| {
         let value = toml::Value::try_from(manifest).expect("a value");
@@ -75,7 +75,7 @@ const STEPS: [Step; 6] = [
     ("table", "library: manifest_table alone", false, table_alone),
 ];
 
-/// The time of so many calls on each of these.
+/// The time of this many calls on each of these.
 fn taken(step: Step, inputs: &[Vec<u8>], calls: u32) -> Duration {
     let began = Instant::now();
     for _ in 0..calls {

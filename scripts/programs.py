@@ -1,5 +1,5 @@
 """What scripts/typed and scripts/rust_crate share: the programs of tests/programs, built over one crate or the other, what
-they are handed, and which stored answers of tests/rust-answers are theirs."""
+is passed to them, and which stored answers of tests/rust-answers are theirs."""
 import os
 import re
 import shutil
@@ -17,7 +17,7 @@ BOTH = ("debug", "registry", "planner")
 OURS = ("changes", "threads", "stack")
 # of the changes that are made at random
 SEED = "1"
-# how many faults of a file are told
+# how many faults of a file are reported
 TOLD = 5
 
 STRING = r'"(?:[^"\\]|\\.)*"'
@@ -29,7 +29,7 @@ INHERITED = re.compile(
 
 
 def cases(pairs):
-    """Texts with the files beside them, as the programs read them (cases.rs)."""
+    """Texts with the files next to them, as the programs read them (cases.rs)."""
     parts = []
     for text, files in pairs:
         data = text.encode("utf-8")
@@ -184,7 +184,7 @@ def stack_fault(program, step, stack, texts):
 
 
 def asked(name, ask):
-    """What a program prints; a program that does not come to its end has failed, and is told."""
+    """What a program prints; a program that does not run to its end has failed, and is reported."""
     try:
         return ask()
     except (ValueError, subprocess.TimeoutExpired) as fault:
@@ -199,7 +199,7 @@ def lines_of(text):
 
 def count_lines(name, said, due, fault_of):
     """Counts each line that a program has printed and that is due; `fault_of` a line number, a line and what is due is what
-    is wrong, or None. The first faults are told."""
+    is wrong, or None. The first faults are reported."""
     said, due = lines_of(said), lines_of(due)
     told(f"{name}: how many lines", None if len(said) == len(due) else f"{len(said)} where {len(due)} are due")
     failed = 0

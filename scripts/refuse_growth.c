@@ -1,5 +1,5 @@
 // Preloaded into a program, it refuses the program one growth: the n-th call of malloc, calloc, realloc, aligned_alloc
-// or posix_memalign finds no memory, where n is the number that the environment variable REFUSE_GROWTH holds. It then
+// or posix_memalign fails as out of memory, where n is the number that the environment variable REFUSE_GROWTH holds. It then
 // makes the file that REFUSE_GROWTH_TOLD names, so that it is known whether the run came as far as that call.
 //
 // It takes no header: the toolchain's compiler has none.

@@ -88,9 +88,9 @@ class Measured(NamedTuple):
 
 
 class Runner:
-    """Runs of one program with little beside them, for many short ones: its streams are files in memory.
+    """Runs of one program with little overhead, for many short ones: its streams are files in memory.
 
-    The memory that is told is at least that of the process which calls, since the system counts from there.
+    The memory that is reported is at least that of the process which calls, since the system counts from there.
     """
 
     def __init__(self, program, seconds):
@@ -103,7 +103,7 @@ class Runner:
             os.close(stream)
 
     def run(self, words, data=b""):
-        """One run with these words on this input. One that lasts too long is ended, which its status tells."""
+        """One run with these words on this input. One that lasts too long is ended, which its status says."""
         for stream in self.streams:
             os.ftruncate(stream, 0)
             os.lseek(stream, 0, os.SEEK_SET)
@@ -157,9 +157,9 @@ def program_to_run(named):
 
 
 def count(script, *tries, first=1):
-    """Tries all cases, and tells how many passed: each call yields them, by a name and how the program differs or None.
+    """Tries all cases, and reports how many passed: each call yields them, by a name and how the program differs or None.
 
-    The program is the word of this number behind the script's name, if it is there.
+    The program is the word of this number after the script's name, if it is there.
     """
     program = program_to_run(sys.argv[first:])
     if program is None:

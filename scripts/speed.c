@@ -120,7 +120,7 @@ static int peak(void)
     return atoi(strstr(status, "VmHWM:") + 6);
 }
 
-// Takes one step so many times, and prints the peak of memory.
+// Takes one step this many times, and prints the peak of memory.
 static void once(const char *name, int calls)
 {
     enum step step = TOML;

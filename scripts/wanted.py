@@ -1,4 +1,4 @@
-"""What scripts/answers and scripts/library share: what is wanted of a run on each manifest and folder of
+"""What scripts/answers and scripts/library share: what is expected of a run on each manifest and folder of
 tests/rust-answers. It is a table, which has to be printed, or a refusal: one of some lines, or one line of a pattern."""
 import re
 import tomllib
@@ -6,7 +6,7 @@ import tomllib
 from runs import NO_LIBRARY, differs_from_refusal, differs_from_table, stored
 
 CAUSES = ["wrong kind", "missing", "two spellings", "not a choice", "out of range", "not true", "holds a float", "metadata"]
-# the line that is wanted where the crate refused in this way
+# the line that is expected where the crate refused in this way
 REFUSED = {
     True: re.compile(f"error: schema: (?:{'|'.join(CAUSES)}) at .+"),
     "other": [f"error: other: {NO_LIBRARY}"],
@@ -14,7 +14,7 @@ REFUSED = {
 
 
 def wanted_of(case):
-    """What is wanted where this project answers as the crate did."""
+    """What is expected where this project answers as the crate did."""
     return REFUSED[case["refused"]] if "refused" in case else tomllib.loads(case["answer"])
 
 
@@ -31,7 +31,7 @@ def wanted_otherwise(answer, case):
 
 
 def wanted_of_manifests():
-    """Each stored manifest: its name, its text, and what is wanted of a run on it."""
+    """Each stored manifest: its name, its text, and what is expected of a run on it."""
     otherwise = {case["manifest"]: case for case in stored("otherwise.jsonl")}
     for number, case in enumerate(stored("manifests.jsonl"), 1):
         here = otherwise.pop(number, None)
@@ -45,5 +45,5 @@ def wanted_of_manifests():
 
 
 def differs(said, wanted):
-    """How a run differs from what is wanted of it, or None."""
+    """How a run differs from what is expected of it, or None."""
     return differs_from_table(said, wanted) if isinstance(wanted, dict) else differs_from_refusal(said, wanted)

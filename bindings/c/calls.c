@@ -12,7 +12,7 @@ enum which {
     TABLE_WITHOUT_METADATA, DOCUMENT, CANONICAL_OF_TABLE, COMPLETED_OF_TABLE, RESOLVED_OF_TABLES
 };
 
-/* A call, and its answer. For bytes, a root or folders that are null it is handed a null pointer and the length 0. */
+/* A call, and its answer. For bytes, a root or folders that are null a null pointer and the length 0 are passed. */
 struct call {
     enum which which;
     const char *bytes;
@@ -210,7 +210,7 @@ static const struct call OF_TABLES[] = {
      .cause = MANIFEST_WRONG_KIND, .text = "(top)"},
 };
 
-/* So many times a text. */
+/* A text, repeated a given number of times. */
 #define TEN(text) text text text text text text text text text text
 #define HUNDRED(text) TEN(TEN(text))
 #define TIMES_15(text) TEN(text) text text text text text
@@ -221,7 +221,7 @@ static const struct call OF_TABLES[] = {
 #define TIMES_128(text) HUNDRED(text) TEN(text) TEN(text) text text text text text text text text
 #define TIMES_510(text) HUNDRED(text) HUNDRED(text) HUNDRED(text) HUNDRED(text) HUNDRED(text) TEN(text)
 
-/* The front of a table of one key, whose value stands behind it, and that of an array of one value. */
+/* The beginning of a table of one key, whose value stands after it, and that of an array of one value. */
 #define KEY "\x08\x01\x01k"
 #define ITEM "\x07\x01"
 /* A text with 128 tables in one another in its whole table, if one part of a key more is not put in. */
@@ -321,7 +321,7 @@ static const struct group {
 
 enum { GROUP_COUNT = sizeof GROUPS / sizeof GROUPS[0], THREADS = 4, TURNS = 20, SET = 0xAA };
 
-/* A call, whose text or table may take so many bytes. */
+/* A call, whose text or table may take this many bytes. */
 static struct manifest_answer made(const struct call *call, size_t most, uint8_t *out, size_t room)
 {
     const uint8_t *bytes = (const uint8_t *)call->bytes, *root = (const uint8_t *)call->root;
@@ -359,13 +359,13 @@ static struct manifest_answer made(const struct call *call, size_t most, uint8_t
     return manifest_resolved_of_tables(bytes, length, root, root_length, most, out, room);
 }
 
-/* How long the text that is wanted is. */
+/* How long the expected text is. */
 static size_t wanted(const struct call *call)
 {
     return call->text_length ? call->text_length : strlen(call->text);
 }
 
-/* Whether an answer has the numbers that are wanted. */
+/* Whether an answer has the expected numbers. */
 static int has_numbers(struct manifest_answer answer, const struct call *call)
 {
     return answer.status == call->status && answer.cause == call->cause && answer.start == call->start
@@ -374,7 +374,7 @@ static int has_numbers(struct manifest_answer answer, const struct call *call)
 }
 
 /* The text of a call, in memory that was never set and is as long as the call without memory says; null where an answer is
-   not as wanted. */
+   not as expected. */
 static uint8_t *text_of(const struct call *call, size_t *length)
 {
     struct manifest_answer answer = made(call, SIZE_MAX, NULL, 0);
@@ -392,7 +392,7 @@ static uint8_t *text_of(const struct call *call, size_t *length)
     return NULL;
 }
 
-/* Whether a call with this much room puts the text at the front of `out`, or leaves all of it as it was. */
+/* Whether a call with this much room puts the text at the beginning of `out`, or leaves all of it as it was. */
 static int is_put(const struct call *call, const uint8_t *text, size_t length, size_t room)
 {
     size_t size = room + 8, put = length <= room ? length : 0;
@@ -442,7 +442,7 @@ static int is_limited(const struct call *call, size_t length)
            && (length == 0 || (is_too_long(call, length - 1) && is_too_long(call, 0)));
 }
 
-/* Whether the call is answered as wanted, with an `out` of each length from 0 to one more than is needed. */
+/* Whether the call is answered as expected, with an `out` of each length from 0 to one more than is needed. */
 static int is_answered(const struct call *call)
 {
     size_t length;
@@ -454,7 +454,7 @@ static int is_answered(const struct call *call)
     return is_right;
 }
 
-/* Counts, at `failed`, the answers of many turns that are not as wanted. */
+/* Counts, at `failed`, the answers of many turns that are not as expected. */
 static void *turns(void *failed)
 {
     for (int turn = 0; turn < TURNS; turn++)
@@ -468,7 +468,7 @@ static void *turns(void *failed)
     return NULL;
 }
 
-/* How many answers are as wanted, and how many are not. */
+/* How many answers are as expected, and how many are not. */
 static int passed, failed;
 
 static void count(int is_right, const char *what, size_t number)
@@ -479,7 +479,7 @@ static void count(int is_right, const char *what, size_t number)
         printf("%s %zu: the answer is not as wanted\n", what, number);
 }
 
-/* Counts the threads in which each answer is as wanted; whether there are threads. */
+/* Counts the threads in which each answer is as expected; whether there are threads. */
 static int count_threads(void)
 {
     pthread_t threads[THREADS];

@@ -11,7 +11,7 @@
    Both want nothing but the C library. They are for Linux on x86-64, with a processor of the level x86-64-v2 (SSE 4.2 and
    POPCNT, as all have since about 2010); there is an archive for aarch64 too.
 
-   A CALL is handed bytes and memory for its text, and answers at once:
+   A CALL takes bytes and memory for its text, and answers at once:
 
        uint8_t out[4096];
        struct manifest_answer answer = manifest_canonical(bytes, length, SIZE_MAX, out, sizeof out);
@@ -23,16 +23,16 @@
      not made, and the status is MANIFEST_TOO_LONG. Some kilobytes can mean a text of many megabytes, as where a long key
      stands above many tables. The text of a refusal is put whatever `most` is.
    - `out` is memory for the text. It need not be set before: it is only written, which is tested. It overlaps nothing else
-     that is passed in. Without any (null and 0) the call tells how long the text is. As lack of memory can end one call and
-     not the next, `length` is looked at after each call.
+     that is passed in. Without any (null and 0) the call returns how long the text is. As one call can run out of memory and
+     the next not, `length` is looked at after each call.
    - Another thread may read what is passed in meanwhile, and may not write to it, nor read or write `out`.
    - The answer depends on what is passed in, and on nothing else but whether there is memory.
    - The library keeps nothing from one call to the next, keeps no pointer that it is given, frees nothing that it is given,
      and gives nothing that has to be freed.
 
    THREADS. Each call may be made from any thread, also while others run, which is tested. Since it asks for memory, it may
-   not be made from a signal handler, nor from the forked child of a process that has threads. It has to come to its end:
-   a call that is broken off, by longjmp or by cancelling its thread, leaves its memory behind, and of later calls of that
+   not be made from a signal handler, nor from the forked child of a process that has threads. It has to run to its end:
+   a call that is broken off, by longjmp or by cancelling its thread, does not free its memory, and of later calls of that
    thread nothing is said.
 
    STACK. 256 KiB of stack are enough for each call, whatever is passed in, which is tested: what nests deeper than
@@ -60,7 +60,7 @@ extern "C" {
        the completion             3, 5
        the printing               32, 7
 
-   A text is refused as too deep before it is read (by its brackets and dots) or behind that (by its table). Of tagged
+   A text is refused as too deep before it is read (by its brackets and dots) or after that (by its table). Of tagged
    bytes 14 or 15 is reported, by which is met first.
    MANIFEST_MEMORY may stand in the place of any of them. There are no other numbers than these. */
 enum manifest_status {
@@ -73,7 +73,7 @@ enum manifest_status {
        are no bare keys of TOML, and places in arrays, from 0 on */
     MANIFEST_SCHEMA = 2,
     /* a folder has a fault that refuses the completion: `cause` is one of enum manifest_fault. MANIFEST_OUT_OF_MEMORY is
-       told also where there was no memory for a copy of its names */
+       reported also where there was no memory for a copy of its names */
     MANIFEST_IO = 3,
     /* the bytes are not UTF-8 */
     MANIFEST_NOT_UTF8 = 4,
@@ -94,11 +94,11 @@ enum manifest_status {
     MANIFEST_NOT_IN_WORKSPACE = 10,
     /* the workspace inherits its own dependency: the text is its name */
     MANIFEST_INHERITED_IN_WORKSPACE = 11,
-    /* the manifest inherits its lints, and has lints of a tool beside them */
+    /* the manifest inherits its lints, and has lints of a tool as well */
     MANIFEST_MIXED_LINTS = 12,
     /* the manifest inherits its lints, and the workspace has lints of a tool named `workspace` */
     MANIFEST_TOOL_NAMED_WORKSPACE = 13,
-    /* bytes that should be a tagged table are none: a text in them is not UTF-8, the keys of a table do not ascend, a number
+    /* bytes that should be a tagged table are not one: a text in them is not UTF-8, the keys of a table do not ascend, a number
        is not written in the shortest way, or they end too early or too late */
     MANIFEST_UNTAGGED = 14,
     /* arrays and tables stand in one another deeper than MANIFEST_DEPTH_LIMIT; or a text has brackets and dotted keys by
@@ -119,8 +119,8 @@ enum manifest_status {
 
    A text is refused before it is read where (B + 3) * (D + 1) is more than 384. B is how many brackets, `[` and `{`, are open
    at one place at most, and D how many dots stand at most between one of `,`, `=`, `[`, `{`, `#` and line ends and the next. Those in
-   strings and comments are not counted, nor any behind the first string that does not end or character that TOML has in
-   these alone. A text that people write has less: keys of 5 parts and 8 brackets in one another come to 55. */
+   strings and comments are not counted, nor any after the first string that does not end, or character that TOML allows in
+   these alone. A text that people write has less: keys of 5 parts and 8 brackets in one another give 55. */
 #define MANIFEST_DEPTH_LIMIT 128
 
 /* The cause of MANIFEST_SCHEMA and MANIFEST_ROOT_SCHEMA. */
@@ -128,7 +128,7 @@ enum manifest_cause {
     MANIFEST_WRONG_KIND = 1,    /* the value is of another kind */
     MANIFEST_MISSING = 2,       /* a key that is needed is absent; the path ends in it */
     MANIFEST_TWO_SPELLINGS = 3, /* a key stands there in both of its spellings */
-    MANIFEST_NOT_A_CHOICE = 4,  /* the text is none of those that are known here */
+    MANIFEST_NOT_A_CHOICE = 4,  /* the text is not among those that are known here */
     MANIFEST_OUT_OF_RANGE = 5,  /* the whole number is too large or too small */
     MANIFEST_NOT_TRUE = 6,      /* the boolean has to be true */
     MANIFEST_HOLDS_FLOAT = 7,   /* a value that is kept as it is holds a float */
@@ -139,22 +139,22 @@ enum manifest_cause {
 struct manifest_answer {
     uint8_t status; /* one of enum manifest_status */
     uint8_t cause;  /* more of the status, where it says so; else 0 */
-    /* How many bytes the text takes. They stand at the front of `out` where it has as many or more, and the rest of `out`
+    /* How many bytes the text takes. They stand at the beginning of `out` where it has as many or more, and the rest of `out`
        is as it was. Else all of `out` is as it was, and a call with an `out` of `length` bytes has the text. It is
-       UTF-8, and no zero byte stands behind it. Where a status says nothing of a text, it is empty. */
+       UTF-8, and no zero byte stands after it. Where a status says nothing of a text, it is empty. */
     size_t length;
     /* Where the fault of a text that is no TOML begins, and where it ends, within the bytes. Else both are 0. */
     size_t start;
     size_t end;
 };
 
-/* Bytes that are lent: `length` of them from `at` on, which may be null where there are none. */
+/* Borrowed bytes: `length` of them from `at` on, which may be null where there are none. */
 struct manifest_bytes {
     const uint8_t *at;
     size_t length;
 };
 
-/* Names that are lent, in the same way. */
+/* Borrowed names, in the same way. */
 struct manifest_names {
     const struct manifest_bytes *at;
     size_t length;
@@ -204,7 +204,7 @@ struct manifest_answer manifest_resolved_completed(const uint8_t *bytes, size_t 
                                                    size_t root_length, const struct manifest_folder *folders,
                                                    size_t folders_length, size_t most, uint8_t *out, size_t out_length);
 
-/* The table that the canonical text says, as tagged bytes. A value is a tag and what stands behind it:
+/* The table that the canonical text says, as tagged bytes. A value is a tag and what stands after it:
 
       1  a text: how many bytes it has, and the bytes, which are UTF-8
       2  a whole number from 0 on: a number
@@ -212,7 +212,7 @@ struct manifest_answer manifest_resolved_completed(const uint8_t *bytes, size_t 
       4  false                        5  true
       6  a date-time: its date, its time and its offset, of which each is 0 for none, or 1 and the part
       7  an array: how many values it has, and the values
-      8  a table: how many keys it has, and each key, a text without tag, with its value behind it; the keys ascend
+      8  a table: how many keys it has, and each key, a text without tag, with its value after it; the keys ascend
          in the order of their bytes
 
    A number stands in groups of seven bits, the lowest first, with 128 added to each but the last. A date is a byte for

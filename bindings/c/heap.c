@@ -49,7 +49,7 @@ static struct rattle_tried tried(void *block)
     return answer;
 }
 
-/* How many units a block of so many bytes takes, or 0 where it comes from malloc. */
+/* How many units a block of this many bytes takes, or 0 where it comes from malloc. */
 static size_t units_for(size_t size)
 {
     return size <= MOST_UNITS * UNIT - HEADER ? (size + HEADER + UNIT - 1) / UNIT : 0;
@@ -70,13 +70,13 @@ static _Bool add_chunk(void)
     chunk->next = heap.chunks;
     heap.chunks = chunk;
     heap.chunk = size;
-    /* (malloc aligns to 16, so the block behind the first header is aligned too) */
+    /* (malloc aligns to 16, so the block after the first header is aligned too) */
     heap.at = (char *)chunk + UNIT - HEADER;
     heap.left = size - (UNIT - HEADER);
     return 1;
 }
 
-/* A block of so many units. */
+/* A block of this many units. */
 static void *small(size_t units)
 {
     struct linked *kept = heap.kept[units];
@@ -93,7 +93,7 @@ static void *small(size_t units)
     return block;
 }
 
-/* The block that begins behind the header of what malloc or realloc gave. */
+/* The block that begins after the header of what malloc or realloc gave. */
 static void *large(char *given)
 {
     if (!given)

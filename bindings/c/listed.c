@@ -1,5 +1,5 @@
 /* Prints the canonical text of a manifest, completed by a list of files in place of a folder, as that of an archive. The
-   word is the path of the manifest, and standard input has the files beside it, a path on each line, as `src/lib.rs`. */
+   word is the path of the manifest, and standard input has the files next to it, a path on each line, as `src/lib.rs`. */
 #include "cargo_manifest.h"
 
 #include <stdio.h>
@@ -24,7 +24,7 @@ static void stop(const char *line, int status)
     exit(status);
 }
 
-/* Memory for so many items. */
+/* Memory for this many items. */
 static void *room_for(size_t count, size_t size)
 {
     void *room = calloc(count, size);
@@ -50,7 +50,7 @@ static struct manifest_bytes read_all(FILE *file)
     return all;
 }
 
-/* Whether a text goes before another (less than 0), behind it, or is the same (0), in the order of bytes. */
+/* Whether a text goes before another (less than 0), after it, or is the same (0), in the order of bytes. */
 static int order(struct manifest_bytes left, struct manifest_bytes right)
 {
     int first = memcmp(left.at, right.at, left.length < right.length ? left.length : right.length);
@@ -152,7 +152,7 @@ static int print_completed(struct manifest_bytes manifest, const struct manifest
     struct manifest_answer answer;
     uint8_t *out = NULL;
     size_t room = 0;
-    /* (the first call tells how long the text is) */
+    /* (the first call says how long the text is) */
     while ((answer = manifest_completed(manifest.at, manifest.length, folders, count, MOST, out, room)).length > room) {
         free(out);
         room = answer.length;

@@ -1,4 +1,4 @@
-"""The build backend (PEP 517 and PEP 660), which wants nothing but Python.
+"""The build backend (PEP 517 and PEP 660), which needs nothing but Python.
 
 What is built has the library in it: the file that the package would load from where it stands. The same files make the
 same wheel and the same source distribution, to the byte.
@@ -24,7 +24,7 @@ LICENCES = ("LICENSE-APACHE", "LICENSE-MIT")
 BEGAN = (1980, 1, 1, 0, 0, 0)
 BEGAN_SECONDS = 315_532_800
 
-# the oldest C library that is told of, as `manylinux` counts them
+# the oldest C library that is supported, as `manylinux` counts them
 OLDEST = (2, 17)
 
 Files = dict[str, bytes]
@@ -64,7 +64,7 @@ def modules() -> Files:
 
 
 def metadata() -> bytes:
-    """What is told of the package, and its README."""
+    """The metadata of the package, and its README."""
     told = project()
     lines = [
         "Metadata-Version: 2.4",
@@ -101,7 +101,7 @@ def record(files: Files, own: str) -> bytes:
 
 
 def write_wheel(folder: str, tag: str, held: Files) -> str:
-    """A wheel of these files, and what every wheel has beside them. Its name is answered."""
+    """A wheel of these files, and what every wheel also has. Returns its name."""
     about = f"{base_name()}.dist-info"
     files = dict(sorted(held.items()))
     files[f"{about}/METADATA"] = metadata()

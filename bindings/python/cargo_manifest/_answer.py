@@ -10,7 +10,7 @@ from ._reader import utf8
 from ._refusal import refusal
 
 
-# the most that the library can be told
+# the largest bound that can be passed to the library
 _ANY: int = ctypes.c_size_t(-1).value
 
 
@@ -32,7 +32,7 @@ def answered(
     root: Optional[bytes] = None,
     listings: Optional[Listings] = None,
 ) -> bytes:
-    """What the call gives, in so many bytes at most; else the exception of its refusal is raised.
+    """What the call gives, in at most this many bytes; else the exception of its refusal is raised.
 
     The slices stand in the order of the header. The call is made with room that most texts fit into, and once more
     where the text takes more.

@@ -37,7 +37,7 @@ def canonical(manifest: Text, *, most: Optional[int] = None) -> str:
 def completed(manifest: Text, folders: Optional[Folders] = None, *, most: Optional[int] = None) -> str:
     """The canonical text of a manifest, completed with the targets and the build script that its folders show.
 
-    `manifest` and `most` are as in `canonical`. `folders` says what stands beside it, in one of three ways:
+    `manifest` and `most` are as in `canonical`. `folders` says what stands next to it, in one of three ways:
 
     - the path of the manifest's folder on the disk, a `str` or as `pathlib.Path`;
     - a mapping from the path of each folder, as `"src"` and `"src/bin"`, and `"."` for the manifest's own, to the names
@@ -49,7 +49,7 @@ def completed(manifest: Text, folders: Optional[Folders] = None, *, most: Option
 
     Raises what `canonical` does; `ManifestError` also where `src` or the manifest's folder cannot be listed (the
     `__cause__` is its fault), where a path or a name of the mapping is not UTF-8, and where a declared library has no
-    file; `MemoryError` also where that is the fault of a folder; and `TypeError` where the folders are wanted.
+    file; `MemoryError` also where that is the fault of a folder; and `TypeError` where the folders are needed.
 
     >>> folders = {".": ["Cargo.toml", "build.rs", "src"], "src": ["lib.rs"]}
     >>> print(completed("package = { name = 'a-b', edition = '2021' }", folders), end="")
@@ -117,8 +117,8 @@ def table(manifest: Text, *, most: Optional[int] = None) -> dict[str, Any]:
     date-time with an offset is aware, and others are naive. What a second has below its millionth part is cut off.
     They stand in one another 128 deep at most.
 
-    `manifest` is as in `canonical`. `most` is how many bytes the table may take as the library hands it over, where a
-    key or a text of less than 128 bytes has one or two beside its own.
+    `manifest` is as in `canonical`. `most` is how many bytes the table may take as the library returns it, where a
+    key or a text of less than 128 bytes takes one or two more than its own.
 
     Raises what `canonical` does, and `ManifestError` with `Cause.DATE_BEYOND_PYTHON` for a date-time with the second
     60 or the year 0, which TOML has and `datetime` has not. Its `path` is that in the table.

@@ -86,7 +86,7 @@ class ManifestError(ValueError):
     - `cause`: why, a `Cause`.
     - `part`: `"root"` where it is the root's text that has to be looked at, else `"manifest"`.
     - `path`: the keys and indexes that lead to the fault from the top of the text, as `("package", "authors", 0)`;
-      `()` is the top itself. `path_text` has the same as the library tells it, as `package.authors[0]`.
+      `()` is the top itself. `path_text` has the same as a text of the library, as `package.authors[0]`.
     - `name`: the key of what is not in the workspace, or the name of the dependency that the workspace inherits.
     - `line`, `column`: where the text is no TOML, from 1, the column in characters.
     - `start`, `end`: the same place as offsets of bytes, from 0. Those of a `str` are of its UTF-8.

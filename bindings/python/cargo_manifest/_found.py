@@ -18,7 +18,7 @@ def is_for_this_machine() -> bool:
 
 
 def packed_file(package: Path) -> Path:
-    """The library beside the package's modules, as in a wheel; or else that of a folder above, as in a clone."""
+    """The library next to the package's modules, as in a wheel; or else that of a folder above, as in a clone."""
     places = [package / NAME, *(folder / PREBUILT for folder in list(package.parents)[:3])]
     for place in places:
         if place.is_file():

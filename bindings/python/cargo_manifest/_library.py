@@ -87,7 +87,7 @@ def compare_versions(library: ctypes.CDLL) -> None:
 
 
 def _declared(library: ctypes.CDLL, name: str, *slices: tuple[Any, Any]) -> Call:
-    """A call that takes these slices, each a pointer with its length, and behind them how long its text may be, and the
+    """A call that takes these slices, each a pointer with its length, and after them how long its text may be, and the
     memory for it."""
     try:
         call = library[name]

@@ -39,7 +39,7 @@ def _encoded(text: str, what: str) -> bytes:
 
 
 def _names_of(path: str, names: Iterable[str]) -> list[bytes]:
-    """Names that are handed in, in the order that the library wants."""
+    """Names that are passed in, in the order that the library needs."""
     if isinstance(names, (str, bytes)) or not isinstance(names, Iterable):
         raise TypeError(f"the folder {path!r} has to have an iterable of names or an OSError, not {names!r}")
     return sorted({_encoded(name, f"a name in the folder {path!r}") for name in names})

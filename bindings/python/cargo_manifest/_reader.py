@@ -1,4 +1,4 @@
-"""Tagged bytes, read from the front."""
+"""Tagged bytes, read from the beginning."""
 from __future__ import annotations
 
 from collections.abc import Callable

@@ -7,7 +7,7 @@ from ._error import Cause, ManifestError, Part, Place
 from ._library import Answer, broken
 from ._listings import NOT_FOUND, OUT_OF_MEMORY, Listings
 
-# the root's statuses are the manifest's and so many more
+# the root's statuses are the manifest's plus this number
 _OF_ROOT = 16
 
 _NO_TOML, _SCHEMA, _FOLDER, _NOT_UTF8, _MEMORY = 1, 2, 3, 4, 6
@@ -54,7 +54,7 @@ def place_of(text: bytes, start: int, end: int) -> Place:
 
 
 def _of_text(answer: Answer, said: str, status: int, part: Part, text: bytes) -> ManifestError:
-    """The error of a text that is not read: the root's are told as the manifest's."""
+    """The error of a text that is not read: the root's are reported as the manifest's."""
     if status == _NOT_UTF8:
         return ManifestError(Cause.NOT_UTF8, part=part)
     if status == _NO_TOML:
@@ -76,7 +76,7 @@ def _of_folder(answer: Answer, listings: Optional[Listings]) -> Exception:
 
 
 def refusal(answer: Answer, said: str, manifest: bytes, root: bytes, listings: Optional[Listings]) -> Exception:
-    """The exception of an answer with this text, to a call with what else is handed in here."""
+    """The exception of an answer with this text, to a call with what else is passed in here."""
     status = answer.status
     if status in _PLAIN:
         cause, part = _PLAIN[status]

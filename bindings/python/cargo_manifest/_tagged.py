@@ -1,4 +1,4 @@
-"""Values that the library tells as tagged bytes."""
+"""Values that the library returns as tagged bytes."""
 from __future__ import annotations
 
 from typing import Any, Union
@@ -35,7 +35,7 @@ class _Open:
 
 
 def _simple(reader: Reader, tag: int) -> Any:
-    """What stands behind the tag of a value that holds no other."""
+    """What stands after the tag of a value that holds no other."""
     if tag == _TEXT:
         return reader.text()
     if tag == _NUMBER:
@@ -62,7 +62,7 @@ def _read(reader: Reader, holders: list[_Open]) -> None:
     try:
         holder.put(_simple(reader, tag))
     except ValueError as fault:
-        # only date-times tell one; the outermost holder is none of the value's
+        # only date-times report one; the outermost holder is not part of the value
         path = tuple(each.step for each in holders[1:])
         raise ManifestError(Cause.DATE_BEYOND_PYTHON, path_text=text_of(path)) from fault
 

@@ -1,4 +1,4 @@
-"""Manifests, roots and folders as a caller hands them in."""
+"""Manifests, roots and folders as a caller passes them in."""
 from __future__ import annotations
 
 import os
@@ -26,7 +26,7 @@ def bytes_of(text: Text, what: str) -> bytes:
 
 
 def listings_of(manifest: Text, folders: Optional[Folders]) -> Listings:
-    """The listings of the folders that are handed in, or else of the one that the manifest's file stands in."""
+    """The listings of the folders that are passed in, or else of the one that the manifest's file stands in."""
     if folders is None:
         if not isinstance(manifest, os.PathLike):
             raise TypeError("without folders the manifest has to be a path, whose folder is then listed")

@@ -1,4 +1,4 @@
-"""Each reason to refuse, with all that its error tells."""
+"""Each reason to refuse, with all that its error says."""
 import copy
 import errno
 import pickle
@@ -67,7 +67,7 @@ NO_TOML = [
 
 
 def fields(error: ManifestError) -> dict[str, Any]:
-    """What an error tells, but for what is None."""
+    """What an error says, except what is None."""
     told = {field: getattr(error, field) for field in FIELDS}
     return {field: value for field, value in told.items() if value is not None}
 
@@ -158,7 +158,7 @@ class OfDepthAndLength(Refused):
                     self.assertEqual(call(PACKAGE, *words, most=enough), whole)
                 for less in (0, 19):
                     self.refused(lambda: call(PACKAGE, *words, most=less), "too long", cause=Cause.TOO_LONG)
-                # (a fault of the text is told, however long its words are)
+                # (a fault of the text is reported, however long its words are)
                 wanted = {"cause": Cause.MISSING, "path": ("name",), "path_text": "name"}
                 self.refused(lambda: call("", *words, most=0), "missing at name", **wanted)
 

@@ -84,7 +84,7 @@ def listings_of(files: list[str]) -> dict[str, set[str]]:
 
 class StoredAnswers(unittest.TestCase):
     def judged(self, cases: Any, count: int) -> None:
-        """Tries all cases, of which there are so many."""
+        """Tries all cases, of which there are this many."""
         seen = 0
         with mock.patch.object(answers, "run", run):
             for name, difference in cases(None):

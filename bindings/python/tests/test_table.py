@@ -69,7 +69,7 @@ def text(value: str) -> bytes:
 
 
 def deep_text(header: int, key: int) -> str:
-    """A manifest whose metadata has a header with so many keys more, and below it a key of so many parts and one more."""
+    """A manifest whose metadata has a header with this many keys more, and below it a key of this many parts and one more."""
     return f"package.name = 'p'\n[package.metadata{'.a' * header}]\n{'a.' * key}b = 1\n"
 
 

@@ -14,7 +14,7 @@ TURNS = 150
 
 
 def refused(text: str) -> tuple[object, ...]:
-    """What the error of a text tells."""
+    """What the error of a text says."""
     try:
         canonical(text)
     except ManifestError as error:

@@ -1,5 +1,5 @@
 //! Prints the canonical text of a manifest, completed by a list of files in place of a folder, as that of an archive. The
-//! word is the path of the manifest, and standard input has the files beside it, a path on each line, as `src/lib.rs`.
+//! word is the path of the manifest, and standard input has the files next to it, a path on each line, as `src/lib.rs`.
 
 use cargo_manifest::calls::{completed, Listings};
 use std::collections::{BTreeMap, BTreeSet};

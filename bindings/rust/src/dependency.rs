@@ -83,7 +83,7 @@ impl Dependency {
         }
     }
 
-    /// The features that it says are wanted. (One that is inherited also has those of the workspace.)
+    /// The features that it enables. (One that is inherited also has those of the workspace.)
     pub fn req_features(&self) -> &[String] {
         let features = match self {
             Dependency::Simple(_) => None,
@@ -93,7 +93,7 @@ impl Dependency {
         features.unwrap_or_default()
     }
 
-    /// Whether it is left out unless a feature wants it.
+    /// Whether it is left out unless a feature enables it.
     pub fn optional(&self) -> bool {
         let optional = match self {
             Dependency::Simple(_) => None,
@@ -171,15 +171,15 @@ record! {
         ///
         /// [Cargo reference](https://doc.rust-lang.org/cargo/reference/specifying-dependencies.html#choice-of-commit).
         "rev" => rev: Option<String>, optional;
-        /// The features that are wanted.
+        /// The features that are enabled.
         ///
         /// [Cargo reference](https://doc.rust-lang.org/cargo/reference/features.html#dependency-features).
         "features" => features: Option<Vec<String>>, optional;
-        /// Whether it is left out unless a feature wants it. Without it, it is not.
+        /// Whether it is left out unless a feature enables it. Without it, it is not.
         ///
         /// [Cargo reference](https://doc.rust-lang.org/cargo/reference/features.html#optional-dependencies).
         "optional" => optional: Option<bool>, optional;
-        /// Whether its default features are wanted. Without it, they are.
+        /// Whether its default features are enabled. Without it, they are.
         ///
         /// [Cargo reference](https://doc.rust-lang.org/cargo/reference/features.html#dependency-features).
         "default-features" also "default_features" => default_features: Option<bool>, optional;
@@ -208,15 +208,15 @@ record! {
         ///
         /// [Cargo reference](https://doc.rust-lang.org/cargo/reference/specifying-dependencies.html#inheriting-a-dependency-from-a-workspace).
         "workspace" => workspace: True, needed;
-        /// The features that are wanted beside those of the workspace.
+        /// The features that are enabled in addition to those of the workspace.
         ///
         /// [Cargo reference](https://doc.rust-lang.org/cargo/reference/specifying-dependencies.html#inheriting-a-dependency-from-a-workspace).
         "features" => features: Option<Vec<String>>, optional;
-        /// Whether it is left out unless a feature wants it. Without it, it is not.
+        /// Whether it is left out unless a feature enables it. Without it, it is not.
         ///
         /// [Cargo reference](https://doc.rust-lang.org/cargo/reference/specifying-dependencies.html#inheriting-a-dependency-from-a-workspace).
         "optional" => optional: Option<bool>, optional;
-        /// Whether its default features are wanted. (The crate `cargo-manifest` does not have this field.)
+        /// Whether its default features are enabled. (The crate `cargo-manifest` does not have this field.)
         ///
         /// [Cargo reference](https://doc.rust-lang.org/cargo/reference/specifying-dependencies.html#inheriting-a-dependency-from-a-workspace).
         "default-features" also "default_features" => default_features: Option<bool>, optional;

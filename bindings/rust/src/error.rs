@@ -48,7 +48,7 @@ impl fmt::Display for Error {
     }
 }
 
-/// The text of an error is that of the error inside, so its source is what stands behind that one.
+/// The text of an error is that of the error inside, so its source is the source of that one.
 impl error::Error for Error {
     fn source(&self) -> Option<&(dyn error::Error + 'static)> {
         match self {
@@ -108,7 +108,7 @@ enum At {
 }
 
 impl ParseError {
-    /// What is wrong, where, and what was wanted, in one line.
+    /// What is wrong, where, and what was expected, in one line.
     pub fn message(&self) -> &str {
         &self.message
     }
@@ -196,7 +196,7 @@ fn line_column(bytes: &[u8], place: usize) -> (usize, usize) {
     (line, column)
 }
 
-/// What is wanted at a key path of a manifest. Under an old header the path is one of a package.
+/// What is expected at a key path of a manifest. Under an old header the path is one of a package.
 fn wanted_at(path: &str) -> Option<Cow<'static, str>> {
     let steps = steps(path);
     let package = match steps.as_slice() {

@@ -100,15 +100,15 @@
 //!
 //! The library takes the bytes of a `Cargo.toml`, and what it answers is the table of the manifest that these bytes mean, as
 //! the definitions have it; or the table of the completed or the resolved manifest; or a manifest's canonical text. That is
-//! proved, and `PROMISES.md` of the repository tells the contracts. Where a manifest is refused, the library says why and at
-//! which key path.
+//! proved, and `PROMISES.md` of the repository describes the contracts. Where a manifest is refused, the library says
+//! why and at which key path.
 //!
 //! What this crate does with these bytes is plain Rust, which is tested: a [`Manifest`] is decoded from the bytes of its
 //! table, and encoded to them before it is completed, resolved or written; one list of rows for each type does both. In a
 //! debug build each manifest that is decoded is encoded again, and compared. Bytes that are no such table, as an archive of
 //! another version might give them, end in a panic with one sentence. Also in plain Rust are the folders that are asked for
-//! a completion, [`Manifest::from_value`], what is read and written by serde, floats in metadata (which the library hands
-//! over as it read them), and the texts of errors.
+//! a completion, [`Manifest::from_value`], what is read and written by serde, floats in metadata (which the library
+//! returns as it read them), and the texts of errors.
 //!
 //! # Threads, memory, stack
 //!

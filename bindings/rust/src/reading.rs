@@ -9,7 +9,7 @@ use std::fs;
 use std::path::Path;
 use std::str::FromStr;
 
-/// The manifest of a table that the library wrote, with the metadata beside it.
+/// The manifest of a table that the library wrote, with its metadata.
 pub(crate) fn decode<P, W>(table: &[u8]) -> (Manifest<P, W>, Aside) {
     let Some((manifest, mut aside)) = decoded(table) else { is_broken() };
     if cfg!(debug_assertions) {
@@ -90,8 +90,8 @@ impl FromStr for Manifest {
 }
 
 impl<PackageMetadata: Metadata> Manifest<PackageMetadata> {
-    /// The same as [`from_slice`](Manifest::from_slice), with `[package.metadata]` read as a type of your own. That wants
-    /// the feature `serde`.
+    /// The same as [`from_slice`](Manifest::from_slice), with `[package.metadata]` read as a type of your own. That
+    /// needs the feature `serde`.
     pub fn from_slice_with_metadata(cargo_toml_content: &[u8]) -> Result<Self, Error> {
         let (mut manifest, aside) = read(cargo_toml_content).map_err(|refusal| refused(refusal, cargo_toml_content))?;
         if let Some(package) = &mut manifest.package {
@@ -113,7 +113,7 @@ impl<PackageMetadata: Metadata> Manifest<PackageMetadata> {
     }
 }
 
-/// The manifest that the bytes are, with the metadata beside it.
+/// The manifest that the bytes are, with its metadata.
 fn read<P, W>(bytes: &[u8]) -> Result<(Manifest<P, W>, Aside), Refusal> {
     let refusal = match tables::table(bytes) {
         Ok(table) => return Ok(decode(&table)),
@@ -141,7 +141,7 @@ fn is_float_of_metadata(refusal: &Refusal) -> bool {
     }
 }
 
-/// The metadata of a document, which stands under an old header where there is none of today.
+/// The metadata of a document, which stands under an old header where there is no current one.
 fn metadata_of(mut document: Map) -> Aside {
     let mut metadata = |key| document.get_mut(key)?.as_table_mut()?.remove("metadata");
     let (package, workspace) = (metadata("package"), metadata("workspace"));

@@ -1,4 +1,4 @@
-//! Writing a manifest: the proved call, and metadata with floats behind its text.
+//! Writing a manifest: the proved call, and metadata with floats after its text.
 
 use crate::calls::{is_broken, tables, DEPTH_LIMIT};
 use crate::codec::Aside;
@@ -13,8 +13,8 @@ impl<PackageMetadata: WrittenMetadata, WorkspaceMetadata: WrittenMetadata>
 {
     /// The canonical text of the manifest: its keys in the order of their bytes, each by its first spelling.
     ///
-    /// The text comes from the proved writer. Metadata with a float in it is written behind that text by this crate, which
-    /// is tested and not proved.
+    /// The text comes from the proved writer. Metadata with a float in it is written after that text by this crate,
+    /// which is tested and not proved.
     ///
     /// A manifest that no table can hold is an [`Error::Other`]: a custom profile named as one of the other fields of
     /// [`Profiles`](crate::Profiles), a tool of `lints` named `workspace`, a float outside of metadata, and values that nest

@@ -85,7 +85,7 @@ fn a_key_path_of_100_kilobytes() {
     assert_eq!(canonical(text.as_bytes()), Err(wanted));
 }
 
-/// The answer of a small stack to metadata that nests so deep.
+/// The answer of a small stack to metadata that nests this deep.
 fn nested(depth: usize) -> Result<String, Refusal> {
     let (open, close) = ("[".repeat(depth), "]".repeat(depth));
     let text = format!("[package]\nname = 'p'\n[package.metadata]\na = {open}{close}\n");
@@ -260,7 +260,7 @@ fn the_tables_of_the_other_calls() {
     assert_eq!(resolved_completed_table(member, root, &Listings::new()), missed);
 }
 
-/// What each call answers to these, as text where that is what it gives, in so many bytes at most.
+/// What each call answers to these, as text where that is what it gives, in at most this many bytes.
 fn each(most: usize, bytes: &[u8], root: &[u8]) -> [Result<String, Refusal>; 8] {
     let (call, listings) = (AtMost(most), with_library());
     let debug = |value: Result<Value, Refusal>| value.map(|value| format!("{value:?}"));

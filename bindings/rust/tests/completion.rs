@@ -42,7 +42,7 @@ impl Folders {
     }
 }
 
-/// An error that can be told from each other.
+/// An error that can be distinguished from others.
 #[derive(Debug)]
 struct Own(&'static str);
 
@@ -193,7 +193,7 @@ fn the_flags() {
     );
 }
 
-/// What a member comes to over the workspace of a root. A refusal leaves the member as it was.
+/// What a member becomes over the workspace of a root. A refusal leaves the member as it was.
 fn resolved(member: &str, root: &str) -> Result<Manifest, String> {
     let root: Manifest = root.parse().unwrap();
     let before: Manifest = member.parse().unwrap();

@@ -7,7 +7,7 @@ use std::thread;
 
 const STACK: usize = 512 << 10;
 
-/// A header, where there is one, so many parts of a key, and a value: what a document says of its metadata.
+/// A header, where there is one, the number of parts of a key, and a value: what a document says of its metadata.
 fn document(header: usize, key: usize, opening: &str, value: &str, closing: &str) -> String {
     let header = ".a".repeat(header);
     format!(

@@ -112,14 +112,14 @@ const EXPORTS: [Export; 13] = [
     ("resolved_of_tables", true, true, R(manifest_resolved_of_tables)),
 ];
 
-/// What an export is handed.
+/// What is passed to an export.
 struct Given<'a> {
     bytes: &'a [u8],
     root: &'a [u8],
     folders: &'a [Folder],
 }
 
-/// The answer of a call, which may give so many bytes, with room for all or none of them.
+/// The answer of a call, which may give this many bytes, with room for all or none of them.
 fn answer(call: &Call, given: &Given<'_>, most: usize, out: &mut [u8]) -> Answer {
     let (bytes, length) = (given.bytes.as_ptr(), given.bytes.len());
     let (root, root_length) = (given.root.as_ptr(), given.root.len());
@@ -172,8 +172,9 @@ fn check_parts(answer: Answer, given: &Given<'_>) {
     }
 }
 
-/// The answer where so many bytes may be given: what was refused before the length is looked at is refused as it was; else it is
-/// the same, where the text is short, or it says that the text is too long. Of a table it is the exact length that counts.
+/// The answer where this many bytes may be given: what was refused before the length is looked at is refused as it was;
+/// else it is the same, where the text is short, or it says that the text is too long. Of a table it is the exact
+/// length that counts.
 fn check_limit(whole: Answer, limited: Answer, most: usize, gives_table: bool) {
     let too_long = Answer { status: 32, cause: 0, length: 0, start: 0, end: 0 };
     if whole.status == 7 {
@@ -258,8 +259,8 @@ fn named(name: &str, otherwise: u64) -> u64 {
     env::var(name).map_or(otherwise, |text| text.parse().expect("a number"))
 }
 
-/// All calls on so many inputs, each in a thread of its own, which tells what does not hold: how often each status was
-/// answered, and how many inputs failed.
+/// All calls on this many inputs, each in a thread of its own, which reports what does not hold: how often each status
+/// was answered, and how many inputs failed.
 fn answers(first: u64, count: u64, stack: usize) -> (BTreeMap<u8, u64>, u64) {
     let (next, all) = (AtomicU64::new(first), Mutex::new((BTreeMap::new(), 0)));
     let work = || loop {

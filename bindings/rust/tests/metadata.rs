@@ -1,4 +1,4 @@
-//! Metadata with floats, which the archive hands over by calls of their own.
+//! Metadata with floats, which the archive returns by calls of their own.
 
 use cargo_manifest::{canonical, Cause, Error, Manifest, Value};
 
@@ -22,7 +22,7 @@ fn under_each_header() {
     assert_eq!(metadata(&half_at("workspace.metadata")), (None, half()));
     let both = format!("[package]\nname = 'p'\nmetadata = 0.25\n{}", half_at("workspace.metadata"));
     assert_eq!(metadata(&both), (Some(Value::Float(0.25)), half()));
-    // next to `workspace` an old header is none
+    // next to `workspace` an old header does not count
     let workspace = format!("name = 'p'\n{}{}", half_at("metadata"), half_at("workspace.metadata"));
     assert_eq!(metadata(&workspace), (None, half()));
 }

@@ -33,7 +33,7 @@ fn each_stored_manifest_is_written_and_read_back() {
     }
 }
 
-/// The reader of values, by its second spellings, free keys and old headers, beside the proved one.
+/// The reader of values, by its second spellings, free keys and old headers, next to the proved one.
 #[test]
 fn a_document_as_a_value_is_the_same_manifest() {
     let text = "name = 'a'\n[dev_dependencies]\nb = { version = '1', default_features = false, free = 1 }\n\

@@ -1,4 +1,4 @@
--- A fault that stands in a document, told as an error.
+-- A fault that stands in a document, reported as an error.
 use Rattle.std.proofs.Common.{◌≡◌, ℕ, List, Some}
 use Rattle.toml.specs.Data.{Data, Members}
 use Rattle.toml.specs.Parse.{parse_document}

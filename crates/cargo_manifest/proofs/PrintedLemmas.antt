@@ -24,7 +24,7 @@ joined_member : (is_first : Bool) (k this rest text : List ℕ) (m n : ℕ) → 
 joined_member true k this rest text m n e h g = omega (arith, simp length-append at (ap length e))
 joined_member false k this rest text m n e h g = omega (arith, simp length-append at (ap length e))
 
--- VALUES on the right of `=`, behind any path
+-- VALUES on the right of `=`, after any path
 mutual
   value_fits : (path : ℕ) (d : Data) (text : List ℕ) → plain d ≡ true → IsValueText false d text → length text ≤ printed_size path d
   value_fits path (string s) text p h = omega (arith, ap length h)
@@ -130,7 +130,7 @@ no_section path k (datetime dt) e = none_at_most
 table_header : (path : List (List ℕ)) (k : List ℕ) (ms : Members) → AtMost (header_of (path, k) ms) (behind path + key_size k + 3)
 table_header path k ms = elim (needs_header ms) as (λ b. AtMost (if b then ((path, k), std_table) ∷ [] else []) (behind path + key_size k + 3)) [ true ↦ header_at_most path k | false ↦ longer [] 0 _ (omega arith) none_at_most ]
 
--- an entry beside the others is a section, or a line of its own
+-- an entry among the others is a section, or a line of its own
 entry_fits : (path : List (List ℕ)) (k : List ℕ) (d : Data) (ms : Members) → plain d ≡ true → AtMost (section (path, k) d) (key_size k + 4 + printed_size (behind path + key_size k) d) → Fits path ms → (s : Bool) → is_section d ≡ s → Fits path (member k d ms)
 entry_fits path k d ms p below (m, n, a, b, h) true e =
     rw e (m, key_size k + 4 + printed_size (behind path + key_size k) d + n, a, both_at_most (section (path, k) d) (sections path ms) _ _ below b, omega arith)

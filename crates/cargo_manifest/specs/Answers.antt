@@ -1,4 +1,4 @@
--- What each answer of the calls says of the bytes that were read. The kinds K and W are those of the metadata of the package and of the workspace.
+-- What each answer says of the bytes that were read. K and W are the kinds of metadata of package and workspace.
 use Rattle.std.specs.Prelude.{◌≡◌, ◌<◌, ◌≤◌, ◌⊎◌, ℕ, List, length, true, false, Some, None, IsUtf8, codes, string_bytes}
 use Rattle.toml.specs.Data.{Data, Members, members_depth, members_have_valid_dates}
 use Rattle.toml.specs.Parse.{parse_document}
@@ -39,7 +39,7 @@ pub record RefusesDocument (K W : Kind Data) (bytes : List ℕ) (e : Error) : Ty
   pub parsed : parse_document bytes ≡ Some document
   pub refused : RefusesTable K W document e
 
--- the refusal of a text: by `toml` with a place within the text, and, memory aside, only where it is no document; by the schema as its table is; else out of memory
+-- a text is refused: by `toml`, at a place in it, only where it is no document or out of memory; or as its table is
 abbrev pub RefusesText : Kind Data → Kind Data → List ℕ → Error → Type 0
 RefusesText K W text (Parse (Toml e)) = IsWithin text e.value × (¬ IsMemory e.value → parse_document text ≡ None)
 RefusesText K W text (Parse (Schema f)) = RefusesDocument K W text (Parse (Schema f))
@@ -57,7 +57,7 @@ abbrev pub written_of : {P W A B : Type 0}
 written_of K W p w m =
     rewritten (tree_of K) (tree_of W) (manifest_content (λ x. K.written (p x)) (λ x. W.written (w x)) m)
 
--- a text that is read as the manifest: where that is well-formed, has a package or a workspace, and its table is at most 80 deep
+-- a text is read as the manifest: if well-formed, with a package or a workspace, and a table at most 80 deep
 abbrev pub ReadsAs : Kind Data → Kind Data → Manifest → List ℕ → Type 0
 ReadsAs K W m text =
     well_formed K W m → is_headed m ≡ true → members_depth (rewritten K W m) ≤ 80

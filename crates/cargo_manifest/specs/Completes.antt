@@ -10,11 +10,11 @@ use Rattle.manifest_completion.specs.Completed.{Completion, completed_to, refuse
 use Rattle.manifest_completion.specs.Stored.{AnswersAsStored, stored_map}
 use Rattle.manifest_completion.specs.Outcome.{library_text, IsRefusalOf}
 
--- completion brings the manifest to this by one map of listings, with an answer that the filesystem allows at each place that is asked for it
+-- the manifest becomes this by one map of listings, whose answer at each place that is asked the filesystem allows
 abbrev pub ComesTo : (Text → Answer → Type 0) → Manifest → Completion Manifest → Type 0
 ComesTo allows m c = ByOneMap allows (asked m) (completed m) c
 
--- the refusal to complete: for a fault that the map has, for lack of a library's file, or as out of memory
+-- the refusal to complete: for a fault that the map has, a missing library file, or out of memory
 abbrev pub RefusesToComplete : (Text → Answer → Type 0) → Manifest → Error → Type 0
 RefusesToComplete allows m (Io e) = ComesTo allows m (refused (error_kind e))
 RefusesToComplete allows m (Other s) = ComesTo allows m no_library × (string_bytes s ≡ library_text)
@@ -26,7 +26,7 @@ abbrev pub Completes : (Text → Answer → Type 0) → Manifest → Manifest �
 Completes allows old new (Ok u) = ComesTo allows old (completed_to new)
 Completes allows old new (Err e) = RefusesToComplete allows old e
 
--- what completing answers where one answer is stored for each path text: the manifest is left as what the map of what is stored completes it to, or the refusal is that map's
+-- completing over one stored answer for each path text: what the map of these answers gives, or its refusal
 abbrev pub CompletesAsStored :
     (Text → Answer) → Manifest → Manifest → Result (Unit {0}) Error → Type 0
 CompletesAsStored stored old new (Ok u) = completed old (stored_map stored) ≡ completed_to new

@@ -25,16 +25,16 @@ abbrev pub IsOtherIo : Error → Type 0
 IsOtherIo (Io e) = error_kind e ≡ ErrorKind.Other
 IsOtherIo _ = ⊥
 
--- THE FOLDER that a path stands in: its parent, which `/` and the empty path have not; that of a bare name is the empty path
+-- THE FOLDER of a path: its parent, which `/` and the empty path do not have; that of a bare name is the empty path
 abbrev pub folder_of : Path → Option Text
 folder_of p = path_parent (path_bytes p)
 
--- the first manifest comes to the second by some map of listings whose names ascend
+-- the first manifest becomes the second by some map of listings whose names ascend
 abbrev pub CompletedIn : Option Text → Manifest → Manifest → Type 0
 CompletedIn (Some folder) old new = ComesTo AnyAscending old (completed_to new)
 CompletedIn None old new = ⊥
 
--- the refusal to complete the manifest: that of such a map, or out of memory; without a folder it is Io of the kind Other
+-- the refusal to complete: that of such a map, or out of memory; without a folder, Io of the kind Other
 abbrev pub RefusesIn : Option Text → Manifest → Error → Type 0
 RefusesIn (Some folder) m e = RefusesToComplete AnyAscending m e
 RefusesIn None m e = IsOtherIo e

@@ -11,7 +11,7 @@ use Rattle.manifest_schema.specs.Kinds.{plain_members}
 abbrev pub key_size : List ℕ → ℕ
 key_size k = length (key_text k) + 1
 
--- a value behind a path of keys with so many bytes: a table stands under a header of its own, or in braces
+-- a value after a path of keys of a given length: a table stands under a header of its own, or in braces
 abbrev mutual
   pub printed_size : ℕ → Data → ℕ
   printed_size path (string s) = length (string_text s)
@@ -33,7 +33,7 @@ abbrev mutual
   printed_members path (member k d ms) =
       key_size k + 4 + printed_size (path + key_size k) d + printed_members path ms
 
--- so many bytes hold the document of the table
+-- this number of bytes holds the document of the table
 abbrev pub printed_bound : Members → ℕ
 printed_bound ms = printed_members 0 ms
 

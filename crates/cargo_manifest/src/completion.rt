@@ -69,8 +69,8 @@ fn put_targets<P: Metadata>(manifest: &mut Manifest<P, Value>, completed: Comple
 }
 
 impl<P: Metadata> Manifest<P, Value> {
-    /// Whether found binaries are added to `bin`: as the package's `autobins` says, and where it says nothing, unless the
-    /// edition is absent or 2015 and there is a binary. False without a package. See the
+    /// Whether found binaries are added to `bin`: as the package's `autobins` says, and where it says nothing, unless
+    /// the edition is absent or 2015 and there is a binary. False without a package. See the
     /// [Cargo reference](https://doc.rust-lang.org/cargo/reference/cargo-targets.html#target-auto-discovery).
     ///
     /// ```ignore
@@ -138,14 +138,14 @@ impl<P: Metadata> Manifest<P, Value> {
         }
     }
 
-    /// Completes the manifest by what the filesystem lists: the library, the binaries, examples, tests and benches, and the
-    /// build script. `docs/COMPLETION.md` says how. Without a package nothing is asked and nothing changes.
+    /// Completes the manifest by what the filesystem lists: the library, the binaries, examples, tests and benches, and
+    /// the build script. `docs/COMPLETION.md` says how. Without a package nothing is asked and nothing changes.
     ///
-    /// It asks for `src`; `src/bin` and each of its entries; `examples`, `tests`, `benches`, each with its entries; and `.`,
-    /// where `build` is absent or true. Refuses with [`Error::Io`] where `src` has another fault than that it is not there,
-    /// where a listing of a target folder or of an entry runs out of memory, and where `.` has a fault; with [`Error::Other`]
-    /// where a declared library has no file; and with [`Error::Memory`] when out of memory. After a refusal the manifest
-    /// is what it was.
+    /// It asks for `src`; `src/bin` and each of its entries; `examples`, `tests`, `benches`, each with its entries; and
+    /// `.`, where `build` is absent or true. Refuses with [`Error::Io`] where `src` has another fault than that it is
+    /// not there, where memory runs out for the listing of a target folder or of an entry, and where `.` has a fault;
+    /// with [`Error::Other`] where a declared library has no file; and with [`Error::Memory`] when out of memory. After
+    /// a refusal the manifest is what it was.
     ///
     /// ```ignore
     /// let mut names = BTreeSet::new(alloc);

@@ -42,11 +42,12 @@ fn from_bytes<P: Metadata, R: Files + AllocGlobal + Clone + Drop>(
 
 impl<P: Metadata> Manifest<P, Value> {
     /// Completes the manifest by the folder that a path stands in, its parent: as
-    /// [`Manifest::complete_from_abstract_filesystem`] does over [`Filesystem`]. The folder of a bare name is the working
-    /// folder.
+    /// [`Manifest::complete_from_abstract_filesystem`] does over [`Filesystem`]. The folder of a bare name is the
+    /// working folder.
     ///
-    /// Refuses a path without a parent, which is `/` or the empty one, with [`Error::Io`] of the kind `Other`, also without
-    /// a package; then as `complete_from_abstract_filesystem` does. After a refusal the manifest is what it was.
+    /// Refuses a path without a parent, which is `/` or the empty one, with [`Error::Io`] of the kind `Other`, also
+    /// without a package; then as `complete_from_abstract_filesystem` does. After a refusal the manifest is what it
+    /// was.
     ///
     /// ```ignore
     /// let path = Path::new("foo-bar/Cargo.toml");
@@ -100,8 +101,8 @@ impl<P: Metadata> Manifest<P, Value> {
 }
 
 impl Manifest<Value, Value> {
-    /// Reads a `Cargo.toml` from its file and completes it: [`Manifest::from_path_with_metadata`] with metadata kept as it
-    /// is.
+    /// Reads a `Cargo.toml` from its file and completes it: [`Manifest::from_path_with_metadata`] with metadata kept as
+    /// it is.
     ///
     /// ```ignore
     /// let manifest = Manifest::from_path(&rt, Path::new("Cargo.toml"))?; // completed by the working folder

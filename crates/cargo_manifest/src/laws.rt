@@ -1,4 +1,5 @@
-//! What is promised of the meaning of a table and of completion, for every type of metadata of a package (`P`) and of a workspace (`W`).
+//! What is promised of the meaning of a table and of completion, for every type of metadata of a package (`P`) and of a
+//! workspace (`W`).
 //!
 //! Each function returns at once: it is there for its contract, a law of the definitions.
 
@@ -33,8 +34,8 @@ pub fn accepted_is_well_formed<P: Metadata, W: Metadata>()
     ensures { AcceptedIsWellFormed (tree_of P.kind) (tree_of W.kind) }
 {}
 
-/// A package is well-formed exactly where its metadata is; a workspace, where its metadata and its lints are; a manifest,
-/// where its package, its workspace, its profiles and its lints are.
+/// A package is well-formed exactly where its metadata is; a workspace, where its metadata and its lints are; a
+/// manifest, where its package, its workspace, its profiles and its lints are.
 #[tactic(auto, using(crate::proofs::WellFormedLaws::package_by_metadata, crate::proofs::WellFormedLaws::workspace_by_parts, crate::proofs::WellFormedLaws::manifest_by_parts))]
 pub fn well_formed_by_parts<P: Metadata, W: Metadata>()
     ensures package { PackageByMetadata (tree_of P.kind) }
@@ -79,22 +80,22 @@ pub fn accepted_or_faulty()
     ensures { AcceptedOrFaulty (tree_of kept) (tree_of kept) }
 {}
 
-/// Where no inherited dependency of a manifest chooses its default features, what is written of the manifest is what was
-/// written before they could; where it is well-formed besides, what was written then is read as it.
+/// Where no inherited dependency of a manifest chooses its default features, what is written of the manifest is what
+/// was written before they could; where it is also well-formed, what was written then is read as it.
 pub fn old_written_is_read<P: Metadata, W: Metadata>()
     ensures { OldWrittenIsRead (tree_of P.kind) (tree_of W.kind) }
 {}
 
 /// Over a filesystem that has one answer stored for each path text, as [`Listings`](crate::Listings) has, the answer of
-/// [`Manifest::complete_from_abstract_filesystem`](crate::Manifest::complete_from_abstract_filesystem) is the completion of
-/// the map of what is stored; a listing for which memory ran out, or other lack of memory, aside.
+/// [`Manifest::complete_from_abstract_filesystem`](crate::Manifest::complete_from_abstract_filesystem) is the
+/// completion of the map of what is stored, unless memory runs out, for a listing or otherwise.
 #[tactic(auto, using(crate::proofs::StoredLaws::stored_decides))]
 pub fn stored_decides()
     ensures { StoredDecides }
 {}
 
-/// Completing a well-formed manifest, writing it, reading it and completing it again over the same listings changes nothing
-/// and asks no other place.
+/// Completing a well-formed manifest, writing it, reading it and completing it again over the same listings changes
+/// nothing and asks no other place.
 pub fn completed_is_fixed<P: Metadata, W: Metadata>()
     ensures { CompletedIsFixed (tree_of P.kind) (tree_of W.kind) }
 {}
@@ -113,8 +114,8 @@ pub fn parsed_dates_are_valid()
     ensures read { ReadDatesAreValid }
 {}
 
-/// Where metadata is kept as it is, a manifest that is meant by a table without a date-time that TOML cannot write keeps
-/// none, nor does what it is completed to, and none stands in what is written of it.
+/// Where metadata is kept as it is, a manifest that is meant by a table without a date-time that TOML cannot write
+/// keeps none, nor does what it is completed to, and none stands in what is written of it.
 #[tactic(auto, using(manifest_schema::proofs::DateLaws::meant_dates_are_valid, manifest_schema::proofs::DateLaws::written_dates_are_valid))]
 pub fn kept_dates_are_valid()
     ensures meant { MeantDatesAreValid }

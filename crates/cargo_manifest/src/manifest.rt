@@ -31,8 +31,8 @@ use toml::{Table, Value};
 /// What a `Cargo.toml` says; `P` and `W` are the types of the metadata of its package and of its workspace. See the
 /// [Cargo reference](https://doc.rust-lang.org/cargo/reference/manifest.html).
 ///
-/// It is well-formed where its package, its workspace, its profiles and its lints, where they are there, are. With a custom
-/// profile `dev`, or a tool of lints named `workspace`, it is not.
+/// It is well-formed where its package, its workspace, its profiles and its lints, where they are there, are. With a
+/// custom profile `dev`, or a tool of lints named `workspace`, it is not.
 ///
 /// ```ignore
 /// if manifest.is_well_formed() {

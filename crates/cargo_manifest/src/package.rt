@@ -36,7 +36,8 @@ pub struct Package<M = Value> {
     pub name: String,
     /// The edition of its targets, its own or inherited; Cargo takes 2015 where there is none.
     pub edition: Option<MaybeInherited<Edition>>,
-    /// The version, its own or inherited; Cargo takes `0.0.0` where there is none: [`Package::version`] tells what holds.
+    /// The version, its own or inherited; Cargo takes `0.0.0` where there is none: [`Package::version`] tells what
+    /// holds.
     pub version: Option<MaybeInherited<String>>,
     /// The build script by its path, or false for none; absent or true, it is discovered: completion fills it in.
     pub build: Option<StringOrBool>,
@@ -147,8 +148,9 @@ impl<M> Package<M> {
         }
     }
 
-    /// The version of the package, or the mark that it is inherited from the workspace. A package that names none has the version
-    /// 0.0.0, as the [Cargo reference](https://doc.rust-lang.org/cargo/reference/manifest.html#the-version-field) says.
+    /// The version of the package, or the mark that it is inherited from the workspace. A package that names none has
+    /// the version 0.0.0, as the
+    /// [Cargo reference](https://doc.rust-lang.org/cargo/reference/manifest.html#the-version-field) says.
     ///
     /// ```ignore
     /// let version = package.version(); // of `{ name = 'a' }`, `Local("0.0.0")`
@@ -174,7 +176,8 @@ fn package_with_name<M>(name: String) -> Package<M>
     package!(empty_of(Package, (), name))
 }
 
-/// Reads a package from a table: the one reading of the table by the form of a package, as of a value that is this table.
+/// Reads a package from a table: the one reading of the table by the form of a package, as of a value that is this
+/// table.
 ///
 /// Refuses with the fault of a row, its key path beginning at the table, or as out of memory. The package under an
 /// old header, which is the whole manifest, is read by it.

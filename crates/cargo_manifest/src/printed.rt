@@ -10,7 +10,7 @@ use std::fmt::{Display, Formatter, Write};
 use toml::{Table, Value};
 use toml_writer::write_key;
 
-/// Counts the bytes that are written to it, and keeps none.
+/// Counts the bytes that are written to it, and stores none.
 #[derive(Drop)]
 struct Count {
     bytes: usize,
@@ -31,7 +31,7 @@ impl Write for Count {
     }
 }
 
-/// What a key takes, with a dot or a blank behind it.
+/// What a key takes, with a dot or a blank after it.
 fn key_size(key: &str) -> Option<usize>
     ensures { IfSome result (λ n. n ≡ spec.key_size key.now) }
 {
@@ -54,7 +54,7 @@ fn shown_size(value: &Value) -> Option<usize>
     }
 }
 
-/// What a value takes behind a path of keys with so many bytes.
+/// What a value takes after a path of keys of a given length in bytes.
 #[cycle(printed)]
 fn value_size(path: usize, value: &Value) -> Option<usize>
     ensures { IfSome result (λ n. n ≡ spec.printed_size path (view value.now)) }
@@ -101,8 +101,8 @@ fn members_size(path: usize, members: &Table) -> Option<usize>
     Some(size)
 }
 
-/// How long the document of a table is at most, counted without making the text: `toml` writes no more bytes of it. None
-/// where the number does not fit a `usize`.
+/// How long the document of a table is at most, counted without making the text: `toml` writes no more bytes of it.
+/// None where the number does not fit a `usize`.
 ///
 /// ```ignore
 /// let bound = printed_bound(&table); // of `name = "a"` 12, and the text has 11 bytes

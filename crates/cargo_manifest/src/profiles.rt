@@ -41,7 +41,7 @@ pub struct Profiles {
     pub test: Option<Profile>,
     /// The profile of `cargo bench`, which inherits from `release`.
     pub bench: Option<Profile>,
-    /// The profile of documentation, which Cargo has given up: it has no effect.
+    /// The profile of documentation, which Cargo no longer uses: it has no effect.
     pub doc: Option<Profile>,
     /// The custom profiles, by name.
     pub custom: BTreeMap<String, Profile>,

@@ -147,8 +147,8 @@ fn read_bytes<P: Metadata, W: Metadata>(
     }
 }
 
-/// A manifest that is read in its place. Each public call makes its own: a manifest takes 5 kB, which every function that
-/// hands it on would clear once more.
+/// A manifest that is read in its place. Each public call makes its own: a manifest takes 5 kB, which every function
+/// that passes it on would clear once more.
 macro_rules! manifest_by {
     ($read:ident, $alloc:ident, $input:ident) => {{
         let mut manifest = Manifest::default($alloc);
@@ -163,8 +163,8 @@ macro_rules! manifest_by {
 }
 
 impl<P: Metadata, W: Metadata> Manifest<P, W> {
-    /// Reads the bytes of a `Cargo.toml`, with the package's metadata as a `P` and the workspace's as a `W`. It refuses as
-    /// [`Manifest::from_slice_with_metadata`] does.
+    /// Reads the bytes of a `Cargo.toml`, with the package's metadata as a `P` and the workspace's as a `W`. It refuses
+    /// as [`Manifest::from_slice_with_metadata`] does.
     ///
     /// ```ignore
     /// let manifest: Manifest<Unread, Unread> = Manifest::from_slice_with_both_metadata(alloc, bytes)?;
@@ -181,11 +181,11 @@ impl<P: Metadata, W: Metadata> Manifest<P, W> {
         manifest_by!(read_bytes, alloc, bytes)
     }
 
-    /// Reads the table of a document, as [`Manifest::from_slice_with_both_metadata`] does where it has parsed the bytes. So
-    /// a caller can look at the table first, as at its [`depth`](crate::depth).
+    /// Reads the table of a document, as [`Manifest::from_slice_with_both_metadata`] does where it has parsed the
+    /// bytes. So a caller can look at the table first, as at its [`depth`](crate::depth).
     ///
-    /// Refuses a table that means no manifest with `Error::Parse(ParseFault::Schema(..))`, which tells a key path and a
-    /// cause that stand there, and else only where it is out of memory.
+    /// Refuses a table that means no manifest with `Error::Parse(ParseFault::Schema(..))`, with a key path and a cause
+    /// that stand there, and else only when out of memory.
     ///
     /// ```ignore
     /// let table = toml::table_from_str(alloc, "name = 'a'")?;
@@ -210,8 +210,8 @@ impl<P: Metadata> Manifest<P, Value> {
     ///
     /// Refuses bytes that are not UTF-8 with [`Error::Utf8`]; then a text that is no TOML with
     /// `Error::Parse(ParseFault::Toml(..))`; then a table that means no manifest with
-    /// `Error::Parse(ParseFault::Schema(..))`, which tells a key path and a cause that stand there. Besides, want of
-    /// memory is [`Error::Memory`], or a memory fault inside `ParseFault::Toml`.
+    /// `Error::Parse(ParseFault::Schema(..))`, with a key path and a cause that stand there. When out of memory it
+    /// fails with [`Error::Memory`], or with a memory fault inside `ParseFault::Toml`.
     ///
     /// Nothing is completed from folders.
     ///

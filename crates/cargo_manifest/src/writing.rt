@@ -15,7 +15,7 @@ use manifest_value::{Error, Metadata};
 use std::alloc::{AllocError, Global};
 use toml::Table;
 
-/// What is told of a table with a date-time that TOML cannot write.
+/// The error's text for a table with a date-time that TOML cannot write.
 pub const INVALID_DATE: &str = "a date-time of a kept value is not a valid date";
 
 /// The text of a table.
@@ -40,10 +40,10 @@ fn table_text(alloc: Global, table: &Table) -> Result<String, Error>
 impl<P: Metadata, W: Metadata> Manifest<P, W> {
     /// The text of the canonical table: the document that `toml` writes of it, at any depth.
     ///
-    /// A table that is at most 80 deep, as `toml` counts, is read back from it: so of a well-formed manifest with a package
-    /// or a workspace, also one that was completed or resolved or is made by hand, [`Manifest::from_slice`] of the text
-    /// gives that manifest. Refuses a table with a date-time that
-    /// `toml` counts as invalid with [`Error::Other`] of [`INVALID_DATE`], and else only as out of memory.
+    /// A table that is at most 80 deep, as `toml` counts, is read back from it: so of a well-formed manifest with a
+    /// package or a workspace, also one that was completed or resolved or is made by hand, [`Manifest::from_slice`] of
+    /// the text gives that manifest. Refuses a table with a date-time that `toml` counts as invalid with
+    /// [`Error::Other`] of [`INVALID_DATE`], and else only when out of memory.
     ///
     /// ```ignore
     /// let manifest = Manifest::from_str(alloc, "name = 'a'")?; // an old header
@@ -70,8 +70,8 @@ impl<P: Metadata, W: Metadata> Manifest<P, W> {
     }
 
     /// The same text, where it takes at most a given number of bytes; `None` where it could take more, by
-    /// [`printed_bound`](crate::printed_bound) of its table, which is counted before anything is printed. So a small manifest
-    /// that prints as a large text is refused without the text.
+    /// [`printed_bound`](crate::printed_bound) of its table, which is counted before anything is printed. So a small
+    /// manifest that prints as a large text is refused without the text.
     ///
     /// Refuses as [`Manifest::to_toml_string`] does.
     ///

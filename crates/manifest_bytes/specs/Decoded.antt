@@ -13,7 +13,7 @@ abbrev pub made : {A B : Type 0} → (A → B) → Taken A → Taken B
 made f None = None
 made f (Some r) = Some (f r.0, r.1)
 
--- what is read behind it
+-- what is read after it
 abbrev pub behind : {A B : Type 0} → Taken A → (A → List ℕ → Taken B) → Taken B
 behind None next = None
 behind (Some r) next = next r.0 r.1
@@ -73,7 +73,7 @@ take_members read (suc n) bs =
     behind (take_text bs) (λ k cs. behind (read cs) (λ d ds.
     made (member k d) (take_members read n ds)))
 
--- what stands behind a tag
+-- what stands after a tag
 abbrev pub take_tagged : (List ℕ → Taken Data) → ℕ → List ℕ → Taken Data
 take_tagged read tag bs =
     if tag == 1 then made string (take_text bs)
@@ -86,13 +86,13 @@ take_tagged read tag bs =
     else if tag == 8 then made table (behind (take_number bs) (take_members read))
     else None
 
--- A VALUE that nests at most so deep
+-- A VALUE that nests at most this deep
 abbrev pub take_value : ℕ → List ℕ → Taken Data
 take_value zero bs = None
 take_value (suc deep) [] = None
 take_value (suc deep) (tag ∷ bs) = take_tagged (take_value deep) tag bs
 
--- nothing stands behind it
+-- nothing stands after it
 abbrev pub whole : Taken Data → Option Data
 whole (Some (d, [])) = Some d
 whole _ = None

@@ -1,4 +1,4 @@
--- A value as bytes: a tag, and behind it what the value holds.
+-- A value as bytes: a tag, and after it what the value holds.
 use Rattle.std.specs.Prelude.{ℕ, suc, List, [], ◌∷◌, ◌++◌, length, Bool, true, false, ℤ, pos, negsuc, Option, Some, None, to_bits}
 use lib.Ieee.{binary64}
 use Rattle.toml_datetime.specs.declared.datetime.Date.{Date}
@@ -58,7 +58,7 @@ abbrev pub member_count : Members → ℕ
 member_count no_members = 0
 member_count (member k d ms) = suc (member_count ms)
 
--- A VALUE. A float is its 64 bits as a number, the same ones for everything that is not a number. No table of a manifest has one.
+-- A VALUE. A float is its 64 bits as a number, the same bits for every NaN. No table of a manifest has one.
 abbrev mutual
   pub encoded : Data → List ℕ
   encoded (string s) = 1 ∷ text_bytes s
@@ -74,7 +74,7 @@ abbrev mutual
   items_bytes no_items = []
   items_bytes (item d ds) = encoded d ++ items_bytes ds
 
-  -- the keys in a row, each a text with its value behind it
+  -- the keys in a row, each a text with its value after it
   pub members_bytes : Members → List ℕ
   members_bytes no_members = []
   members_bytes (member k d ms) = text_bytes k ++ (encoded d ++ members_bytes ms)

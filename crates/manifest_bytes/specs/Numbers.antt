@@ -10,7 +10,7 @@ groups (suc more) n = if nat_lt n 128 then n ∷ [] else (n % 128 + 128) ∷ gro
 unfoldable pub number_bytes : ℕ → List ℕ
 number_bytes n = groups n n
 
--- WHAT IS READ from the front of some bytes, and the bytes behind it
+-- WHAT IS READ from the beginning of some bytes, and the bytes after it
 abbrev pub Taken : Type 0 → Type 0
 Taken A = Option (A × List ℕ)
 

@@ -1,4 +1,5 @@
-//! What is promised of the bytes. Each function returns at once: it is there for its contract, a law of the definitions.
+//! What is promised of the bytes. Each function returns at once: it is there for its contract, a law of the
+//! definitions.
 
 ghost use Rattle.manifest_schema.specs.Kinds.{tree_of};
 ghost use Rattle.manifest_bytes.specs.Laws.{EncodedIsDecoded, TableIsDecoded};

@@ -1,5 +1,5 @@
-//! The value that some bytes may hold: the way back from `values`. What is read here is only sought, and `value_of_bytes`
-//! keeps it where its bytes are those that were read.
+//! The value that some bytes may hold: the way back from `values`. What is read here is only sought, and
+//! `value_of_bytes` keeps it where its bytes are those that were read.
 
 ghost use Rattle.std.specs.Prelude.{◌≡◌, ◌+◌, IfOk};
 
@@ -9,10 +9,11 @@ use std::num::f64_from_bits_with_nan;
 use toml::{Table, Value};
 use toml_datetime::{Date, Datetime, Offset, Time};
 
-/// What is read, or nothing where the bytes hold none; and an error where it nests too deep or there is no memory for it.
+/// What is read, or nothing where the bytes hold none; and an error where it nests too deep or there is no memory for
+/// it.
 type Read<T> = Result<Option<T>, DecodeError>;
 
-/// Bytes that are read from the front.
+/// Bytes that are read from the beginning.
 #[derive(Drop)]
 pub(crate) struct Reader<'a> {
     pub(crate) left: &'a [u8],
@@ -127,7 +128,7 @@ impl<'a> Reader<'a> {
         Some(Datetime { date, time, offset })
     }
 
-    /// What stands behind the tag of a value that holds no other, where that is no text.
+    /// What stands after the tag of a value that holds no other, where that is no text.
     fn simple(&mut self, tag: u8) -> Option<Value> {
         match tag {
             2 => Some(Value::Integer(i64::try_from(self.number()?).ok()?)),
@@ -160,7 +161,7 @@ fn inside(deepest: usize) -> Result<usize, DecodeError>
     }
 }
 
-/// A value whose arrays and tables nest at most so deep.
+/// A value whose arrays and tables nest at most this deep.
 #[cycle(reading)]
 pub(crate) fn read_value(alloc: Global, deepest: usize, reader: &mut Reader<'_>) -> Read<Value> {
     match reader.byte() {

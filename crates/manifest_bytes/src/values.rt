@@ -224,10 +224,10 @@ pub fn value_bytes(alloc: Global, value: &Value) -> Result<Vec<u8>, AllocError>
     Ok(out)
 }
 
-/// The value whose bytes these are: what is read of them is kept where its bytes are the same again. None where they are
-/// the bytes of no value, as where a text is not UTF-8, or the keys of a table do not ascend. The stack that it takes grows
-/// with `deepest` alone: bytes of a value whose arrays and tables nest deeper are refused with [`DecodeError::TooDeep`],
-/// unless they are found to be none before.
+/// The value whose bytes these are: what is read of them is kept where its bytes are the same again. None where they
+/// are the bytes of no value, as where a text is not UTF-8, or the keys of a table do not ascend. The stack that it
+/// takes grows with `deepest` alone: bytes of a value whose arrays and tables nest deeper are refused with
+/// [`DecodeError::TooDeep`], unless they are found to be invalid first.
 ///
 /// ```ignore
 /// let value = value_of_bytes(alloc, 128, &[7, 2, 5, 2, 172, 2])?; // `[true, 300]`

@@ -20,7 +20,7 @@ IsCanonInput [] = Unit {0}
 IsCanonInput (v ∷ w ∷ []) = (string_bytes v ≡ codes "canon") × (string_bytes w ≡ codes "-")
 IsCanonInput _ = ⊥
 
--- what else words may ask for: to print the manifest of a file; that manifest completed over its folder; or, before it is completed, with what the workspace of another file lends it
+-- words may also ask for a file's manifest: as it is, completed, or first resolved over another file's workspace
 pub data Asked : Type 0 where
   canon_file complete_file complete_member : Asked
 
@@ -47,7 +47,7 @@ AreWrong words = ¬ IsCanonInput words × ((a : Asked) → ¬ Asks a words)
 abbrev pub IsFileOf : Manifest → Type 0
 IsFileOf m = (bytes : List ℕ) × Means bytes m
 
--- a manifest and what it is finished to: with what it inherits from the workspace of a root, where there is one, and then completed by some map of listings
+-- a manifest and what it becomes: resolved over the workspace of a root, if any, and completed by some map of listings
 abbrev pub IsFinished : Option Manifest → Manifest → Manifest → Type 0
 IsFinished root m n =
     (resolved : Manifest) × Inherits root m resolved × ComesTo AnyAscending resolved (completed_to n)
@@ -101,13 +101,13 @@ IsPrinted bytes old new = PrintsOne (Means bytes) old new
 abbrev pub IsBegun : List ℕ → Option (List ℕ) → Option (List ℕ) → Type 0
 IsBegun bytes old new = BeginsOne (Means bytes) old new
 
--- why bytes get no canonical text: they are refused as they are read, or the rewritten table of what they mean as it is printed
+-- why bytes have no canonical text: reading refuses them, or printing refuses the rewritten table of what they mean
 abbrev pub RefusesCanonical : List ℕ → Error → Type 0
 RefusesCanonical bytes e =
     Refuses metadata metadata bytes e
     ⊎ ((m : Manifest) × Means bytes m × RefusesToPrint (rewritten m) e)
 
--- why the bytes were not printed, and what was written: at a fault of the input or of the output at most a beginning, and else nothing
+-- why the bytes were not printed, and what was written: at an I/O fault at most a beginning, and else nothing
 abbrev pub IsRefused : List ℕ → Option (List ℕ) → Option (List ℕ) → Error → Type 0
 IsRefused bytes old new (Io e) = IsBegun bytes old new
 IsRefused bytes old new e = RefusesCanonical bytes e × Keeps old new

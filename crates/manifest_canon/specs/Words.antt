@@ -23,7 +23,7 @@ abbrev pub AskFor : Option Asked → List (String Global) → Type 0
 AskFor None words = IsCanonInput words
 AskFor (Some a) words = Asks a words
 
--- what the words are taken for is what they ask for
+-- what the words are read as is what they ask for
 abbrev pub IsRequestOf : List (String Global) → Option Request → Type 0
 IsRequestOf words (Some r) = AskFor (asked_by r) words
 IsRequestOf words None = AreWrong words
@@ -46,7 +46,7 @@ pub record AskForMember (verb file option root : List ℕ) : Type 0 where
   pub option_is : option ≡ codes "--workspace"
   pub root_is : IsFile root
 
--- four words are taken for what they ask for
+-- four words are read as what they ask for
 abbrev pub IsFourOf : List ℕ → List ℕ → List ℕ → List ℕ → Option Request → Type 0
 IsFourOf v f o r (Some (CompleteMember g s)) = AskForMember v f o r
 IsFourOf v f o r (Some _) = ⊥

@@ -105,8 +105,8 @@ pub fn canon_at<H: Files + AllocGlobal, W: Write>(
     Ok(())
 }
 
-/// Prints the canonical text of the manifest that FILE holds, with what it inherits from the workspace of ROOT, where there
-/// is one, and completed over the folder that FILE stands in.
+/// Prints the canonical text of the manifest that FILE holds, with what it inherits from the workspace of ROOT, where
+/// there is one, and completed over the folder that FILE stands in.
 pub fn complete_at<H: Files + AllocGlobal + Clone + Drop, W: Write>(
     rt: &H,
     file: &str,

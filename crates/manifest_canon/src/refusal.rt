@@ -1,4 +1,4 @@
-//! Why nothing is printed, and the line that tells it.
+//! Why nothing is printed, and the line that says so.
 
 ghost use Rattle.std.specs.Prelude.{◌≡◌, IfOk, string_bytes};
 ghost use Rattle.manifest_schema.specs.PathTexts.{key_text};
@@ -8,7 +8,7 @@ use manifest_inherit::{FinishError, ResolveError};
 use std::alloc::{AllocError, Global};
 use std::io::Write;
 
-/// The line that tells an error of a manifest.
+/// The line of an error of a manifest.
 fn error_line(alloc: Global, error: &Error) -> Result<String, AllocError> {
     match error {
         Error::Parse(ParseFault::Toml(_)) => String::from_str(alloc, "error: toml\n"),
@@ -29,7 +29,7 @@ fn key_text(alloc: Global, name: &str) -> Result<String, AllocError>
     KeyPath { steps }.to_text(alloc)
 }
 
-/// The line that tells why a member is not resolved.
+/// The line that says why a member is not resolved.
 fn resolve_line(alloc: Global, refused: &ResolveError) -> Result<String, AllocError> {
     match refused {
         ResolveError::NotInWorkspace(name) => {
@@ -48,7 +48,7 @@ fn resolve_line(alloc: Global, refused: &ResolveError) -> Result<String, AllocEr
     }
 }
 
-/// The line that tells a refusal.
+/// The line of a refusal.
 fn line_of(alloc: Global, refusal: &FinishError) -> Result<String, AllocError> {
     match refusal {
         FinishError::Manifest(error) => error_line(alloc, error),
@@ -57,7 +57,8 @@ fn line_of(alloc: Global, refusal: &FinishError) -> Result<String, AllocError> {
     }
 }
 
-/// Tells a refusal by one line, or out of memory where the line finds none. A fault of `errors` is ignored.
+/// Writes the line of a refusal, or `error: memory` where there is no memory for the line. A fault of `errors` is
+/// ignored.
 pub fn tell<E: Write>(alloc: Global, errors: &mut E, refusal: &FinishError) {
     let _ = match line_of(alloc, refusal) {
         Ok(line) => errors.write_all(line.as_bytes()),

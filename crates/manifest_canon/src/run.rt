@@ -89,18 +89,18 @@ fn serve<H: Files + AllocGlobal + Clone + Drop, R: Read, W: Write>(
 }
 
 /// Does what the words ask for, and answers the status: 0, or 1 with one line on `errors` and nothing on `output`
-/// (but for an `output` that fails half-way, which has a beginning of the text), or 2 with the usage line for other words
-/// than `canon -` or none, `canon FILE`, `complete FILE` and `complete FILE --workspace ROOT`. `-` is never a FILE or
-/// ROOT.
+/// (but for an `output` that fails half-way, which has a beginning of the text), or 2 with the usage line for other
+/// words than `canon -` or none, `canon FILE`, `complete FILE` and `complete FILE --workspace ROOT`. `-` is never a
+/// FILE or ROOT.
 ///
 /// `canon` prints the canonical text of the manifest; `complete` first completes the manifest over the folder that FILE
 /// stands in; with a ROOT, what is inherited from the workspace of ROOT is put in before.
 ///
 /// The lines are `error: toml`, `error: schema: CAUSE at PATH`, `error: io`, `error: utf8`, `error: memory` and
 /// `error: other: TEXT`; and with a ROOT `error: no workspace`, `error: not in workspace: KEY`, `error: inherited in
-/// workspace: NAME`, `error: mixed lints` and `error: tool named workspace`. A fault of FILE, of ROOT, of a folder, of `input` or of `output` is `error: io`; an input that has not
-/// ended after 4,294,967,295 reads is one, and so is an output that has not taken the text after as many writes. A fault
-/// of `errors` changes no status.
+/// workspace: NAME`, `error: mixed lints` and `error: tool named workspace`. A fault of FILE, of ROOT, of a folder, of
+/// `input` or of `output` is `error: io`; an input that has not ended after 4,294,967,295 reads is one, and so is an
+/// output that has not taken the text after as many writes. A fault of `errors` changes no status.
 ///
 /// ```ignore
 /// let status = run(&rt, &[], &mut input, &mut output, &mut errors);

@@ -1,4 +1,4 @@
--- Lemmas on what is heard at a folder and at its entries.
+-- Lemmas on what is answered at a folder and at its entries.
 use Rattle.std.proofs.Common.{◌≡◌, List, [], ◌∷◌, ◌++◌, Bool, true, false, refl, ap, sym, ◌∙◌, String, map, string_bytes, MatchBool}
 use Rattle.std.specs.declared.alloc.Global.{Global}
 use Rattle.std.specs.declared.cmp.Ordering.TheVariants.{Less}

@@ -1,4 +1,4 @@
--- What the steps of a completion come to, by the definitions.
+-- What the steps of a completion give, by the definitions.
 use Rattle.std.proofs.Common.{◌≡◌, List, [], ◌∷◌, ◌++◌, Bool, true, false, refl, ap, sym, ◌∙◌, map, subst, ◌||◌, Option, Some, None, if◌then◌else◌, Result, Ok, Err}
 use Rattle.std.specs.Result.{IsErrAnd}
 use Rattle.std.specs.IoError.{error_kind}
@@ -93,7 +93,7 @@ module _ (allows : Text → Answer → Type 0) (t : PackageTargets) (src : Answe
   library_error none (Other s) h = (library_refused none h.0, h.1)
   library_error none (Memory f) h = tt
 
--- all was heard
+-- all was answered
 module _ (allows : Text → Answer → Type 0) (t : PackageTargets) (a : Answers) (heard : AllHeard allows (asks_root t.build) a) (none : source_fault (answer_of a.source) ≡ None) (lib : Option Product) (got : library t (answer_of a.source) ≡ known lib) where
   explains_all : Explains allows (listing_map a) (asked_targets t (listing_map a))
   explains_all = rw (none, got) heard.explained
@@ -106,7 +106,7 @@ module _ (allows : Text → Answer → Type 0) (t : PackageTargets) (a : Answers
       ∙ ap (λ b. list_any t (folder_places l examples) || b) (list_any-append t (folder_places l tests) (folder_places l benches)))
       ∙ cc (folder_fault l bins a.bins refl heard.bins, folder_fault l examples a.examples refl heard.examples, folder_fault l tests a.tests refl heard.tests, folder_fault l benches a.benches refl heard.benches)
 
-  -- what is heard decides what the targets come to
+  -- what is answered decides what the targets become
   heard_outcome : completed_targets t (listing_map a) ≡ after_root t lib (listing_map a) (heard_fault t a)
   heard_outcome =
       with_library t (listing_map a) lib none got

@@ -80,7 +80,7 @@ root_again (Some (a_text s)) a e = e
 root_again (Some (a_flag true)) a e = refl
 root_again (Some (a_flag false)) a e = e
 
--- WHAT COMPLETION COMES TO, where it refuses nothing
+-- WHAT COMPLETION GIVES, where it refuses nothing
 pub record IsCalm (t : PackageTargets) (l : ListingMap) (lib : Option Product) : Type 0 where
   pub source : source_fault l.source ≡ None
   pub library : library_of t t.lib l.source ≡ known lib

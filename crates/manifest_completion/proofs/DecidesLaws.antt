@@ -1,4 +1,4 @@
--- The answers at the places that are asked decide what is asked and what a manifest comes to.
+-- The answers at the places that are asked decide what is asked and what a manifest becomes.
 use Rattle.std.proofs.Common.{◌≡◌, List, [], ◌∷◌, ◌++◌, Bool, true, false, refl, ap, sym, ◌∙◌, map, Option, Some, None, if◌then◌else◌, ◌||◌, subst}
 use Rattle.std.proofs.lemmas.List.{append-nil}
 use Rattle.std.specs.List.{AllByRecursion, flat_map}
@@ -38,7 +38,7 @@ memory_seen f (p ∷ ps) = one (is_memory_fault (f p)) (memory_seen f ps)
     one true same = refl
     one false same = same
 
--- what targets with a library come to
+-- what targets with a library become
 pub with_library : (t : PackageTargets) (l : ListingMap) (lib : Option Product) → source_fault l.source ≡ None → library t l.source ≡ known lib
     → completed_targets t l ≡ (if has_memory_fault (at l) (target_places l) then refused OutOfMemory else after_root t lib l (root_fault t.build l.root))
 with_library t l lib none got = rw (none, got) refl
@@ -88,7 +88,7 @@ module _ (l k : ListingMap) where
       ∙ targets_asked [] (λ u. refl) (subst AgreeUpTo (sym (append-nil (target_places l))) h)
       ∙ ap (up_to_memory_fault (at k)) (append-nil (target_places k))
 
-  -- WANT OF MEMORY
+  -- OUT OF MEMORY
   memory_agrees : (ps : List Place) → AgreeAt l k ps → has_memory_fault (at l) ps ≡ has_memory_fault (at k) ps
   memory_agrees [] h = refl
   memory_agrees (p ∷ ps) h = rw h.0 (ap (λ b. is_memory_fault (at k p) || b) (memory_agrees ps h.1))
@@ -101,7 +101,7 @@ module _ (l k : ListingMap) where
         (λ e. front_agrees ps xs (goes_on (λ q. at l q ≡ at k q) (is_memory_fault (at l p)) (up_to_memory_fault (at l) (ps ++ xs)) h.1 e)),
   )
 
-  -- where no memory ran out at the first places, all of them were asked, and those after them
+  -- where memory did not run out at the first places, all of them were asked, and those after them
   all_asked : (ps xs : List Place) → has_memory_fault (at l) ps ≡ false → AgreeUpTo (ps ++ xs) → AgreeAt l k ps × AgreeUpTo xs
   all_asked [] xs e h = (tt, h)
   all_asked (p ∷ ps) xs e h =
@@ -148,7 +148,7 @@ module _ (l k : ListingMap) where
       let n = agree_front (folder_places l tests) (folder_places l benches) x.1 in
       rw (e, build, same_finds bins b.0, same_finds examples x.0, same_finds tests n.0, same_finds benches n.1) refl
 
-  -- WHAT THE TARGETS COME TO
+  -- WHAT THE TARGETS BECOME
   module _ (t : PackageTargets) (e : l.source ≡ k.source) where
     abbrev IsSame : Type 0
     IsSame = (asked_targets t l ≡ asked_targets t k) × (completed_targets t l ≡ completed_targets t k)

@@ -1,4 +1,4 @@
--- What was heard, as the map of listings has it.
+-- What was answered, as the map of listings has it.
 use Rattle.std.proofs.Common.{◌≡◌, List, [], ◌∷◌, ◌++◌, Bool, true, false, refl, ap, sym, ◌∙◌, map, MatchBool, subst, ◌||◌, ◌&&◌, not, if◌then◌else◌}
 use Rattle.std.specs.List.{AllByRecursion, IsDistinct, list_any, zip}
 use Rattle.std.specs.Str.{bytes_eq}
@@ -200,7 +200,7 @@ asks_and true true e f = cc
 asks_and true false e f = refl
 asks_and false stopped e f = cc
 
--- ALL that was heard
+-- ALL that was answered
 pub all_heard : (allows : Text → Answer → Type 0) (asks : Bool) (a : Answers) →
     Heard allows (path_text source) (answer_of a.source) →
     FolderHeard allows (folder_text bins) a.bins →

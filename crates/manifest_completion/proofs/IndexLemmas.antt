@@ -58,14 +58,14 @@ one_taken s n path updates q =
 pub same_append : (ps qs rs : List Text) → SamePaths ps qs → SamePaths (ps ++ rs) (qs ++ rs)
 same_append ps qs rs same q = list_any-append (bytes_eq q) ps rs ∙ ap (λ b. b || has_path rs q) (same q) ∙ sym (list_any-append (bytes_eq q) qs rs)
 
--- which finds are added turns on the paths that are had alone, and not on their order or number
+-- which finds are added depends only on which paths are there, and not on their order or number
 pub added_same : (ps qs : List Text) (fs : List Find) → SamePaths ps qs → added ps fs ≡ added qs fs
 added_same ps qs [] same = refl
 added_same ps qs (f ∷ fs) same =
     let more = f.path ∷ [] in
     rw (same f.path) (ap (λ (xs : List Product). (if has_path qs f.path then [] else found f ∷ []) ++ xs) (added_same (ps ++ more) (qs ++ more) fs (same_append ps qs more same)))
 
--- one more find, where its path is taken and it is told whether it was new
+-- one more find, where its path is put in, which returns whether it was new
 pub added_more : (had now : List Text) (f : Find) (fs : List Find) (path : Text) (is_new : Bool) → path ≡ f.path → SamePaths now (had ++ path ∷ []) → is_new ≡ not (has_path had path) →
     added had (f ∷ fs) ≡ (if is_new then found f ∷ [] else []) ++ added now fs
 added_more had now f fs path is_new at taken new =

@@ -1,4 +1,4 @@
--- Where one answer is stored for each path text, the map of what is stored decides what completion comes to.
+-- Where one answer is stored for each path text, the map of what is stored decides what completion gives.
 use Rattle.std.proofs.Common.{◌≡◌, ◌⊎◌, inl, inr, ⊎_elim, List, [], ◌∷◌, ◌++◌, Bool, true, false, refl, ap, sym, ◌∙◌, map, Option, Some, None, if◌then◌else◌, ◌||◌, subst, Ok, Err}
 use Rattle.std.specs.IoError.{error_kind}
 use Rattle.std.specs.List.{AllByRecursion}
@@ -18,7 +18,7 @@ use Rattle.manifest_completion.specs.Laws.{AgreeAt, StoredDecides}
 use Rattle.manifest_completion.proofs.AskedLaws.{together}
 use Rattle.manifest_completion.proofs.DecidesLaws.{goes_on, with_library, targets_decide}
 
--- WANT OF MEMORY
+-- OUT OF MEMORY
 memory_kind : (k : ErrorKind) → is_memory_kind k ≡ true → k ≡ OutOfMemory
 memory_kind OutOfMemory e = refl
 memory_kind _ e = cc
@@ -131,7 +131,7 @@ module _ (stored : Text → Answer) where
         λ h1. folder_walk bins e (λ h2. folder_walk examples t (λ h3. folder_walk tests n (λ h4. folder_walk benches r (root_walk asks) h4) h3) h2) h1 in
         subst Settles (together l r) (all (subst (λ (ps : List Place). AllByRecursion IsAllowed (up_to_memory_fault (at l) ps)) (sym (together l r)) h))
 
-    -- WHAT THE TARGETS COME TO
+    -- WHAT THE TARGETS BECOME
     module _ (t : PackageTargets) where
       abbrev IsSettled : Type 0
       IsSettled = (completed_targets t l ≡ completed_targets t (stored_map stored)) ⊎ (completed_targets t l ≡ refused OutOfMemory)
@@ -161,7 +161,7 @@ module _ (stored : Text → Answer) where
               (λ lost. inr (lost_memory lib e1 e2 lost))
               (targets_walk (asks_root t.build) (rw (e1, e2) at h).1)
 
-    -- WHAT A MANIFEST COMES TO
+    -- WHAT A MANIFEST BECOMES
     pub manifest_settled : (m : Manifest) → AllAllowed (AnswersAsStored stored) l (asked m l) → (completed m l ≡ completed m (stored_map stored)) ⊎ (completed m l ≡ refused OutOfMemory)
     manifest_settled m h = one m.«package» h
       where
@@ -169,7 +169,7 @@ module _ (stored : Text → Answer) where
         one None g = inl refl
         one (Some p) g = ⊎_elim (λ same. inl (ap (completion_with p m) same)) (λ lost. inr (ap (completion_with p m) lost)) (targets_settled (targets_of p m) g)
 
--- what came of a map that explains the answers, or a listing ran out of memory
+-- what came of a map that explains the answers, or memory ran out for a listing
 pub by_stored : {A : Type 0} (c d e : Completion A) → (c ≡ d) ⊎ (c ≡ refused OutOfMemory) → c ≡ e → (d ≡ e) ⊎ (e ≡ refused OutOfMemory)
 by_stored c d e h f = ⊎_elim (λ same. inl (sym same ∙ f)) (λ lost. inr (sym f ∙ lost)) h
 

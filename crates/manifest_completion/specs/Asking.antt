@@ -1,4 +1,4 @@
--- What the functions that ask a filesystem say of what they heard.
+-- What the functions that ask a filesystem say of what it answered.
 use Rattle.std.specs.Prelude.{◌≡◌, List, [], ◌∷◌, ◌++◌, Bool, ◌||◌}
 use Rattle.std.specs.List.{list_any, zip}
 use Rattle.std.specs.Bool.{MatchBool}
@@ -47,7 +47,7 @@ listing_map a = record {
 abbrev pub all_places : Bool → ListingMap → List Place
 all_places asks l = source ∷ up_to_memory_fault (at l) (target_places l ++ root_places asks)
 
--- what was answered at `src`, at all folders of targets, their entries, and at the folder of the manifest where it was asked
+-- what was answered at `src`, all target folders and their entries, and the manifest's folder where that was asked
 pub record AllHeard (allows : Text → Answer → Type 0) (asks : Bool) (a : Answers) : Type 0 where
   pub bins : HeardInTurn bins a.bins
   pub examples : HeardInTurn examples a.examples

@@ -33,7 +33,7 @@ abbrev pub is_2015 : Edition → Bool
 is_2015 e2015 = true
 is_2015 _ = false
 
--- the old way to discover targets: the edition is absent, or 2015 and the package's own
+-- LEGACY MODE of discovering targets: the edition is absent, or 2015 and the package's own
 abbrev pub is_legacy : Option (Inheritable Edition) → Bool
 is_legacy None = true
 is_legacy (Some inherited) = false
@@ -44,7 +44,7 @@ abbrev pub own_edition : Option (Inheritable Edition) → Option Edition
 own_edition (Some (local e)) = Some e
 own_edition _ = None
 
--- FLAGS: whether the finds are added to a list of targets: as the package says, or else unless it is discovered by the legacy rule and the list has a target
+-- FLAGS: whether finds are added to a list: as the package says, else if not legacy or the list has no target
 abbrev pub discovers : {A : Type 0} → Option Bool → Bool → List A → Bool
 discovers own legacy ps = unwrap_or own (not (legacy && not (is_empty ps)))
 
@@ -56,7 +56,7 @@ underscored bs = map (λ b. if nat_eq b 45 then 95 else b) bs
 abbrev pub library_type : List Text
 library_type = codes "lib" ∷ []
 
--- the file of a library without a path: `src/lib.rs`, or by the legacy rule the file of its name
+-- the file of a library without a path: `src/lib.rs`, or in legacy mode the file of its name
 abbrev pub library_file : Bool → Answer → Text → Option Text
 library_file legacy src file =
     if lists src (codes "lib.rs") then Some (codes "src/lib.rs")
@@ -93,7 +93,7 @@ abbrev pub library_of : PackageTargets → Option Product → Answer → Library
 library_of t None src = known (inferred_library t src)
 library_of t (Some lib) src = declared_library t lib (library_path t src lib)
 
--- THE LIBRARY that a package comes to have
+-- THE LIBRARY of a completed package
 abbrev pub library : PackageTargets → Answer → Library
 library t src = library_of t t.lib src
 
@@ -131,7 +131,7 @@ filled t lib l = record t {
   bench = targets (test_defaults t) (discovers t.autobenches (is_legacy t.edition) t.bench) (finds l benches) t.bench;
 }
 
--- WHAT COMPLETION COMES TO: what it makes, or a refusal for a listing's fault of this kind, or for lack of a library's file
+-- THE OUTCOME OF COMPLETION: what it makes, a refusal for a listing's fault of this kind, or for a missing library file
 pub data Completion (A : Type 0) : Type 0 where
   completed_to : A → Completion A
   refused : ErrorKind → Completion A
@@ -162,7 +162,7 @@ root_fault_if asks (fault k) = if asks then Some k else None
 abbrev pub root_fault : Option StringOrBool → Answer → Option ErrorKind
 root_fault b a = root_fault_if (asks_root b) a
 
--- the first that applies of: a fault of `src`, a library without a file, a target folder or an entry of one for which memory ran out, a fault of the manifest's folder; else the targets filled in
+-- the first of: a fault of `src`, no library file, out of memory at a target, a fault of the root; else the targets
 abbrev pub after_root : PackageTargets → Option Product → ListingMap → Option ErrorKind → Completion PackageTargets
 after_root t lib l (Some k) = refused k
 after_root t lib l None = completed_to (filled t lib l)
@@ -268,16 +268,16 @@ asked_by (Some p) m l = asked_targets (targets_of p m) l
 abbrev pub asked : Manifest → ListingMap → List Place
 asked m l = asked_by m.«package» m l
 
--- a relation between path texts and answers, which is what a filesystem allows, allows the map's answers at these places
+-- what a filesystem allows, a relation between path texts and answers, allows the map's answers at these places
 abbrev pub AllAllowed : (Text → Answer → Type 0) → ListingMap → List Place → Type 0
 AllAllowed allows l ps = AllByRecursion (λ p. allows (path_text p) (at l p)) ps
 
--- THE MAP EXPLAINS what the filesystem answered: the names of each folder ascend, and at each place that is asked it has an answer that is allowed there
+-- THE MAP EXPLAINS the answers: each folder's names ascend, and at each place that is asked the map's answer is allowed
 pub record Explains (allows : Text → Answer → Type 0) (l : ListingMap) (places : List Place) : Type 0 where
   pub ascending : NamesAscend l
   pub allowed : AllAllowed allows l places
 
--- BY ONE MAP of listings, which explains what the filesystem answered at the places that are asked for it, the outcome is this
+-- BY ONE MAP of listings, which explains what the filesystem answered at the places that it asks, this is the outcome
 abbrev pub ByOneMap :
     {C : Type 0} → (Text → Answer → Type 0) → (ListingMap → List Place) → (ListingMap → C) → C → Type 0
 ByOneMap allows asked outcome c = (l : ListingMap) × Explains allows l (asked l) × (outcome l ≡ c)

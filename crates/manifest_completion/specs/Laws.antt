@@ -26,7 +26,7 @@ AscendingDiffer = (l : ListingMap) → NamesAscend l → HasNoNameTwice l
 abbrev pub AgreeAt : ListingMap → ListingMap → List Place → Type 0
 AgreeAt l k ps = AllByRecursion (λ p. at l p ≡ at k p) ps
 
--- what is asked and what a manifest comes to depend on the answers at the places that are asked alone
+-- what is asked and what a manifest becomes depend on the answers at the places that are asked alone
 abbrev pub AskedDecides : Type 0
 AskedDecides =
     (m : Manifest) (l k : ListingMap) → AgreeAt l k (asked m l) →
@@ -43,7 +43,7 @@ abbrev pub IsAmong : List Place → Place → Type 0
 IsAmong [] p = ⊥
 IsAmong (q ∷ qs) p = (p ≡ q) ⊎ IsAmong qs p
 
--- a completed manifest n is well-formed, is read back from what is written of it, and is unchanged by completing it over the same map, which asks no place that the first completion did not ask
+-- a completed manifest n is well-formed, read back, and unchanged by completing it again, which asks no new place
 pub record IsFixed (K W : Kind Data) (m n : Manifest) (l : ListingMap) : Type 0 where
   pub formed : well_formed K W n
   pub read : reads_manifest K W (written_manifest K W n) n

@@ -32,7 +32,7 @@ abbrev pub is_memory_fault : Answer → Bool
 is_memory_fault (names ns) = false
 is_memory_fault (fault k) = is_memory_kind k
 
--- PLACES: the folder of the sources, a folder of targets, an entry of one by its name, and the folder of the manifest itself
+-- PLACES: the source folder, a folder of targets, an entry of one by its name, and the folder of the manifest
 pub data TargetFolder : Type 0 where
   bins examples tests benches : TargetFolder
 

@@ -82,7 +82,7 @@ RefusesLibrary lib (Other t) = (lib ≡ no_file) × (string_bytes t ≡ library_
 RefusesLibrary lib (Memory e) = Unit {0}
 RefusesLibrary lib _ = ⊥
 
--- WHAT COMPLETING ANSWERS: there is one map of listings, by answers that the filesystem allows, of which it is the completion; or memory ran out
+-- WHAT COMPLETING ANSWERS is the completion by one map of answers that the filesystem allows; or memory ran out
 abbrev pub TargetsComeTo : (Text → Answer → Type 0) → PackageTargets → Completion PackageTargets → Type 0
 TargetsComeTo allows t c = ByOneMap allows (asked_targets t) (completed_targets t) c
 
@@ -111,7 +111,7 @@ CompletedAsStored stored t (Ok c) =
     completed_targets t (stored_map stored) ≡ completed_to (completed_content t c)
 CompletedAsStored stored t (Err e) = IsRefusalOf (completed_targets t (stored_map stored)) e
 
--- THE FINDS of a folder's names beside the answers for its entries
+-- THE FINDS of a folder's names, with the answers for its entries
 abbrev pub paired_finds : Text → List Text → List Answer → List Find
 paired_finds d [] heard = []
 paired_finds d (n ∷ ns) [] = []
@@ -133,7 +133,7 @@ pub record TargetsMade (t : PackageTargets) (lib : Option Product) (a : Answers)
   pub library : option_map product_content c.lib ≡ lib
   pub lists : ListsCompleted t a (record { bin = c.bin; example = c.example; test = c.test; bench = c.bench })
 
--- the fault that refuses after all was heard: that memory ran out for a folder of targets or an entry, or that of the folder of the manifest
+-- the fault that refuses after all answers: out of memory at a target folder or an entry, or that of the root folder
 abbrev pub heard_fault : PackageTargets → Answers → Option ErrorKind
 heard_fault t a = if some_ran_out_of_memory a then Some OutOfMemory else root_fault t.build (answer_of a.root)
 

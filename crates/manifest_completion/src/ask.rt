@@ -77,7 +77,7 @@ pub fn ask<FS: AbstractFilesystem>(
     }
 }
 
-/// Asks at each name in a folder, up to a first answer that ran out of memory.
+/// Asks at each name in a folder, up to the first answer that is out of memory.
 fn ask_entries<FS: AbstractFilesystem>(
     alloc: Global,
     fs: &FS,
@@ -180,8 +180,8 @@ fn ask_root_if<FS: AbstractFilesystem>(
     }
 }
 
-/// Asks, after `src` was answered, at the folders of targets, at their entries and, where it is to be asked, at the folder
-/// of the manifest, up to a first answer that ran out of memory.
+/// Asks, after `src` was answered, at the folders of targets, at their entries and, where it is to be asked, at the
+/// folder of the manifest, up to a first answer that ran out of memory.
 pub fn ask_folders<FS: AbstractFilesystem>(
     alloc: Global,
     fs: &FS,

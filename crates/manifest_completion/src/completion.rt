@@ -84,8 +84,8 @@ pub struct CompletedLists {
     pub bench: Vec<Product>,
 }
 
-/// Whether targets are discovered by the legacy rule: the edition is absent, or 2015 and the package's own. One that is
-/// inherited is not the old way, whatever the workspace says.
+/// Whether targets are discovered in legacy mode: the edition is absent, or 2015 and the package's own. One that is
+/// inherited is not legacy, whatever the workspace says.
 ///
 /// ```ignore
 /// let legacy = is_legacy(&None); // true: a package without an edition is of 2015
@@ -116,10 +116,10 @@ pub fn own_edition(edition: &Option<MaybeInherited<Edition>>) -> Option<Edition>
 }
 
 /// Whether found targets are added to a list: as the package says, and where it says nothing, unless targets are
-/// discovered by the legacy rule and the list has one.
+/// discovered in legacy mode and the list has one.
 ///
 /// ```ignore
-/// let adds = discovers(None, false, &declared); // true: the package says nothing, and it is not the old way
+/// let adds = discovers(None, false, &declared); // true: the package says nothing, and it is not legacy mode
 /// ```
 pub fn discovers(own: Option<bool>, legacy: bool, list: &[Product]) -> bool
     ensures { result ≡ discovers (option_map (λ b. b) own) legacy (map product_content list.now) }
@@ -215,7 +215,7 @@ fn example_defaults(declared: &DeclaredTargets<'_>) -> TargetDefaults
     }
 }
 
-/// What binaries take: by the legacy rule also the path `src/main.rs`, where `src` lists it.
+/// What binaries take: in legacy mode also the path `src/main.rs`, where `src` lists it.
 fn bin_defaults(
     declared: &DeclaredTargets<'_>,
     source: &io::Result<BTreeSet<String>>,
@@ -355,9 +355,9 @@ fn complete_by_answers(
 
 /// Asks the filesystem, and completes the targets by what it answers. Nothing that was declared is changed.
 ///
-/// Refuses with `Io` where `src` has another fault than that it is not there, where a folder of targets or an entry of
-/// one runs out of memory, and where the folder of the manifest is asked and has a fault; with `Other` where a declared
-/// library has no file; and with `Memory` when out of memory.
+/// Refuses with `Io` where `src` has another fault than that it is not there, where memory runs out for the listing of
+/// a folder of targets or of an entry of one, and where the folder of the manifest is asked and has a fault; with
+/// `Other` where a declared library has no file; and with `Memory` when out of memory.
 ///
 /// ```ignore
 /// let completed = complete(alloc, &listings, &declared)?;

@@ -14,9 +14,9 @@ pub trait AbstractFilesystem {
     /// The answers that may be given at a path.
     ghost allows: { Self → List ℕ → Answer → Type 0 };
 
-    /// The names of the files and folders in the folder at this path, which is relative to the folder of the manifest and
-    /// has `/` between its parts; `.` is that folder itself. It should answer `NotFound` for a folder that is not there,
-    /// and `OutOfMemory` where the names run out of memory.
+    /// The names of the files and folders in the folder at this path, which is relative to the folder of the manifest
+    /// and has `/` between its parts; `.` is that folder itself. It should answer `NotFound` for a folder that is not
+    /// there, and `OutOfMemory` where there is no memory for the names.
     fn file_names_in(&self, alloc: Global, rel_path: &str) -> io::Result<BTreeSet<String>>
         ensures { allows self.now rel_path.now (answer_of result) };
 }

@@ -13,11 +13,11 @@ use std::path::Path;
 use std::rt::Files;
 use std::{fs, io};
 
-/// The folders under a path of the real filesystem. What they hold is the system's to say, so each answer is allowed whose
-/// names ascend.
+/// The folders under a path of the real filesystem. What they hold is the system's to say, so each answer is allowed
+/// whose names ascend.
 ///
-/// It answers the names in a folder, of files, folders and all else. An entry whose name is not UTF-8, or that cannot be
-/// read, is left out. Under the empty path it lists folders of the working folder.
+/// It answers the names in a folder, of files, folders and all else. An entry whose name is not UTF-8, or that cannot
+/// be read, is left out. Under the empty path it lists folders of the working folder.
 #[derive(Clone, Copy)]
 pub struct Filesystem<'a, R> {
     rt: &'a R,

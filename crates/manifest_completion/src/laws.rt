@@ -19,29 +19,29 @@ pub fn ascending_differ()
     ensures { AscendingDiffer }
 {}
 
-/// Two maps of listings that agree at every place that is asked over one of them have the same places asked, and come to the
-/// same.
+/// Two maps of listings that agree at every place that is asked over one of them have the same places asked, and have
+/// the same outcome.
 #[tactic(auto, using(crate::proofs::DecidesLaws::asked_decides))]
 pub fn asked_decides()
     ensures { AskedDecides }
 {}
 
 /// Over a filesystem that has one answer stored for each path text, as [`Listings`](crate::Listings) has, the answer of
-/// [`complete`](crate::complete) is the completion of the map of what is stored; a listing for which memory ran out,
-/// or other lack of memory, aside.
+/// [`complete`](crate::complete) is the completion of the map of what is stored, unless memory runs out, for a listing
+/// or otherwise.
 #[tactic(auto, using(crate::proofs::StoredLaws::stored_decides))]
 pub fn stored_decides()
     ensures { StoredDecides }
 {}
 
-/// Completing a well-formed manifest, writing it, reading it and completing it again over the same listings changes nothing
-/// and asks no other place.
+/// Completing a well-formed manifest, writing it, reading it and completing it again over the same listings changes
+/// nothing and asks no other place.
 pub fn completed_is_fixed<P: LawfulKind, W: LawfulKind>()
     ensures { CompletedIsFixed (tree_of P.kind) (tree_of W.kind) }
 {}
 
-/// In every completion a declared target stays in its place, with its name and the path, edition and crate type that it has;
-/// but for these three nothing of it changes. A declared library keeps the same four.
+/// In every completion a declared target stays in its place, with its name and the path, edition and crate type that it
+/// has; but for these three nothing of it changes. A declared library keeps the same four.
 pub fn declared_stays()
     ensures { DeclaredStays }
 {}

@@ -27,7 +27,7 @@ fn library_name(alloc: Global, name: &str) -> Result<String, AllocError>
     name.replace(alloc, '-', "_")
 }
 
-/// The file of a library without a path: `src/lib.rs` where `src` lists it, or by the legacy rule `src/{name}.rs`.
+/// The file of a library without a path: `src/lib.rs` where `src` lists it, or in legacy mode `src/{name}.rs`.
 fn library_file(
     alloc: Global,
     legacy: bool,
@@ -130,7 +130,7 @@ fn inferred_library(
     }))
 }
 
-/// The library that the package comes to have. Refuses a declared one that has no file with `Other` and its text.
+/// The library that the completed package has. Refuses a declared one that has no file with `Other` and its text.
 pub fn completed_library(
     alloc: Global,
     declared: &DeclaredTargets<'_>,

@@ -21,8 +21,9 @@ pub enum Listing {
     Fault,
 }
 
-/// A filesystem in memory: at each path it answers what was put there last, and `NotFound` elsewhere. Where the copy of
-/// its names runs out of memory it answers `OutOfMemory`. So what was put decides a completion over it: `laws::stored_decides`.
+/// A filesystem in memory: at each path it answers what was put there last, and `NotFound` elsewhere. Where there is no
+/// memory for the copy of its names it answers `OutOfMemory`. So what was put decides a completion over it:
+/// `laws::stored_decides`.
 #[derive(Debug, Drop)]
 pub struct Listings {
     /// What was put last at each path.
@@ -43,7 +44,7 @@ impl Listings {
         }
     }
 
-    /// Puts a listing at a path, in place of one that is there. Where it runs out of memory nothing changes.
+    /// Puts a listing at a path, in place of one that is there. When out of memory it changes nothing.
     ///
     /// ```ignore
     /// let mut names = BTreeSet::new(alloc);

@@ -166,8 +166,8 @@ fn filled_targets<'a>(
     Ok(list)
 }
 
-/// A completed list of targets: the declared ones filled in, the found ones added to them where `discovers` says so, and
-/// all given their defaults.
+/// A completed list of targets: the declared ones filled in, the found ones added to them where `discovers` says so,
+/// and all given their defaults.
 pub fn completed_list(
     alloc: Global,
     declared: &[Product],

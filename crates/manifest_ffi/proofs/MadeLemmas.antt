@@ -1,4 +1,4 @@
--- Each manifest that is made is well-formed, so that the tagged bytes of its table hold it; and what is written of it is the last step of each call.
+-- Each manifest that is made is well-formed, so the tagged bytes of its table hold it. Each call ends by writing it.
 use Rattle.std.proofs.Common.{◌≡◌, ℕ, List, Option, Some, None, Vec, Global, Result, Ok, Err, IfOk, inl, inr, ap, sym, subst, ◌∙◌}
 use Rattle.std.specs.Prelude.{IfErr}
 use Rattle.manifest_bytes.specs.Decoded.{decoded}

@@ -1,4 +1,4 @@
--- Over folders that are given, what is stored decides what a completion comes to.
+-- Over folders that are given, what is stored decides what a completion gives.
 use Rattle.std.proofs.Common.{inl, inr, Option, Some, None, Ok, Err}
 use Rattle.std.specs.Borrow.{Bor}
 use Rattle.manifest_schema.specs.Paths.{Text}

@@ -10,13 +10,13 @@ use Rattle.manifest_ffi.specs.declared.answer.Answer.{Answer}
 use Rattle.manifest_ffi.specs.Told.{IsTold, TellsMemory, Tells}
 use Rattle.manifest_ffi.specs.Made.{Gives, Refusals, OrOutput, IsMade}
 
--- the text stands at the front where there is room for it, and what is behind it is as it was; else all is as it was
+-- the text stands at the beginning where there is room for it, and the rest is as it was; else all is as it was
 pub record IsHanded (text : List ℕ) (size : ℕ) (old new : List ℕ) : Type 0 where
   pub counted : size ≡ length text
   pub put : length text ≤ length old → new ≡ text ++ drop (length text) old
   pub kept : length old < length text → new ≡ old
 
--- the answer has these numbers, and returns this text
+-- the answer has these numbers, and this text is written
 pub record Hands (told : Told) (old new : List ℕ) (a : Answer) : Type 0 where
   pub status : a.status ≡ told.status
   pub cause : a.cause ≡ told.cause
@@ -24,7 +24,7 @@ pub record Hands (told : Told) (old new : List ℕ) (a : Answer) : Type 0 where
   pub end : a.end ≡ told.end
   pub handed : IsHanded told.text.items a.length old new
 
--- what is told of what was made: status 0 with the text, or the refusal, whose text is UTF-8; or that no memory was left to tell it
+-- what is reported: status 0 with the text, or the refusal, whose text is UTF-8; or out of memory while reporting it
 abbrev pub Outcome : Result (Vec ℕ Global) Refusal → Told → Type 0
 Outcome (Ok v) t = IsTold t 0 0 v.items
 Outcome (Err r) t = (TellsMemory t ⊎ Tells r t) × IsUtf8 t.text.items
@@ -37,7 +37,7 @@ pub record IsAnswered (gives : Text → Type 0) (refuses : Refusals) (old new : 
   pub outcome : Outcome made told
   pub hands : Hands told old new a
 
--- the answer of a call that makes these manifests, has these refusals on the way, and is asked for this of one of them, in at most a given number of bytes
+-- the answer of a call that makes these manifests or has these refusals, and is asked for this within a bound in bytes
 abbrev pub Answers : Output → ℕ → (Manifest → Type 0) → Refusals → List ℕ → List ℕ → Answer → Type 0
 Answers output most makes refuses =
     IsAnswered (Gives output most makes) (OrOutput output most makes refuses)

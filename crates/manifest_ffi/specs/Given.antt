@@ -21,11 +21,11 @@ use Rattle.manifest_ffi.specs.declared.folders.Listed.TheVariants as listed
 abbrev pub fault_kind : ℕ → ErrorKind
 fault_kind n = if n == 1 then NotFound else if n == 2 then OutOfMemory else Other
 
--- texts behind references
+-- texts as references
 abbrev pub texts : List (Bor Text) → List Text
 texts ts = map (λ (t : Bor Text). t.now) ts
 
--- A FOLDER is answered its names where its fault is 0, and else the fault
+-- A FOLDER answers its names where its fault is 0, and else the fault
 abbrev pub folder_answer : Folder → Answer
 folder_answer f = if f.fault == 0 then names (texts f.names.now) else fault (fault_kind f.fault)
 

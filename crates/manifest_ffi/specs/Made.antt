@@ -108,7 +108,7 @@ RefusesToMake input bytes root folders e =
     RefusesUnless (AreAllListings folders) e
     ⊎ RefusesOver input bytes root (option_map given folders) e
 
--- TAGGED BYTES that take at most a given number of bytes; they are refused where they take more, and else where memory ran out
+-- TAGGED BYTES, at most a given number; refused where they are more, and else only when out of memory
 abbrev pub AreWithin : ℕ → List ℕ → Text → Type 0
 AreWithin most tagged text = (text ≡ tagged) × (length text ≤ most)
 
@@ -116,7 +116,7 @@ abbrev pub RefusesTagged : ℕ → List ℕ → Refusals
 RefusesTagged most tagged TooLong = most < length tagged
 RefusesTagged most tagged e = IsOutOfMemory e
 
--- WHAT IS ASKED FOR of a manifest, in at most a given number of bytes: its canonical text, which is UTF-8, or the tagged bytes of its table
+-- WHAT IS ASKED FOR, within a bound in bytes: the canonical text, which is UTF-8, or the table's tagged bytes
 abbrev pub Writes : Output → ℕ → Manifest → Text → Type 0
 Writes CanonicalText most m text = IsTextOf m text × IsUtf8 text × (length text ≤ most)
 Writes TaggedTable most m text = AreWithin most (encoded (table (rewritten m))) text
@@ -126,7 +126,7 @@ abbrev pub Holds : Output → Manifest → Text → Type 0
 Holds CanonicalText m text = Unit {0}
 Holds TaggedTable m text = decoded text ≡ Some (table (rewritten m))
 
--- it is not had: the table is not printed, or what is asked for could take more bytes; or there is no memory for the bytes
+-- it is refused: the table cannot be printed, or what is asked for could take more bytes; or out of memory
 abbrev pub RefusesOutput : Output → ℕ → Manifest → Refusals
 RefusesOutput CanonicalText most m (Printing e) = RefusesToPrint (rewritten m) e
 RefusesOutput CanonicalText most m TooLong = IsOver most (rewritten m)

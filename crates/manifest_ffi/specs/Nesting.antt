@@ -13,7 +13,7 @@ count_up n = if nat_lt n 384 then n + 1 else n
 abbrev pub start : Nesting
 start = record { brackets = 0; dots = 0; most_brackets = 0; most_dots = 0 }
 
--- behind an opening bracket, a closing one, a dot, and the end of a key
+-- after an opening bracket, a closing one, a dot, and the end of a key
 abbrev pub after_opening_bracket : Nesting → Nesting
 after_opening_bracket n = record n { brackets = count_up n.brackets; dots = 0; most_brackets = max n.most_brackets (count_up n.brackets) }
 
@@ -26,7 +26,7 @@ after_dot n = record n { dots = count_up n.dots; most_dots = max n.most_dots (co
 abbrev pub after_key : Nesting → Nesting
 after_key n = record n { dots = 0 }
 
--- behind a byte that stands in no string and no comment
+-- after a byte that stands in no string and no comment
 abbrev pub after_byte : ℕ → Nesting → Nesting
 after_byte c n =
     if c == left_bracket || c == left_brace then after_opening_bracket n
@@ -35,7 +35,7 @@ after_byte c n =
     else if (c == comma || c == equals) || c == line_feed then after_key n
     else n
 
--- behind the next string, comment or byte, where there is one that TOML can have
+-- after the next string, comment or byte, where there is one that TOML can have
 abbrev pub step : Nesting → Text → Option (Nesting × Text)
 step n text =
     if starts_string text then option_map (λ r. (n, r.1)) (quoted text)
@@ -43,18 +43,18 @@ step n text =
     else if first text == 0 || nat_lt 127 (first text) then None
     else Some (after_byte (first text) n, drop 1 text)
 
--- behind so many steps, or as many as there are
+-- after this many steps, or as many as there are
 unfoldable pub scan : ℕ → Nesting → Text → Nesting
 scan zero n text = n
 scan (suc k) n text = unwrap_or (option_map (λ r. scan k r.0 r.1) (step n text)) n
 
--- IT NESTS DENSELY: with each bracket in the others, each behind a key of the most dots, and a header of an array of tables and a key of as many dots before them
+-- IT NESTS DENSELY: by a header, a key, and all brackets in one another, each after a key, all keys with the most dots
 abbrev pub is_dense : Nesting → Bool
 is_dense n = nat_lt 384 ((n.most_brackets + 3) * (n.most_dots + 1))
 
 abbrev pub nests_densely : Text → Bool
 nests_densely text = is_dense (scan (length text) start text)
 
--- in the code: what one step comes to
+-- in the code: what one step gives
 abbrev pub Steps : Nesting → Text → Option (Nesting × Bor Text) → Type 0
 Steps n text r = option_map (λ p. (p.0, p.1.now)) r ≡ step n text

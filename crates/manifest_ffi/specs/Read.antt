@@ -38,7 +38,7 @@ AreTooDeep bytes =
     (nests_densely bytes ≡ true)
     ⊎ ((document : Members) × (parse_document bytes ≡ Some document) × (128 < members_depth document))
 
--- the text is no such document: it nests densely, or it is none, memory aside, with a place within the text; else out of memory
+-- the text is no such document: it nests densely; it is no TOML, at a place in it, memory aside; or out of memory
 abbrev pub RefusesToParse : Text → InputError → Type 0
 RefusesToParse text TooDeep = AreTooDeep text
 RefusesToParse text (NoManifest (Parse (NoToml e))) =
@@ -57,7 +57,7 @@ pub record IsSourceOf (K W : Kind Data) (bytes : Text) (m : Manifest) : Type 0 w
   pub is_document : IsDocument bytes document
   pub meant : means K W document m
 
--- they are none: a document of a table with this fault, or no document
+-- they are not: they are a document of a table with this fault, or no document
 abbrev pub RefusesText : Kind Data → Kind Data → Text → InputError → Type 0
 RefusesText K W bytes (NoManifest (Parse (Schema f))) =
     (document : Members) × IsDocument bytes document × IsFaulty K W document f
@@ -74,7 +74,7 @@ abbrev pub HoldFault : Text → Error → Type 0
 HoldFault bytes e =
     (value : Data) × (bytes ≡ encoded value) × RefusedAs (faulty_manifest metadata metadata value) e
 
--- they are none: those of a faulty value, or out of memory; else no tagged bytes, or of a value that nests too deep, of which nothing is promised
+-- they are not: those of a value with this fault, or out of memory; of the two other refusals nothing is promised
 abbrev pub RefusesTagged : Text → InputError → Type 0
 RefusesTagged bytes (NoManifest e) = IsOutOfMemory e ⊎ HoldFault bytes e
 RefusesTagged bytes _ = Unit {0}

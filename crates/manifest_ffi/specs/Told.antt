@@ -1,4 +1,4 @@
--- The numbers and the text by which an answer tells a refusal.
+-- The numbers and the text by which an answer reports a refusal.
 use Rattle.std.specs.Prelude.{◌≡◌, ℕ, ◌+◌, [], Bool, true, false, if◌then◌else◌, string_bytes}
 use Rattle.std.specs.IoError.{error_kind}
 use Rattle.std.specs.declared.io.ErrorKind.{ErrorKind}
@@ -43,7 +43,7 @@ kind_number _ = 3
 abbrev pub at_root : Bool → ℕ → ℕ
 at_root is_root status = if is_root then status + 16 else status
 
--- WHAT IS TOLD: this status, with this cause and this text, and no place in the bytes
+-- WHAT IS REPORTED: this status, with this cause and this text, and no place in the bytes
 abbrev pub IsTold : Told → ℕ → ℕ → Text → Type 0
 IsTold t status cause text =
     (t.status ≡ status) × (t.cause ≡ cause) × (t.text.items ≡ text) × (t.start ≡ 0) × (t.end ≡ 0)
@@ -52,7 +52,7 @@ IsTold t status cause text =
 abbrev pub TellsMemory : Told → Type 0
 TellsMemory t = IsTold t 6 0 []
 
--- a text that is no TOML, by the words of `toml` and the place in it; lack of memory is reported as such
+-- a text that is no TOML, by the words of `toml` and the place in it; running out of memory is reported as such
 pub record TellsToml (is_root : Bool) (e : TomlError) (t : Told) : Type 0 where
   pub refused : ¬ IsMemory e
   pub status : t.status ≡ at_root is_root 1

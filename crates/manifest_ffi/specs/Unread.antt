@@ -1,4 +1,4 @@
--- What is given where metadata is not kept as it is: the table of a manifest whose metadata is not looked at, and the document that the bytes are, whatever it means.
+-- The table of a manifest whose metadata is not looked at, and the document that the bytes are, whatever it means.
 use Rattle.std.specs.Prelude.{◌≡◌, ◌⊎◌, ℕ, List, Some}
 use Rattle.toml.specs.Data.{Data, Members, table}
 use Rattle.manifest_schema.specs.Paths.{Text}

@@ -31,7 +31,7 @@ pub struct Answer {
 // as the other languages declare it: `scripts/library` compares the number
 const _: () = prove!(size_of::<Answer>() == 32);
 
-/// Copies a text to the front of `out`, where there is room for it.
+/// Copies a text to the beginning of `out`, where there is room for it.
 fn copy_to_front(text: &[u8], out: &mut [u8]) -> usize
     ensures { IsHanded text.now result out.old out.new }
 {
@@ -42,7 +42,7 @@ fn copy_to_front(text: &[u8], out: &mut [u8]) -> usize
     length
 }
 
-/// What is told of what was made.
+/// What is reported of what was made.
 pub(crate) fn outcome(alloc: Global, made: Result<Vec<u8>, Refusal>) -> Told
     ensures { Outcome made result }
 {
@@ -52,7 +52,7 @@ pub(crate) fn outcome(alloc: Global, made: Result<Vec<u8>, Refusal>) -> Told
     }
 }
 
-/// Returns what is reported.
+/// Writes the text of a report into `out`, and returns its numbers.
 pub(crate) fn write_answer(told: &Told, out: &mut [u8]) -> Answer
     ensures { Hands told.now out.old out.new result }
 {
@@ -66,7 +66,8 @@ pub(crate) fn write_answer(told: &Told, out: &mut [u8]) -> Answer
     }
 }
 
-/// What the bytes of a call are, what is asked for of the manifest that is made of them, and the most bytes that it may take.
+/// What the bytes of a call are, what is asked for of the manifest that is made of them, and the most bytes that it may
+/// take.
 #[derive(Debug, Clone, Copy)]
 pub(crate) struct Asked {
     pub input: Input,

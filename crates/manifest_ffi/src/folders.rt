@@ -14,8 +14,8 @@ use std::collections::{BTreeMap, BTreeSet};
 use std::io;
 use std::io::ErrorKind;
 
-/// A folder, as a caller hands it in: its path, the names in it, and its fault, which is 0 where it has none, 1 where it
-/// is not found, 2 where memory ran out, and otherwise any other number.
+/// A folder, as a caller passes it in: its path, the names in it, and its fault, which is 0 where it has none, 1 where
+/// it is not found, 2 where memory ran out, and otherwise any other number.
 #[repr(C)]
 #[derive(Clone, Copy)]
 pub struct Folder<'a> {
@@ -27,7 +27,7 @@ pub struct Folder<'a> {
 // as the other languages declare it: `scripts/library` compares the number
 const _: () = prove!(size_of::<Folder<'static>>() == 40);
 
-/// What a folder is answered.
+/// What a folder answers.
 #[derive(Debug, Drop)]
 pub enum Listed {
     /// These names.
@@ -86,7 +86,7 @@ fn names_of(alloc: Global, given: &[&[u8]]) -> Result<BTreeSet<String>, Refusal>
     Ok(names)
 }
 
-/// What a folder is answered.
+/// What a folder answers.
 fn answer_of(alloc: Global, folder: &Folder<'_>) -> Result<Listed, Refusal>
     ensures ok { IfOk result (λ listed. listed_answer listed ≡ folder_answer folder.now) }
     ensures names { IfOk result (λ _. AreNames (texts folder.now.names.now)) }

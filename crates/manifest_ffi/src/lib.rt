@@ -1,9 +1,9 @@
 //! The calls for programs in C, Rust and Python: `bindings/c/cargo_manifest.h` declares them, and `bindings/rust` and
 //! `bindings/python` wrap them. `docs/LIBRARY.md` says how they are used.
 //!
-//! Each call makes a manifest of bytes, and writes what is asked for of it, or the text of the refusal, to the front of
-//! `out`. What would take more than `most` bytes is refused. No call keeps anything between calls, and none keeps what it is
-//! given.
+//! Each call makes a manifest of bytes, and writes what is asked for of it, or the text of the refusal, to the
+//! beginning of `out`. What would take more than `most` bytes is refused. No call keeps anything between calls, and
+//! none keeps what it is given.
 #![tactic(auto)]
 
 mod answer;
@@ -53,8 +53,8 @@ pub extern "C" fn manifest_canonical(
     respond(alloc, asked, bytes, None, None, out)
 }
 
-/// The same for the manifest completed over the folders: a path that none of them has is not there, and what is not asked
-/// for makes no difference.
+/// The same for the manifest completed over the folders: a path that none of them has is not there, and what is not
+/// asked for makes no difference.
 ///
 /// ```ignore
 /// let answer = manifest_completed(alloc, bytes, &[src, root], usize::MAX, &mut out);
@@ -222,8 +222,8 @@ pub extern "C" fn manifest_resolved_completed_table(
     respond(alloc, asked, bytes, Some(root), Some(folders), out)
 }
 
-/// The same as [`manifest_table`], but that the metadata of the package and of the workspace is not looked at: where there
-/// is any, it is written as the empty table. So metadata refuses nothing.
+/// The same as [`manifest_table`], but that the metadata of the package and of the workspace is not looked at: where
+/// there is any, it is written as the empty table. So metadata refuses nothing.
 ///
 /// ```ignore
 /// let answer = manifest_table_without_metadata(alloc, bytes, usize::MAX, &mut out);
@@ -243,8 +243,8 @@ pub extern "C" fn manifest_table_without_metadata(
     write_answer(&told, out)
 }
 
-/// The tagged bytes of the document that the bytes are, whatever it means. It may have floats, which no table of a manifest
-/// has.
+/// The tagged bytes of the document that the bytes are, whatever it means. It may have floats, which no table of a
+/// manifest has.
 ///
 /// ```ignore
 /// let answer = manifest_document(alloc, b"x = 0.5", usize::MAX, &mut out);
@@ -264,8 +264,8 @@ pub extern "C" fn manifest_document(
     write_answer(&told, out)
 }
 
-/// The canonical text of the manifest of a table, from its tagged bytes: those that [`manifest_table`] writes, or such of
-/// another table. A table has no old headers.
+/// The canonical text of the manifest of a table, from its tagged bytes: those that [`manifest_table`] writes, or such
+/// of another table. A table has no old headers.
 ///
 /// ```ignore
 /// let answer = manifest_canonical_of_table(alloc, table, usize::MAX, &mut out);
@@ -288,8 +288,8 @@ pub extern "C" fn manifest_canonical_of_table(
     respond(alloc, asked, bytes, None, None, out)
 }
 
-/// The tagged bytes of the table of the manifest completed over the folders, as by [`manifest_completed`], of the tagged
-/// bytes of its table.
+/// The tagged bytes of the table of the manifest completed over the folders, as by [`manifest_completed`], of the
+/// tagged bytes of its table.
 ///
 /// ```ignore
 /// let answer = manifest_completed_of_table(alloc, table, &[src, root], usize::MAX, &mut out);
@@ -313,8 +313,8 @@ pub extern "C" fn manifest_completed_of_table(
     respond(alloc, asked, bytes, None, Some(folders), out)
 }
 
-/// The tagged bytes of the table of the manifest with what it inherits, as by [`manifest_resolved`], of the tagged bytes of
-/// its table and of that of the root.
+/// The tagged bytes of the table of the manifest with what it inherits, as by [`manifest_resolved`], of the tagged
+/// bytes of its table and of that of the root.
 ///
 /// ```ignore
 /// let answer = manifest_resolved_of_tables(alloc, member, root, usize::MAX, &mut out);

@@ -102,8 +102,8 @@ fn make_over(
     }
 }
 
-/// The manifest that the bytes are; with what it inherits from the workspace of the root's bytes, where there is a root; and
-/// completed over the folders, where there are any.
+/// The manifest that the bytes are; with what it inherits from the workspace of the root's bytes, where there is a
+/// root; and completed over the folders, where there are any.
 pub(crate) fn make(
     alloc: Global,
     input: Input,

@@ -1,5 +1,5 @@
-//! How deep a text may nest what it says, found before it is parsed. `toml` parses, and gives up on, a text by calls that go
-//! no deeper than that.
+//! How deep a text may nest what it says, found before it is parsed. `toml` parses a text, or fails on it, by calls
+//! that go no deeper than that.
 
 ghost use Rattle.std.specs.Prelude.{◌≡◌, IfOk};
 ghost use Rattle.manifest_ffi.specs.Nesting.{count_up, after_opening_bracket, after_closing_bracket, after_dot, after_key, after_byte, scan, is_dense, nests_densely, Steps};
@@ -137,7 +137,7 @@ fn step<'t>(
     }
 }
 
-/// Whether so many brackets in one another, each behind a key of so many dots, would be too much nesting.
+/// Whether this many brackets in one another, each after a key of this many dots, would be too much nesting.
 fn is_dense(nesting: Nesting) -> bool
     ensures { result ≡ is_dense nesting }
 {

@@ -1,5 +1,5 @@
-//! What the bytes of a call are: a document, or the tagged bytes of a table, that nests no deeper than the limit; and the
-//! manifest that it means.
+//! What the bytes of a call are: a document, or the tagged bytes of a table, that nests no deeper than the limit; and
+//! the manifest that it means.
 
 ghost use Rattle.std.specs.Prelude.{◌≡◌, Some, false, IfOk, IfErr};
 ghost use Rattle.toml.specs.Parse.{parse_document};

@@ -48,7 +48,7 @@ pub enum Refusal {
     Finishing(FinishError),
     /// The manifest's table cannot be printed.
     Printing(Error),
-    /// What is asked for takes more bytes than is wanted.
+    /// What is asked for takes more bytes than the caller allows.
     TooLong,
     /// No memory was left.
     Memory(AllocError),

@@ -48,7 +48,7 @@ fn with_string(status: u8, cause: u8, text: String) -> Told
     with_text(status, cause, text.into_bytes())
 }
 
-/// Lack of memory, which was met: there is none without what was refused.
+/// Out of memory. It takes the error of the refused allocation, so that it cannot be made up.
 fn memory(alloc: Global, _refused: AllocError) -> Told
     ensures told { TellsMemory result }
     ensures utf8 { IsUtf8 result.text.items }

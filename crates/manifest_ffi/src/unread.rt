@@ -1,5 +1,5 @@
-//! Manifests whose metadata is not looked at, and documents whatever they mean: what a caller reads who takes metadata as
-//! it stands in the text, floats and all.
+//! Manifests whose metadata is not looked at, and documents whatever they mean: what a caller reads who takes metadata
+//! as it stands in the text, floats and all.
 
 ghost use Rattle.std.specs.Prelude.{◌≡◌};
 ghost use Rattle.toml.specs.Data.{table};

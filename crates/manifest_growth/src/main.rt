@@ -1,6 +1,6 @@
-//! Reads a small manifest, completes one from listings in memory, resolves one over its workspace, or copies an error, and
-//! prints what came of it. It is run with each request for memory refused in turn, and tells whether a completion or a
-//! resolving that was refused kept the manifest, or a copy the error, and can be tried again.
+//! Reads a small manifest, completes one from listings in memory, resolves one over its workspace, or copies an error,
+//! and prints what came of it. It is run with each request for memory refused in turn, and reports whether a completion
+//! or a resolving that was refused left the manifest as it was, or a copy the error, and can be tried again.
 #![tactic(auto)]
 
 mod copying;
@@ -66,7 +66,7 @@ fn asked_trial(rt: &HostRuntime) -> io::Result<Option<Trial>> {
     Ok(word.and_then(|word| trial_of_name(word.as_str())))
 }
 
-/// The line that tells what a completion was refused with.
+/// The line that says what a completion was refused with.
 fn cause(refusal: &Error) -> &'static str {
     match refusal {
         Error::Memory(_) => "memory\n",

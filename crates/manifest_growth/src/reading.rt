@@ -15,7 +15,7 @@ pub enum Document {
     Lints,
     /// Lints whose `workspace` is false.
     Untrue,
-    /// A workspace that lends the lints of a tool named `workspace`.
+    /// A workspace with lints of a tool named `workspace`.
     Tool,
     /// Lists and a table in metadata, and a float under a key that is not listed.
     Metadata,
@@ -78,7 +78,7 @@ impl Document {
     }
 }
 
-/// The line that tells where memory ran out, or nothing.
+/// The line that says where memory ran out, or nothing.
 fn cause(read: &Answer) -> &'static str {
     match read {
         Err(Error::Memory(_)) => "memory\n",

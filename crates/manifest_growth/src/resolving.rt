@@ -12,7 +12,7 @@ const MEMBER: &str =
 const ROOT: &str =
     "[workspace.dependencies]\nb = { version = '1', features = ['x', 'y'], default-features = false }\n";
 
-/// The line that tells what a resolving was refused with.
+/// The line that says what a resolving was refused with.
 fn cause(refusal: &ResolveError) -> &'static str {
     match refusal {
         ResolveError::Memory(_) => "memory\n",

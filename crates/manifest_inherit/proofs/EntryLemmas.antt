@@ -15,7 +15,7 @@ use Rattle.manifest_inherit.specs.ForProofs.{Accepted}
 use Rattle.manifest_inherit.specs.declared.error.ResolveError.{ResolveError}
 use Rattle.manifest_inherit.specs.declared.error.ResolveError.TheVariants.{NotInWorkspace, InheritedInWorkspace, MixedLints, ToolNamedWorkspace, Memory}
 
--- what is told of some refusals is told of more of them
+-- what an error reports of some refusals, it reports of more of them
 pub refused_weaker : (P Q : Refusals) (e : ResolveError) → ((r : Refusal) → P r → Q r) → RefusedIn P e → RefusedIn Q e
 refused_weaker P Q (NotInWorkspace s) w h = w _ h
 refused_weaker P Q (InheritedInWorkspace s) w h = w _ h

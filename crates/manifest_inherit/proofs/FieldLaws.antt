@@ -29,7 +29,7 @@ field_accepted key None lent h r x = x
 field_accepted key (Some (local y)) lent h r x = x
 field_accepted key (Some inherited) lent h r x = h
 
--- THE TABLE: each of its fields is resolved in the package, and a package with its own content of a field is that package
+-- THE TABLE: each of its fields is resolved in the package; a package with its own content of a field is that package
 abbrev AreResolved : Fields → Type 0
 AreResolved no_more = Unit {0}
 AreResolved (f ⨾ fs) = ((w : Option WorkspacePackage) (p : Package) → f.own (resolved_package w p) ≡ resolved_field (f.own p) (f.lent w)) × AreResolved fs
@@ -71,13 +71,13 @@ package_same = fields_same lendable all_kept
 pub package_accepted : (w : Option WorkspacePackage) (p : Package) → AreOwn lendable p → NoneHolds (refuses_fields lendable w p)
 package_accepted = fields_accepted lendable
 
--- WHAT IS LENT: one more field
+-- WHAT THE WORKSPACE HAS: one more field
 pub one_lent : (fs : Fields) (i : ℕ) (w : Option WorkspacePackage) (p : Package) → first_lent i fs w p → lent_at i fs w p → first_lent (suc i) fs w p
 one_lent no_more i w p h n = tt
 one_lent (f ⨾ fs) zero w p h n = (n, tt)
 one_lent (f ⨾ fs) (suc i) w p h n = (h.0, one_lent fs i w p h.1 n)
 
--- where what all fields inherit is lent, nothing is refused
+-- where the workspace has all fields that are inherited, nothing is refused
 field_lent : {A : Type 0} (key : Text) (own : Option (Inheritable A)) (lent : Option A) → IsLent own lent → NoneHolds (refuses_field key own lent)
 field_lent key None lent h r x = x
 field_lent key (Some (local y)) lent h r x = x
@@ -96,7 +96,7 @@ field_refused no_more (suc i) w p r x = x
 field_refused (f ⨾ fs) zero w p r x = inl x
 field_refused (f ⨾ fs) (suc i) w p r x = inr (field_refused fs i w p r x)
 
--- TWO THAT LEND THE SAME
+-- TWO WORKSPACES WITH THE SAME FIELDS
 abbrev LendSame : Fields → Option WorkspacePackage → Option WorkspacePackage → Type 0
 LendSame no_more v w = Unit {0}
 LendSame (f ⨾ fs) v w = (f.lent v ≡ f.lent w) × LendSame fs v w
@@ -114,7 +114,7 @@ same_back : (fs : Fields) (v w : Option WorkspacePackage) → LendSame fs v w �
 same_back no_more v w h = tt
 same_back (f ⨾ fs) v w h = (sym h.0, same_back fs v w h.1)
 
--- what the empty table means lends nothing
+-- what the empty table means has no field to inherit
 abbrev IsAbsent : {B : Type 0} → Option B → Type 0
 IsAbsent None = Unit {0}
 IsAbsent (Some x) = ⊥

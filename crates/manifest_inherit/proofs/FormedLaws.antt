@@ -1,4 +1,4 @@
--- What is resolved stays well-formed, and stays resolved when it is completed. What well-formedness comes down to, and that a completed manifest is completed to itself, are premises here: laws of `cargo_manifest`.
+-- What is resolved stays well-formed, and resolved when it is completed. Its premises are laws of `cargo_manifest`.
 use Rattle.std.proofs.Common.{◌≡◌, inr, [], ◌∷◌, Bool, true, false, refl, sym, Option, Some, None, option_map, codes, subst, IsTrue}
 use Rattle.toml.specs.Data.{Data}
 use Rattle.manifest_schema.specs.Kinds.{Kind, Entries, map_of}
@@ -20,7 +20,7 @@ use Rattle.manifest_inherit.specs.Laws.{ResolvedIsWellFormed, CompletedStaysReso
 use Rattle.manifest_inherit.proofs.SettledLaws.{resolved_is_settled, own_is_settled}
 
 -- WELL-FORMED
--- the metadata of a package is not lent
+-- the metadata of a package is not inherited
 metadata_stays : (w : Option WorkspacePackage) (p : Package) → (resolved_package w p).metadata ≡ p.metadata
 unfolding lendable resolved_package
 metadata_stays w p = refl

@@ -7,7 +7,7 @@ use Rattle.manifest_inherit.specs.Fields.{lendable}
 use Rattle.manifest_inherit.specs.Resolved.{resolved_package, resolved}
 use Rattle.manifest_inherit.specs.Laws.{ResolvedDatesAreValid}
 
--- the metadata of a package is not lent
+-- the metadata of a package is not inherited
 package_keeps : (w : Option WorkspacePackage) (o : Option Package) → IfSome o (λ p. IfSome p.metadata HasValidDates) → IfSome (option_map (resolved_package w) o) (λ p. IfSome p.metadata HasValidDates)
 unfolding lendable resolved_package
 package_keeps w None h = h

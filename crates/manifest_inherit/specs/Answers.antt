@@ -11,7 +11,7 @@ pub record ResolvesTo (m : Manifest) (w : Workspace) (n : Manifest) : Type 0 whe
   pub accepted : NoneHolds (refuses m w)
   pub becomes : n ≡ resolved m w
 
--- the error tells one of these refusals, or out of memory
+-- the error is one of these refusals, or out of memory
 abbrev pub RefusedIn : Refusals → ResolveError → Type 0
 RefusedIn refuses (NotInWorkspace s) = refuses (not_in_workspace (string_bytes s))
 RefusedIn refuses (InheritedInWorkspace s) = refuses (inherited_in_workspace (string_bytes s))

@@ -5,7 +5,7 @@ use Rattle.manifest_schema.specs.Paths.{Text}
 use Rattle.manifest_schema.specs.Kinds.{Inheritable}
 use Rattle.manifest_schema.specs.Contents.{Package, WorkspacePackage}
 
--- a field: its key, its content in a package, what a workspace lends for it by its `package`, where it has one, and the package with another content of it
+-- a field: its key, its content in a package and in a workspace's `package`, and the package with other content of it
 pub record Field : Type 1 where
   pub content : Type 0
   pub key : Text

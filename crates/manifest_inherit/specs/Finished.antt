@@ -1,4 +1,4 @@
--- What is made of a manifest: with what it inherits from the workspace of a root, where there is one, and completed over a filesystem, where there is one.
+-- What is made of a manifest: resolved over a root's workspace, if any, and completed over a filesystem, if any.
 use Rattle.std.specs.Prelude.{◌≡◌, ◌⊎◌, Option, Some, None, option_map}
 use Rattle.std.specs.Borrow.{Bor}
 use Rattle.toml.specs.View.{view}
@@ -24,7 +24,7 @@ abbrev pub Inherits : Option Manifest → Manifest → Manifest → Type 0
 Inherits None m n = n ≡ m
 Inherits (Some root) m n = (w : Workspace) × (root.workspace ≡ Some w) × ResolvesTo m w n
 
--- the refusal: the root has no workspace, or what is inherited from its workspace is refused; the manifest stays as it is
+-- the refusal: the root has no workspace, or resolving over its workspace is refused; the manifest stays as it is
 abbrev pub RefusesToInherit : Option Manifest → Manifest → Manifest → FinishError → Type 0
 RefusesToInherit (Some root) m n NoWorkspace = (root.workspace ≡ None) × (n ≡ m)
 RefusesToInherit (Some root) m n (Resolve e) =

@@ -1,4 +1,4 @@
--- What the contracts of single steps cite. What a manifest becomes needs none of it: who reads for that may pass over this file.
+-- What the contracts of single steps cite. It is not needed to read what a manifest becomes.
 use Rattle.std.specs.Prelude.{◌≡◌, ℕ, zero, suc, [], Option, Some, None, option_map, unwrap_or, String}
 use Rattle.std.specs.declared.alloc.Global.{Global}
 use Rattle.std.specs.BTreeMap.{BTreeMap}
@@ -18,7 +18,7 @@ use Rattle.manifest_inherit.specs.declared.resolution.Made.{Made}
 abbrev pub Accepted : {A : Type 0} → Refusals → A → A → Type 0
 Accepted refuses becomes made = NoneHolds refuses × (made ≡ becomes)
 
--- what a map of dependencies lends, where there is one
+-- the workspace's dependencies that can be inherited, where there is a map of them
 abbrev pub lent_by_map : Option (BTreeMap (String Global) DependencyOfCode) → Entries Dependency
 lent_by_map lent = unwrap_or (option_map dependencies_content lent) []
 
@@ -37,18 +37,18 @@ refuses_at zero (f ⨾ fs) w p r = refuses_field f.key (f.own p) (f.lent w) r
 refuses_at (suc i) (f ⨾ fs) w p r = refuses_at i fs w p r
 refuses_at _ _ w p r = ⊥
 
--- what a field inherits is lent
+-- if the field is inherited, the workspace has it
 abbrev pub IsLent : {A : Type 0} → Option (Inheritable A) → Option A → Type 0
 IsLent (Some inherited) None = ⊥
 IsLent own lent = Unit {0}
 
--- what the field at this place inherits is lent
+-- if the field at this place is inherited, the workspace has it
 abbrev pub lent_at : ℕ → Fields → Option WorkspacePackage → Package → Type 0
 lent_at zero (f ⨾ fs) w p = IsLent (f.own p) (f.lent w)
 lent_at (suc i) (f ⨾ fs) w p = lent_at i fs w p
 lent_at _ _ w p = Unit {0}
 
--- what the first n fields inherit is lent
+-- of the first n fields the workspace has those that are inherited
 abbrev pub first_lent : ℕ → Fields → Option WorkspacePackage → Package → Type 0
 first_lent (suc n) (f ⨾ fs) w p = IsLent (f.own p) (f.lent w) × first_lent n fs w p
 first_lent _ _ w p = Unit {0}

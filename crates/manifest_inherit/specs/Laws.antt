@@ -24,13 +24,13 @@ ResolvedIsSettled = (m n : Manifest) (w : Workspace) → ResolvesTo m w n → Is
 abbrev pub OwnIsSettled : Type 0
 OwnIsSettled = (m : Manifest) (w : Workspace) → InheritsNothing m → IsSettled m w
 
--- a well-formed manifest is resolved over a well-formed workspace to a well-formed one; the kinds K and W are those of the metadata of the manifest, V is that of the workspace
+-- resolving well-formed contents gives a well-formed manifest; K and W are its kinds of metadata, V the workspace's
 abbrev pub ResolvedIsWellFormed : Kind Data → Kind Data → Kind Data → Type 0
 ResolvedIsWellFormed K W V =
     (m n : Manifest) (w : Workspace) → well_formed K W m → (form (workspace_rows V)).good w →
     ResolvesTo m w n → well_formed K W n
 
--- and where that is then completed, what it comes to is settled, and is completed to itself over the same listings
+-- and where that is then completed, the result is settled, and is completed to itself over the same listings
 abbrev pub CompletedStaysResolved : Kind Data → Kind Data → Kind Data → Type 0
 CompletedStaysResolved K W V =
     (m n o : Manifest) (w : Workspace) (l : ListingMap) →
@@ -38,7 +38,7 @@ CompletedStaysResolved K W V =
     ResolvesTo m w n → completed n l ≡ completed_to o →
     IsSettled o w × (completed o l ≡ completed_to o)
 
--- a resolved manifest keeps no other date-time than the manifest did: a workspace lends none
+-- a resolved manifest keeps no other date-time than the manifest did: none is inherited from a workspace
 abbrev pub ResolvedDatesAreValid : Type 0
 ResolvedDatesAreValid =
     (m n : Manifest) (w : Workspace) → KeepsValidDates m → ResolvesTo m w n → KeepsValidDates n

@@ -46,7 +46,7 @@ abbrev pub IfThere : {A : Type 0} → (A → Type 0) → Option A → Type 0
 IfThere P None = Unit {0}
 IfThere P (Some x) = P x
 
--- NOTHING THAT A WORKSPACE MAY LEND IS INHERITED; `patch` and the manifest's own `workspace` are not looked at
+-- NOTHING IS INHERITED FROM A WORKSPACE; `patch` and the manifest's own `workspace` are not looked at
 pub record InheritsNothing (m : Manifest) : Type 0 where
   pub fields : IfThere (AreOwn lendable) m.«package»
   pub dependencies : IfThere AreOwnDependencies m.dependencies

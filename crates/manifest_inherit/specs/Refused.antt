@@ -8,7 +8,7 @@ use Rattle.manifest_inherit.specs.Fields.{Fields, no_more, ◌⨾◌, lendable}
 use Rattle.manifest_inherit.specs.Resolved.{workspace_dependency, lent_dependencies}
 
 pub data Refusal : Type 0 where
-  -- the workspace lends no field or dependency of this name, or no `lints`
+  -- the workspace has no field or dependency of this name, or no `lints`
   not_in_workspace : Text → Refusal
   -- the workspace's own dependency of this name is inherited
   inherited_in_workspace : Text → Refusal

@@ -1,4 +1,4 @@
--- What a manifest becomes where a workspace lends it what it inherits. What cannot be lent stays as it is here; that it is refused is said in `Refused`.
+-- What a manifest becomes over a workspace. What that does not have stays as it is; `Refused` says that it is refused.
 use Rattle.std.specs.Prelude.{List, [], ◌∷◌, ◌++◌, map, if◌then◌else◌, Option, Some, None, option_map, unwrap_or}
 use Rattle.std.specs.Option.{option_or}
 use Rattle.std.specs.List.{list_any}
@@ -10,7 +10,7 @@ use Rattle.manifest_schema.specs.Contents.{InheritedDependencyDetail, Dependency
 use Rattle.manifest_parts.specs.Queries.{simplify}
 use Rattle.manifest_inherit.specs.Fields.{Fields, no_more, ◌⨾◌, lendable}
 
--- A FIELD of a package: where it is inherited, it becomes the package's own, with the content that is lent
+-- A FIELD of a package: where it is inherited, it becomes the package's own, with the content of the workspace's
 abbrev pub resolved_field : {A : Type 0} → Option (Inheritable A) → Option A → Option (Inheritable A)
 resolved_field (Some inherited) (Some x) = Some (local x)
 resolved_field own lent = own
@@ -45,7 +45,7 @@ version_alone v = record {
   «package» = None;
 }
 
--- the detail that it lends; what the workspace itself inherits it cannot lend
+-- the detail that is inherited from it; there is none where the workspace itself inherits
 abbrev pub lent_by : Option Dependency → Option DependencyDetail
 lent_by None = None
 lent_by (Some (simple v)) = Some (version_alone v)
@@ -64,7 +64,7 @@ abbrev pub joined_features : Option (List Text) → Option (List Text) → Optio
 joined_features None None = None
 joined_features lent own = Some (unwrap_or lent [] ++ new_features (unwrap_or lent []) (unwrap_or own []))
 
--- the detail that is lent, with the features of both; `optional` is the member's, and the default features are where the member says so
+-- the workspace's detail, with the features of both; `optional` and, where it says them, default features of the member
 abbrev pub joined : InheritedDependencyDetail → DependencyDetail → DependencyDetail
 joined own lent = record lent {
   features = joined_features lent.features own.features;
@@ -76,7 +76,7 @@ abbrev pub with_lent : InheritedDependencyDetail → Option DependencyDetail →
 with_lent own None = by_workspace own
 with_lent own (Some d) = simplify (detailed (joined own d))
 
--- the dependency of this name: where it is inherited, what the workspace's dependency of the name makes of it, simplified
+-- the dependency of this name: if inherited, what the workspace's dependency of the name makes of it, simplified
 abbrev pub resolved_dependency : Entries Dependency → Text → Dependency → Dependency
 resolved_dependency lent name (by_workspace own) = with_lent own (lent_by (workspace_dependency lent name))
 resolved_dependency lent name d = d

@@ -48,7 +48,7 @@ fn own_or_workspace(own: Option<bool>, lent: Option<bool>) -> Option<bool>
     }
 }
 
-/// The detail that is lent, with what the member says, simplified.
+/// The workspace's detail, with what the member says, simplified.
 fn join_dependency(
     alloc: Global,
     own: &InheritedDependencyDetail,

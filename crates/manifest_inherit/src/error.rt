@@ -10,8 +10,8 @@ use thiserror::Error;
 /// What [`resolve`](crate::resolve) refuses with.
 #[derive(Debug, Drop, Error)]
 pub enum ResolveError {
-    /// The manifest inherits a package field or a dependency of this name, as it stands in the file, or `lints`, and the
-    /// workspace has none.
+    /// The manifest inherits a package field or a dependency of this name, as it stands in the file, or `lints`, and
+    /// the workspace has none.
     #[error("not in workspace: {0}")]
     NotInWorkspace(String),
     /// The workspace's dependency of this name is itself inherited.

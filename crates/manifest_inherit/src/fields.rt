@@ -15,7 +15,7 @@ use manifest_parts::MaybeInherited;
 use manifest_value::{Metadata, Schema, at_place};
 use std::alloc::Global;
 
-/// Whether what a field inherits is lent.
+/// Refuses a field that is inherited and that the workspace does not have.
 fn check_field<T: Schema>(
     alloc: Global,
     key: &str,
@@ -87,7 +87,7 @@ fn keys() -> &'static [&'static str]
     KEYS
 }
 
-/// Whether what the field at a place inherits is lent.
+/// Refuses the field at a place, if it is inherited and the workspace does not have it.
 #[tactic(auto, unfolding(crate::specs::Fields::lendable))]
 fn check_at<M: Metadata>(
     alloc: Global,
@@ -106,7 +106,7 @@ fn check_at<M: Metadata>(
     lendable!(check_of(alloc, own, lent, i))
 }
 
-/// Whether all that a package inherits is lent. It refuses with the key of a field that is not.
+/// Refuses a package that inherits a field which the workspace does not have, with the key of the field.
 pub(crate) fn check_fields<M: Metadata>(
     alloc: Global,
     own: &Package<M>,
@@ -125,7 +125,7 @@ pub(crate) fn check_fields<M: Metadata>(
     Ok(())
 }
 
-/// Puts what is lent in the place of the mark that a field is inherited. Nothing is allocated.
+/// Puts the workspace's value in the place of the mark that a field is inherited. Nothing is allocated.
 fn put_field<T: Schema>(place: &mut Option<MaybeInherited<T>>, lent: Option<T>)
     ensures { option_map (inh_content T.content) place.new
         ≡ resolved_field (option_map (inh_content T.content) place.old)
@@ -142,7 +142,7 @@ fn put_field<T: Schema>(place: &mut Option<MaybeInherited<T>>, lent: Option<T>)
     }
 }
 
-/// Puts the fields that are lent in the places of those that a package inherits. Nothing is allocated.
+/// Puts the workspace's fields in the places of those that a package inherits. Nothing is allocated.
 #[tactic(auto, unfolding(crate::specs::Resolved::resolved_package, crate::specs::Fields::lendable))]
 pub(crate) fn put_fields<M: Metadata>(own: &mut Package<M>, lent: WorkspacePackage)
     ensures { package_of M.kind M.content own.new

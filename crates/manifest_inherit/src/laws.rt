@@ -1,5 +1,5 @@
-//! What is promised of resolving, for every type of metadata of a manifest's package (`P`), of its own workspace (`W`) and of
-//! the workspace that lends (`V`).
+//! What is promised of resolving, for every type of metadata of a manifest's package (`P`), of its own workspace (`W`)
+//! and of the workspace that it inherits from (`V`).
 //!
 //! Each function returns at once: it is there for its contract, a law of the definitions.
 
@@ -8,9 +8,9 @@ ghost use Rattle.manifest_inherit.specs.Laws.{ResolvedIsSettled, OwnIsSettled, R
 
 use cargo_manifest::Metadata;
 
-/// A resolved manifest inherits nothing that may be inherited from a workspace, and is resolved to itself. Where it and the workspace
-/// were well-formed, it is well-formed too; and when it is then completed, resolving it and completing it again over the
-/// same workspace and listings changes nothing.
+/// A resolved manifest inherits nothing (its `patch` and its own `workspace` aside), and is resolved to itself. Where
+/// it and the workspace were well-formed, it is well-formed too; and when it is then completed, resolving it and
+/// completing it again over the same workspace and listings changes nothing.
 pub fn resolved_is_fixed<P: Metadata, W: Metadata, V: Metadata>()
     ensures settled { ResolvedIsSettled }
     ensures own { OwnIsSettled }
@@ -18,7 +18,8 @@ pub fn resolved_is_fixed<P: Metadata, W: Metadata, V: Metadata>()
     ensures completed { CompletedStaysResolved (tree_of P.kind) (tree_of W.kind) (tree_of V.kind) }
 {}
 
-/// Where metadata is kept as it is, a resolved manifest keeps no date-time that TOML cannot write, if the manifest kept none.
+/// Where metadata is kept as it is, a resolved manifest keeps no date-time that TOML cannot write, if the manifest kept
+/// none.
 pub fn resolved_dates_are_valid()
     ensures { ResolvedDatesAreValid }
 {}

@@ -1,4 +1,4 @@
-//! What members inherit from a workspace: a manifest with the package fields, dependencies and lints that it inherits put in.
+//! What members inherit from a workspace: it is put into a manifest, as package fields, dependencies and lints.
 //! `docs/INHERITING.md` says how to read the definitions.
 #![tactic(auto)]
 

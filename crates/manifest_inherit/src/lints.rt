@@ -50,7 +50,7 @@ pub(crate) fn make_lints(
     }
 }
 
-/// Puts the lints that are lent in the place of the mark that they are inherited. Nothing is allocated.
+/// Puts the workspace's lints in the place of the mark that they are inherited. Nothing is allocated.
 pub(crate) fn put_lints(own: &mut Option<MaybeInheritedLintsSet>, lent: Option<LintsSet>)
     ensures { option_map lints_content own.new
         ≡ option_map (resolved_lints (option_map tools_content lent))

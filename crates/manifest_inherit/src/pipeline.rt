@@ -54,13 +54,13 @@ fn complete<F: AbstractFilesystem>(
     }
 }
 
-/// Puts in what the manifest inherits from the workspace of the root, as [`resolve`](crate::resolve) does, where there is a
-/// root; and then completes it over the filesystem, as [`Manifest::complete_from_abstract_filesystem`] does, where there is
-/// one.
+/// Puts in what the manifest inherits from the workspace of the root, as [`resolve`](crate::resolve) does, where there
+/// is a root; and then completes it over the filesystem, as [`Manifest::complete_from_abstract_filesystem`] does, where
+/// there is one.
 ///
 /// Refuses a root that has no `workspace` with [`FinishError::NoWorkspace`]; then as `resolve` does, with
-/// [`FinishError::Resolve`]; and then as the completion does, with [`FinishError::Manifest`]. Where it is the completion
-/// that is refused, the manifest is left with what it inherits; else it is what it was.
+/// [`FinishError::Resolve`]; and then as the completion does, with [`FinishError::Manifest`]. Where it is the
+/// completion that is refused, the manifest is left with what it inherits; else it is what it was.
 ///
 /// ```ignore
 /// finish(alloc, &mut member, Some(&root), Some(&listings))?;

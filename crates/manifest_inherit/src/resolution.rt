@@ -20,8 +20,8 @@ use manifest_value::copy_of;
 use std::alloc::Global;
 use std::mem;
 
-/// What is made apart from a manifest, to be put into it when nothing can fail any more: the fields that are lent to it, its
-/// maps of dependencies as they become, and the lints that are lent to it.
+/// What is made apart from a manifest, to be put into it when nothing can fail any more: copies of the workspace's
+/// fields and lints that it inherits, and its maps of dependencies as they become.
 #[derive(Drop)]
 pub(crate) struct Made {
     pub fields: WorkspacePackage,
@@ -46,7 +46,7 @@ impl Made {
     }
 }
 
-/// Makes what is lent to the package, where there is one.
+/// Copies what the package inherits, where there is a package.
 fn make_package<M: Metadata>(
     alloc: Global,
     own: &Option<Package<M>>,
@@ -166,18 +166,18 @@ fn put_made<P: Metadata, W: Metadata>(manifest: &mut Manifest<P, W>, made: Made)
 }
 
 /// Puts into a manifest what it inherits from a workspace: package fields, dependencies and lints. `docs/INHERITING.md`
-/// says how. Its `patch` and its own `workspace` stay as they are, and so does everything that is not inherited. See the
-/// [Cargo reference](https://doc.rust-lang.org/cargo/reference/workspaces.html#the-package-table).
+/// says how. Its `patch` and its own `workspace` stay as they are, and so does everything that is not inherited. See
+/// the [Cargo reference](https://doc.rust-lang.org/cargo/reference/workspaces.html#the-package-table).
 ///
 /// An inherited field becomes the one of the workspace's `package`. An inherited dependency becomes the workspace's
-/// dependency of its name, with the features of both; whether it is optional the member alone says, and whether it has its
-/// default features the member, or else the workspace. Inherited lints become the workspace's.
+/// dependency of its name, with the features of both; whether it is optional the member alone says, and whether it has
+/// its default features the member, or else the workspace. Inherited lints become the workspace's.
 ///
 /// Refuses with [`ResolveError::NotInWorkspace`] of a field's key, of a dependency's name, or of `lints`, where the
-/// workspace has none; with [`ResolveError::InheritedInWorkspace`] of the name of a dependency that the workspace itself
-/// inherits; with [`ResolveError::MixedLints`] where lints are inherited and have a tool as well; with
-/// [`ResolveError::ToolNamedWorkspace`] where the lints of the workspace that are inherited have a tool of that name; and
-/// with [`ResolveError::Memory`] when out of memory. After a refusal the manifest is what it was.
+/// workspace has none; with [`ResolveError::InheritedInWorkspace`] of the name of a dependency that the workspace
+/// itself inherits; with [`ResolveError::MixedLints`] where lints are inherited and have a tool as well; with
+/// [`ResolveError::ToolNamedWorkspace`] where the lints of the workspace that are inherited have a tool of that name;
+/// and with [`ResolveError::Memory`] when out of memory. After a refusal the manifest is what it was.
 ///
 /// ```ignore
 /// resolve(alloc, manifest, workspace)?; // `version.workspace = true` becomes the workspace's `version = '2.0.0'`

@@ -52,7 +52,7 @@ abbrev pub publish_content : Publish → Contents.Publish
 publish_content (Publish.Flag b) = Contents.publish_flag b
 publish_content (Publish.Registry v) = Contents.registries (map string_bytes v.items)
 
--- WHAT THE WORKSPACE MAY LEND
+-- WHAT MAY BE INHERITED FROM THE WORKSPACE
 abbrev pub inh_content : {T A : Type 0} → (T → A) → MaybeInherited T → Inheritable A
 inh_content f (MaybeInherited.Inherited w) = inherited
 inh_content f (MaybeInherited.Local x) = local (f x)

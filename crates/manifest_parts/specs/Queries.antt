@@ -1,4 +1,4 @@
--- What each query answers of a content; and which part of a value it is, where a query hands one out.
+-- What each query answers of a content; and which part of a value it is, where a query returns one.
 use Rattle.std.specs.Prelude.{ℕ, ℤ, pos, Bool, true, false, not, ◌||◌, if◌then◌else◌, List, [], ◌∷◌, Option, Some, None, is_some, unwrap_or, String, Vec, codes}
 use Rattle.std.specs.Bool.{beq}
 use Rattle.std.specs.Option.{option_map_or}
@@ -87,7 +87,7 @@ features_part (Dependency.Simple v) = []
 features_part (Dependency.Inherited i) = items_part i.features
 features_part (Dependency.Detailed d) = items_part d.features
 
--- WHAT THE WORKSPACE MAY LEND
+-- WHAT MAY BE INHERITED FROM THE WORKSPACE
 -- the value of the code itself, or the mark that it is inherited from the workspace
 abbrev pub as_inheritable : {T : Type 0} → MaybeInherited T → Inheritable T
 as_inheritable = inh_content (λ x. x)

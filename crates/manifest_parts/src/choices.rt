@@ -11,7 +11,8 @@ use manifest_value::{Cause, Plain, ReadFault, Schema, Source};
 use std::alloc::{AllocError, Global};
 use toml::Value;
 
-/// A Rust edition. See the [Cargo reference](https://doc.rust-lang.org/cargo/reference/manifest.html#the-edition-field).
+/// A Rust edition. See the
+/// [Cargo reference](https://doc.rust-lang.org/cargo/reference/manifest.html#the-edition-field).
 #[derive(Clone, Copy, Debug, PartialEq, Eq, Hash)]
 pub enum Edition {
     /// The edition 2015, that of a package without one.
@@ -156,7 +157,8 @@ impl Default for Resolver {
     }
 }
 
-/// The level of a lint. See the [Cargo reference](https://doc.rust-lang.org/cargo/reference/manifest.html#the-lints-section).
+/// The level of a lint. See the
+/// [Cargo reference](https://doc.rust-lang.org/cargo/reference/manifest.html#the-lints-section).
 #[derive(Clone, Copy, Debug, PartialEq, Eq, Hash)]
 pub enum LintLevel {
     /// An error, and no attribute in the code can lower the level.
@@ -221,7 +223,8 @@ impl Schema for LintLevel {
     ghost lawful = { level_lawful };
 }
 
-/// How a package is maintained. See the [Cargo reference](https://doc.rust-lang.org/cargo/reference/manifest.html#the-badges-section).
+/// How a package is maintained. See the
+/// [Cargo reference](https://doc.rust-lang.org/cargo/reference/manifest.html#the-badges-section).
 #[derive(Clone, Copy, Debug, PartialEq, Eq, Hash)]
 pub enum MaintenanceStatus {
     /// No status is given, and no badge displayed: the default.
@@ -234,7 +237,7 @@ pub enum MaintenanceStatus {
     AsIs,
     /// It is shared, but not meant to serve anyone's particular use.
     Experimental,
-    /// The maintainer would like to hand it over.
+    /// The maintainer is looking for someone to take it over.
     LookingForMaintainer,
     /// The maintainer advises against its use.
     Deprecated,

@@ -94,8 +94,8 @@ pub fn has_workspace(table: &Table) -> bool
     }
 }
 
-/// A table whose `workspace` is the boolean true is read as `Inherited`, whatever else it has; another table is refused with
-/// `WrongKind`, and any other value is read by the type itself.
+/// A table whose `workspace` is the boolean true is read as `Inherited`, whatever else it has; another table is refused
+/// with `WrongKind`, and any other value is read by the type itself.
 impl<T: Plain> Schema for MaybeInherited<T> {
     ghost Content = { Inheritable T.Content };
 
@@ -135,8 +135,8 @@ impl<T: Plain> Schema for MaybeInherited<T> {
     ghost lawful = { inh_lawful T.lawful T.plain };
 }
 
-/// The laws of what may be inherited, for every plain type: a value has at most one reading, and none where it has a fault;
-/// what is written is read back; and no value is both a table that inherits and a value of the type's own.
+/// The laws of what may be inherited, for every plain type: a value has at most one reading, and none where it has a
+/// fault; what is written is read back; and no value is both a table that inherits and a value of the type's own.
 pub fn inherited_is_lawful<T: Plain>()
     ensures one_reading { (d : Data) (x y : Inheritable T.Content) → (inh T.kind).reads d x
         → (inh T.kind).reads d y → x ≡ y }

@@ -37,7 +37,7 @@ pub type DepsSet = BTreeMap<String, Dependency>;
 /// Platforms by name or by `cfg`.
 pub type TargetDepsSet = BTreeMap<String, Target>;
 
-/// What each feature turns on.
+/// What each feature enables.
 pub type FeatureSet = BTreeMap<String, Vec<String>>;
 
 /// Dependencies by the registry that they patch.

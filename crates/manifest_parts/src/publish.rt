@@ -62,7 +62,8 @@ pub enum Publish {
     Registry(Vec<String>),
 }
 
-/// It is read of a boolean or a list of texts. Any other value, and an item that is no text, is refused with `WrongKind`.
+/// It is read of a boolean or a list of texts. Any other value, and an item that is no text, is refused with
+/// `WrongKind`.
 impl Schema for Publish {
     ghost Content = { Contents.Publish };
 

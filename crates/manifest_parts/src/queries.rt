@@ -32,8 +32,8 @@ impl Dependency {
     }
 
     /// A `Detailed` dependency that says a version and nothing else becomes `Simple`; any other stays as it is. See the
-    /// [Cargo reference](https://doc.rust-lang.org/cargo/reference/specifying-dependencies.html): `a = "1"` is short for
-    /// `a = { version = "1" }`.
+    /// [Cargo reference](https://doc.rust-lang.org/cargo/reference/specifying-dependencies.html): `a = "1"` is short
+    /// for `a = { version = "1" }`.
     ///
     /// ```ignore
     /// let dependency = dependency.simplify(); // of `{ workspace = false, version = '1' }`, `Simple` of this version
@@ -48,8 +48,8 @@ impl Dependency {
         }
     }
 
-    /// The version requirement. Where none is said, as of what comes from a folder, a repository or the workspace, it is
-    /// `*`, which any version meets. See the
+    /// The version requirement. Where none is said, as of what comes from a folder, a repository or the workspace, it
+    /// is `*`, which any version meets. See the
     /// [Cargo reference](https://doc.rust-lang.org/cargo/reference/specifying-dependencies.html#wildcard-requirements).
     ///
     /// ```ignore
@@ -131,9 +131,9 @@ impl Dependency {
         }
     }
 
-    /// Whether the dependency comes from crates.io: it is `Simple`, or `Detailed` and names neither a folder, nor another
-    /// registry, nor a repository, nor a part of one. An `Inherited` one is not, since only the workspace says where it
-    /// comes from. See the
+    /// Whether the dependency comes from crates.io: it is `Simple`, or `Detailed` and names neither a folder, nor
+    /// another registry, nor a repository, nor a part of one. An `Inherited` one is not, since only the workspace says
+    /// where it comes from. See the
     /// [Cargo reference](https://doc.rust-lang.org/cargo/reference/specifying-dependencies.html).
     ///
     /// ```ignore
@@ -281,8 +281,8 @@ impl Lint {
         }
     }
 
-    /// The priority of the lint, 0 of a level alone: where lints of one name or group overlap, the higher priority wins.
-    /// See the [Cargo reference](https://doc.rust-lang.org/cargo/reference/manifest.html#the-lints-section).
+    /// The priority of the lint, 0 of a level alone: where lints of one name or group overlap, the higher priority
+    /// wins. See the [Cargo reference](https://doc.rust-lang.org/cargo/reference/manifest.html#the-lints-section).
     ///
     /// ```ignore
     /// let priority = lint.priority(); // of `'deny'`, 0
@@ -312,8 +312,8 @@ impl MaybeInheritedLintsSet {
 }
 
 impl Publish {
-    /// Whether this says whether the package may be published at all: `Flag` of this boolean; a `Registry` with a name in
-    /// it stands for true, one without for false. See the
+    /// Whether this says whether the package may be published at all: `Flag` of this boolean; a `Registry` with a name
+    /// in it stands for true, one without for false. See the
     /// [Cargo reference](https://doc.rust-lang.org/cargo/reference/manifest.html#the-publish-field).
     ///
     /// ```ignore

@@ -28,7 +28,7 @@ pub enum StripSetting {
 }
 
 impl StripSetting {
-    /// The same reading, with the refusal told as a text: `'X' is not a valid value for 'strip'` of another text X, and
+    /// The same reading, with the refusal as a text: `'X' is not a valid value for 'strip'` of another text X, and
     /// `wrong data type for strip setting` of another kind.
     ///
     /// ```ignore
@@ -66,7 +66,8 @@ fn setting_of(alloc: Global, text: &str) -> Result<StripSetting, Error>
     }
 }
 
-/// It is read of a boolean or of one of its texts. Another text is refused with `NotAChoice`, another kind with `WrongKind`.
+/// It is read of a boolean or of one of its texts. Another text is refused with `NotAChoice`, another kind with
+/// `WrongKind`.
 impl Schema for StripSetting {
     ghost Content = { Contents.StripSetting };
 

@@ -1,4 +1,4 @@
--- The choices keep the laws: each word that is written is read back.
+-- The choices satisfy the laws: each word that is written is read back.
 use Rattle.std.proofs.Common.{refl}
 use Rattle.std.proofs.lemmas.Option.{none-some}
 use Rattle.manifest_schema.specs.Contents.{e2015, e2018, e2021, e2024, v1, v2, v3, forbid, deny, warn, allow, no_status, actively_developed, passively_maintained, as_is, experimental, looking_for_maintainer, deprecated, strip_none, strip_debuginfo, strip_symbols}

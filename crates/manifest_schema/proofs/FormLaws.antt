@@ -1,4 +1,4 @@
--- A form keeps the laws, where its rows do and all its spellings differ.
+-- A form satisfies the laws, where its rows do and all its spellings differ.
 use Rattle.std.proofs.Common.{◌≡◌, Bool, true, false, not, ◌||◌, if◌then◌else◌, inl, inr, List, [], ◌∷◌, Option, Some, None, IsTrue, refl, sym, ap, ◌∙◌, true≢false}
 use Rattle.std.proofs.lemmas.Bool.{and_parts, not-true}
 use Rattle.toml.specs.Data.{Data, table, Members, no_members, member, get_member, same_key}

@@ -1,4 +1,4 @@
--- The forms of a package, a workspace and a manifest keep the laws.
+-- The forms of a package, a workspace and a manifest satisfy the laws.
 use Rattle.std.proofs.Common.{refl}
 use Rattle.toml.specs.Data.{Data}
 use Rattle.manifest_schema.specs.Kinds.{Kind}

@@ -1,4 +1,4 @@
--- Each need keeps the laws, where its kind does.
+-- Each need satisfies the laws, where its kind does.
 use Rattle.std.proofs.Common.{◌≡◌, Bool, true, false, ◌⊎◌, inl, inr, Option, Some, None, refl, sym, ap, ◌∙◌}
 use Rattle.toml.specs.Data.{Data}
 use Rattle.manifest_schema.specs.Paths.{Text, Path, Cause}

@@ -1,4 +1,4 @@
--- The forms of the parts of a manifest keep the laws.
+-- The forms of the parts of a manifest satisfy the laws.
 use Rattle.std.proofs.Common.{◌≡◌, true, ◌⊎◌, inl, inr, [], ◌∷◌, Some, None, codes, refl, sym, ap, ◌∙◌}
 use Rattle.toml.specs.Data.{boolean, get_member}
 use Rattle.manifest_schema.specs.Paths.{Text}

@@ -1,4 +1,4 @@
--- What each type of a manifest holds: its fields, with lists of bytes for texts, lists of entries for maps, and trees for kept values.
+-- What each type holds: its fields; lists of bytes for texts, lists of entries for maps, and trees for kept values.
 use Rattle.std.specs.Prelude.{ℤ, Bool, List, Option}
 use Rattle.toml.specs.Data.{Data}
 use Rattle.manifest_schema.specs.Paths.{Text}
@@ -29,7 +29,7 @@ pub data Publish : Type 0 where
   publish_flag : Bool → Publish
   registries : List Text → Publish
 
--- DEPENDENCIES: in a member that the workspace lends them, in detail, or as a version alone
+-- DEPENDENCIES: inherited from the workspace, in detail, or as a version alone
 pub record InheritedDependencyDetail : Type 0 where
   pub features : Option (List Text)
   pub «optional» : Option Bool
@@ -167,7 +167,7 @@ pub record Target : Type 0 where
   pub dev_dependencies : Entries Dependency
   pub build_dependencies : Entries Dependency
 
--- WORKSPACE, and the package fields that it lends
+-- WORKSPACE, and the package fields that can be inherited from it
 pub record WorkspacePackage : Type 0 where
   pub edition : Option Edition
   pub version : Option Text

@@ -1,4 +1,4 @@
--- What the contracts of single steps and the laws of impls cite. The meaning of a table needs none of it: who reads for that may pass over this file.
+-- What the contracts of single steps and the laws of impls cite. It is not needed to read the meaning of a table.
 use Rattle.std.specs.Prelude.{ℕ, suc, [], Option, Some, None, refl}
 use Rattle.std.proofs.Common.{inr}
 use Rattle.toml.specs.Data.{Members}
@@ -19,13 +19,13 @@ abbrev pub first_fit : {A : Type 0} → ℕ → Rows A → Members → A → Typ
 first_fit (suc n) (r ⨾ rs) ms x = r.need.meets (at r.spellings ms) (r.get x) × first_fit n rs ms x
 first_fit _ _ ms x = Unit {0}
 
--- THE KIND THAT READS NOTHING keeps the laws: each value has its fault
+-- THE KIND THAT READS NOTHING satisfies the laws: each value has its fault
 pub nothing_laws : IsLawful nothing
 nothing_laws = record { single = λ d x y a b. absurd a; apart = λ d p c x f a. a; well = λ d x a. a; back = λ x g. absurd g }
 
 pub nothing_told : IsTotal nothing
 nothing_told = record { total = λ d. inr ([], metadata_fault, (refl, refl)) }
 
--- THE KIND THAT LOOKS AT NO VALUE keeps them too: no value has a fault
+-- THE KIND THAT LOOKS AT NO VALUE satisfies them too: no value has a fault
 pub unread_laws : IsLawful unread
 unread_laws = record { single = λ d x y a b. refl; apart = λ d p c x f a. f; well = λ d x a. tt; back = λ x g. tt }

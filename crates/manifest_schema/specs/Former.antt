@@ -1,4 +1,4 @@
--- The former schema, before an inherited dependency could choose its default features, and what is promised of the tables that it wrote.
+-- The schema before an inherited dependency could choose its default features, and what is promised of its tables.
 use Rattle.std.specs.Prelude.{◌≡◌, Bool, true, false, [], ◌∷◌, Option, Some, None, codes}
 use Rattle.toml.specs.Data.{Data, same_key}
 use Rattle.manifest_schema.specs.Paths.{Text}
@@ -97,7 +97,7 @@ pub record ManifestLeavesDefaults (m : Manifest) : Type 0 where
   pub target : OfSome (OfEach PlatformLeavesDefaults) m.target
   pub patch : OfSome (OfEach (OfEach LeavesDefaults)) m.patch
 
--- WHAT IS PROMISED: of such a manifest the former schema wrote what is written now; so what it wrote of a well-formed one is read as that manifest
+-- PROMISED: of such a manifest both schemas write the same; what the former wrote of a well-formed one is read as it
 abbrev pub OldWrittenIsRead : Kind Data → Kind Data → Type 0
 OldWrittenIsRead K W =
     (m : Manifest) → ManifestLeavesDefaults m →

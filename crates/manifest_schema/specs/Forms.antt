@@ -72,7 +72,7 @@ unfit_beside named no_more ms p c = ⊥
 abbrev pub unfit : {A : Type 0} → Rows A → Members → Faults
 unfit rows = unfit_beside (spelled rows) rows
 
--- WHAT IS WRITTEN: each row under its first spelling, beside the map of all other keys
+-- WHAT IS WRITTEN: each row under its first spelling, with the map of all other keys
 abbrev pub written_rows : {A : Type 0} (rows : Rows A) → Fields rows → Members
 written_rows (r ⨾ rs) t = put_some (first r.spellings) (r.need.written t.0) (written_rows rs t.1)
 written_rows (others get K) t = written_entries K t

@@ -92,7 +92,7 @@ abbrev pub reads_list : {A : Type 0} → Kind A → Data → List A → Type 0
 reads_list K (array ds) xs = reads_items K ds xs
 reads_list K _ xs = ⊥
 
--- a fault of an item, behind its index
+-- a fault of an item, with its index before the path
 abbrev pub faulty_item : {A : Type 0} → Kind A → Items → Faults
 faulty_item K ds p c = (i : ℕ) × (d : Data) × (get_item i ds ≡ Some d) × behind (index i) (K.faulty d) p c
 
@@ -129,7 +129,7 @@ abbrev pub has_entry : Text → Data → Members → Type 0
 has_entry k d no_members = ⊥
 has_entry k d (member l e ms) = ((k ≡ l) × (d ≡ e)) ⊎ has_entry k d ms
 
--- a fault of an entry, behind its key
+-- a fault of an entry, with its key before the path
 abbrev pub faulty_entry : {A : Type 0} → Kind A → Members → Faults
 faulty_entry K ms p c = (k : Text) × (d : Data) × has_entry k d ms × behind (key k) (K.faulty d) p c
 

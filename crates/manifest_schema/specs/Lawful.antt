@@ -25,7 +25,7 @@ pub record IsLawfulNeed {C : Type 0} (n : Need C) : Type 0 where
   pub well : (s : Slot) (x : C) → n.meets s x → n.good x
   pub back : (k : Text) (x : C) → n.good x → n.meets (slot k (n.written x)) x
 
--- the rows of a form keep them
+-- the rows of a form satisfy them
 abbrev pub AreLawful : {A : Type 0} → Rows A → Type 0
 AreLawful (r ⨾ rs) = IsLawfulNeed r.need × AreLawful rs
 AreLawful (others get K) = IsLawful K
@@ -58,13 +58,13 @@ pub record IsDefault {B : Type 0} (K : Kind B) (e : B) (skipped : B → Bool) : 
   pub well : K.good e
   pub skips : (x : B) → skipped x ≡ true → x ≡ e
 
--- no table stands for a value of the kind, and each of its contents can be written: what may be inherited asks this of the kind of its own value
+-- no value of the kind is a table, and each content can be written: what may be inherited needs this of its own value
 pub record IsPlain {A : Type 0} (K : Kind A) : Type 0 where
   pub no_table : (ms : Members) (x : A) → K.reads (table ms) x → ⊥
   pub writes_no_table : (ms : Members) (x : A) → K.written x ≡ table ms → ⊥
   pub all_good : (x : A) → K.good x
 
--- the two sides are told apart, by their contents and by what is written of them
+-- the two sides differ, by their contents and by what is written of them
 pub record IsSplit {A B C : Type 0} (test : Data → Bool) (K : Kind A) (M : Kind B) (side : C → A ⊎ B) : Type 0 where
   pub tied : (x y : C) → side x ≡ side y → x ≡ y
   pub first : (x : A) → K.good x → test (K.written x) ≡ true

@@ -1,4 +1,4 @@
--- The forms of a package, a workspace and a manifest, as tables: each row has a field, its spellings, its need and its kind.
+-- The forms of a package, a workspace and a manifest: each row has a field, its spellings, its need and its kind.
 use Rattle.std.specs.Prelude.{[], codes}
 use Rattle.toml.specs.Data.{Data}
 use Rattle.manifest_schema.specs.Slots.{only, also_underscored}

@@ -110,7 +110,7 @@ pub fn old_headers()
     ensures nothing { unmeant kept kept no_members (at_key (codes "name")) missing }
 {}
 
-/// With a `workspace` beside it, `project` is a key that no row has.
+/// With a `workspace` next to it, `project` is a key that no row has.
 #[tactic(auto, unfolding(crate::specs::ManifestForms::workspace_rows, crate::specs::ManifestForms::manifest_rows))]
 pub fn workspace_beside_project()
     ensures { means kept kept
@@ -155,13 +155,13 @@ pub fn only_out_of_range()
     ensures at_limit { NoFault (priority.faulty (integer (negsuc 127))) }
 {}
 
-/// The fault of an item stands behind its index, and the other items have none.
+/// The fault of an item stands under its index, and the other items have none.
 pub fn only_one_item()
     ensures { OnlyFault (texts.faulty (array (two_items (string (codes "x")) (integer (pos 1)))))
         (index 1 ∷ []) wrong_kind }
 {}
 
-/// Without `package` and `workspace` the only fault is that of the package, behind `project` where the table has it.
+/// Without `package` and `workspace` the only fault is that of the package, under `project` where the table has it.
 #[tactic(auto, unfolding(crate::specs::ManifestForms::package_rows, crate::specs::ManifestForms::manifest_rows))]
 pub fn only_an_old_fault()
     ensures project { OnlyFault (unmeant kept kept (one_entry (codes "project") (table no_members)))

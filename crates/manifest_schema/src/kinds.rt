@@ -1,4 +1,4 @@
-//! Kinds and forms that keep the laws, and the laws of what is made of them.
+//! Kinds and forms that satisfy the laws, and the laws of what is made of them.
 
 ghost use Rattle.std.specs.Prelude.{◌≡◌, ℤ, Bool, IsTrue, refl};
 ghost use Rattle.toml.specs.Data.{Data};
@@ -10,7 +10,7 @@ ghost use Rattle.manifest_schema.specs.ForProofs.{nothing_laws, nothing_told};
 
 use std::marker::Brand;
 
-/// A kind that keeps the laws.
+/// A kind that satisfies the laws.
 pub trait LawfulKind {
     ghost Content: { Type 0 };
 
@@ -24,7 +24,7 @@ pub trait TotalKind: LawfulKind {
     ghost total: { IsTotal Self.kind };
 }
 
-/// A form whose rows keep the laws, and whose spellings all differ.
+/// A form whose rows satisfy the laws, and whose spellings all differ.
 pub trait LawfulForm {
     ghost Record: { Type 0 };
 
@@ -72,7 +72,7 @@ impl TotalForm for Brand {
     ghost total = { tt };
 }
 
-/// Texts, booleans, the boolean true, whole numbers and kept values keep the laws.
+/// Texts, booleans, the boolean true, whole numbers and kept values satisfy the laws.
 pub fn simple_kinds_are_lawful()
     ensures text_is { IsLawful text × IsTotal text }
     ensures flag_is { IsLawful flag × IsTotal flag }
@@ -81,7 +81,7 @@ pub fn simple_kinds_are_lawful()
     ensures whole_is { (low high : ℤ) → IsLawful (whole low high) × IsTotal (whole low high) }
 {}
 
-/// What is made of a lawful kind keeps the laws: lists, maps, what may be inherited, and metadata.
+/// What is made of a lawful kind satisfies the laws: lists, maps, what may be inherited, and metadata.
 pub fn made_kinds_are_lawful<K: LawfulKind>()
     ensures list_is { IsLawful (list_of K.kind) }
     ensures map_is { IsLawful (map_of K.kind) }
@@ -97,7 +97,7 @@ pub fn made_kinds_are_total<K: TotalKind>()
     ensures tree_is { IsTotal (tree_of K.kind) }
 {}
 
-/// The needs of a field keep the laws.
+/// The needs of a field satisfy the laws.
 pub fn needs_are_lawful<K: LawfulKind>()
     ensures required_is { IsLawfulNeed (required K.kind) }
     ensures optional_is { IsLawfulNeed (optional K.kind) }
@@ -118,7 +118,7 @@ pub fn needs_are_total<K: TotalKind>()
     ensures lenient_default_is { (e : K.Content) → IsTotalNeed (lenient_default K.kind e) }
 {}
 
-/// A form keeps the laws of a kind.
+/// A form satisfies the laws of a kind.
 #[tactic(auto, using(crate::proofs::FormLaws::form_lawful))]
 pub fn form_is_lawful<F: LawfulForm>()
     ensures { IsLawful (form F.rows) }

@@ -63,8 +63,8 @@ pub fn accepted_or_faulty<P: TotalKind, W: TotalKind>()
     ensures { AcceptedOrFaulty (tree_of P.kind) (tree_of W.kind) }
 {}
 
-/// Where no inherited dependency of a manifest chooses its default features, what is written of the manifest is what was
-/// written before they could; where it is well-formed besides, what was written then is read as it.
+/// Where no inherited dependency of a manifest chooses its default features, what is written of the manifest is what
+/// was written before they could; where it is also well-formed, what was written then is read as it.
 pub fn old_written_is_read<P: LawfulKind, W: LawfulKind>()
     ensures { OldWrittenIsRead (tree_of P.kind) (tree_of W.kind) }
 {}

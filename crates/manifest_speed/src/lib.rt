@@ -72,8 +72,9 @@ fn complete(alloc: Global, bytes: &[u8], names: &[u8]) -> Result<usize, Error> {
     Ok(manifest.bin.len())
 }
 
-/// What [`manifest_speed_complete`] does besides completing: reads bytes as a manifest, and makes listings of a package
-/// whose `src/bin` has the names that stand in a text one a line. Answers how many they are, or 0 where it is refused.
+/// What [`manifest_speed_complete`] does in addition to completing: reads bytes as a manifest, and makes listings of a
+/// package whose `src/bin` has the names that stand in a text one a line. Answers how many they are, or 0 where it is
+/// refused.
 #[unsafe(no_mangle)]
 pub extern "C" fn manifest_speed_prepare(alloc: Global, bytes: &[u8], names: &[u8]) -> usize {
     prepare(alloc, bytes, names).unwrap_or(0)

@@ -11,7 +11,7 @@ pub type Row = (&'static str, Result<&'static str, &'static str>);
 /// The head of a package.
 pub const PACKAGE: &str = "[package]\nname = 'p'\n";
 
-/// What an error tells: the cause and the path of a fault of the schema, else what refused.
+/// What an error says: the cause and the path of a fault of the schema, else what refused.
 pub fn error_text(alloc: Global, error: &Error) -> Result<String, AllocError> {
     match error {
         Error::Parse(ParseFault::Schema(fault)) => {
@@ -110,7 +110,7 @@ pub fn document_answer(alloc: Global, document: &str) -> Result<String, Fail> {
     }
 }
 
-/// The answer that a row expects of a document: the table that is written, behind the head, or how it is reported.
+/// The answer that a row expects of a document: the table that is written, after the head, or the text of its refusal.
 pub fn expected_behind(
     alloc: Global,
     head: &str,
@@ -122,7 +122,7 @@ pub fn expected_behind(
     }
 }
 
-/// Asserts of each row how the document behind the head is answered.
+/// Asserts of each row how the document after the head is answered.
 pub fn assert_documents(
     rt: &impl Abort,
     alloc: Global,
@@ -152,7 +152,8 @@ pub fn assert_values<T: Schema>(rt: &impl Abort, alloc: Global, rows: &[Row]) ->
     Ok(())
 }
 
-/// Asserts that the first of two keys is reported, where a number stands under both and fits neither, behind these entries.
+/// Asserts that the first of two keys is reported, where a number stands under both and fits neither, after these
+/// entries.
 fn assert_told_first<T: Schema>(
     rt: &impl Abort,
     alloc: Global,

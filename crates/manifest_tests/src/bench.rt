@@ -1,6 +1,6 @@
 //! Every row of every form, at each place of the form: each kind of value under each of its spellings, both spellings
-//! together, the row without its key where it is needed, all rows filled, and keys that no row has; and one table in which
-//! all rows of all forms are filled. The answers come from the tables of docs/KEYS.md.
+//! together, the row without its key where it is needed, all rows filled, and keys that no row has; and one table in
+//! which all rows of all forms are filled. The answers come from the tables of docs/KEYS.md.
 
 use crate::answers::{answer_of, assert_is, document_answer, text_of_value, toml_layout};
 use crate::bench_keys;
@@ -181,7 +181,7 @@ fn other_entries(
     Ok(entries)
 }
 
-/// A cause, a key and the rest of the path behind it.
+/// A cause, a key and the rest of the path after it.
 type Refusal<'a> = (&'a str, &'a str, &'a str);
 
 /// What a form's entries are answered with: by the call of the type, or at a place of a document.
@@ -198,7 +198,7 @@ fn answer<T: Schema>(alloc: Global, place: Option<&Place>, entries: &str) -> Res
     }
 }
 
-/// The answer that is due at a place, where these entries are written or this is refused.
+/// The answer that is expected at a place, where these entries are written or this is refused.
 fn expected_at_place(
     alloc: Global,
     place: &Place,
@@ -248,7 +248,7 @@ impl Form<'_> {
         }
     }
 
-    /// Asserts what entries are answered with: what is due where these are written, or this is refused.
+    /// Asserts the answer to entries: what is expected where these are written, or this is refused.
     fn assert_answer<T: Schema>(
         &self,
         rt: &impl Abort,

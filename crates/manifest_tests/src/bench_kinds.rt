@@ -1,7 +1,7 @@
 //! What each kind of docs/KEYS.md reads, and what it refuses.
 use std::alloc::{AllocError, Global};
 
-/// What is written of a value, or the cause with which it is refused and the rest of the path behind the value's own.
+/// What is written of a value, or the cause with which it is refused and the rest of the path after the value's own.
 pub type Answer = Result<&'static str, (&'static str, &'static str)>;
 
 /// A value and its answer.
@@ -26,7 +26,7 @@ pub const VALUES: &[&str] = &[
     "{ a = 'a' }",
 ];
 
-/// What every kind that may be inherited reads besides.
+/// What every kind that may be inherited also reads.
 static LENT: &[Case] = &[
     ("{ workspace = true }", Ok("{ workspace = true }")),
     ("{ workspace = true, x = 0.5 }", Ok("{ workspace = true }")),

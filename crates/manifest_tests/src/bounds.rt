@@ -16,9 +16,9 @@ fn texts_and_their_bounds(rt: HostRuntime) -> Result<(), Fail> {
         ("a = 1979-05-27\nb = false\n", 27),
         // a: 2, 4, 3 and the path 2; b in it: 2, 4, 3 and the path 4
         ("[a.b]\n", 24),
-        // a: 2, 4, 2 for the brackets; its table: 2 beside others, 3, the path 2; b in it: 2, 4, 1
+        // a: 2, 4, 2 for the brackets; its table: 2 next to others, 3, the path 2; b in it: 2, 4, 1
         ("[[a]]\nb = 1\n", 22),
-        // the same, and before it the 1 with 2 beside others
+        // the same, and before it the 1 with 2 next to others
         ("a = [1, { b = 1 }]\n", 25),
     ] {
         let table = toml::table_from_str(alloc, text)?;

@@ -1,4 +1,5 @@
-//! The calls that take memory and that no other test names: faults, rows that are written, and targets that are completed.
+//! The calls that take memory and that no other test names: faults, rows that are written, and targets that are
+//! completed.
 use crate::answers::{answer_of, assert_is, assert_written, error_text, toml_layout, value};
 use crate::folders::listings;
 use cargo_manifest::{

@@ -1,4 +1,4 @@
-//! Values as tagged bytes. The bytes that are due come from the table of docs/LIBRARY.md.
+//! Values as tagged bytes. The bytes that are expected come from the table of docs/LIBRARY.md.
 use crate::answers::value;
 use manifest_bytes::{DecodeError, value_bytes, value_of_bytes};
 use std::alloc::Global;
@@ -18,7 +18,7 @@ const VALUES: &[(&str, &[u8])] = &[
     ("-129", b"\x03\x80\x01"),
     ("false", b"\x04"),
     ("true", b"\x05"),
-    // a date, a time of minutes and one of nanoseconds, and offsets of none, of ahead and of behind
+    // a date, a time of minutes and one of nanoseconds, and no offset, one east and one west of UTC
     ("1979-05-27", b"\x06\x01\x05\x1b\xbb\x0f\x00\x00"),
     ("07:32", b"\x06\x00\x01\x07\x20\x00\x00\x00"),
     (
@@ -79,8 +79,8 @@ fn values_of_bytes(rt: HostRuntime) -> Result<(), Fail> {
     Ok(())
 }
 
-/// Bytes of no value: none, an unknown tag, one byte too many or too few, a text that is not UTF-8, a number in more groups
-/// than it takes or in too many, keys that do not ascend, a part that is neither there nor not.
+/// Bytes of no value: none, an unknown tag, one byte too many or too few, a text that is not UTF-8, a number in more
+/// groups than it takes or in too many, keys that do not ascend, a part that is neither there nor not.
 const NO_VALUES: &[&[u8]] = &[
     b"",
     b"\x00",

@@ -18,7 +18,7 @@ const WRONG_KIND: &str = "wrong kind at (top)";
 
 const OUT_OF_RANGE: &str = "out of range at (top)";
 
-/// Whether a reader accepts, or how it tells its refusal.
+/// Whether a reader accepts, or the text of its refusal.
 fn answer_of_reader<T: Drop>(alloc: Global, read: Result<T, ReadFault>) -> Result<String, Fail> {
     match read {
         Ok(_) => Ok(String::from_str(alloc, ACCEPTED)?),
@@ -34,7 +34,7 @@ enum Reader {
     Texts,
 }
 
-/// What is written of what a reader read, or how it tells its refusal.
+/// What is written of what a reader read, or the text of its refusal.
 fn copied_by<T: Schema>(alloc: Global, read: Result<T, ReadFault>) -> Result<String, Fail> {
     match read {
         Ok(x) => answer_of(alloc, Ok(x)),
@@ -193,7 +193,7 @@ fn lists_and_maps_by_closures(rt: HostRuntime) -> Result<(), Fail> {
     Ok(())
 }
 
-/// What the readers of lists and of maps that were handed a reader have read.
+/// What the readers of lists and of maps read by a reader that is passed in.
 fn assert_levels(rt: &impl Abort, alloc: Global, list: &Value, named: &Value) -> Result<(), Fail> {
     let level = |item: &Value| whole(alloc, item, 0, 3);
     match (list_of(alloc, list, level), map_of(alloc, named, level)) {

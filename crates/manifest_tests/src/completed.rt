@@ -12,8 +12,8 @@ use std::io::ErrorKind;
 use std::process::Abort;
 use std::test::Fail;
 
-/// A document, the folders that are listed, and the answer: the text that is written of the completed manifest, or how it is
-/// told to be refused.
+/// A document, the folders that are listed, and the answer: the text that is written of the completed manifest, or the
+/// text of its refusal.
 type Row = (
     &'static str,
     &'static str,
@@ -33,8 +33,8 @@ pub fn completion<FS: AbstractFilesystem>(
     Ok((answer, manifest.to_toml_string(alloc)?))
 }
 
-/// Completes a manifest twice: its table, or what was reported. A refusal has to leave it as it was, and completing it again has
-/// to answer the same and change nothing.
+/// Completes a manifest twice: its table, or what was reported. A refusal has to leave it as it was, and completing it
+/// again has to answer the same and change nothing.
 fn complete_twice(
     alloc: Global,
     manifest: &mut Manifest<Value, Value>,
@@ -81,7 +81,7 @@ const LIBRARY_AND_MAIN: &[Row] = &[
             "[package]\nname = 'foo-bar'\nedition = '2021'\n[lib]\npath = 'src/lib.rs'\nname = 'foo_bar'\nedition = '2021'\nrequired-features = []\ncrate-type = ['lib']\n[[bin]]\npath = 'src/main.rs'\nname = 'foo-bar'\nedition = '2021'\nrequired-features = []",
         ),
     ),
-    // a library by the legacy rule, by its own name
+    // a library in legacy mode, by its own name
     (
         "[package]\nname = 'foo'\n[lib]",
         "src|foo.rs;.",
@@ -251,7 +251,8 @@ const OTHER_TARGETS: &[Row] = &[
             "[package]\nname = 'p'\nedition = '2021'\nautotests = false\n[[test]]\nname = 't'\npath = 'tests/t.rs'\nedition = '2021'\nrequired-features = []\n[[bench]]\nname = 'b'\npath = 'benches/b/main.rs'\nedition = '2021'\nrequired-features = []",
         ),
     ),
-    // what is declared stays as it is, but for the required features of a library; a find of its name at another path is added
+    // what is declared stays as it is, but for the required features of a library; a find of its name at another path
+    // is added
     (
         "[package]\nname = 'p'\nedition = '2021'\n[lib]\npath = 'l.rs'\nname = 'l'\nedition = '2018'\ncrate-type = ['cdylib']\nrequired-features = ['f']\n[[example]]\npath = 'e.rs'\nname = 'e'\nedition = '2018'\ncrate-type = ['lib']\nrequired-features = ['g']\n[[bench]]\npath = 'benches/b.rs'\nname = 'b'\nedition = '2015'\ncrate-type = ['bin']",
         "src|lib.rs;examples|e.rs;benches|b.rs;.",
@@ -309,7 +310,7 @@ fn listed_targets(rt: HostRuntime) -> Result<(), Fail> {
     assert_completed(&rt, rt.alloc(), REFUSED)
 }
 
-/// The folders of a package whose `src/bin` lists so many files, `f000.rs` and so on.
+/// The folders of a package whose `src/bin` lists a given number of files, `f000.rs` and so on.
 fn folders_of_files(alloc: Global, count: u8) -> Result<String, Fail> {
     let mut folders = String::from_str(alloc, ".;src/bin")?;
     for number in 0..count {
@@ -318,7 +319,7 @@ fn folders_of_files(alloc: Global, count: u8) -> Result<String, Fail> {
     Ok(folders)
 }
 
-/// The package with so many binaries, `f000` and so on.
+/// The package with a given number of binaries, `f000` and so on.
 fn package_of_binaries(alloc: Global, count: u8) -> Result<String, Fail> {
     let mut document = String::from_str(alloc, "[package]\nname = 'p'\nedition = '2021'\n")?;
     for number in 0..count {

@@ -69,7 +69,7 @@ fn copies_of_errors(rt: HostRuntime) -> Result<(), Fail> {
     assert_copied(&rt, rt.alloc(), Ok(Error::Memory(AllocError)), "memory")
 }
 
-/// The fault of the schema that an error tells.
+/// The fault of the schema in an error.
 fn schema_fault(error: &Error) -> Result<&SchemaFault, Fail> {
     match error {
         Error::Parse(ParseFault::Schema(fault)) => Ok(fault),
@@ -80,7 +80,7 @@ fn schema_fault(error: &Error) -> Result<&SchemaFault, Fail> {
 /// A document with a fault at a path of three steps.
 const AUTHORS: &[u8] = b"[package]\nname = 'p'\nauthors = ['a', 1]";
 
-/// What is told of this document.
+/// The error's text for this document.
 const AUTHORS_FAULT: &str = "wrong kind at package.authors[1]";
 
 #[test]
@@ -113,7 +113,8 @@ fn texts_of_errors(rt: HostRuntime) -> Result<(), Fail> {
     Ok(())
 }
 
-/// A text in a list, and then a value that is none: `?` passes on a reader's fault, and lack of memory of every kind.
+/// A text in a list, and then a value that is no text: `?` passes on a reader's fault, and out-of-memory errors of
+/// every type.
 fn list_with_a_fault(alloc: Global, value: &str) -> Result<Vec<String>, Error> {
     let value = Value::string(alloc, value)?;
     let mut texts = Vec::new(alloc);

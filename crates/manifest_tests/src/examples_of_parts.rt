@@ -133,7 +133,7 @@ fn edition_by_its_kind(alloc: Global) -> Result<Edition, Fail> {
     Ok(edition)
 }
 
-/// A text, or the error that tells why a value is none.
+/// A text, or the error that says why a value is no text.
 fn text_of(alloc: Global, value: &Value) -> Result<String, Error> {
     match text(alloc, value) {
         Ok(name) => Ok(name),
@@ -141,7 +141,7 @@ fn text_of(alloc: Global, value: &Value) -> Result<String, Error> {
     }
 }
 
-/// What is told of a value that is no text.
+/// The error's text for a value that is no text.
 fn refusal_text(alloc: Global, value: &Value) -> Result<String, Fail> {
     match text_of(alloc, value) {
         Ok(_) => Err(Fail::from("accepted")),

@@ -1,4 +1,5 @@
-//! The examples of the calls of `manifest_tables`, each as it stands in the call's comment, and their answers.
+//! The examples of the calls of packages, workspaces and profiles, each as it stands in the call's comment, and their
+//! answers.
 use crate::answers::assert_written;
 use cargo_manifest::package::package_from;
 use cargo_manifest::{Package, Profiles, Schema, Workspace, WorkspacePackage};

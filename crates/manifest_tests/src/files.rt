@@ -112,7 +112,7 @@ fn a_library_and_a_binary(rt: HostRuntime) -> Result<(), Fail> {
     assert_found(&rt, folder, got, "the three calls")
 }
 
-/// The names that stand at a path under a folder, each with `|` behind it, or that nothing does.
+/// The names that stand at a path under a folder, each with `|` after it, or that there is nothing.
 fn names_at(rt: HostRuntime, folder: Path<'_>, path: &str) -> Result<String, Fail> {
     match Filesystem::new(&rt, folder).file_names_in(rt.alloc(), path) {
         Ok(names) => {
@@ -169,7 +169,7 @@ fn a_file_in_place_of_a_folder(rt: HostRuntime) -> Result<(), Fail> {
     assert_found(&rt, folder, got, "a whole path")
 }
 
-/// The kind of the fault of a file or folder that an error tells.
+/// The kind of the fault of a file or folder in an error.
 fn io_kind(refused: Option<Error>) -> Result<ErrorKind, Fail> {
     match refused {
         Some(Error::Io(fault)) => Ok(fault.kind()),

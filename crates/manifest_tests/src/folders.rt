@@ -7,8 +7,8 @@ use std::io;
 use std::io::ErrorKind;
 use std::test::Fail;
 
-/// A filesystem of the folders that a text tells, with `;` between them: a path and its names, with `|` before each; or a
-/// path and `!`, which is a fault.
+/// A filesystem of the folders that a text describes, with `;` between them: a path and its names, with `|` before
+/// each; or a path and `!`, which is a fault.
 pub fn listings(alloc: Global, text: &str) -> Result<Listings, Fail> {
     let mut listings = Listings::new(alloc);
     for folder in text.split(';') {
@@ -35,7 +35,7 @@ fn put_names(listings: &mut Listings, alloc: Global, folder: &str) -> Result<(),
 #[derive(Drop)]
 pub struct Recorder<'a> {
     pub listings: &'a Listings,
-    /// The paths that are to be asked, in order, with `;` behind each.
+    /// The paths that are to be asked, in order, with `;` after each.
     pub expected: &'a str,
     /// Which question is refused, from 1 on, and the kind of the fault.
     pub refused: Option<(usize, ErrorKind)>,
@@ -89,7 +89,8 @@ impl AbstractFilesystem for Recorder<'_> {
     }
 }
 
-/// A filesystem that has other folders each time that `src` is asked: the first ones, the second ones, and the first again.
+/// A filesystem that has other folders each time that `src` is asked: the first ones, the second ones, and the first
+/// again.
 #[derive(Drop)]
 pub struct Changing<'a> {
     pub first: &'a Listings,

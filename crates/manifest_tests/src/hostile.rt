@@ -8,7 +8,7 @@ use std::test::Fail;
 
 const DOCUMENT: &str = "[package]\nname = \"foo-bar\"\nedition = \"2021\"\n";
 
-/// The answer to so many bytes of the document.
+/// The answer to the document, cut after this many bytes.
 fn answer_of_front(bytes: usize) -> Result<&'static str, &'static str> {
     match bytes {
         0 => Err("missing at name"),
@@ -19,14 +19,14 @@ fn answer_of_front(bytes: usize) -> Result<&'static str, &'static str> {
     }
 }
 
-/// Asserts how a front of the document is answered.
+/// Asserts how a prefix of the document is answered.
 fn assert_front(rt: &impl Abort, alloc: Global, front: &str) -> Result<(), Fail> {
     let expected = expected_behind(alloc, "", answer_of_front(front.len()))?;
     let got = document_answer(alloc, front);
     assert_is(rt, got, expected.as_str(), front)
 }
 
-/// Every front of a document, cut at each byte.
+/// Every prefix of a document, cut at each byte.
 #[test]
 fn every_front_of_a_document(rt: HostRuntime) -> Result<(), Fail> {
     let alloc = rt.alloc();
@@ -44,7 +44,7 @@ fn every_front_of_a_document(rt: HostRuntime) -> Result<(), Fail> {
 const CHARACTERS: &str =
     "[package]\nname = \"\u{e9}\"\n# \u{2713}\u{1f600}\ndescription = 'na\u{ef}ve \u{2713} \u{1f600}'\n";
 
-/// The answer to so many bytes of it, which end behind a character.
+/// The answer to it, cut after this many bytes, which is after a character.
 fn answer_of_characters(bytes: usize) -> Result<&'static str, &'static str> {
     match bytes {
         0 => Err("missing at name"),
@@ -55,14 +55,14 @@ fn answer_of_characters(bytes: usize) -> Result<&'static str, &'static str> {
     }
 }
 
-/// Asserts how a front of it is answered that ends behind a character.
+/// Asserts how a prefix of it is answered that ends after a character.
 fn assert_characters(rt: &impl Abort, alloc: Global, front: &[u8]) -> Result<(), Fail> {
     let expected = expected_behind(alloc, "", answer_of_characters(front.len()))?;
     let got = Ok(written(alloc, Manifest::from_slice(alloc, front))?);
     assert_is(rt, got, expected.as_str(), "a front")
 }
 
-/// How many of the bytes are whole characters, and how many behind them are none (nothing where they end too early), as
+/// How many of the bytes are whole characters, and how many after them are invalid (none where they end too early), as
 /// bytes that are not UTF-8 are refused; or nothing where they are answered otherwise.
 fn refused_as_utf8(alloc: Global, bytes: &[u8]) -> Option<(usize, Option<usize>)> {
     match Manifest::from_slice(alloc, bytes).err() {
@@ -71,7 +71,7 @@ fn refused_as_utf8(alloc: Global, bytes: &[u8]) -> Option<(usize, Option<usize>)
     }
 }
 
-/// Every front of it by bytes. One that ends within a character is refused at the beginning of the character: a byte
+/// Every prefix of it by bytes. One that ends within a character is refused at the beginning of the character: a byte
 /// from 0x80 to 0xBF goes on with a character, and any other begins one.
 #[test]
 fn every_front_within_a_character(rt: HostRuntime) -> Result<(), Fail> {
@@ -116,8 +116,9 @@ fn bytes_that_are_no_characters(rt: HostRuntime) {
     }
 }
 
-/// What a document has behind the head of a package: what stands before a level, opens it, stands in the last one, and
-/// closes it; and how many levels `toml` reads. It reads keys of 80 parts, and 80 arrays and inline tables in one another.
+/// What a document has after the head of a package: what stands before a level, opens it, stands in the last one, and
+/// closes it; and how many levels `toml` reads. It reads keys of 80 parts, and 80 arrays and inline tables in one
+/// another.
 type Shape = (
     &'static str,
     &'static str,
@@ -138,7 +139,7 @@ const SHAPES: &[Shape] = &[
     ("[x]\na", ".'b'", " = [[]]", "", 79),
 ];
 
-/// Asserts how a document is answered that is nested so deep in this shape, under a key that is not listed.
+/// Asserts how a document is answered that is nested this deep in this shape, under a key that is not listed.
 fn assert_nested(
     rt: &impl Abort,
     alloc: Global,

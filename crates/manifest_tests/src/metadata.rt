@@ -13,7 +13,7 @@ fn answer_with<P: Metadata>(alloc: Global, document: &str) -> Result<String, Fai
     Ok(written(alloc, read)?)
 }
 
-/// Asserts of each row how the document behind the head of a package is answered with metadata of the type.
+/// Asserts of each row how the document after the head of a package is answered with metadata of the type.
 fn assert_metadata<P: Metadata>(rt: &impl Abort, alloc: Global, rows: &[Row]) -> Result<(), Fail> {
     for (rest, answer) in rows {
         let document = format!(in alloc; "{PACKAGE}{rest}")?;

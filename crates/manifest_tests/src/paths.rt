@@ -16,7 +16,7 @@ fn path(alloc: Global, keys: &[&str], index: Option<usize>) -> Result<KeyPath, A
     Ok(KeyPath { steps })
 }
 
-/// The keys of a path, the index behind them, and the text.
+/// The keys of a path, the index after them, and the text.
 const PATHS: &[(&[&str], Option<usize>, &str)] = &[
     (&[], None, "(top)"),
     (&["a b", ""], Some(0), "\"a b\".\"\"[0]"),

@@ -40,8 +40,8 @@ fn a_date_that_toml_cannot_write(rt: HostRuntime) -> Result<(), Fail> {
     Ok(())
 }
 
-/// A document whose value is nested so deep behind this beginning: what opens a level, what stands in the last one, and
-/// what closes a level.
+/// A document whose value is nested this deep after this beginning: what opens a level, what stands in the last one,
+/// and what closes a level.
 pub fn nested_document(
     alloc: Global,
     head: &str,

@@ -1,4 +1,4 @@
-//! What is asked of dependencies, lints, packages and of what the workspace may lend.
+//! What is asked of dependencies, lints, packages and of what may be inherited from the workspace.
 use crate::answers::{answer_of, assert_is, error_text, expected_answer, value};
 use cargo_manifest::{
     Dependency, Edition, Lint, LintLevel, MaybeInherited, MaybeInheritedLintsSet, Package, Publish,

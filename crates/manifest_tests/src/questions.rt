@@ -9,8 +9,8 @@ use std::io::ErrorKind;
 use std::process::Abort;
 use std::test::Fail;
 
-/// A document, the folders that are listed, the question that is refused and with which kind of fault, the paths that are
-/// asked, and the answer: the text that is written of the completed manifest, or the text of its refusal.
+/// A document, the folders that are listed, the question that is refused and with which kind of fault, the paths that
+/// are asked, and the answer: the text that is written of the completed manifest, or the text of its refusal.
 type Row = (
     &'static str,
     &'static str,

@@ -11,12 +11,12 @@ use std::test::Fail;
 const LENT: &str =
     "[workspace]\npackage = { version = '2.0.0', edition = '2021' }\nlints = { rust = { q = 'deny' } }\n[workspace.dependencies]\na = '1'\nb = { version = '1', features = ['x', 'y'], default-features = false }\nc = { version = '1', optional = true }\nd = { workspace = true }\ne = { version = '1', features = ['x', 'x'] }\n'a b' = { git = 'https://example.com/a', package = 'a' }";
 
-/// A workspace that lends all fields.
+/// A workspace from which all fields can be inherited.
 const ALL_FIELDS: &str =
     "[workspace.package]\nedition = '2018'\nversion = '1.2.3'\nauthors = ['a']\ndescription = 'b'\nhomepage = 'c'\ndocumentation = 'd'\nreadme = false\nkeywords = ['e', 'f']\ncategories = []\nlicense = 'g'\nlicense-file = 'h'\nrepository = 'i'\nrust-version = '1.70'\nexclude = ['j']\ninclude = ['k']\npublish = ['l']";
 
-/// The text of a workspace; what stands in its member behind the head of a package; and the answer: what is written of the
-/// resolved manifest behind the head, or the text of its refusal.
+/// The text of a workspace; what stands in its member after the head of a package; and the answer: what is written of
+/// the resolved manifest after the head, or the text of its refusal.
 type Row = (
     &'static str,
     &'static str,
@@ -58,8 +58,8 @@ fn resolve_and_complete(
     Ok(manifest.to_toml_string(alloc)?)
 }
 
-/// Resolves a manifest twice: its table, or what was reported. A refusal has to leave it as it was; resolving it again has to
-/// answer the same and change nothing; and so has resolving and completing it again, once it is completed.
+/// Resolves a manifest twice: its table, or what was reported. A refusal has to leave it as it was; resolving it again
+/// has to answer the same and change nothing; and so has resolving and completing it again, once it is completed.
 fn resolve_twice(
     alloc: Global,
     manifest: &mut Manifest<Value, Value>,
@@ -237,7 +237,8 @@ fn members_of_a_workspace(rt: HostRuntime) -> Result<(), Fail> {
     assert_resolved(&rt, rt.alloc(), MEMBERS)
 }
 
-/// Resolves and completes the manifest of a member over the workspace of a document: the text that is then written of it.
+/// Resolves and completes the manifest of a member over the workspace of a document: the text that is then written of
+/// it.
 fn complete_over_root(
     alloc: Global,
     manifest: &mut Manifest<Value, Value>,
@@ -253,7 +254,7 @@ fn complete_over_root(
     answer
 }
 
-/// The binary of a package whose edition is that of a workspace of 2015: it is found by the legacy rule.
+/// The binary of a package whose edition is that of a workspace of 2015: it is found in legacy mode.
 fn completed_in_the_old_way(alloc: Global) -> Result<String, Fail> {
     let listings = listings(alloc, "src|main.rs;.")?;
     let mut manifest = Manifest::from_str(

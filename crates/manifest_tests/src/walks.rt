@@ -18,7 +18,7 @@ static ROWS: [Spellings; 3] = spelled!["a-b" | "a_b", "c", "d"];
 /// A table that has both spellings of the first row, the second row, and a key that no row has.
 const ENTRIES: &str = "a-b = 1\na_b = 2\nz = 3\nc = 4";
 
-/// What stands in the slots of rows, in their order, and whether it is borrowed or taken.
+/// What stands in the slots of rows, in their order, and whether it is borrowed or owned.
 fn slots_text(alloc: Global, slots: &[RowSlot<'_>]) -> Result<String, Fail> {
     let mut text = String::new(alloc);
     for slot in slots {

@@ -19,7 +19,7 @@ fault_behind P s (Memory e) (Schema g) h k = absurd k
 fault_behind P s (Schema f) (Memory e) h k = tt
 fault_behind P s (Schema f) (Schema g) h k = (path_of f.path, k.0, rw k.1 h)
 
--- lack of memory stands for any fault
+-- out of memory stands for any fault
 pub memory_behind : (s : Step) (f : ReadFault) (e : AllocError) → IsBehind s f (Memory e)
 memory_behind s (Schema f) e = tt
 memory_behind s (Memory e') e = tt

@@ -63,7 +63,7 @@ same_texts R [] (g ∷ gs) h = absurd h
 same_texts R (e ∷ es) [] h = absurd h
 same_texts R (e ∷ es) (g ∷ gs) h = rw (h.0.0, same_texts R es gs h.1)
 
--- one more result, beside its key
+-- one more result, with its key
 pub entries_given-last : {X Y E : Type 0} (R : X → Result Y E → Type 0) (done : List (String Global × X)) (e : String Global × X) (left : List (String Global × X)) (gs : List (String Global × Y)) (name : String Global) (y : Y)
     → IsStrictlySortedBy string_cmp (keys_of (done ++ e ∷ left)) → EntriesGiven R done gs → string_bytes name ≡ string_bytes e.0 → R e.1 (Ok y)
     → EntriesGiven R (done ++ e ∷ []) (insert_entry string_cmp gs name y)

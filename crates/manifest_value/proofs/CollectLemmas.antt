@@ -1,5 +1,5 @@
--- A map that is collected from entries whose keys ascend holds these entries. It is shown on lists: a map is known by what is
--- found in it, and two lists of entries whose keys ascend, in which the same is found, hold the same.
+-- A map that is collected from entries whose keys ascend holds these entries. This is shown on lists: a map is known by
+-- what is found in it, and two lists of entries whose keys ascend, in which the same is found, hold the same.
 use Rattle.std.proofs.Common.{◌≡◌, true, List, [], ◌∷◌, map, Option, Some, None, Ordering, Less, Equal, Greater, String, Global, string_bytes, refl, sym, ap, ◌∙◌, true≢false}
 use Rattle.std.proofs.lemmas.Bool.{cases_Bool}
 use Rattle.std.proofs.lemmas.Cmp.{tied_itself}

@@ -34,7 +34,7 @@ items_more K f ds [] x d rest h r = rw h (r, refl)
 items_more K f no_items (y ∷ xs) x d rest h r = absurd h
 items_more K f (item c ds) (y ∷ xs) x d rest h r = (h.0, items_more K f ds xs x d rest h.1 r)
 
--- the next of those that are left stands behind those that are read
+-- the next of those that are left stands after those that are read
 pub next_item : {A X : Type 0} (K : Kind A) (f : X → A) (ds : Items) (xs : List X) (d : Data) (rest : Items) → reads_first_items K ds (map f xs) (item d rest) → get_item (length xs) ds ≡ Some d
 next_item K f ds [] d rest h = rw h refl
 next_item K f no_items (y ∷ xs) d rest h = absurd h

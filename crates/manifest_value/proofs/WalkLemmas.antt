@@ -53,7 +53,7 @@ among_neither k l key h g = rw (is_eq-slice_cmp k key, h, is_eq-slice_cmp l key,
 pub among_none : (k key : Text) → bytes_eq k key ≡ false → is_among (k ∷ []) key ≡ false
 among_none k key h = rw (is_eq-slice_cmp k key, h) refl
 
--- the spellings of a row beside other keys
+-- the spellings of a row among other keys
 pub among_spell : (s : Spellings) (ks : List Text) (k : Text) → is_among (spell s ks) k ≡ (is_among (spell s []) k || is_among ks k)
 among_spell (only l) ks k = by_case (same_key l k)
   where
@@ -75,7 +75,7 @@ or_later : (a b : Bool) → b ≡ true → (a || b) ≡ true
 or_later true b h = refl
 or_later false b h = h
 
--- a spelling of a row is none of the keys from which the row differs
+-- a spelling of a row is not among the keys from which the row differs
 pub apart : (s : Spellings) (ks : List Text) (k : Text) → differ s ks ≡ true → is_among (spell s []) k ≡ true → is_among ks k ≡ false
 apart (only l) ks k h g = subst (λ x. is_among ks x ≡ false) (same_key-true l k (or_nil (same_key l k) g)) (not-true (is_among ks l) h)
   where
@@ -165,7 +165,7 @@ at_none : (s : Spellings) → absent ≡ at s no_members
 at_none (only k) = refl
 at_none (both k l) = refl
 
--- so many slots of one kind, as those in which nothing is found yet
+-- a number of slots of one kind, as those in which nothing is found yet
 abbrev pub blanks : {X : Type 0} → X → ℕ → List X
 blanks x zero = []
 blanks x (suc n) = x ∷ blanks x n
@@ -210,7 +210,7 @@ filled_at-set f i [] x d0 k d h g = absurd (omega (arith, g))
 filled_at-set f zero (y ∷ xs) x d0 k d h g = rw h refl
 filled_at-set f (suc i) (y ∷ xs) x d0 k d h g = ap (λ t. f y ∷ t) (filled_at-set f i xs x d0 k d h (omega (arith, g)))
 
--- what is left behind a place does not turn on what stands there
+-- what is left after a place does not depend on what stands there
 pub drop-set : {X : Type 0} (i : ℕ) (xs : List X) (x : X) → drop (suc i) (slice_set xs i x) ≡ drop (suc i) xs
 drop-set i [] x = refl
 drop-set zero (y ∷ xs) x = refl

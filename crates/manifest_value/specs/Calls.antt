@@ -18,7 +18,7 @@ use Rattle.manifest_value.specs.declared.fault.ReadFault.TheVariants.{Schema}
 abbrev pub ItemsGiven : {X Y E : Type 0} → (X → Result Y E → Type 0) → List X → List Y → Type 0
 ItemsGiven R xs ys = AllZip (λ x y. R x (Ok y)) xs ys
 
--- the same for the values of some entries, beside their keys
+-- the same for the values of some entries, with their keys
 abbrev pub EntriesGiven : {X Y E : Type 0} → (X → Result Y E → Type 0) → List (String Global × X) → List (String Global × Y) → Type 0
 EntriesGiven R es gs = AllZip (λ e g. (string_bytes g.0 ≡ string_bytes e.0) × R e.1 (Ok g.1)) es gs
 
@@ -45,7 +45,7 @@ pub record ListGiven {T : Type 0} (R : Reads T) (v : Value) (xs : List T) : Type
   pub is : v ≡ Array list
   pub given : ItemsGiven R list.items xs
 
--- the reader refuses an item and gives answers at those before it: the fault is reported behind the item's index
+-- the reader refuses an item, and reads those before it: the fault has the item's index before its path
 pub record ItemRefused {T : Type 0} (R : Reads T) (vs : List Value) (p : Path) (c : Cause) : Type 0 where
   pub before : List Value
   pub item : Value
@@ -70,7 +70,7 @@ pub record MapGiven {T : Type 0} (R : Reads T) (v : Value) (gs : List (String Gl
   pub is : v ≡ Table table
   pub given : EntriesGiven R table.entries gs
 
--- the reader refuses the value of an entry and gives answers at those before it: the fault is reported behind the key
+-- the reader refuses the value of an entry, and reads those before it: the fault has the key before its path
 pub record EntryRefused {T : Type 0} (R : Reads T) (es : List (String Global × Value)) (p : Path) (c : Cause) : Type 0 where
   pub before : List (String Global × Value)
   pub entry : String Global × Value

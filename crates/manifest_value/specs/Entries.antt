@@ -1,4 +1,4 @@
--- The entries of a map, by what their keys and values hold, and what is read of the first entries of a table and of the first items of a list.
+-- The entries of a map by what they hold, and what is read of the first entries of a table and first items of a list.
 use Rattle.std.specs.Prelude.{◌≡◌, List, [], ◌∷◌, map, String, string_bytes}
 use Rattle.std.specs.declared.alloc.Global.{Global}
 use Rattle.toml.specs.Data.{Items, no_items, item, Members, no_members, member}

@@ -32,7 +32,7 @@ cause_of Metadata = metadata_fault
 abbrev pub IsOneOf : Faults → SchemaFault → Type 0
 IsOneOf F f = F (path_of f.path) (cause_of f.cause)
 
--- the fault, where it is one of the schema and not lack of memory, is one of these
+-- the fault, where it is one of the schema and not out of memory, is one of these
 abbrev pub FaultIn : Faults → ReadFault → Type 0
 FaultIn F (Schema f) = IsOneOf F f
 FaultIn F (Memory e) = Unit {0}

@@ -9,13 +9,13 @@ use Rattle.manifest_value.specs.declared.error.Error.{Error}
 use Rattle.manifest_value.specs.declared.error.Error.TheVariants.{Parse, Io, Utf8, Other, Memory}
 use Rattle.manifest_value.specs.declared.error.ParseFault.TheVariants.{Toml, Schema}
 
--- the error tells one of these faults of the schema, or out of memory
+-- the error is one of these faults of the schema, or out of memory
 abbrev pub RefusedIn : Faults → Error → Type 0
 RefusedIn F (Parse (Schema f)) = IsOneOf F f
 RefusedIn F (Memory e) = Unit {0}
 RefusedIn F _ = ⊥
 
--- the error tells a fault of the schema
+-- the error is a fault of the schema
 abbrev pub TellsSchema : Error → Type 0
 TellsSchema (Parse (Schema f)) = Unit {0}
 TellsSchema _ = ⊥
@@ -25,7 +25,7 @@ abbrev pub IsOutOfMemory : Error → Type 0
 IsOutOfMemory (Memory e) = Unit {0}
 IsOutOfMemory _ = ⊥
 
--- the error that tells what a reader refuses with
+-- the error of a reader's refusal
 abbrev pub IsRefusal : ReadFault → Error → Type 0
 IsRefusal (read.Schema f) e = e ≡ Parse (Schema f)
 IsRefusal (read.Memory m) e = e ≡ Memory m

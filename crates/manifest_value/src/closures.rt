@@ -73,7 +73,7 @@ fn items_of<T: Drop, F: Fn(&Value) -> Result<T, ReadFault>>(
 /// The reader has to be callable on each item, which asks nothing where the list is empty or the value is no list.
 ///
 /// A value that is no list is refused at itself with `WrongKind`. Else the reader's fault at the first item that it
-/// refuses is reported, with the item's index before its path. An answer that runs out of memory is refused as such.
+/// refuses is reported, with the item's index before its path. Running out of memory for an answer is a fault `Memory`.
 ///
 /// ```ignore
 /// let levels = list_of(alloc, &value, |item| whole(alloc, item, 0, 3))?; // of `[1, 3]` the numbers 1 and 3
@@ -139,8 +139,8 @@ fn entries_of<T: Drop, F: Fn(&Value) -> Result<T, ReadFault>>(
 /// is no table.
 ///
 /// A value that is no table is refused at itself with `WrongKind`. Else the reader's fault at the first entry whose
-/// value it refuses is reported, with the entry's key before its path. A key or an answer that runs out of memory is want of
-/// memory.
+/// value it refuses is reported, with the entry's key before its path. Running out of memory for a key or an answer is
+/// a fault `Memory`.
 ///
 /// ```ignore
 /// let features = map_of(alloc, &value, |item| texts(alloc, item))?; // of `{ default = ["std"] }` one entry

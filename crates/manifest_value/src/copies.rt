@@ -14,7 +14,7 @@ use toml::Value;
 
 /// A type whose copies by `clone` hold what they are copied from.
 ///
-/// A copy is refused as out of memory alone.
+/// A copy fails only when out of memory.
 pub trait Copied: Clone {
     /// What a value holds. Of a type with a [`Schema`](crate::Schema) it is the content.
     ghost Held: { Type 0 };

@@ -1,4 +1,4 @@
-//! The entries of a table that is read, one after the other, whether it is borrowed or taken apart.
+//! The entries of a table that is read, one after the other, whether it is borrowed or owned.
 
 ghost use Rattle.std.specs.Prelude.{◌≡◌, IfOk, string_bytes};
 ghost use Rattle.std.specs.Iterator.{at_most};
@@ -13,9 +13,9 @@ use toml::Value;
 /// A key of a table that is read.
 #[derive(Drop)]
 pub enum Key<'t> {
-    /// The table stays where it is: the key is copied where it is kept.
+    /// The table is borrowed: the key is copied where a text of its own is made of it.
     Lent(&'t str),
-    /// The table is wanted by nobody else: the key is moved.
+    /// The table is owned: the key is moved.
     Taken(String),
 }
 
@@ -31,7 +31,7 @@ impl Key<'_> {
         }
     }
 
-    /// The key as a text of its own. It fails where the copy of a lent one runs out of memory, and only there.
+    /// The key as a text of its own. It fails where there is no memory for the copy of a borrowed one, and only there.
     ///
     /// ```ignore
     /// let name = Key::Lent("serde").into_string(alloc)?; // "serde"
@@ -55,7 +55,7 @@ pub type Entry<'t> = (Key<'t>, Source<'t>);
 pub(crate) enum Entries<'t> {
     /// All entries of a table that stays where it is.
     Lent(Iter<'t, String, Value>),
-    /// All entries of a table that is taken apart.
+    /// All entries of an owned table.
     Taken(IntoIter<String, Value, Global>),
     /// Those that a walk left over.
     Rest(vec::IntoIter<Entry<'t>, Global>),

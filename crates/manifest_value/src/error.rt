@@ -13,7 +13,7 @@ use thiserror::Error;
 /// Why a text is no manifest.
 #[derive(Debug, Drop, Error)]
 pub enum ParseFault {
-    /// `toml` refuses the text, or ran out of memory in it.
+    /// `toml` refuses the text, or ran out of memory while parsing it.
     #[error("toml: {0}")]
     Toml(Rc<toml::de::Error>),
     /// The text is a document, and the cause stands in its table at the path.
@@ -68,7 +68,7 @@ impl Error {
     }
 }
 
-/// The error that tells a reader's fault.
+/// The error of a reader's fault.
 ///
 /// ```ignore
 /// match text(alloc, value) {

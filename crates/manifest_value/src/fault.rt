@@ -28,7 +28,7 @@ pub enum Cause {
     Missing,
     /// A table has a key by both of its spellings.
     TwoSpellings,
-    /// The text is none of the choice.
+    /// The text is not one of the choice.
     NotAChoice,
     /// The whole number is out of range.
     OutOfRange,
@@ -73,7 +73,7 @@ impl KeyPath {
 }
 
 impl SchemaFault {
-    /// The same cause at the same path, in memory of its own, or `AllocError` where that runs out of memory.
+    /// The same cause at the same path, in memory of its own, or `AllocError` where there is no memory for it.
     ///
     /// ```ignore
     /// let copy = fault.clone(alloc)?; // the same path, the same cause
@@ -130,7 +130,8 @@ pub fn fault_here(alloc: Global, cause: Cause) -> ReadFault
     })
 }
 
-/// The fault as it is seen one step further out, or out of memory where the step runs out of memory.
+/// The fault with the step before its path, as it is seen one level further out. Where there is no memory for the step,
+/// the fault is `Memory`.
 ///
 /// ```ignore
 /// let fault = fault_behind_step(Step::Index(2), fault_here(alloc, Cause::WrongKind)); // reported as `wrong kind at [2]`
@@ -148,8 +149,8 @@ pub fn fault_behind_step(step: Step, fault: ReadFault) -> ReadFault
     }
 }
 
-/// The fault as it is seen from the table that has the value at the key, or out of memory where the step finds no
-/// room.
+/// The fault with the key before its path, as it is seen from the table that has the value at the key. Where there is
+/// no memory for the step, the fault is `Memory`.
 ///
 /// ```ignore
 /// let fault = fault_under_key(alloc, "name", fault_here(alloc, Cause::WrongKind)); // reported as `wrong kind at name`

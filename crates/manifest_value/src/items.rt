@@ -1,4 +1,4 @@
-//! The items of a list that is read, one after the other, whether it is borrowed or taken apart.
+//! The items of a list that is read, one after the other, whether it is borrowed or owned.
 
 ghost use Rattle.std.specs.Prelude.{map, IfOk, IfErr};
 ghost use Rattle.std.specs.Iterator.{YieldsFirstBy, item_count};
@@ -21,7 +21,7 @@ use toml::Value;
 pub(crate) enum Items<'t> {
     /// Those of a list that stays where it is.
     Lent(slice::Iter<'t, Value>),
-    /// Those of a list that is taken apart: each value is gone once it is read.
+    /// Those of an owned list: each value is gone once it is read.
     Taken(vec::IntoIter<Value, Global>),
 }
 

@@ -103,7 +103,7 @@ fn refuse_float_in_members(alloc: Global, members: &Table) -> Result<(), ReadFau
 ///
 /// Refuses a value in which a float stands, by the path from the value to the first float that is met, items by
 /// their indexes and entries in the order of their keys: in `{ a = [1, 2.5], b = 0.5 }` that is `a[1]`. Refuses with
-/// lack of memory where the copy or the path runs out of memory.
+/// `Memory` where there is no memory for the copy or the path.
 ///
 /// ```ignore
 /// let level = kept(alloc, &value)?; // of `3` the same 3; of `{ a = [1, 2.5] }` a refusal at `a[1]`

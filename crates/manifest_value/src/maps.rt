@@ -91,8 +91,8 @@ fn read_map<T: Schema>(
     Ok(map_of_list(alloc, all)?)
 }
 
-/// The map of entries whose keys ascend, each value of one kind. The fault of the first entry that does not fit is reported,
-/// with its key before the path. A key, an answer or the map that runs out of memory is refused as such.
+/// The map of entries whose keys ascend, each value of one kind. The fault of the first entry that does not fit is
+/// reported, with its key before the path. Running out of memory for a key, an answer or the map is a fault `Memory`.
 ///
 /// ```ignore
 /// let rest = walk(alloc, table, &spelled!["release", "dev"])?.rest;

@@ -17,7 +17,7 @@ use std::alloc::{AllocError, Global};
 use toml::{Table, Value};
 
 /// A type whose well-formed values are written without floats. Whether a value is well-formed is shown by the tree that
-/// is written of it: no two values with one tree are told apart.
+/// is written of it: two values with the same tree are both well-formed, or neither is.
 pub trait Metadata: Schema {
     ghost without_floats: { (x : Self.Content) → Self.kind.good x
         → IsTrue (plain (Self.kind.written x)) };
@@ -84,8 +84,8 @@ impl Metadata for Value {
     ghost good_by_tree = { λ x y g e. subst (λ d. IsTrue (plain d)) e g };
 }
 
-/// Metadata that is not looked at: every value is read, and the empty table is written. It is for a program that wants
-/// the rest of a manifest, whatever its metadata holds, a float too.
+/// Metadata that is not looked at: every value is read, and the empty table is written. It is for a program that needs
+/// only the rest of a manifest, whatever its metadata holds, even a float.
 ///
 /// ```ignore
 /// let manifest = Manifest::<Unread>::from_slice_with_metadata(alloc, bytes)?;

@@ -42,11 +42,11 @@ impl fmt::Display for Cause {
 }
 
 impl KeyPath {
-    /// The path as a text, or `AllocError` where it runs out of memory.
+    /// The path as a text, or `AllocError` where there is no memory for it.
     ///
-    /// Keys stand behind dots and indexes in brackets, as in `package.authors[0]`, and the path without steps is
-    /// `(top)`. A key of the bytes `A` to `Z`, `a` to `z`, `0` to `9`, `_` and `-` stands as it is, as TOML's bare
-    /// keys do. Each other key, the empty one among them, stands between quotes, as in `target."cfg(unix)"`, with a
+    /// Keys stand after dots and indexes in brackets, as in `package.authors[0]`, and the path without steps is
+    /// `(top)`. A key of the bytes `A` to `Z`, `a` to `z`, `0` to `9`, `_` and `-` stands as it is, as TOML's bare keys
+    /// do. Each other key, the empty one among them, stands between quotes, as in `target."cfg(unix)"`, with a
     /// backslash before each quote and each backslash, and with `\u` and four hexadecimal digits for a control
     /// character.
     ///

@@ -25,8 +25,8 @@ impl Plain for Vec<String> {
     ghost plain = { texts_plain };
 }
 
-/// The five laws of a plain type: a value has at most one reading, and none where it has a fault; what is written of a value
-/// of the type is read back as it; and a table is neither read nor written.
+/// The five laws of a plain type: a value has at most one reading, and none where it has a fault; what is written of a
+/// value of the type is read back as it; and a table is neither read nor written.
 pub fn plain_is_lawful<T: Plain>()
     ensures one_reading { (d : Data) (x y : T.Content) → T.kind.reads d x → T.kind.reads d y
         → x ≡ y }

@@ -20,7 +20,8 @@ use toml::{Table, Value};
 
 /// Reads a text: a copy of the value's bytes.
 ///
-/// A value that is no text is refused at itself with `WrongKind`. A copy that runs out of memory is refused as such.
+/// A value that is no text is refused at itself with `WrongKind`. Running out of memory for the copy is a fault
+/// `Memory`.
 ///
 /// ```ignore
 /// let value = Value::string(alloc, "serde")?;
@@ -86,7 +87,7 @@ pub fn whole(alloc: Global, value: &Value, low: i64, high: i64) -> Result<i64, R
 /// Reads a list of texts: a copy of each, in order.
 ///
 /// A value that is no list is refused at itself with `WrongKind`, and an item that is no text with `WrongKind` at its
-/// index. A copy that runs out of memory is refused as such.
+/// index. Running out of memory for the copy is a fault `Memory`.
 ///
 /// ```ignore
 /// let members = texts(alloc, &value)?; // of `["a", "b"]` the texts "a" and "b"
@@ -134,8 +135,8 @@ pub fn find<'a>(table: &'a Table, key: &str) -> Option<&'a Value>
 /// Finds the value of a field that has one spelling or two: `None` where the table has neither, and else the value
 /// under the spelling that it has, not a copy.
 ///
-/// A table that has both spellings is refused under the first one with `TwoSpellings`, or as out of memory where
-/// the key runs out of memory in the path. Nothing else is refused.
+/// A table that has both spellings is refused under the first one with `TwoSpellings`, or with `Memory` where there is
+/// no memory for the key in the path. Nothing else is refused.
 ///
 /// ```ignore
 /// let kinds = field(alloc, library, "crate-type", Some("crate_type"))?;

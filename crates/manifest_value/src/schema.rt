@@ -31,11 +31,11 @@ pub trait Schema: Sized + Drop {
 
     ghost kind: { Kind Content };
 
-    /// Whether reading takes no memory, so that it is never refused as out of memory.
+    /// Whether reading takes no memory, so that it never fails as out of memory.
     ghost takes_no_memory: { Type 0 } = { ⊥ };
 
-    /// The one reading of the value, or a fault that it has, or out of memory. What a value that nobody else wants holds
-    /// is moved where the type can, and copied else.
+    /// The one reading of the value, or a fault that it has, or `Memory`. What an owned value holds is moved where the
+    /// type can do so, and else copied.
     fn read(alloc: Global, source: Source<'_>) -> Result<Self, ReadFault>
         ensures ok { IfOk result (Reads kind content (source_view source.entry)) }
         ensures fault { IfErr result (FaultIn (kind.faulty (source_view source.entry))) }
@@ -43,8 +43,8 @@ pub trait Schema: Sized + Drop {
 
     /// The one reading of the value.
     ///
-    /// Refuses with `Error::Parse(ParseFault::Schema(..))` of a cause that the value has and its key path in the value, and
-    /// for lack of memory with [`Error::Memory`].
+    /// Refuses with `Error::Parse(ParseFault::Schema(..))` of a cause that the value has and its key path in the value,
+    /// and when out of memory with [`Error::Memory`].
     ///
     /// ```ignore
     /// let value = Value::from_str(alloc, "'2021'")?;

@@ -1,4 +1,4 @@
-//! What is read: a value or a table that stays where it is, or one that is taken apart.
+//! What is read: a value or a table, borrowed or owned.
 
 ghost use Rattle.std.specs.Prelude.{◌≡◌, IfOk, IfErr};
 ghost use Rattle.toml.specs.View.{view};
@@ -17,18 +17,18 @@ use toml::{Table, Value};
 /// A value that is read.
 #[derive(Drop)]
 pub enum Source<'t> {
-    /// It stays where it is: what it holds is copied.
+    /// It is borrowed: what it holds is copied.
     Lent(&'t Value),
-    /// It is wanted by nobody else: what it holds is moved.
+    /// It is owned: what it holds is moved.
     Taken(Value),
 }
 
 /// A table that is read.
 #[derive(Drop)]
 pub enum TableSource<'t> {
-    /// It stays where it is: what its values hold is copied.
+    /// It is borrowed: what its values hold is copied.
     Lent(&'t Table),
-    /// It is wanted by nobody else: what its keys and values hold is moved.
+    /// It is owned: what its keys and values hold is moved.
     Taken(Table),
 }
 
@@ -46,7 +46,7 @@ impl<'t> Source<'t> {
 
     /// The table that the value is.
     ///
-    /// A value that is no table is refused at itself with `WrongKind`, and a taken one is dropped.
+    /// A value that is no table is refused at itself with `WrongKind`, and an owned one is dropped.
     ///
     /// ```ignore
     /// let table = Source::Lent(&value).into_table(alloc)?;

@@ -79,11 +79,11 @@ fn fill_slot<'t>(slots: &mut Vec<RowSlot<'t>>, i: usize, spelling: &'static str,
     slots[i] = slot_with_value(&slots[i], spelling, value);
 }
 
-/// Walks once over a table: what it holds under the spellings of each row, and all other keys. Nothing of a table that is
-/// lent is copied, what one that is taken holds is moved, and the values are not looked at.
+/// Walks once over a table: what it holds under the spellings of each row, and all other keys. Nothing of a borrowed
+/// table is copied, what an owned one holds is moved, and the values are not looked at.
 ///
-/// All spellings of the rows have to differ, which asks nothing where there is no row. It fails where the slots or the
-/// list of the other keys run out of memory, and only there.
+/// All spellings of the rows have to differ, which asks nothing where there is no row. It fails where there is no
+/// memory for the slots or the list of the other keys, and only there.
 ///
 /// ```ignore
 /// let rows = spelled!["name", "proc-macro" | "proc_macro"];

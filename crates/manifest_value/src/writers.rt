@@ -16,7 +16,7 @@ use toml::{Table, Value};
 
 /// Writes a text: a string of the same bytes.
 ///
-/// It fails where the copy runs out of memory, and only there.
+/// It fails where there is no memory for the copy, and only there.
 ///
 /// ```ignore
 /// let name = write_text(alloc, "serde")?;
@@ -29,7 +29,7 @@ pub fn write_text(alloc: Global, text: &str) -> Result<Value, AllocError>
 
 /// Writes a list of texts, in order.
 ///
-/// It fails where the list or a copy runs out of memory, and only there.
+/// It fails where there is no memory for the list or a copy, and only there.
 ///
 /// ```ignore
 /// let members = write_texts(alloc, manifest.members.as_slice())?;
@@ -44,7 +44,7 @@ pub fn write_texts(alloc: Global, texts: &[String]) -> Result<Value, AllocError>
 ///
 /// The writer has to be callable on each item, which asks nothing where there is none.
 ///
-/// It fails where the writer fails at an item, or where the list runs out of memory.
+/// It fails where the writer fails at an item, or where there is no memory for the list.
 ///
 /// ```ignore
 /// let levels = write_list(alloc, levels.as_slice(), |level| Ok(Value::Integer(*level)))?;
@@ -87,7 +87,7 @@ pub(crate) fn entries_by<T, F: Fn(&T) -> Result<Value, AllocError>>(
 ///
 /// The writer has to be callable on each value, which asks nothing where the map is empty.
 ///
-/// It fails where the writer fails at a value, or where the table or a key runs out of memory.
+/// It fails where the writer fails at a value, or where there is no memory for the table or a key.
 ///
 /// ```ignore
 /// let features = write_map(alloc, &features, |names| write_texts(alloc, names.as_slice()))?;

@@ -1,5 +1,5 @@
 //! Takes the time, and the memory, of the same steps as `scripts/speed.c`, by the Rust crate `cargo-manifest`.
-//! `scripts/speed` builds it where it is told where that crate is.
+//! `scripts/speed` builds it where it is given the place of that crate.
 //!
 //!     speed time FILE CALLS TURNS              toml alone, from_slice, and from_slice with a text
 //!     speed complete FILE NAMES CALLS TURNS    a completion, with `src/bin` listing the lines of NAMES
@@ -57,7 +57,7 @@ fn read(bytes: &[u8]) -> usize {
     usize::from(Manifest::from_slice(bytes).is_ok())
 }
 
-/// The text of a manifest: by `toml` at once, or, where that refuses a value behind a table, by way of `toml`'s value.
+/// The text of a manifest: by `toml` at once, or, where that refuses a value after a table, by way of `toml`'s value.
 fn text(manifest: &Manifest, at_once: bool) -> Option<String> {
     if at_once {
         toml::to_string(manifest).ok()
@@ -138,7 +138,7 @@ fn time_completion(file: &str, names: &str, calls: u32, turns: usize) -> Option<
     take(&steps, calls, turns)
 }
 
-/// Takes one step so many times, and prints the peak of this process's memory.
+/// Takes one step this many times, and prints the peak of this process's memory.
 fn once(step: &str, calls: u32, file: &str, names: Option<&str>) -> Option<()> {
     let bytes = fs::read(file).ok()?;
     let names = names.map_or(Some(Vec::new()), |names| fs::read(names).ok())?;

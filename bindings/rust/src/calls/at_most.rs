@@ -6,7 +6,7 @@ use super::refusal::Refusal;
 use super::value_of;
 use crate::value::Value;
 
-/// The calls of this module, none of which answers more than so many bytes: what could take more is
+/// The calls of this module, none of which returns more than a given number of bytes: what could take more is
 /// [`Refusal::TooLong`]: a text before it is made, tagged bytes when they are measured.
 ///
 /// Some kilobytes can mean a text of many megabytes, as where a long key stands above many tables. So who handles the
@@ -24,42 +24,42 @@ use crate::value::Value;
 pub struct AtMost(pub usize);
 
 impl AtMost {
-    /// [`canonical`](super::canonical) in so many bytes at most.
+    /// [`canonical`](super::canonical) in at most this many bytes.
     pub fn canonical(self, bytes: &[u8]) -> Result<String, Refusal> {
         read(Output::Text, bytes, self.0).map(text_of)
     }
 
-    /// [`completed`](super::completed) in so many bytes at most.
+    /// [`completed`](super::completed) in at most this many bytes.
     pub fn completed(self, bytes: &[u8], listings: &Listings) -> Result<String, Refusal> {
         complete(Output::Text, bytes, listings, self.0).map(text_of)
     }
 
-    /// [`resolved`](super::resolved) in so many bytes at most.
+    /// [`resolved`](super::resolved) in at most this many bytes.
     pub fn resolved(self, bytes: &[u8], root: &[u8]) -> Result<String, Refusal> {
         resolve(Output::Text, bytes, root, self.0).map(text_of)
     }
 
-    /// [`resolved_completed`](super::resolved_completed) in so many bytes at most.
+    /// [`resolved_completed`](super::resolved_completed) in at most this many bytes.
     pub fn resolved_completed(self, bytes: &[u8], root: &[u8], listings: &Listings) -> Result<String, Refusal> {
         resolve_and_complete(Output::Text, bytes, root, listings, self.0).map(text_of)
     }
 
-    /// [`table`](super::table) in so many tagged bytes at most.
+    /// [`table`](super::table) in at most this many tagged bytes.
     pub fn table(self, bytes: &[u8]) -> Result<Value, Refusal> {
         read(Output::Table, bytes, self.0).map(value_of)
     }
 
-    /// [`completed_table`](super::completed_table) in so many tagged bytes at most.
+    /// [`completed_table`](super::completed_table) in at most this many tagged bytes.
     pub fn completed_table(self, bytes: &[u8], listings: &Listings) -> Result<Value, Refusal> {
         complete(Output::Table, bytes, listings, self.0).map(value_of)
     }
 
-    /// [`resolved_table`](super::resolved_table) in so many tagged bytes at most.
+    /// [`resolved_table`](super::resolved_table) in at most this many tagged bytes.
     pub fn resolved_table(self, bytes: &[u8], root: &[u8]) -> Result<Value, Refusal> {
         resolve(Output::Table, bytes, root, self.0).map(value_of)
     }
 
-    /// [`resolved_completed_table`](super::resolved_completed_table) in so many tagged bytes at most.
+    /// [`resolved_completed_table`](super::resolved_completed_table) in at most this many tagged bytes.
     pub fn resolved_completed_table(self, bytes: &[u8], root: &[u8], listings: &Listings) -> Result<Value, Refusal> {
         resolve_and_complete(Output::Table, bytes, root, listings, self.0).map(value_of)
     }

@@ -124,7 +124,7 @@ fn version_fits() {
 /// What `most` is where a text may be of any length.
 pub(crate) const ANY: usize = usize::MAX;
 
-/// Calls with memory for this many bytes, and once more where the text takes more. `run` gets a pointer to so many
+/// Calls with memory for this many bytes, and once more where the text takes more. `run` gets a pointer to this many
 /// bytes that are set.
 fn bytes_of(room: usize, run: impl Fn(*mut u8, usize) -> Answer) -> Result<Vec<u8>, Refusal> {
     version_fits();
@@ -148,7 +148,7 @@ fn bytes_of(room: usize, run: impl Fn(*mut u8, usize) -> Answer) -> Result<Vec<u
     }
 }
 
-/// How many bytes most outputs fit into, that are made of so many bytes and so many names.
+/// How many bytes most outputs fit into that are made of this many bytes and this many names.
 pub(super) fn room_for(bytes: usize, names: usize) -> usize {
     names.saturating_mul(64).saturating_add(bytes).saturating_mul(2).saturating_add(256)
 }
@@ -158,7 +158,7 @@ pub(super) fn room_for_table(bytes: usize) -> usize {
     bytes.saturating_add(bytes / 8).saturating_add(256)
 }
 
-/// What is asked for of the manifest that the bytes are, in so many bytes at most.
+/// What is asked for of the manifest that the bytes are, in at most this many bytes.
 pub(crate) fn read(output: Output, bytes: &[u8], most: usize) -> Result<Vec<u8>, Refusal> {
     let call = match output {
         Output::Text => manifest_canonical,
@@ -232,7 +232,7 @@ pub(crate) fn of_text(call: OnSlice, bytes: &[u8]) -> Result<Vec<u8>, Refusal> {
     })
 }
 
-/// A table, completed over folders that have so many names.
+/// A table, completed over folders that have this many names.
 pub(crate) fn of_table(table: &[u8], folders: &[Folder], names: usize) -> Result<Vec<u8>, Refusal> {
     bytes_of(room_for(table.len(), names), |out, room| {
         let (at, count) = (folders.as_ptr(), folders.len());

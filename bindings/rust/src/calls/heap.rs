@@ -54,13 +54,13 @@ unsafe extern "C" fn rattle_realloc(block: *mut c_void, _kept: usize, size: usiz
     if refusals::next() {
         return tried(core::ptr::null_mut());
     }
-    // SAFETY: `block` came from `malloc` or `realloc`, as the library hands back only what it was given.
+    // SAFETY: `block` came from `malloc` or `realloc`, as the library gives back only what it was given.
     tried(unsafe { realloc(block, at_least_one(size, align)) })
 }
 
 /// # Safety
 ///
-/// As of `rattle_realloc`.
+/// As for `rattle_realloc`.
 #[no_mangle]
 unsafe extern "C" fn rattle_dealloc(block: *mut c_void) {
     refusals::count(-1);
@@ -101,7 +101,7 @@ pub(crate) mod refusals {
         BLOCKS.get()
     }
 
-    /// Runs with the request after so many refused, and tells whether it came to that.
+    /// Runs with the request after this many refused, and returns whether there was such a request.
     pub(crate) fn with_refused<T>(granted: usize, run: impl FnOnce() -> T) -> (T, bool) {
         GRANTED.set(Some(granted));
         let answer = run();

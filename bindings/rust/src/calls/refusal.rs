@@ -14,7 +14,7 @@ pub enum Cause {
     Missing,
     /// A table has a key by both of its spellings.
     TwoSpellings,
-    /// The text is none of the choice.
+    /// The text is not one of the choice.
     NotAChoice,
     /// The whole number is out of range.
     OutOfRange,
@@ -27,7 +27,7 @@ pub enum Cause {
 }
 
 impl Cause {
-    /// The cause of a number, as the library tells it.
+    /// The cause of a number, as the library returns it.
     pub(crate) fn of_number(number: u8) -> Option<Cause> {
         Some(match number {
             1 => Cause::WrongKind,
@@ -111,8 +111,8 @@ impl fmt::Display for Fault {
 ///
 /// A text is refused before it is read where (B + 3) * (D + 1) is more than 384: B is how many brackets, `[` and `{`, are open
 /// at one place at most, and D how many dots stand at most between one of `,`, `=`, `[`, `{`, `#` and line ends and the next.
-/// Those in strings and comments are not counted, nor any behind the first string that does not end or character that TOML
-/// has in these alone.
+/// Those in strings and comments are not counted, nor any after the first string that does not end, or character that
+/// TOML allows in these alone.
 pub const DEPTH_LIMIT: usize = 128;
 
 /// What a call refuses with.
@@ -145,8 +145,8 @@ pub enum Refusal {
     Other(String),
     /// No memory was left.
     Memory,
-    /// The manifest keeps a date-time that no text can have. No call of this module tells it: what is read of a text keeps
-    /// none.
+    /// The manifest keeps a date-time that no text can have. No call of this module returns it: what is read of a text
+    /// keeps none.
     Date(String),
     /// The root has no workspace.
     NoWorkspace,
@@ -154,7 +154,7 @@ pub enum Refusal {
     NotInWorkspace(String),
     /// The workspace inherits its own dependency of this name.
     InheritedInWorkspace(String),
-    /// The manifest inherits its lints, and has lints of a tool beside.
+    /// The manifest inherits its lints, and has lints of a tool as well.
     MixedLints,
     /// The manifest inherits its lints, and the workspace has lints of a tool named `workspace`.
     ToolNamedWorkspace,

@@ -17,7 +17,7 @@ const FIVE: [&[u8]; 5] = [
     b"[package\nname = 'p'",
 ];
 
-/// The answer of a call with so many bytes of `out`, all of which are set to 0xAA before.
+/// The answer of a call with this many bytes of `out`, all of which are set to 0xAA before.
 fn call(bytes: &[u8], room: usize) -> (Answer, Vec<u8>) {
     let mut out = vec![0xAA; room + 8];
     // SAFETY: both pointers are of slices that live through the call and do not overlap; `room` is at most the length.
@@ -49,8 +49,8 @@ fn room_is_no_more_than_there_are_numbers() {
     }
 }
 
-/// Refuses each request for memory of a call in turn: it says that no memory is left, or answers as wanted, and gives all
-/// blocks back.
+/// Refuses each request for memory of a call in turn: it says that no memory is left, or answers as expected, and gives
+/// all blocks back.
 fn are_refused<T: Debug + PartialEq>(run: impl Fn() -> Result<T, Refusal>, wanted: &Result<T, Refusal>) {
     let held = blocks();
     let mut granted = 0;

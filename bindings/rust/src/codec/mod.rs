@@ -27,16 +27,16 @@ use std::borrow::Cow;
 
 /// What stands in the table of a manifest as one value.
 pub(crate) trait Form: Sized {
-    /// The value that the bytes hold next. There is none where they are not what the library writes of this type.
+    /// The value that the bytes hold next; `None` where they are not what the library writes of this type.
     fn decode(reader: &mut Reader<'_>) -> Option<Self>;
 
     /// The value, read as the definitions say: by each spelling of a key, with defaults for what is absent.
     fn read(value: Value, aside: &mut Aside) -> Result<Self, Misfit>;
 
-    /// What is wanted, as `a string`.
+    /// What is expected, as `a string`.
     fn wanted() -> Cow<'static, str>;
 
-    /// What is wanted at a path below, if that is known.
+    /// What is expected at a path below, if that is known.
     fn wanted_at(path: &[Step]) -> Option<Cow<'static, str>> {
         path.is_empty().then(Self::wanted)
     }
@@ -44,11 +44,11 @@ pub(crate) trait Form: Sized {
 
 /// What can be written as one value of the table of a manifest.
 pub(crate) trait Encode {
-    /// Puts the value behind what is written.
+    /// Appends the value to what is written.
     fn encode(&self, writer: &mut Writer);
 }
 
-/// The metadata of a manifest, which is kept beside it while it is read or written: its types are the user's.
+/// The metadata of a manifest, which is kept apart while it is read or written: its types are the user's.
 #[derive(Debug, Default)]
 pub(crate) struct Aside {
     pub(crate) package: Option<Value>,

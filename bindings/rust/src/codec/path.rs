@@ -21,7 +21,7 @@ pub(crate) fn steps(path: &str) -> Vec<Step> {
     steps
 }
 
-/// The first step, and what stands behind it.
+/// The first step, and what stands after it.
 fn step(path: &str) -> Option<(Step, &str)> {
     if let Some(rest) = path.strip_prefix('[') {
         let (place, rest) = rest.split_once(']')?;
@@ -36,7 +36,7 @@ fn step(path: &str) -> Option<(Step, &str)> {
     Some((Step::Key(key.to_owned()), rest))
 }
 
-/// A key between quotes, of which the first was read, and what stands behind it.
+/// A key between quotes, of which the first was read, and what stands after it.
 fn quoted(path: &str) -> Option<(String, &str)> {
     let mut key = String::new();
     let mut chars = path.chars();

@@ -11,7 +11,7 @@ use std::collections::BTreeMap;
 #[derive(Debug)]
 pub(crate) struct Misfit {
     pub(crate) cause: Cause,
-    /// What is wanted there.
+    /// What is expected there.
     pub(crate) wanted: Cow<'static, str>,
     /// From the inside out.
     steps: Vec<Step>,

@@ -1,4 +1,4 @@
-//! Tagged bytes, read from the front. `docs/LIBRARY.md` has their layout.
+//! Tagged bytes, read from the beginning. `docs/LIBRARY.md` has their layout.
 
 use super::{Aside, Form};
 use crate::value::Value;
@@ -13,7 +13,7 @@ pub(crate) const ARRAY: u8 = 7;
 pub(crate) const TABLE: u8 = 8;
 pub(crate) const FLOAT: u8 = 9;
 
-/// Bytes that are read from the front. Each function answers `None` where the bytes are not what it reads.
+/// Bytes that are read from the beginning. Each function answers `None` where the bytes are not what it reads.
 pub(crate) struct Reader<'a> {
     left: &'a [u8],
     /// The metadata that was met.
@@ -88,7 +88,7 @@ impl<'a> Reader<'a> {
         std::str::from_utf8(self.bytes()?).ok()
     }
 
-    /// The count, but no more than take as much memory as the bytes that are left: for so many there may be room made,
+    /// The count, but no more than take as much memory as the bytes that are left: room may be reserved for this many,
     /// whatever the bytes say. (Each value takes more memory than bytes.)
     pub(crate) fn at_most<T>(&self, count: u64) -> usize {
         usize::try_from(count).unwrap_or(usize::MAX).min(self.left.len() / size_of::<T>().max(1))
@@ -124,7 +124,7 @@ impl<'a> Reader<'a> {
                 self.bytes().map(drop)
             }
             FALSE | TRUE => self.byte().map(drop),
-            // (what else may stand beside a key `workspace` is rare)
+            // (what else may stand next to a key `workspace` is rare)
             _ => Value::decode(self).map(drop),
         }
     }
@@ -142,7 +142,7 @@ impl<'a> Keys<'a> {
         self.left
     }
 
-    /// The next key, whose value stands behind it; or none, where there are no more.
+    /// The next key, whose value stands after it; or `None`, where there are no more.
     pub(crate) fn next(&mut self, reader: &mut Reader<'a>) -> Option<Option<&'a str>> {
         if self.left == 0 {
             return Some(None);

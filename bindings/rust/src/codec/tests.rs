@@ -66,7 +66,7 @@ fn bytes_that_are_changed_are_refused_or_those_of_what_is_read() {
     assert!(read > table.len() && refused > table.len(), "{read} read, {refused} refused");
 }
 
-/// The key `package`, with a table of the name `p` behind it.
+/// The key `package`, with a table of the name `p` after it.
 const PACKAGE: &[u8] = b"\x07package\x08\x01\x04name\x01\x01p";
 
 #[test]

@@ -50,12 +50,12 @@ impl Writer {
         self.byte(if boolean { TRUE } else { FALSE });
     }
 
-    /// Notes why what is written is none that a table holds. The first reason counts.
+    /// Notes why what is written is nothing that a table holds. The first reason counts.
     pub(crate) fn refuse(&mut self, why: String) {
         self.refused.get_or_insert(why);
     }
 
-    /// What was written, with the metadata; or why it is none that a table holds.
+    /// What was written, with the metadata; or why it is nothing that a table holds.
     pub(crate) fn finish(self) -> Result<(Vec<u8>, Aside), String> {
         match self.refused {
             None => Ok((self.bytes, self.aside)),

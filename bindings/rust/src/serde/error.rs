@@ -4,7 +4,7 @@ use crate::codec::{path_text, Step};
 use std::error::Error;
 use std::fmt::{self, Display};
 
-/// Why a value is not of the type that is wanted, or a type cannot be a value. The text says where, by the key path.
+/// Why a value is not of the expected type, or a type cannot be a value. The text says where, by the key path.
 #[derive(Clone, Debug, PartialEq, Eq)]
 pub struct ValueError {
     message: String,

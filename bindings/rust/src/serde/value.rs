@@ -7,7 +7,7 @@ use ::serde::ser::{SerializeStruct, Serializer};
 use ::serde::{Deserialize, Serialize};
 use std::fmt;
 
-/// The name and the field by which the crate `toml` hands a date-time through serde.
+/// The name and the field by which the crate `toml` passes a date-time through serde.
 pub(super) const NAME: &str = "$__toml_private_Datetime";
 pub(super) const FIELD: &str = "$__toml_private_datetime";
 
@@ -45,7 +45,8 @@ impl Serialize for Value {
     }
 }
 
-/// The members of a table with simple values first, then arrays of tables, then tables: a writer of TOML wants them so.
+/// The members of a table with simple values first, then arrays of tables, then tables: a writer of TOML needs this
+/// order.
 fn in_order(members: &Map) -> impl Iterator<Item = (&String, &Value)> {
     let rank = |value: &Value| match value {
         Value::Table(_) => 2,
@@ -122,7 +123,7 @@ impl<'de> Visitor<'de> for ValueVisitor {
         Ok(Value::Array(array))
     }
 
-    /// A key without a value, as formats beside TOML have it by `null`, is one that is absent.
+    /// A key without a value, as other formats than TOML have it by `null`, counts as absent.
     fn visit_map<A: MapAccess<'de>>(self, mut members: A) -> Result<Value, A::Error> {
         let mut table = Map::new();
         while let Some(key) = members.next_key::<String>()? {

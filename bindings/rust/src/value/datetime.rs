@@ -56,7 +56,7 @@ pub struct Time {
 pub enum Offset {
     /// Written `Z`.
     Z,
-    /// So many minutes, which are fewer than 0 west of UTC.
+    /// A number of minutes, which is less than 0 west of UTC.
     Minutes(i16),
 }
 
@@ -147,14 +147,14 @@ impl FromStr for Datetime {
     }
 }
 
-/// The number of so many digits at the front of a text, and what stands behind them.
+/// The number of this many digits at the beginning of a text, and what stands after them.
 fn digits(text: &str, count: usize) -> Option<(u16, &str)> {
     let (digits, rest) = text.split_at_checked(count)?;
     digits.bytes().all(|byte| byte.is_ascii_digit()).then_some(())?;
     Some((digits.parse().ok()?, rest))
 }
 
-/// A number of two digits that is at most `most`, and what stands behind it.
+/// A number of two digits that is at most `most`, and what stands after it.
 fn two(text: &str, most: u16) -> Option<(u8, &str)> {
     let (number, rest) = digits(text, 2)?;
     (number <= most).then_some((u8::try_from(number).ok()?, rest))

@@ -160,7 +160,7 @@ impl Random {
         Datetime { date: self.option(date), time: self.option(time), offset: self.option(offset) }
     }
 
-    /// A value that nests at most so deep.
+    /// A value that nests at most this deep.
     fn value(&mut self, deep: usize) -> Value {
         match self.below(if deep > 0 { 9 } else { 5 }) {
             0 => Value::String(self.text()),
@@ -246,7 +246,7 @@ fn each_number_has_one_form() {
     }
 }
 
-/// What stands before and behind a number that is part of a value, and the largest that is read there.
+/// What stands before and after a number that is part of a value, and the largest that is read there.
 const PLACES: [(&[u8], &[u8], u64); 6] = [
     (&[2], &[], i64::MAX as u64),
     (&[3], &[], i64::MAX as u64),
@@ -282,7 +282,7 @@ fn lengths_and_counts_have_one_form() {
     for bytes in texts.iter().chain(&arrays).chain(&keys.map(<[u8]>::to_vec)) {
         assert!(is_read(bytes), "{bytes:?}");
     }
-    // the same lengths with a group of 0 behind them
+    // the same lengths with a group of 0 after them
     let none: [&[u8]; 8] = [
         &[1, 128, 0],
         &[1, 129, 0, b'a'],
@@ -398,7 +398,7 @@ fn any_bytes_are_refused_or_those_of_what_is_read() {
     assert!(read > 2_000 && refused > 100_000, "{read} read, {refused} refused");
 }
 
-/// Numbers that say of more than there is. (No machine has room for so many.)
+/// Numbers that say there is more than there is. (No machine has room for this many.)
 #[test]
 fn no_room_is_made_for_what_is_not_there() {
     for count in [1 << 20, 1 << 40, i64::MAX as u64, u64::MAX] {

@@ -27,7 +27,7 @@ impl Random {
         (self.next() % end as u64) as usize
     }
 
-    /// Whether one of so many times.
+    /// True once in this many times.
     pub fn one_in(&mut self, times: usize) -> bool {
         self.below(times) == 0
     }
@@ -64,7 +64,7 @@ impl Most {
     fn any(random: &mut Random) -> Most {
         let counts = [1, 2, 3, 5, 8, 20, 40, 60, 79, 80, 81, 170, 600, 6_000];
         let (parts, brackets) = (random.one_of(&counts), random.one_of(&counts));
-        // (so many parts in so many brackets are many bytes)
+        // (this many parts in this many brackets are many bytes)
         Most { parts: parts.min(4_000 / brackets + 1), brackets }
     }
 }
@@ -133,7 +133,7 @@ const QUOTES: [&str; 30] = [
     "\u{feff}\u{85}\u{2028}\0\n",
 ];
 
-/// A dotted key of so many parts.
+/// A dotted key of this many parts.
 fn path(random: &mut Random, parts: usize) -> String {
     let dot = random.one_of(&[".", ".", ".", " . "]);
     let key = random.one_of(&KEYS);
@@ -192,7 +192,7 @@ fn block(random: &mut Random, most: Most, number: usize) -> String {
 fn long_keys(random: &mut Random) -> String {
     let key = "k".repeat(random.one_of(&[10, 100, 1_000, 8_000]));
     let tables = random.one_of(&[1, 10, 100, 1_000]);
-    // (so many bytes where the key is written for each table)
+    // (this many bytes where the key is written for each table)
     let fewer = tables.min(20_000 / key.len() + 1);
     let place = random.one_of(&PLACES);
     let value = random.one_of(&["", "", "a = 1"]);
@@ -203,7 +203,7 @@ fn long_keys(random: &mut Random) -> String {
     }
 }
 
-/// Many values beside each other.
+/// Many values next to each other.
 fn wide(random: &mut Random) -> String {
     let item = random.one_of(&["[],", "{},", "1,", "'x',", "[[]],", "{a={}},", "{a.b.c=1},"]);
     format!("[{}]\na = [{}]\n", random.one_of(&PLACES), item.repeat(random.one_of(&[10, 100, 1_000])))
@@ -284,7 +284,7 @@ pub fn text(random: &mut Random) -> Vec<u8> {
 /// How many tables and arrays of a tagged table stand in one another: about as many as are read, and more.
 const DEPTHS: [usize; 11] = [0, 1, 20, 124, 125, 126, 127, 128, 130, 1_000, 50_000];
 
-/// The front of an array of one value, and that of a table of one key.
+/// The beginning of an array of one value, and that of a table of one key.
 const FRONTS: [&[u8]; 2] = [b"\x07\x01", b"\x08\x01\x01a"];
 
 /// A table, as tagged bytes.

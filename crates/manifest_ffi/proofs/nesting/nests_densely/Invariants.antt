@@ -4,7 +4,7 @@ use denote.Shadow.{shadow}
 use Rattle.manifest_ffi.specs.Nesting.{scan, start}
 use Rattle.manifest_ffi.proofs.nesting.nests_densely.Given as goal
 
--- what is left to scan of the text comes to what all of it comes to
+-- the rest of the text gives what all of it gives
 abbrev pub invariant-loop-turn : goal.invariant-loop-turn
 invariant-loop-turn l =
     shadow (Utf8 l.rest)

@@ -4,6 +4,6 @@ use Rattle.manifest_inherit.specs.Fields.{lendable}
 use Rattle.manifest_inherit.specs.ForProofs.{first_lent}
 use Rattle.manifest_inherit.proofs.fields.check_fields.Given as goal
 
--- what the fields so far inherit is lent
+-- the workspace has the fields so far that are inherited
 abbrev pub invariant-loop-i : goal.invariant-loop-i
 invariant-loop-i g l = first_lent l.i lendable (Some (workspace_package_content l.lent)) (package_of g.M.Schema.kind g.M.Schema.content l.own)
