@@ -198,7 +198,7 @@ module _ {A : Type 0} {K : Kinds.Kind A} (L : IsLawful K) (N : IsPlain K) where
   pub inh_lawful : IsLawful (inh K)
   inh_lawful = record { single = inh_single; apart = inh_apart; well = inh_well; back = inh_back }
 
--- ONE OF TWO KINDS: a content is one of the two, and they are told apart by what is written of them
+-- ONE OF TWO KINDS: a content is one of the two, and they are distinguished by what is written of them
 pub record IsSplit {A B C : Type 0} (test : Data → Bool) (K : Kinds.Kind A) (M : Kinds.Kind B) (side : C → A ⊎ B) : Type 0 where
   pub from : A ⊎ B → C
   pub there : (y : A ⊎ B) → side (from y) ≡ y
