@@ -118,7 +118,8 @@ pub extern "C" fn manifest_resolved_completed(
     most: usize,
     out: &mut [u8],
 ) -> Answer
-    ensures answers { Answers CanonicalText most (Makes Toml bytes.now (Some root.now) (Some folders.now))
+    ensures answers { Answers CanonicalText most
+        (Makes Toml bytes.now (Some root.now) (Some folders.now))
         (RefusesToMake Toml bytes.now (Some root.now) (Some folders.now)) out.old out.new result }
     ensures dates { ¬ (result.status ≡ 7) }
 {

@@ -179,7 +179,8 @@ impl Copied for Badges {
 
     ghost held = { badges_content };
 
-    ghost copies = { λ x y c. by_rows badges_rows badges_form.built (badges_content y) (badges_content x)
+    ghost copies = { λ x y c. by_rows badges_rows badges_form.built
+        (badges_content y) (badges_content x)
         (unfold badges_rows in Prim.search (rules, copy_laws)) };
 }
 
