@@ -127,4 +127,5 @@ def main():
     rows(figures, figures.peak, None, [(name, None, step) for step, name in steps.items()], 1e6)
 
 
-main()
+if __name__ == "__main__":
+    main()

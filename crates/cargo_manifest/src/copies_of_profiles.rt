@@ -6,8 +6,8 @@ ghost use Rattle.manifest_schema.proofs.CopyLaws.{copy_laws};
 ghost use Rattle.manifest_schema.specs.Contents;
 ghost use Rattle.manifest_schema.specs.PartForms.{profiles_rows};
 ghost use Rattle.manifest_schema.specs.ManifestForms.{workspace_package_rows};
-ghost use Rattle.manifest_schema.proofs.PartLaws.{profiles_built};
-ghost use Rattle.manifest_schema.proofs.ManifestLaws.{workspace_package_built};
+ghost use Rattle.manifest_schema.proofs.PartLaws.{profiles_form};
+ghost use Rattle.manifest_schema.proofs.ManifestLaws.{workspace_package_form};
 ghost use Rattle.manifest_value.proofs.FormLemmas.{by_rows};
 ghost use Rattle.cargo_manifest.specs.Tables.{workspace_package_content, profiles_content};
 ghost use Rattle.manifest_value.specs.Entries.{entries_content};
@@ -24,7 +24,7 @@ impl Copied for WorkspacePackage {
 
     ghost held = { workspace_package_content };
 
-    ghost copies = { λ x y c. by_rows workspace_package_rows workspace_package_built
+    ghost copies = { λ x y c. by_rows workspace_package_rows workspace_package_form.built
         (workspace_package_content y) (workspace_package_content x)
         (unfold workspace_package_rows in Prim.search (rules, copy_laws)) };
 }
@@ -34,7 +34,7 @@ impl Copied for Profiles {
 
     ghost held = { profiles_content };
 
-    ghost copies = { λ x y c. by_rows profiles_rows profiles_built
+    ghost copies = { λ x y c. by_rows profiles_rows profiles_form.built
         (profiles_content y) (profiles_content x)
         (unfold profiles_rows in Prim.search (rules, copy_laws, profile_copied)) };
 }

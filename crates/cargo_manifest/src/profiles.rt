@@ -5,7 +5,7 @@ ghost use Rattle.std.specs.Prelude.{IfOk, IfErr};
 ghost use Rattle.manifest_schema.specs.Forms.{form};
 ghost use Rattle.manifest_schema.specs.Contents;
 ghost use Rattle.manifest_schema.specs.PartForms.{profiles_rows};
-ghost use Rattle.manifest_schema.proofs.PartLaws.{profiles_lawful};
+ghost use Rattle.manifest_schema.proofs.PartLaws.{profiles_form};
 ghost use Rattle.manifest_value.specs.Faults.{FaultIn};
 ghost use Rattle.manifest_value.specs.Reading.{Reads, IsOfTable};
 ghost use Rattle.manifest_value.specs.Sources.{table_source};
@@ -150,5 +150,5 @@ impl Schema for Profiles {
             && values_are_well_formed(&self.custom)
     }
 
-    ghost lawful = { profiles_lawful };
+    ghost lawful = { profiles_form.lawful };
 }

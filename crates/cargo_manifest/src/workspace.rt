@@ -7,7 +7,7 @@ ghost use Rattle.manifest_schema.specs.Kinds.{tree_of, kept};
 ghost use Rattle.manifest_schema.specs.Contents;
 ghost use Rattle.manifest_schema.specs.ManifestForms.{workspace_package_rows, workspace_rows};
 ghost use Rattle.manifest_schema.proofs.KindLaws.{tree_lawful};
-ghost use Rattle.manifest_schema.proofs.ManifestLaws.{workspace_package_lawful, workspace_lawful};
+ghost use Rattle.manifest_schema.proofs.ManifestLaws.{workspace_package_form, workspace_lawful};
 ghost use Rattle.cargo_manifest.specs.Tables.{workspace_package_content, workspace_content, workspace_of};
 ghost use Rattle.manifest_value.specs.Reading.{IsOfTable};
 
@@ -115,7 +115,7 @@ impl Rowed for WorkspacePackage {
 impl Form for WorkspacePackage {
     fn covers() {}
 
-    ghost lawful = { workspace_package_lawful };
+    ghost lawful = { workspace_package_form.lawful };
 }
 
 /// No field at all.

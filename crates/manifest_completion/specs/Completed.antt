@@ -86,7 +86,10 @@ declared_library t lib (Some q) = known (Some (record lib {
 abbrev pub inferred_library : PackageTargets → Answer → Option Product
 inferred_library t src =
     if unwrap_or t.autolib true && lists src (codes "lib.rs")
-    then Some (record (found (record { path = codes "src/lib.rs"; name = underscored t.name })) { edition = own_edition t.edition; crate_type = Some library_type })
+    then Some (record (found (record { path = codes "src/lib.rs"; name = underscored t.name })) {
+      edition = own_edition t.edition;
+      crate_type = Some library_type;
+    })
     else None
 
 abbrev pub library_of : PackageTargets → Option Product → Answer → Library
@@ -258,7 +261,10 @@ root_places asks = if asks then root ∷ [] else []
 
 -- the places that are asked for the targets of a package, in their order: nothing is asked after a refusal
 abbrev pub asked_targets : PackageTargets → ListingMap → List Place
-asked_targets t l = source ∷ (if stops_at_source t l.source then [] else up_to_memory_fault (at l) (target_places l ++ root_places (asks_root t.build)))
+asked_targets t l =
+    source
+    ∷ (if stops_at_source t l.source then []
+      else up_to_memory_fault (at l) (target_places l ++ root_places (asks_root t.build)))
 
 abbrev pub asked_by : Option Package → Manifest → ListingMap → List Place
 asked_by None m l = []

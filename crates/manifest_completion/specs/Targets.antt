@@ -61,7 +61,11 @@ pub record Defaults : Type 0 where
   pub path : Option Text
 
 abbrev pub with_defaults : Defaults → Product → Product
-with_defaults d p = record p { path = option_or p.path d.path; edition = option_or p.edition d.edition; crate_type = option_or p.crate_type d.crate_type }
+with_defaults d p = record p {
+  path = option_or p.path d.path;
+  edition = option_or p.edition d.edition;
+  crate_type = option_or p.crate_type d.crate_type;
+}
 
 -- A COMPLETED LIST of targets: filled in, added to where `on` says so, and then given its defaults
 abbrev pub targets : Defaults → Bool → List Find → List Product → List Product

@@ -15,7 +15,11 @@ start = record { brackets = 0; dots = 0; most_brackets = 0; most_dots = 0 }
 
 -- after an opening bracket, a closing one, a dot, and the end of a key
 abbrev pub after_opening_bracket : Nesting → Nesting
-after_opening_bracket n = record n { brackets = count_up n.brackets; dots = 0; most_brackets = max n.most_brackets (count_up n.brackets) }
+after_opening_bracket n = record n {
+  brackets = count_up n.brackets;
+  dots = 0;
+  most_brackets = max n.most_brackets (count_up n.brackets);
+}
 
 abbrev pub after_closing_bracket : Nesting → Nesting
 after_closing_bracket n = record n { brackets = n.brackets - 1 }

@@ -36,7 +36,8 @@ pub record IsDocument (bytes : Text) (document : Members) : Type 0 where
 abbrev pub AreTooDeep : Text → Type 0
 AreTooDeep bytes =
     (nests_densely bytes ≡ true)
-    ⊎ ((document : Members) × (parse_document bytes ≡ Some document) × (128 < members_depth document))
+    ⊎ ((document : Members) × (parse_document bytes ≡ Some document)
+      × (128 < members_depth document))
 
 -- the text is no such document: it nests densely; it is no TOML, at a place in it, memory aside; or out of memory
 abbrev pub RefusesToParse : Text → InputError → Type 0

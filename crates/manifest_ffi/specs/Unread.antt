@@ -40,4 +40,5 @@ GivesDocument most bytes text =
 abbrev pub RefusesDocument : ℕ → List ℕ → Refusals
 RefusesDocument most bytes e =
     OfBytes (RefusesToParse bytes) e
-    ⊎ ((document : Members) × IsDocument bytes document × RefusesTagged most (encoded (table document)) e)
+    ⊎ ((document : Members) × IsDocument bytes document
+      × RefusesTagged most (encoded (table document)) e)

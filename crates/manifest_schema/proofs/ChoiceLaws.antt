@@ -3,15 +3,11 @@ use Rattle.std.proofs.Common.{refl}
 use Rattle.std.proofs.lemmas.Option.{none-some}
 use Rattle.manifest_schema.specs.Contents.{e2015, e2018, e2021, e2024, v1, v2, v3, forbid, deny, warn, allow, no_status, actively_developed, passively_maintained, as_is, experimental, looking_for_maintainer, deprecated, strip_none, strip_debuginfo, strip_symbols}
 use Rattle.manifest_schema.specs.Choices.{edition, resolver, level, status, strip}
-use Rattle.manifest_schema.specs.Lawful.{IsLawful, IsTotal, IsPlain}
+use Rattle.manifest_schema.specs.Lawful.{IsLawful, IsPlain}
 use Rattle.manifest_schema.proofs.KindLaws.{choice_lawful, plain_from}
-use Rattle.manifest_schema.proofs.Totals.{choice_total}
 
 pub edition_lawful : IsLawful edition
 edition_lawful = choice_lawful _ _ (elim [ e2015 ↦ refl | e2018 ↦ refl | e2021 ↦ refl | e2024 ↦ refl ])
-
-pub edition_total : IsTotal edition
-edition_total = choice_total _ _
 
 pub edition_plain : IsPlain edition
 edition_plain = plain_from edition_lawful (λ ms x a. none-some x a) (λ x. tt)
@@ -19,14 +15,8 @@ edition_plain = plain_from edition_lawful (λ ms x a. none-some x a) (λ x. tt)
 pub resolver_lawful : IsLawful resolver
 resolver_lawful = choice_lawful _ _ (elim [ v1 ↦ refl | v2 ↦ refl | v3 ↦ refl ])
 
-pub resolver_total : IsTotal resolver
-resolver_total = choice_total _ _
-
 pub level_lawful : IsLawful level
 level_lawful = choice_lawful _ _ (elim [ forbid ↦ refl | deny ↦ refl | warn ↦ refl | allow ↦ refl ])
-
-pub level_total : IsTotal level
-level_total = choice_total _ _
 
 pub status_lawful : IsLawful status
 status_lawful = choice_lawful _ _ (elim [
@@ -39,11 +29,5 @@ status_lawful = choice_lawful _ _ (elim [
   | deprecated ↦ refl
 ])
 
-pub status_total : IsTotal status
-status_total = choice_total _ _
-
 pub strip_lawful : IsLawful strip
 strip_lawful = choice_lawful _ _ (elim [ strip_none ↦ refl | strip_debuginfo ↦ refl | strip_symbols ↦ refl ])
-
-pub strip_total : IsTotal strip
-strip_total = choice_total _ _

@@ -25,29 +25,8 @@ AreGood (others get K) = ⊥
 AreGood no_more = Unit {0}
 
 -- KINDS
-pub text_good : IsGood text
-text_good = record { good = λ x. tt }
-
-pub flag_good : IsGood flag
-flag_good = record { good = λ x. tt }
-
-pub truth_good : IsGood truth
-truth_good = record { good = λ x. tt }
-
-pub edition_good : IsGood edition
-edition_good = record { good = λ x. tt }
-
-pub resolver_good : IsGood resolver
-resolver_good = record { good = λ x. tt }
-
-pub level_good : IsGood level
-level_good = record { good = λ x. tt }
-
-pub status_good : IsGood status
-status_good = record { good = λ x. tt }
-
-pub strip_good : IsGood strip
-strip_good = record { good = λ x. tt }
+pub simple_good : {A : Type 0} {K : Kind A} → ((x : A) → K.good x) → IsGood K
+simple_good h = record { good = h }
 
 items_good : {A : Type 0} {K : Kind A} → IsGood K → (xs : List A) → good_items K xs
 items_good g [] = tt
@@ -106,44 +85,23 @@ rows_good named (r ⨾ rs) g t = (g.0.good t.0, rows_good named rs g.1 t.1)
 pub form_good : {A : Type 0} (rows : Rows A) → AreGood rows → IsGood (form rows)
 form_good rows g = record { good = λ x. rows_good (spelled rows) rows g (gets rows x) }
 
--- SMALL KINDS
-pub texts_good : IsGood texts
-texts_good = list_good text_good
+pub ruleset good_laws = (required_good, optional_good, default_good, lenient_optional_good, lenient_default_good, simple_good, list_good, map_good, inh_good, split_good, some_good)
 
-pub text_or_flag_good : IsGood text_or_flag
-text_or_flag_good = split_good flag_good text_good _ _
-
-pub publish_good : IsGood publish
-publish_good = split_good flag_good texts_good _ _
-
-pub ruleset good_laws = (required_good, optional_good, default_good, lenient_optional_good, lenient_default_good, text_good, flag_good, truth_good, edition_good, resolver_good, level_good, status_good, strip_good, texts_good, text_or_flag_good, publish_good, inh_good)
-
--- DEPENDENCIES
+-- THE PARTS of a manifest
 dependency_table_good : IsGood dependency_table
 unfolding inherited_rows detailed_rows
 dependency_table_good = split_good (form_good inherited_rows (search good_laws)) (form_good detailed_rows (search good_laws)) _ _
 
-pub dependency_good : IsGood dependency
-dependency_good = split_good text_good dependency_table_good _ _
+dependency_good : IsGood dependency
+dependency_good = search (good_laws, dependency_table_good)
 
-pub dependencies_good : IsGood (map_of dependency)
-dependencies_good = map_good dependency_good
-
-pub patch_good : IsGood (map_of (map_of dependency))
-patch_good = map_good dependencies_good
-
--- PLATFORMS
-pub platforms_good : IsGood (map_of (form platform_rows))
+platform_good : IsGood (form platform_rows)
 unfolding platform_rows
-platforms_good = map_good (form_good platform_rows (search (good_laws, dependencies_good)))
+platform_good = form_good platform_rows (search (good_laws, dependency_good))
 
--- PRODUCTS, features and badges
-pub product_good : IsGood (form product_rows)
+product_good : IsGood (form product_rows)
 unfolding product_rows
 product_good = form_good product_rows (search good_laws)
-
-pub features_good : IsGood (map_of texts)
-features_good = map_good texts_good
 
 badge_good : IsGood (form badge_rows)
 unfolding badge_rows
@@ -153,19 +111,18 @@ maintenance_good : IsGood (form maintenance_rows)
 unfolding maintenance_rows
 maintenance_good = form_good maintenance_rows (search good_laws)
 
-pub badges_good : IsGood (form badges_rows)
+badges_good : IsGood (form badges_rows)
 unfolding badges_rows
 badges_good = form_good badges_rows (search (good_laws, badge_good, maintenance_good))
 
--- THE PACKAGE FIELDS OF A WORKSPACE
-pub workspace_package_good : IsGood (form workspace_package_rows)
+workspace_package_good : IsGood (form workspace_package_rows)
 unfolding workspace_package_rows
 workspace_package_good = form_good workspace_package_rows (search good_laws)
 
 -- A PACKAGE is well-formed exactly if its metadata is
 pub package_good : (K : Kind Data) (p : Package) → good_some K p.metadata → (form (package_rows K)).good p
 unfolding package_rows
-package_good K p g = search (some_good, text_good, flag_good, edition_good, resolver_good, texts_good, text_or_flag_good, publish_good, inh_good)
+package_good K p g = search good_laws depth 9
 
 pub package_metadata_good : (K : Kind Data) (p : Package) → (form (package_rows K)).good p → good_some K p.metadata
 unfolding package_rows
@@ -174,7 +131,7 @@ package_metadata_good K p g = assumption
 -- A WORKSPACE is well-formed exactly if its metadata and its lints are
 pub workspace_good : (K : Kind Data) (w : Workspace) → good_some K w.metadata → good_some (map_of (map_of lint)) w.lints → (form (workspace_rows K)).good w
 unfolding workspace_rows
-workspace_good K w g h = search (some_good, texts_good, texts_good.good, resolver_good, dependencies_good, workspace_package_good)
+workspace_good K w g h = search (good_laws, items_good, dependency_good, workspace_package_good) depth 9
 
 pub workspace_metadata_good : (K : Kind Data) (w : Workspace) → (form (workspace_rows K)).good w → good_some K w.metadata
 unfolding workspace_rows
@@ -183,7 +140,7 @@ workspace_metadata_good K w g = assumption
 -- A MANIFEST is well-formed exactly if its package, its workspace, its profiles and its lints are
 pub manifest_good : (K W : Kind Data) (m : Manifest) → good_some (form (package_rows K)) m.«package» → good_some (form (workspace_rows W)) m.workspace → good_some (form profiles_rows) m.profile → good_some (form lints_rows) m.lints → (form (manifest_rows K W)).good m
 unfolding manifest_rows
-manifest_good K W m a b c d = search (some_good, items_good, texts_good, dependencies_good, platforms_good, features_good, product_good, patch_good, badges_good)
+manifest_good K W m a b c d = search (good_laws, items_good, dependency_good, platform_good, product_good, badges_good) depth 9
 
 pub manifest_parts_good : (K W : Kind Data) (m : Manifest) → (form (manifest_rows K W)).good m
     → good_some (form (package_rows K)) m.«package» × good_some (form (workspace_rows W)) m.workspace × good_some (form profiles_rows) m.profile × good_some (form lints_rows) m.lints

@@ -6,7 +6,7 @@ use Rattle.toml.specs.Data.{Data, string, integer, boolean, array, table, Items,
 use Rattle.manifest_schema.specs.Paths.{Text, Path, Cause, Faults}
 use Rattle.manifest_schema.specs.Kinds
 use Rattle.manifest_schema.specs.Kinds.{reads_text, not_text, text, reads_flag, not_flag, flag, within, reads_whole, not_whole, whole, reads_truth, not_truth, truth, reads_choice, not_choice, choice, reads_items, reads_list, faulty_item, faulty_list, written_items, good_items, list_of, Entries, reads_entries, reads_map, has_entry, faulty_entry, faulty_map, written_entries, good_entries, map_of, Inheritable, inherited, local, inherits, reads_inh, faulty_inh, written_inh, good_inh, inh, reads_split, faulty_split, written_split, good_split, split, metadata, tree_of}
-use Rattle.manifest_schema.specs.Lawful.{IsLawful, IsPlain, IsSplit}
+use Rattle.manifest_schema.specs.Lawful.{IsLawful, IsPlain}
 
 -- TEXT
 text_single : (d : Data) (x y : List ℕ) → reads_text d x → reads_text d y → x ≡ y
@@ -198,7 +198,14 @@ module _ {A : Type 0} {K : Kinds.Kind A} (L : IsLawful K) (N : IsPlain K) where
   pub inh_lawful : IsLawful (inh K)
   inh_lawful = record { single = inh_single; apart = inh_apart; well = inh_well; back = inh_back }
 
--- ONE OF TWO KINDS
+-- ONE OF TWO KINDS: a content is one of the two, and they are distinguished by what is written of them
+pub record IsSplit {A B C : Type 0} (test : Data → Bool) (K : Kinds.Kind A) (M : Kinds.Kind B) (side : C → A ⊎ B) : Type 0 where
+  pub from : A ⊎ B → C
+  pub there : (y : A ⊎ B) → side (from y) ≡ y
+  pub back : (x : C) → from (side x) ≡ x
+  pub first : (x : A) → K.good x → test (K.written x) ≡ true
+  pub second : (x : B) → M.good x → test (M.written x) ≡ false
+
 module _ {A B : Type 0} {K : Kinds.Kind A} {M : Kinds.Kind B} (k : IsLawful K) (m : IsLawful M) where
   split_single : (t : Bool) (d : Data) (x y : A ⊎ B) → reads_split K M t d x → reads_split K M t d y → x ≡ y
   split_single true d (inl x) (inl y) a b = ap inl (k.single d x y a b)
@@ -227,7 +234,7 @@ module _ {A B : Type 0} {K : Kinds.Kind A} {M : Kinds.Kind B} (k : IsLawful K) (
 
   pub split_lawful : {C : Type 0} {test : Data → Bool} {side : C → A ⊎ B} → IsSplit test K M side → IsLawful (split test K M side)
   split_lawful {test = test} {side = side} s = record {
-    single = λ d x y a b. s.tied x y (split_single (test d) d (side x) (side y) a b);
+    single = λ d x y a b. sym (s.back x) ∙ ap s.from (split_single (test d) d (side x) (side y) a b) ∙ s.back y;
     apart = λ d p c x f a. split_apart (test d) d p c (side x) f a;
     well = λ d x a. split_well (test d) d (side x) a;
     back = λ x g. split_back test s.first s.second (side x) g;

@@ -1,5 +1,5 @@
 -- Each value has a reading or a fault.
-use Rattle.std.proofs.Common.{◌≡◌, ℕ, zero, suc, ℤ, Bool, true, false, ◌⊎◌, inl, inr, List, [], ◌∷◌, Option, Some, None, refl, true≢false}
+use Rattle.std.proofs.Common.{◌≡◌, ℕ, zero, suc, ℤ, Bool, true, false, ◌⊎◌, inl, inr, List, [], ◌∷◌, Option, Some, None, IsTrue, refl, true≢false}
 use Rattle.std.proofs.lemmas.Bool.{cases_Bool}
 use Rattle.toml.specs.Data.{Data, string, integer, float, boolean, array, get_item, table, Items, no_items, item, Members, no_members, member}
 use Rattle.manifest_schema.specs.Paths.{Text, Path, wrong_kind, out_of_range, not_true, not_a_choice, missing, two_spellings, holds_float, key, index}
@@ -8,8 +8,10 @@ use Rattle.manifest_schema.specs.Kinds
 use Rattle.manifest_schema.specs.Kinds.{text, flag, within, whole, truth, reads_choice, not_choice, choice, reads_items, plain, plain_items, plain_members, float_at, reads_kept, float_in, kept, tree_of, faulty_item, list_of, Entries, reads_entries, has_entry, faulty_entry, map_of, Inheritable, inherited, local, inherits, reads_inh, faulty_inh, inh, reads_split, faulty_split, split}
 use Rattle.manifest_schema.specs.Needs.{meets_lenient, required, optional, default, lenient_optional, lenient_default}
 use Rattle.manifest_schema.specs.Forms
-use Rattle.manifest_schema.specs.Forms.{Rows, no_more, others, ◌⨾◌, Fields, gets, spelled, fits_beside, unfit_beside, form}
-use Rattle.manifest_schema.specs.Lawful.{IsLawful, IsBuilt, ReadOrFaulty, IsTotal, IsTotalNeed, AreTotal}
+use Rattle.manifest_schema.specs.Forms.{Rows, no_more, others, ◌⨾◌, Fields, gets, spelled, fits_beside, unfit_beside, form, distinct}
+use Rattle.manifest_schema.specs.Lawful.{IsLawful, AreLawful, IsBuilt, ReadOrFaulty, IsTotal, IsTotalNeed, AreTotal}
+use Rattle.manifest_schema.proofs.KindLaws.{IsSplit}
+use Rattle.manifest_schema.proofs.FormLaws.{form_lawful}
 
 text_told : (d : Data) → ReadOrFaulty (text.reads d) (text.faulty d)
 text_told (string s) = inl (s, refl)
@@ -145,6 +147,22 @@ module _ {A : Type 0} (rows : Rows A) (B : IsBuilt rows) (T : AreTotal rows) whe
   pub form_total : IsTotal (form rows)
   form_total = record { total = form_told }
 
+-- A FORM THAT KEEPS ALL LAWS: those of its record and of its kind, and each value has a reading or a fault
+pub record IsSoundForm {A : Type 0} (rows : Rows A) : Type 0 where
+  pub built : IsBuilt rows
+  pub lawful : IsLawful (form rows)
+  pub total : IsTotal (form rows)
+
+pub sound_form : {A : Type 0} {rows : Rows A} → IsBuilt rows → AreLawful rows → AreTotal rows → IsTrue (distinct rows) → IsSoundForm rows
+sound_form {rows = rows} b l t d = record { built = b; lawful = form_lawful rows l b d; total = form_total rows b t }
+
+module _ {A : Type 0} {rows : Rows A} (S : IsSoundForm rows) where
+  pub form_is_lawful : IsLawful (form rows)
+  form_is_lawful = S.lawful
+
+  pub form_is_total : IsTotal (form rows)
+  form_is_total = S.total
+
 -- THE OTHER KINDS
 local_told : {A : Type 0} (K : Kinds.Kind A) (d : Data) → ReadOrFaulty (K.reads d) (K.faulty d) → ReadOrFaulty (reads_inh K d) (K.faulty d)
 local_told K d (inl a) = inl (local a.0, a.1)
@@ -166,12 +184,12 @@ module _ {A B : Type 0} {K : Kinds.Kind A} {M : Kinds.Kind B} (T : IsTotal K) (U
   side_told true d = elim (T.total d) [ inl a ↦ inl (inl a.0, a.1) | inr f ↦ inr f ]
   side_told false d = elim (U.total d) [ inl a ↦ inl (inr a.0, a.1) | inr f ↦ inr f ]
 
-  taken : {C : Type 0} (side : C → A ⊎ B) (from : A ⊎ B → C) → ((y : A ⊎ B) → side (from y) ≡ y) → (b : Bool) (d : Data) → ReadOrFaulty (reads_split K M b d) (faulty_split K M b d) → ReadOrFaulty (λ (x : C). reads_split K M b d (side x)) (faulty_split K M b d)
-  taken side from back b d (inl a) = inl (from a.0, rw (back a.0) a.1)
-  taken side from back b d (inr f) = inr f
+  taken : {C : Type 0} {test : Data → Bool} {side : C → A ⊎ B} → IsSplit test K M side → (b : Bool) (d : Data) → ReadOrFaulty (reads_split K M b d) (faulty_split K M b d) → ReadOrFaulty (λ (x : C). reads_split K M b d (side x)) (faulty_split K M b d)
+  taken s b d (inl a) = inl (s.from a.0, rw (s.there a.0) a.1)
+  taken s b d (inr f) = inr f
 
-  pub split_total : {C : Type 0} (test : Data → Bool) (side : C → A ⊎ B) (from : A ⊎ B → C) → ((y : A ⊎ B) → side (from y) ≡ y) → IsTotal (split test K M side)
-  split_total test side from back = record { total = λ d. taken side from back (test d) d (side_told (test d) d) }
+  pub split_total : {C : Type 0} {test : Data → Bool} {side : C → A ⊎ B} → IsSplit test K M side → IsTotal (split test K M side)
+  split_total {test = test} s = record { total = λ d. taken s (test d) d (side_told (test d) d) }
 
 -- KEPT
 -- where a value is not free of floats, a float stands in it

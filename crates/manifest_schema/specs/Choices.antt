@@ -65,8 +65,13 @@ status_text deprecated = codes "deprecated"
 
 abbrev pub status_words : List (Text × MaintenanceStatus)
 status_words =
-    (codes "none", no_status) ∷ (codes "actively-developed", actively_developed) ∷ (codes "passively-maintained", passively_maintained) ∷ (codes "as-is", as_is)
-    ∷ (codes "experimental", experimental) ∷ (codes "looking-for-maintainer", looking_for_maintainer) ∷ (codes "deprecated", deprecated) ∷ []
+    (codes "none", no_status)
+    ∷ (codes "actively-developed", actively_developed)
+    ∷ (codes "passively-maintained", passively_maintained)
+    ∷ (codes "as-is", as_is)
+    ∷ (codes "experimental", experimental)
+    ∷ (codes "looking-for-maintainer", looking_for_maintainer)
+    ∷ (codes "deprecated", deprecated) ∷ []
 
 abbrev pub status : Kind MaintenanceStatus
 status = choice (word_meaning status_words) (λ e. string (status_text e))

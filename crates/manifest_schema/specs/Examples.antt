@@ -57,7 +57,11 @@ everywhere i =
       dependencies = Some each;
       dev_dependencies = Some each;
       build_dependencies = Some each;
-      target = Some ((codes "t", record { dependencies = each; dev_dependencies = each; build_dependencies = each }) ∷ []);
+      target = Some ((codes "t", record {
+        dependencies = each;
+        dev_dependencies = each;
+        build_dependencies = each;
+      }) ∷ []);
       patch = Some ((codes "p", each) ∷ []);
     }
 

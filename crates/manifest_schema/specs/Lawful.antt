@@ -1,5 +1,5 @@
 -- The laws of kinds, needs and forms.
-use Rattle.std.specs.Prelude.{◌≡◌, ◌⊎◌, Bool, true, false}
+use Rattle.std.specs.Prelude.{◌≡◌, ◌⊎◌, Bool, true}
 use Rattle.toml.specs.Data.{Data, Members, table}
 use Rattle.manifest_schema.specs.Paths.{Text, Cause, Path, Faults}
 use Rattle.manifest_schema.specs.Slots.{Spellings, Slot, slot}
@@ -63,9 +63,3 @@ pub record IsPlain {A : Type 0} (K : Kind A) : Type 0 where
   pub no_table : (ms : Members) (x : A) → K.reads (table ms) x → ⊥
   pub writes_no_table : (ms : Members) (x : A) → K.written x ≡ table ms → ⊥
   pub all_good : (x : A) → K.good x
-
--- the two sides differ, by their contents and by what is written of them
-pub record IsSplit {A B C : Type 0} (test : Data → Bool) (K : Kind A) (M : Kind B) (side : C → A ⊎ B) : Type 0 where
-  pub tied : (x y : C) → side x ≡ side y → x ≡ y
-  pub first : (x : A) → K.good x → test (K.written x) ≡ true
-  pub second : (x : B) → M.good x → test (M.written x) ≡ false

@@ -1,7 +1,7 @@
 -- Faults one step further out.
 use Rattle.std.specs.declared.alloc.AllocError.{AllocError}
 use Rattle.manifest_schema.specs.Paths.{Path, Step, Cause as SchemaCause, behind}
-use Rattle.toml.specs.Data.{Data, string, integer, float, boolean, datetime, array, table}
+use Rattle.toml.specs.Data.{Data, table}
 use Rattle.manifest_schema.specs.Forms.{Rows, faulty_form}
 use Rattle.manifest_schema.specs.Kinds.{Kind, faulty_map}
 use Rattle.manifest_value.specs.Faults.{FaultIn, IsBehind, path_of, no_table}
@@ -28,19 +28,9 @@ memory_behind s (Memory e') e = tt
 pub form_refuses : {A : Type 0} (rows : Rows A) (d : Data) (f : ReadFault) → FaultIn (no_table d) f → FaultIn (faulty_form rows d) f
 form_refuses rows d (Memory e) h = tt
 form_refuses rows (table ms) (Schema f) h = absurd h
-form_refuses rows (string s) (Schema f) h = h
-form_refuses rows (integer n) (Schema f) h = h
-form_refuses rows (float x) (Schema f) h = h
-form_refuses rows (boolean b) (Schema f) h = h
-form_refuses rows (datetime t) (Schema f) h = h
-form_refuses rows (array ds) (Schema f) h = h
+form_refuses rows _ (Schema f) h = h
 
 pub map_refuses : {A : Type 0} (K : Kind A) (d : Data) (f : ReadFault) → FaultIn (no_table d) f → FaultIn (faulty_map K d) f
 map_refuses K d (Memory e) h = tt
 map_refuses K (table ms) (Schema f) h = absurd h
-map_refuses K (string s) (Schema f) h = h
-map_refuses K (integer n) (Schema f) h = h
-map_refuses K (float x) (Schema f) h = h
-map_refuses K (boolean b) (Schema f) h = h
-map_refuses K (datetime t) (Schema f) h = h
-map_refuses K (array ds) (Schema f) h = h
+map_refuses K _ (Schema f) h = h

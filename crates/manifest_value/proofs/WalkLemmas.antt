@@ -1,12 +1,15 @@
 -- A table with one more entry at its end, and what is found in it.
 use Rattle.std.proofs.Common.{◌≡◌, ℕ, zero, suc, Bool, true, false, not, ◌||◌, ◌⊎◌, if◌then◌else◌, List, [], ◌∷◌, Option, Some, None, Ordering, Less, Equal, Greater, nat_cmp, refl, sym, ap, ◌∙◌, subst, true≢false, inl, inr, ◌++◌, map, length, get_or, slice_set, bytes_eq, Bor, ◌<◌, arith, ◌+◌, drop, drop-cons, add-one}
-use Rattle.std.proofs.lemmas.Bool.{and_parts, or_parts, not-true, cases_Bool}
+use Rattle.std.proofs.Math.Bool.{or-false, or_assoc}
+use Rattle.std.proofs.Math.ListN.{replicate}
+use Rattle.std.proofs.lemmas.Bool.{and_parts, or_parts, or_cases, or_right, not-true, cases_Bool}
 use Rattle.std.specs.Cmp.Lexicographic.{slice_cmp}
 use Rattle.std.specs.Ordering.{match_ordering, ordering_reverse}
 use Rattle.std.proofs.lemmas.Cmp.{nat_list_cmp_total}
 use Rattle.std.proofs.lemmas.Map.Text.{is_eq-slice_cmp}
 use Rattle.std.proofs.lemmas.Slice.Eq.{bytes_eq-Decides}
 use Rattle.toml.specs.Data.{Data, Members, no_members, member, get_member, same_key}
+use Rattle.toml.proofs.Blanks.{join}
 use Rattle.toml.proofs.Views.{with_last}
 use Rattle.manifest_schema.specs.Paths.{Text}
 use Rattle.manifest_schema.specs.Slots.{Spellings, Slot, only, both, absent, slot_of_two, at, is_among, without}
@@ -55,48 +58,23 @@ among_none k key h = rw (is_eq-slice_cmp k key, h) refl
 
 -- the spellings of a row among other keys
 pub among_spell : (s : Spellings) (ks : List Text) (k : Text) → is_among (spell s ks) k ≡ (is_among (spell s []) k || is_among ks k)
-among_spell (only l) ks k = by_case (same_key l k)
-  where
-    by_case : (b : Bool) → (b || is_among ks k) ≡ ((b || false) || is_among ks k)
-    by_case true = refl
-    by_case false = refl
-among_spell (both l m) ks k = by_case (same_key l k) (same_key m k)
-  where
-    by_case : (a b : Bool) → (a || (b || is_among ks k)) ≡ ((a || (b || false)) || is_among ks k)
-    by_case true b = refl
-    by_case false true = refl
-    by_case false false = refl
-
-or_split : (a b : Bool) → (a || b) ≡ true → (a ≡ true) ⊎ (b ≡ true)
-or_split true b h = inl refl
-or_split false b h = inr h
-
-or_later : (a b : Bool) → b ≡ true → (a || b) ≡ true
-or_later true b h = refl
-or_later false b h = h
+among_spell (only l) ks k = simp or-false
+among_spell (both l m) ks k = simp (or-false, or_assoc)
 
 -- a spelling of a row is not among the keys from which the row differs
 pub apart : (s : Spellings) (ks : List Text) (k : Text) → differ s ks ≡ true → is_among (spell s []) k ≡ true → is_among ks k ≡ false
-apart (only l) ks k h g = subst (λ x. is_among ks x ≡ false) (same_key-true l k (or_nil (same_key l k) g)) (not-true (is_among ks l) h)
-  where
-    or_nil : (a : Bool) → (a || false) ≡ true → a ≡ true
-    or_nil true e = refl
-    or_nil false e = e
+apart (only l) ks k h g = subst (λ x. is_among ks x ≡ false) (same_key-true l k (sym (or-false (same_key l k)) ∙ g)) (not-true (is_among ks l) h)
 apart (both l m) ks k h g =
     let (first, second) = and_parts (not (is_among (m ∷ ks) l)) (not (is_among ks m)) h in
-    elim (or_split (same_key l k) (same_key m k || false) g) [
+    elim (or_cases (same_key l k) (same_key m k || false) g) [
       | inl e ↦ subst (λ x. is_among ks x ≡ false) (same_key-true l k e) (or_parts (same_key m l) (is_among ks l) (not-true _ first)).1
-      | inr e ↦ subst (λ x. is_among ks x ≡ false) (same_key-true m k (or_nil (same_key m k) e)) (not-true (is_among ks m) second)
+      | inr e ↦ subst (λ x. is_among ks x ≡ false) (same_key-true m k (sym (or-false (same_key m k)) ∙ e)) (not-true (is_among ks m) second)
     ]
-  where
-    or_nil : (a : Bool) → (a || false) ≡ true → a ≡ true
-    or_nil true e = refl
-    or_nil false e = e
 
 pub word_among : (i : ℕ) (ss : List Spellings) (k : Text) → is_word_at i ss k ≡ true → is_among (all_words ss) k ≡ true
 word_among i [] k h = absurd (true≢false (sym h))
 word_among zero (s ∷ ss) k h = among_spell s (all_words ss) k ∙ rw h refl
-word_among (suc i) (s ∷ ss) k h = among_spell s (all_words ss) k ∙ or_later _ _ (word_among i ss k h)
+word_among (suc i) (s ∷ ss) k h = among_spell s (all_words ss) k ∙ or_right _ _ (word_among i ss k h)
 
 -- A SLOT
 pub at-last_other : (s : Spellings) (k : Text) (d : Data) (ms : Members) → is_among (spell s []) k ≡ false → at s (with_last ms k d) ≡ at s ms
@@ -124,22 +102,14 @@ at_only l d ms none = rw (get-last_same l d ms none, none) refl
 
 pub at-last_same : (s : Spellings) (ks : List Text) (k : Text) (d : Data) (ms : Members) → differ s ks ≡ true → is_among (spell s []) k ≡ true → get_member k ms ≡ None
     → at s (with_last ms k d) ≡ filled (at s ms) k d
-at-last_same (only l) ks k d ms h g none = subst (λ x. get_member x ms ≡ None → at (only l) (with_last ms x d) ≡ filled (at (only l) ms) x d) (same_key-true l k (or_nil (same_key l k) g)) (at_only l d ms) none
-  where
-    or_nil : (a : Bool) → (a || false) ≡ true → a ≡ true
-    or_nil true e = refl
-    or_nil false e = e
+at-last_same (only l) ks k d ms h g none = subst (λ x. get_member x ms ≡ None → at (only l) (with_last ms x d) ≡ filled (at (only l) ms) x d) (same_key-true l k (sym (or-false (same_key l k)) ∙ g)) (at_only l d ms) none
 at-last_same (both l m) ks k d ms h g none =
     let (first, second) = and_parts (not (is_among (m ∷ ks) l)) (not (is_among ks m)) h in
     let differs = (or_parts (same_key m l) (is_among ks l) (not-true _ first)).0 in
-    elim (or_split (same_key l k) (same_key m k || false) g) [
+    elim (or_cases (same_key l k) (same_key m k || false) g) [
       | inl e ↦ subst (λ x. get_member x ms ≡ None → at (both l m) (with_last ms x d) ≡ filled (at (both l m) ms) x d) (same_key-true l k e) (at_first l m d ms differs) none
-      | inr e ↦ subst (λ x. get_member x ms ≡ None → at (both l m) (with_last ms x d) ≡ filled (at (both l m) ms) x d) (same_key-true m k (or_nil (same_key m k) e)) (at_second l m d ms (turned m l differs)) none
+      | inr e ↦ subst (λ x. get_member x ms ≡ None → at (both l m) (with_last ms x d) ≡ filled (at (both l m) ms) x d) (same_key-true m k (sym (or-false (same_key m k)) ∙ e)) (at_second l m d ms (turned m l differs)) none
     ]
-  where
-    or_nil : (a : Bool) → (a || false) ≡ true → a ≡ true
-    or_nil true e = refl
-    or_nil false e = e
 
 -- ALL SLOTS
 pub slots-last_none : (ss : List Spellings) (k : Text) (d : Data) (ms : Members) → is_among (all_words ss) k ≡ false → slots_at ss (with_last ms k d) ≡ slots_at ss ms
@@ -165,22 +135,10 @@ at_none : (s : Spellings) → absent ≡ at s no_members
 at_none (only k) = refl
 at_none (both k l) = refl
 
--- a number of slots of one kind, as those in which nothing is found yet
-abbrev pub blanks : {X : Type 0} → X → ℕ → List X
-blanks x zero = []
-blanks x (suc n) = x ∷ blanks x n
-
-pub blanks-last : {X : Type 0} (x : X) (n : ℕ) → blanks x n ++ x ∷ [] ≡ blanks x (suc n)
-blanks-last x zero = refl
-blanks-last x (suc n) = ap (λ t. x ∷ t) (blanks-last x n)
-
-pub blanks-view : {X : Type 0} (f : X → Slot) (x : X) → f x ≡ absent → (rows : List CodeSpellings) → map f (blanks x (length rows)) ≡ slots_at (map spellings_view rows) no_members
+-- as many slots in which nothing is found yet
+pub blanks-view : {X : Type 0} (f : X → Slot) (x : X) → f x ≡ absent → (rows : List CodeSpellings) → map f (replicate (length rows) x) ≡ slots_at (map spellings_view rows) no_members
 blanks-view f x h [] = refl
 blanks-view f x h (r ∷ rows) = rw (blanks-view f x h rows, ← at_none (spellings_view r), h) refl
-
-pub blanks-length : {X : Type 0} (x : X) (n : ℕ) → length (blanks x n) ≡ n
-blanks-length x zero = refl
-blanks-length x (suc n) = ap suc (blanks-length x n)
 
 pub word_at : (rows : List CodeSpellings) (i : ℕ) (d0 : CodeSpellings) (k : Text) → i < length rows → is_among (spell (spellings_view (get_or rows i d0)) []) k ≡ true → is_word_at i (map spellings_view rows) k ≡ true
 word_at [] i d0 k h g = absurd (omega (arith, h))
@@ -210,31 +168,12 @@ filled_at-set f i [] x d0 k d h g = absurd (omega (arith, g))
 filled_at-set f zero (y ∷ xs) x d0 k d h g = rw h refl
 filled_at-set f (suc i) (y ∷ xs) x d0 k d h g = ap (λ t. f y ∷ t) (filled_at-set f i xs x d0 k d h (omega (arith, g)))
 
--- what is left after a place does not depend on what stands there
-pub drop-set : {X : Type 0} (i : ℕ) (xs : List X) (x : X) → drop (suc i) (slice_set xs i x) ≡ drop (suc i) xs
-drop-set i [] x = refl
-drop-set zero (y ∷ xs) x = refl
-drop-set (suc i) (y ∷ xs) x = drop-set i xs x
-
 -- A KEY THAT IS ABOVE ALL BEFORE
--- some members, and then others
-abbrev pub joined : Members → Members → Members
-joined no_members ns = ns
-joined (member k d ms) ns = member k d (joined ms ns)
-
-pub joined-none : (ms : Members) → joined ms no_members ≡ ms
-joined-none no_members = refl
-joined-none (member k d ms) = ap (member k d) (joined-none ms)
-
-pub joined-last : (ms : Members) (k : Text) (d : Data) (ns : Members) → joined (with_last ms k d) ns ≡ joined ms (member k d ns)
-joined-last no_members k d ns = refl
-joined-last (member l e ms) k d ns = ap (member l e) (joined-last ms k d ns)
-
-below_next : (l : Text) (done : Members) (k : Text) (d : Data) (more : Members) → IsBelow l (joined done (member k d more)) → slice_cmp nat_cmp l k ≡ Less
+below_next : (l : Text) (done : Members) (k : Text) (d : Data) (more : Members) → IsBelow l (join done (member k d more)) → slice_cmp nat_cmp l k ≡ Less
 below_next l no_members k d more h = h.0
 below_next l (member j e done) k d more h = below_next l done k d more h.1
 
-pub not_before : (done : Members) (k : Text) (d : Data) (more : Members) → Ascend (joined done (member k d more)) → get_member k done ≡ None
+pub not_before : (done : Members) (k : Text) (d : Data) (more : Members) → Ascend (join done (member k d more)) → get_member k done ≡ None
 not_before no_members k d more h = refl
 not_before (member l e done) k d more h =
     let above : slice_cmp nat_cmp k l ≡ Greater = nat_list_cmp_total.antisymm k l ∙ ap ordering_reverse (below_next l done k d more h.0) in

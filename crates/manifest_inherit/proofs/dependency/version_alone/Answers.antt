@@ -1,7 +1,7 @@
 use Rattle.std.proofs.Common.{codes, rules, string_bytes, sym}
 use Rattle.toml.specs.Data.{string, table, no_members, member}
 use Rattle.manifest_schema.specs.PartForms.{detailed_rows}
-use Rattle.manifest_schema.proofs.PartLaws.{detailed_lawful}
+use Rattle.manifest_schema.proofs.PartLaws.{detailed_form}
 use Rattle.manifest_inherit.specs.Resolved.{version_alone}
 use Rattle.manifest_inherit.proofs.dependency.version_alone.Goals as goal
 
@@ -9,4 +9,4 @@ pub returns : goal.returns
 unfolding detailed_rows
 returns c =
     let v = string_bytes c.args.version.now in
-    detailed_lawful.single (table (member (codes "version") (string v) no_members)) _ (version_alone v) (sym c.in_ok-version.ensures, c.default-detail.ensures.1) (search rules)
+    detailed_form.lawful.single (table (member (codes "version") (string v) no_members)) _ (version_alone v) (sym c.in_ok-version.ensures, c.default-detail.ensures.1) (search rules)
