@@ -56,7 +56,7 @@ extern "C" {
        the bytes                  4, 15, 1, 15, 2, or 14 and 15, then 2
        the root                   20, 31, 17, 31, 18, or 30 and 31, then 18   (it is read also where the manifest inherits nothing)
        its workspace              9
-       what is inherited from the workspace   10, 11, 12, 13
+       what is inherited          10, 11, 12, 13
        the completion             3, 5
        the printing               32, 7
 

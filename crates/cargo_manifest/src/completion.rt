@@ -1,4 +1,4 @@
-//! Completion of a manifest from the listings of a filesystem, and the flags that it goes by.
+//! Completion of a manifest from the listings of a filesystem, and the flags that it uses.
 
 ghost use Rattle.std.specs.Prelude.{◌≡◌, OnErr, Ok, Some, None};
 ghost use Rattle.manifest_schema.specs.Contents;

@@ -36,7 +36,7 @@ pub struct Package<M = Value> {
     pub name: String,
     /// The edition of its targets, its own or inherited; Cargo takes 2015 where there is none.
     pub edition: Option<MaybeInherited<Edition>>,
-    /// The version, its own or inherited; Cargo takes `0.0.0` where there is none: [`Package::version`] tells what
+    /// The version, its own or inherited; Cargo takes `0.0.0` where there is none: [`Package::version`] says which one
     /// holds.
     pub version: Option<MaybeInherited<String>>,
     /// The build script by its path, or false for none; absent or true, it is discovered: completion fills it in.
@@ -77,13 +77,13 @@ pub struct Package<M = Value> {
     pub default_run: Option<String>,
     /// False turns the discovery of a library off.
     pub autolib: Option<bool>,
-    /// Whether binaries are discovered, where the package says it; `Manifest::autobins` tells what holds.
+    /// Whether binaries are discovered, where the package says it; `Manifest::autobins` says what holds.
     pub autobins: Option<bool>,
-    /// Whether examples are discovered, where the package says it; `Manifest::autoexamples` tells what holds.
+    /// Whether examples are discovered, where the package says it; `Manifest::autoexamples` says what holds.
     pub autoexamples: Option<bool>,
-    /// Whether tests are discovered, where the package says it; `Manifest::autotests` tells what holds.
+    /// Whether tests are discovered, where the package says it; `Manifest::autotests` says what holds.
     pub autotests: Option<bool>,
-    /// Whether benches are discovered, where the package says it; `Manifest::autobenches` tells what holds.
+    /// Whether benches are discovered, where the package says it; `Manifest::autobenches` says what holds.
     pub autobenches: Option<bool>,
     /// Whether, or to which registries, it may be published; to any where nothing is said.
     pub publish: Option<MaybeInherited<Publish>>,

@@ -1,4 +1,4 @@
-//! Values as tagged bytes, for readers that want values and no text. `docs/LIBRARY.md` has the layout.
+//! Values as tagged bytes, for readers that need values and no text. `docs/LIBRARY.md` has the layout.
 #![tactic(auto)]
 
 mod error;

@@ -18,7 +18,7 @@ use std::alloc::Global;
 use std::rc::Rc;
 use toml::Table;
 
-/// How deep arrays and tables may nest in a table. All that is done with a manifest goes by calls that nest as deep.
+/// How deep arrays and tables may nest in a table. Everything that is done with a manifest recurses as deep.
 const DEPTH_LIMIT: usize = 128;
 
 /// What the bytes of a manifest are.

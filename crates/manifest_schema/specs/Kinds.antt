@@ -212,7 +212,7 @@ good_inh K (local x) = K.good x
 abbrev pub inh : {A : Type 0} → Kind A → Kind (Inheritable A)
 inh K = record { reads = reads_inh K; faulty = faulty_inh K; written = written_inh K; good = good_inh K }
 
--- ONE OF TWO KINDS: K where the test of the value holds, else L; `side` tells of which of the two a C is
+-- ONE OF TWO KINDS: K where the test of the value holds, else L; `side` says of which of the two a C is
 abbrev pub reads_split : {A B : Type 0} → Kind A → Kind B → Bool → Data → A ⊎ B → Type 0
 reads_split K L true d (inl a) = K.reads d a
 reads_split K L false d (inr b) = L.reads d b

@@ -39,7 +39,7 @@ impl Schema for u16 {
     }
 
     fn is_well_formed(&self) -> bool {
-        // each number of the type is in the range of its kind: that it is read tells the proof so
+        // each number of the type is in the range of its kind: the proof knows it from reading the number
         let _in_range = *self;
         true
     }
@@ -76,7 +76,7 @@ impl Schema for i8 {
     }
 
     fn is_well_formed(&self) -> bool {
-        // each number of the type is in the range of its kind: that it is read tells the proof so
+        // each number of the type is in the range of its kind: the proof knows it from reading the number
         let _in_range = *self;
         true
     }
