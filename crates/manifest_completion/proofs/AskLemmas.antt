@@ -1,5 +1,5 @@
 -- Lemmas on what is answered at a folder and at its entries.
-use Rattle.std.proofs.Common.{◌≡◌, List, [], ◌∷◌, ◌++◌, Bool, true, false, refl, ap, sym, ◌∙◌, String, map, string_bytes, MatchBool}
+use Rattle.std.proofs.Common.{◌≡◌, List, [], ◌∷◌, ◌++◌, Bool, true, false, refl, ap, sym, ◌∙◌, String, map, string_bytes}
 use Rattle.std.specs.declared.alloc.Global.{Global}
 use Rattle.std.specs.declared.cmp.Ordering.TheVariants.{Less}
 use Rattle.std.specs.List.{AllZip, AllByRecursion, IsDistinct}
@@ -40,21 +40,6 @@ unfolding IsStrictlySortedBy IsDistinct
 ascending_differ [] h = tt
 ascending_differ (n ∷ ns) h = (none_same n ns h.0, ascending_differ ns h.1)
 
--- LISTS side by side
-pub zip_push : {A B : Type 0} (R : A → B → Type 0) (xs : List A) (ys : List B) (x : A) (y : B) → AllZip R xs ys → R x y → AllZip R (xs ++ x ∷ []) (ys ++ y ∷ [])
-zip_push R [] [] x y h r = (r, tt)
-zip_push R [] (b ∷ ys) x y h r = absurd h
-zip_push R (a ∷ xs) [] x y h r = absurd h
-zip_push R (a ∷ xs) (b ∷ ys) x y h r = (h.0, zip_push R xs ys x y h.1 r)
-
-pub at_true : (b : Bool) (P Q : Type 0) → b ≡ true → P → MatchBool b P Q
-at_true true P Q e p = p
-at_true false P Q e p = cc
-
-pub at_false : (b : Bool) (P Q : Type 0) → b ≡ false → Q → MatchBool b P Q
-at_false true P Q e q = cc
-at_false false P Q e q = q
-
 -- ENTRIES
 module _ (allows : Text → Answer → Type 0) (d : Text) where
   abbrev pub Answered : Text → Answer → Type 0
@@ -65,11 +50,11 @@ module _ (allows : Text → Answer → Type 0) (d : Text) where
   entries_all [] [] h = tt
   entries_all [] (a ∷ heard) h = absurd h
   entries_all (n ∷ ns) [] h = absurd h
-  entries_all (n ∷ ns) (a ∷ heard) h = (h.0.0, at_false (is_memory_fault a) (heard ≡ []) (EntriesHeard allows d ns heard) h.0.1 (entries_all ns heard h.1))
+  entries_all (n ∷ ns) (a ∷ heard) h = (h.0.0, rw h.0.1 (entries_all ns heard h.1))
 
   -- the last one that was asked found none
   pub entries_stop : (ns : List Text) (heard : List Answer) (n : Text) (rest : List Text) (a : Answer) → AllZip Answered ns heard → Heard allows (joined d n) a → is_memory_fault a ≡ true → EntriesHeard allows d (ns ++ n ∷ rest) (heard ++ a ∷ [])
-  entries_stop [] [] n rest a h ok e = (ok, at_true (is_memory_fault a) ([] ≡ []) (EntriesHeard allows d rest []) e refl)
+  entries_stop [] [] n rest a h ok e = (ok, rw e refl)
   entries_stop [] (b ∷ heard) n rest a h ok e = absurd h
   entries_stop (m ∷ ns) [] n rest a h ok e = absurd h
-  entries_stop (m ∷ ns) (b ∷ heard) n rest a h ok e = (h.0.0, at_false (is_memory_fault b) (heard ++ a ∷ [] ≡ []) (EntriesHeard allows d (ns ++ n ∷ rest) (heard ++ a ∷ [])) h.0.1 (entries_stop ns heard n rest a h.1 ok e))
+  entries_stop (m ∷ ns) (b ∷ heard) n rest a h ok e = (h.0.0, rw h.0.1 (entries_stop ns heard n rest a h.1 ok e))

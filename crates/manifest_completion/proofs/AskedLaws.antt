@@ -66,9 +66,9 @@ entry_eq examples n m = refl
 entry_eq tests n m = refl
 entry_eq benches n m = refl
 
-folder_all_apart : (d : TargetFolder) (ns : List Text) → AllApart (folder d) (map (entry d) ns)
-folder_all_apart d [] = tt
-folder_all_apart d (n ∷ ns) = (folder_apart d n, folder_all_apart d ns)
+all_apart : (p : Place) (d : TargetFolder) (ns : List Text) → ((n : Text) → bytes_eq (path_text p) (path_text (entry d n)) ≡ false) → AllApart p (map (entry d) ns)
+all_apart p d [] h = tt
+all_apart p d (n ∷ ns) h = (h n, all_apart p d ns h)
 
 entry_all_apart : (d : TargetFolder) (n : Text) (ns : List Text) → AllByRecursion (λ m. bytes_eq n m ≡ false) ns → AllApart (entry d n) (map (entry d) ns)
 entry_all_apart d n [] h = tt
@@ -81,7 +81,7 @@ entries_differ d (n ∷ ns) h = (entry_all_apart d n ns h.0, entries_differ d ns
 
 places_differ : (l : ListingMap) (d : TargetFolder) → HasNoNameTwice l → Differ (folder_places l d)
 unfolding IsDistinct
-places_differ l d h = (folder_all_apart d (names_of (at l (folder d))), entries_differ d (names_of (at l (folder d))) (h (folder d)))
+places_differ l d h = (all_apart (folder d) d (names_of (at l (folder d))) (folder_apart d), entries_differ d (names_of (at l (folder d))) (h (folder d)))
 
 -- PLACES BY THE FIRST BYTE of their text
 abbrev folder_byte : TargetFolder → ℕ
@@ -113,11 +113,7 @@ by_byte p q e = let x = rest_of p in let y = rest_of q in rw (x.1, y.1, e) refl
 
 -- a place and a folder with another first byte
 folder_by_byte : (p : Place) (d : TargetFolder) (ns : List Text) → nat_eq (byte p) (folder_byte d) ≡ false → AllApart p (folder d ∷ map (entry d) ns)
-folder_by_byte p d ns e = (by_byte p (folder d) e, entries ns)
-  where
-    entries : (ms : List Text) → AllApart p (map (entry d) ms)
-    entries [] = tt
-    entries (m ∷ ms) = (by_byte p (entry d m) e, entries ms)
+folder_by_byte p d ns e = (by_byte p (folder d) e, all_apart p d ns (λ n. by_byte p (entry d n) e))
 
 -- the places of a folder and any places of which its first byte is not one
 folder_across : (l : ListingMap) (d : TargetFolder) (qs : List Place) → ((p : Place) → byte p ≡ folder_byte d → AllApart p qs) → Across (folder_places l d) qs
@@ -159,11 +155,7 @@ bins_differ : (l : ListingMap) (asks : Bool) → HasNoNameTwice l → Differ (fo
 bins_differ l asks h = differ_append (folder_places l bins) (folder_places l examples ++ (folder_places l tests ++ (folder_places l benches ++ root_places asks))) (places_differ l bins h) (examples_differ l asks h) (folder_across l bins (folder_places l examples ++ (folder_places l tests ++ (folder_places l benches ++ root_places asks))) (λ p e. from_examples l asks p e))
 
 source_apart : (l : ListingMap) (asks : Bool) → AllApart source (folder_places l bins ++ (folder_places l examples ++ (folder_places l tests ++ (folder_places l benches ++ root_places asks))))
-source_apart l asks = apart_append source (folder_places l bins) _ (refl, entries (names_of (at l (folder bins)))) (from_examples l asks source refl)
-  where
-    entries : (ms : List Text) → AllApart source (map (entry bins) ms)
-    entries [] = tt
-    entries (m ∷ ms) = (refl, entries ms)
+source_apart l asks = apart_append source (folder_places l bins) _ (refl, all_apart source bins (names_of (at l (folder bins))) (λ n. refl)) (from_examples l asks source refl)
 
 pub together : (l : ListingMap) (rest : List Place) → folder_places l bins ++ (folder_places l examples ++ (folder_places l tests ++ (folder_places l benches ++ rest))) ≡ target_places l ++ rest
 together l rest =

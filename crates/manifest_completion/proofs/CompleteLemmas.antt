@@ -3,13 +3,14 @@ use Rattle.std.proofs.Common.{◌≡◌, List, [], ◌∷◌, ◌++◌, Bool, tr
 use Rattle.std.specs.Result.{IsErrAnd}
 use Rattle.std.specs.IoError.{error_kind}
 use Rattle.std.specs.List.{list_any, flat_map}
+use Rattle.std.proofs.lemmas.Bool.{or_parts}
 use Rattle.std.proofs.lemmas.List.Folds.{list_any-append}
 use Rattle.std.specs.declared.io.ErrorKind.{ErrorKind}
 use Rattle.std.specs.declared.io.ErrorKind.TheVariants.{NotFound, OutOfMemory}
 use Rattle.manifest_schema.specs.Paths.{Text}
 use Rattle.manifest_schema.specs.Contents.{Product, Manifest}
 use Rattle.manifest_value.specs.declared.error.Error.{Error}
-use Rattle.manifest_value.specs.declared.error.Error.TheVariants.{Parse, Io, Utf8, Other, Memory}
+use Rattle.manifest_value.specs.declared.error.Error.TheVariants.{Io, Other, Memory}
 use Rattle.manifest_completion.specs.declared.completion.CompletedTargets.{CompletedTargets}
 use Rattle.manifest_completion.specs.declared.ask.FolderAnswers.{FolderAnswers}
 use Rattle.manifest_completion.specs.declared.ask.Answers.{Answers}
@@ -21,31 +22,23 @@ use Rattle.manifest_completion.specs.Asking.{Heard, EntriesHeard, HeardInTurn, f
 use Rattle.manifest_completion.specs.Outcome.{completed_content, IsFault, RefusesLibrary, TargetsComeTo, TargetsRefused, TargetsCompleted, paired_finds, folder_paired, TargetsMade, heard_fault, CompletesHeard}
 use Rattle.manifest_completion.proofs.DecidesLaws.{with_library}
 use Rattle.manifest_completion.proofs.AskLemmas.{none_ascend, ascending_differ}
-use Rattle.manifest_completion.proofs.HeardLemmas.{folder_fault, entry_answers, padded, match_false, any_map}
+use Rattle.manifest_completion.proofs.HeardLemmas.{folder_fault, entry_answers, padded, any_map}
 
 -- FINDS: those that are computed are those of the map
-left_false : (x y : Bool) → (x || y) ≡ false → x ≡ false
-left_false true y w = w
-left_false false y w = refl
-
-right_false : (x y : Bool) → (x || y) ≡ false → y ≡ false
-right_false true y w = cc
-right_false false y w = w
-
 paired_is : (d : Text) (f : Text → Answer) (ns : List Text) (heard : List Answer) → map f ns ≡ padded ns heard → EntriesHeard (λ path answer. Unit {0}) d ns heard → list_any is_memory_fault heard ≡ false → paired_finds d ns heard ≡ flat_map (λ n. entry_finds d n (f n)) ns
 paired_is d f [] heard e h q = refl
 paired_is d f (n ∷ ns) [] e h q = absurd h
 paired_is d f (n ∷ ns) (a ∷ heard) e h q =
     let here : f n ≡ a = cc e in
     let there : map f ns ≡ padded ns heard = cc e in
-    let kept : is_memory_fault a ≡ false = left_false (is_memory_fault a) (list_any is_memory_fault heard) q in
+    let kept : is_memory_fault a ≡ false = (or_parts (is_memory_fault a) (list_any is_memory_fault heard) q).0 in
     rw here (ap (λ (xs : List Find). entry_finds d n a ++ xs)
-    (paired_is d f ns heard there (match_false (is_memory_fault a) (heard ≡ []) (EntriesHeard (λ path answer. Unit {0}) d ns heard) h.1 kept) (right_false (is_memory_fault a) (list_any is_memory_fault heard) q)))
+    (paired_is d f ns heard there (rw kept at h.1) (or_parts (is_memory_fault a) (list_any is_memory_fault heard) q).1))
 
 folder_paired_is : (l : ListingMap) (d : TargetFolder) (a : FolderAnswers) → folder_of l d ≡ folder_listing a → HeardInTurn d a → ran_out_of_memory a ≡ false → folder_paired (folder_text d) a ≡ finds l d
 folder_paired_is l d a e h q =
     let own : (folder_of l d).own ≡ answer_of a.own = ap (λ (f : FolderListing). f.own) e in
-    let kept : list_any is_memory_fault (answers_of a.entries) ≡ false = any_map is_memory_fault answer_of a.entries.items ∙ right_false (is_memory_fault (answer_of a.own)) _ q in
+    let kept : list_any is_memory_fault (answers_of a.entries) ≡ false = any_map is_memory_fault answer_of a.entries.items ∙ (or_parts (is_memory_fault (answer_of a.own)) _ q).1 in
     rw own (paired_is (folder_text d) (λ n. at l (entry d n)) (names_of (answer_of a.own)) (answers_of a.entries) (entry_answers l d a e (ascending_differ (names_of (answer_of a.own)) h.own.0)) h.entries kept)
 
 -- THE MAP of a completion that asks `src` alone
@@ -77,21 +70,16 @@ module _ (allows : Text → Answer → Type 0) (t : PackageTargets) (src : Answe
 
   pub source_error : (e : Error) → IsFault (source_fault src) e → TargetsRefused allows t e
   source_error (Io e) h = source_refused (error_kind e) h
-  source_error (Parse f) h = absurd h
-  source_error (Utf8 f) h = absurd h
-  source_error (Other s) h = absurd h
-  source_error (Memory f) h = absurd h
+  source_error _ h = absurd h
 
   -- there is no library
   library_refused : source_fault src ≡ None → library t src ≡ no_file → TargetsComeTo allows t no_library
   library_refused e f = (only_source src, explains_stop (rw (e, f) refl), rw (e, f) refl)
 
   pub library_error : source_fault src ≡ None → (e : Error) → RefusesLibrary (library t src) e → TargetsRefused allows t e
-  library_error none (Io e) h = absurd h
-  library_error none (Parse f) h = absurd h
-  library_error none (Utf8 f) h = absurd h
   library_error none (Other s) h = (library_refused none h.0, h.1)
   library_error none (Memory f) h = tt
+  library_error none _ h = absurd h
 
 -- all was answered
 module _ (allows : Text → Answer → Type 0) (t : PackageTargets) (a : Answers) (heard : AllHeard allows (asks_root t.build) a) (none : source_fault (answer_of a.source) ≡ None) (lib : Option Product) (got : library t (answer_of a.source) ≡ known lib) where
@@ -129,9 +117,9 @@ module _ (allows : Text → Answer → Type 0) (t : PackageTargets) (a : Answers
   unfolding filled
   filled_is e c made =
       let l = listing_map a in
-      let q1 = left_false (ran_out_of_memory a.bins) _ e in let r1 = right_false (ran_out_of_memory a.bins) _ e in
-      let q2 = left_false (ran_out_of_memory a.examples) _ r1 in let r2 = right_false (ran_out_of_memory a.examples) _ r1 in
-      let q3 = left_false (ran_out_of_memory a.tests) (ran_out_of_memory a.benches) r2 in let q4 = right_false (ran_out_of_memory a.tests) (ran_out_of_memory a.benches) r2 in
+      let (q1, r1) = or_parts (ran_out_of_memory a.bins) _ e in
+      let (q2, r2) = or_parts (ran_out_of_memory a.examples) _ r1 in
+      let (q3, q4) = or_parts (ran_out_of_memory a.tests) (ran_out_of_memory a.benches) r2 in
       let fb = folder_paired_is l bins a.bins refl heard.bins q1 in let fe = folder_paired_is l examples a.examples refl heard.examples q2 in
       let ft = folder_paired_is l tests a.tests refl heard.tests q3 in let fn = folder_paired_is l benches a.benches refl heard.benches q4 in
       rw (made.build, made.library, made.lists.bin, made.lists.example, made.lists.test, made.lists.bench, fb, fe, ft, fn) refl
@@ -140,9 +128,7 @@ module _ (allows : Text → Answer → Type 0) (t : PackageTargets) (a : Answers
   by_answers (Ok c) h = (listing_map a, explains_all, heard_outcome ∙ ap (after_root t lib (listing_map a)) h.0 ∙ ap completed_to (filled_is (calm h.0) c h.1))
   by_answers (Err (Io e)) h = (listing_map a, explains_all, heard_outcome ∙ ap (after_root t lib (listing_map a)) h)
   by_answers (Err (Memory e)) h = tt
-  by_answers (Err (Parse e)) h = absurd h
-  by_answers (Err (Utf8 e)) h = absurd h
-  by_answers (Err (Other e)) h = absurd h
+  by_answers (Err _) h = absurd h
 
 -- a refusal with this error
 pub refused_with : (allows : Text → Answer → Type 0) (t : PackageTargets) (r : Result CompletedTargets Error) (e : Error) → IsErrAnd r (λ x. x ≡ e) → TargetsRefused allows t e → TargetsCompleted allows t r

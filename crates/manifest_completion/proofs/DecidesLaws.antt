@@ -1,5 +1,6 @@
 -- The answers at the places that are asked decide what is asked and what a manifest becomes.
 use Rattle.std.proofs.Common.{◌≡◌, List, [], ◌∷◌, ◌++◌, Bool, true, false, refl, ap, sym, ◌∙◌, map, Option, Some, None, if◌then◌else◌, ◌||◌, subst}
+use Rattle.std.proofs.lemmas.Bool.{or_parts}
 use Rattle.std.proofs.lemmas.List.{append-nil}
 use Rattle.std.specs.List.{AllByRecursion, flat_map}
 use Rattle.std.specs.declared.io.ErrorKind.{ErrorKind}
@@ -8,7 +9,7 @@ use Rattle.manifest_schema.specs.Paths.{Text}
 use Rattle.manifest_schema.specs.Contents.{StringOrBool, a_text, a_flag, Product, Package}
 use Rattle.manifest_completion.specs.Listings.{Answer, names, fault, names_of, is_memory_fault, TargetFolder, bins, examples, tests, benches, Place, source, folder, entry, root, folder_text, ListingMap, at}
 use Rattle.manifest_completion.specs.Finds.{Find, entry_finds, finds}
-use Rattle.manifest_completion.specs.Completed.{PackageTargets, folder_places, target_places, root_places, up_to_memory_fault, has_memory_fault, asks_root, root_fault, build_of, Library, no_file, known, library, source_fault, after_root, filled, completed_to, refused, completed_targets, asked_targets, completed_by, asked_by, completion_with, targets_of}
+use Rattle.manifest_completion.specs.Completed.{PackageTargets, folder_places, target_places, root_places, up_to_memory_fault, has_memory_fault, asks_root, root_fault_if, root_fault, build_of, Library, no_file, known, library, source_fault, after_root, filled, completed_to, refused, completed_targets, asked_targets, completed_by, asked_by, completion_with, targets_of}
 use Rattle.manifest_completion.specs.Laws.{AgreeAt, AskedDecides}
 use Rattle.manifest_completion.proofs.AskedLaws.{together}
 
@@ -25,10 +26,6 @@ pub stops_or : (P : Place → Type 0) (b : Bool) (ps : List Place) → (b ≡ fa
 stops_or P true ps h = tt
 stops_or P false ps h = h refl
 
-neither : (x y : Bool) → (x || y) ≡ false → (x ≡ false) × (y ≡ false)
-neither true y e = cc
-neither false y e = (refl, e)
-
 -- a place for which memory ran out is among those up to the first
 memory_seen : (f : Place → Answer) (ps : List Place) → has_memory_fault f (up_to_memory_fault f ps) ≡ has_memory_fault f ps
 memory_seen f [] = refl
@@ -37,6 +34,11 @@ memory_seen f (p ∷ ps) = one (is_memory_fault (f p)) (memory_seen f ps)
     one : (b : Bool) → has_memory_fault f (up_to_memory_fault f ps) ≡ has_memory_fault f ps → (b || has_memory_fault f (if b then [] else up_to_memory_fault f ps)) ≡ (b || has_memory_fault f ps)
     one true same = refl
     one false same = same
+
+-- a folder of the manifest that is not asked has no fault
+unasked : (a : Answer) → root_fault_if false a ≡ None
+unasked (names ns) = refl
+unasked (fault e) = refl
 
 -- what targets with a library become
 pub with_library : (t : PackageTargets) (l : ListingMap) (lib : Option Product) → source_fault l.source ≡ None → library t l.source ≡ known lib
@@ -105,7 +107,7 @@ module _ (l k : ListingMap) where
   all_asked : (ps xs : List Place) → has_memory_fault (at l) ps ≡ false → AgreeUpTo (ps ++ xs) → AgreeAt l k ps × AgreeUpTo xs
   all_asked [] xs e h = (tt, h)
   all_asked (p ∷ ps) xs e h =
-      let calm = neither (is_memory_fault (at l p)) (has_memory_fault (at l) ps) e in
+      let calm = or_parts (is_memory_fault (at l p)) (has_memory_fault (at l) ps) e in
       let more = all_asked ps xs calm.1 (goes_on (λ q. at l q ≡ at k q) (is_memory_fault (at l p)) (up_to_memory_fault (at l) (ps ++ xs)) h.1 calm.0) in
       ((h.0, more.0), more.1)
 
@@ -128,16 +130,8 @@ module _ (l k : ListingMap) where
   same_root : (b : Option StringOrBool) → AgreeUpTo (root_places (asks_root b)) → (root_fault b l.root ≡ root_fault b k.root) × (build_of b l.root ≡ build_of b k.root)
   same_root None h = (ap (root_fault None) h.0, ap (build_of None) h.0)
   same_root (Some (a_flag true)) h = (ap (root_fault (Some (a_flag true))) h.0, ap (build_of (Some (a_flag true))) h.0)
-  same_root (Some (a_flag false)) h = (calm l.root ∙ sym (calm k.root), refl)
-    where
-      calm : (a : Answer) → root_fault (Some (a_flag false)) a ≡ None
-      calm (names ns) = refl
-      calm (fault e) = refl
-  same_root (Some (a_text s)) h = (calm l.root ∙ sym (calm k.root), refl)
-    where
-      calm : (a : Answer) → root_fault (Some (a_text s)) a ≡ None
-      calm (names ns) = refl
-      calm (fault e) = refl
+  same_root (Some (a_flag false)) h = (unasked l.root ∙ sym (unasked k.root), refl)
+  same_root (Some (a_text s)) h = (unasked l.root ∙ sym (unasked k.root), refl)
 
   -- THE TARGETS FILLED IN
   same_filled : (t : PackageTargets) (lib : Option Product) → l.source ≡ k.source → AgreeAt l k (target_places l) → build_of t.build l.root ≡ build_of t.build k.root → filled t lib l ≡ filled t lib k

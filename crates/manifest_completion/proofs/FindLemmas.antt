@@ -11,6 +11,7 @@ use Rattle.std.specs.Cmp.Lexicographic.{slice_cmp}
 use Rattle.std.specs.Str.{bytes_eq}
 use Rattle.std.proofs.lemmas.Map.Text.{is_eq-slice_cmp}
 use Rattle.manifest_schema.specs.Paths.{Text}
+use Rattle.manifest_schema.proofs.CopyLaws.{items_copied}
 use Rattle.manifest_completion.specs.Finds.{stem}
 use Rattle.manifest_completion.specs.Outcome.{paired_finds}
 
@@ -20,14 +21,8 @@ has_text text n [] = refl
 has_text text n (k ∷ ks) = rw (is_eq-slice_cmp n (text k)) (ap (λ b. bytes_eq n (text k) || b) (has_text text n ks))
 
 -- copies of texts have the same bytes
-pub bytes_of_copies : {R : String Global → String Global → Type 0} → ((s n : String Global) → R s n → string_bytes n ≡ string_bytes s) → (ks ns : List (String Global)) → AllZip R ks ns → map string_bytes ns ≡ map string_bytes ks
-bytes_of_copies same [] [] h = refl
-bytes_of_copies same [] (n ∷ ns) h = absurd h
-bytes_of_copies same (k ∷ ks) [] h = absurd h
-bytes_of_copies same (k ∷ ks) (n ∷ ns) h = cc (same k n h.0, bytes_of_copies same ks ns h.1)
-
 pub bytes_of_clones : (ks ns : List (String Global)) → AllZip (λ s n. string_bytes n ≡ string_bytes s) ks ns → map string_bytes ns ≡ map string_bytes ks
-bytes_of_clones = bytes_of_copies (λ s n e. e)
+bytes_of_clones = items_copied string_bytes (λ s n e. e)
 
 -- no answers, no finds
 pub paired_none : (d : Text) (ns : List Text) → paired_finds d ns [] ≡ []

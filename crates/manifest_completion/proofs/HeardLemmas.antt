@@ -3,7 +3,7 @@ use Rattle.std.proofs.Common.{◌≡◌, List, [], ◌∷◌, ◌++◌, Bool, tr
 use Rattle.std.specs.List.{AllByRecursion, IsDistinct, list_any, zip}
 use Rattle.std.specs.Str.{bytes_eq}
 use Rattle.std.proofs.lemmas.Slice.Eq.{bytes_eq-Decides}
-use Rattle.std.proofs.lemmas.List.{append_assoc}
+use Rattle.std.proofs.lemmas.Bool.{and_from, or_from}
 use Rattle.std.specs.declared.io.ErrorKind.TheVariants.{NotFound}
 use Rattle.manifest_schema.specs.Paths.{Text}
 use Rattle.manifest_completion.specs.declared.ask.FolderAnswers.{FolderAnswers}
@@ -13,6 +13,8 @@ use Rattle.manifest_completion.specs.Completed.{up_to_memory_fault, folder_place
 use Rattle.manifest_completion.specs.Answered.{answer_of, answers_of}
 use Rattle.manifest_completion.specs.Asking.{Heard, EntriesHeard, FolderHeard, HeardInTurn, folder_listing, listing_map, AllHeard, ran_out_of_memory}
 use Rattle.manifest_completion.proofs.AskLemmas.{none_ascend, ascending_differ}
+use Rattle.manifest_completion.proofs.AskedLaws.{together}
+use Rattle.manifest_completion.proofs.DecidesLaws.{goes_on, stops_or}
 
 -- the answers, with NotFound past their end
 abbrev pub padded : List Text → List Answer → List Answer
@@ -40,15 +42,11 @@ or_cases : (b x y : Bool) → (b ≡ false → x ≡ y) → (b || x) ≡ (b || y
 or_cases true x y h = refl
 or_cases false x y h = h refl
 
-pub match_false : (b : Bool) (P Q : Type 0) → MatchBool b P Q → b ≡ false → Q
-match_false true P Q m e = cc
-match_false false P Q m e = m
-
 any_padded : (P : Text → Answer → Type 0) (d : Text) (ns : List Text) (heard : List Answer) → EntriesHeard P d ns heard → list_any is_memory_fault (padded ns heard) ≡ list_any is_memory_fault heard
 any_padded P d [] [] h = refl
 any_padded P d [] (a ∷ heard) h = absurd h
 any_padded P d (n ∷ ns) [] h = absurd h
-any_padded P d (n ∷ ns) (a ∷ heard) h = or_cases (is_memory_fault a) _ _ (λ e. any_padded P d ns heard (match_false (is_memory_fault a) (heard ≡ []) (EntriesHeard P d ns heard) h.1 e))
+any_padded P d (n ∷ ns) (a ∷ heard) h = or_cases (is_memory_fault a) _ _ (λ e. any_padded P d ns heard (rw e at h.1))
 
 pub any_map : {A B : Type 0} (p : B → Bool) (f : A → B) (xs : List A) → list_any p (map f xs) ≡ list_any (λ x. p (f x)) xs
 any_map p f [] = refl
@@ -74,25 +72,13 @@ module _ (allows : Text → Answer → Type 0) (l : ListingMap) where
   abbrev Holds : Place → Type 0
   Holds p = allows (path_text p) (at l p)
 
-  stop_or : (b : Bool) (us vs : List Place) → AllByRecursion Holds (if b then [] else us) → (b ≡ false → AllByRecursion Holds us → AllByRecursion Holds vs) → AllByRecursion Holds (if b then [] else vs)
-  stop_or true us vs h k = tt
-  stop_or false us vs h k = k refl h
-
-  or_false : (x y : Bool) → x ≡ false → y ≡ false → (x || y) ≡ false
-  or_false true y e f = cc
-  or_false false y e f = f
-
   pub allowed_append : (xs ys : List Place) → AllByRecursion Holds (up_to_memory_fault (at l) xs) → (has_memory_fault (at l) xs ≡ false → AllByRecursion Holds (up_to_memory_fault (at l) ys)) → AllByRecursion Holds (up_to_memory_fault (at l) (xs ++ ys))
   allowed_append [] ys h k = k refl
   allowed_append (x ∷ xs) ys h k = (
     h.0,
-    stop_or (is_memory_fault (at l x)) (up_to_memory_fault (at l) xs) (up_to_memory_fault (at l) (xs ++ ys)) h.1
-        (λ e all. allowed_append xs ys all (λ f. k (or_false (is_memory_fault (at l x)) (has_memory_fault (at l) xs) e f))),
+    stops_or Holds (is_memory_fault (at l x)) (up_to_memory_fault (at l) (xs ++ ys))
+        (λ e. allowed_append xs ys (goes_on Holds (is_memory_fault (at l x)) (up_to_memory_fault (at l) xs) h.1 e) (λ f. k (or_from (is_memory_fault (at l x)) (has_memory_fault (at l) xs) e f))),
   )
-
-  stop_if : (b : Bool) (us : List Place) → (b ≡ false → AllByRecursion Holds us) → AllByRecursion Holds (if b then [] else us)
-  stop_if true us h = tt
-  stop_if false us h = h refl
 
   -- the answers for the entries are allowed, up to the first that ran out of memory
   entries_held : (d : TargetFolder) (ns : List Text) (heard : List Answer) → map (λ n. at l (entry d n)) ns ≡ padded ns heard → EntriesHeard allows (folder_text d) ns heard → AllByRecursion Holds (up_to_memory_fault (at l) (map (entry d) ns))
@@ -103,8 +89,8 @@ module _ (allows : Text → Answer → Type 0) (l : ListingMap) where
       let there : map (λ m. at l (entry d m)) ns ≡ padded ns heard = cc e in
       rw here (
         h.0.1,
-        stop_if (is_memory_fault a) (up_to_memory_fault (at l) (map (entry d) ns))
-            (λ q. entries_held d ns heard there (match_false (is_memory_fault a) (heard ≡ []) (EntriesHeard allows (folder_text d) ns heard) h.1 q)),
+        stops_or Holds (is_memory_fault a) (up_to_memory_fault (at l) (map (entry d) ns))
+            (λ q. entries_held d ns heard there (rw q at h.1)),
       )
 
   -- the same for the folder before them
@@ -113,12 +99,12 @@ module _ (allows : Text → Answer → Type 0) (l : ListingMap) where
       let own : (folder_of l d).own ≡ answer_of a.own = ap (λ (f : FolderListing). f.own) e in
       rw own (
         h.own.1,
-        stop_if (is_memory_fault (answer_of a.own)) (up_to_memory_fault (at l) (map (entry d) (names_of (answer_of a.own))))
+        stops_or Holds (is_memory_fault (answer_of a.own)) (up_to_memory_fault (at l) (map (entry d) (names_of (answer_of a.own))))
             (λ q. entries_held d (names_of (answer_of a.own)) (answers_of a.entries) (entry_answers l d a e (ascending_differ (names_of (answer_of a.own)) h.own.0)) h.entries),
       )
 
   pub root_held : (asks : Bool) → (asks ≡ true → allows (path_text root) (at l root)) → AllByRecursion Holds (up_to_memory_fault (at l) (root_places asks))
-  root_held true h = (h refl, stop_if (is_memory_fault (at l root)) [] (λ q. tt))
+  root_held true h = (h refl, stops_or Holds (is_memory_fault (at l root)) [] (λ q. tt))
   root_held false h = tt
 
 -- ASCENDING
@@ -184,21 +170,12 @@ heard_in_turn P d a h = folder_weaker P anything (λ path answer p. tt) (folder_
 abbrev pub HeardUnless : Bool → (Text → Answer → Type 0) → TargetFolder → FolderAnswers → Type 0
 HeardUnless stopped allows d a = FolderHeard (λ path answer. stopped ≡ false → allows path answer) (folder_text d) a
 
-goes_on : (stopped : Bool) (allows : Text → Answer → Type 0) (d : TargetFolder) (a : FolderAnswers) → HeardUnless stopped allows d a → stopped ≡ false → FolderHeard allows (folder_text d) a
-goes_on stopped allows d a h e = folder_weaker (λ path answer. stopped ≡ false → allows path answer) allows (λ path answer p. p e) (folder_text d) a h
+heard_on : (stopped : Bool) (allows : Text → Answer → Type 0) (d : TargetFolder) (a : FolderAnswers) → HeardUnless stopped allows d a → stopped ≡ false → FolderHeard allows (folder_text d) a
+heard_on stopped allows d a h e = folder_weaker (λ path answer. stopped ≡ false → allows path answer) allows (λ path answer p. p e) (folder_text d) a h
 
 -- of a folder that is not asked
 pub none_heard : (stopped : Bool) (allows : Text → Answer → Type 0) (d : Text) (a : FolderAnswers) → stopped ≡ true → answer_of a.own ≡ fault NotFound → a.entries.items ≡ [] → FolderHeard (λ path answer. stopped ≡ false → allows path answer) d a
 none_heard stopped allows d a e own none = record { own = rw own (none_ascend, λ f. cc (e, f)); entries = rw (own, none) tt }
-
-none_of : (x y : Bool) → x ≡ false → y ≡ false → (x || y) ≡ false
-none_of true y e f = cc
-none_of false y e f = f
-
-asks_and : (asks stopped : Bool) → asks ≡ true → stopped ≡ false → (asks && not stopped) ≡ true
-asks_and true true e f = cc
-asks_and true false e f = refl
-asks_and false stopped e f = cc
 
 -- ALL that was answered
 pub all_heard : (allows : Text → Answer → Type 0) (asks : Bool) (a : Answers) →
@@ -224,17 +201,16 @@ all_heard allows asks a s b e t n r =
           (
               let l = listing_map a in
               let bp = folder_places l bins in let ep = folder_places l examples in let tp = folder_places l tests in let np = folder_places l benches in let rp = root_places asks in
-              let together : target_places l ++ rp ≡ bp ++ (ep ++ (tp ++ (np ++ rp))) = append_assoc bp (ep ++ (tp ++ np)) rp ∙ ap (λ (ps : List Place). bp ++ ps) (append_assoc ep (tp ++ np) rp ∙ ap (λ (ps : List Place). ep ++ ps) (append_assoc tp np rp)) in
-              subst (λ (ps : List Place). AllByRecursion (λ p. allows (path_text p) (at l p)) (up_to_memory_fault (at l) ps)) (sym together)
+              subst (λ (ps : List Place). AllByRecursion (λ p. allows (path_text p) (at l p)) (up_to_memory_fault (at l) ps)) (together l rp)
               (allowed_append allows l bp (ep ++ (tp ++ (np ++ rp))) (folder_held allows l bins a.bins refl b) (λ q1.
               let f1 : ran_out_of_memory a.bins ≡ false = sym (folder_fault l bins a.bins refl ob) ∙ q1 in
-              allowed_append allows l ep (tp ++ (np ++ rp)) (folder_held allows l examples a.examples refl (goes_on (ran_out_of_memory a.bins) allows examples a.examples e f1)) (λ q2.
-              let f2 = none_of (ran_out_of_memory a.bins) (ran_out_of_memory a.examples) f1 (sym (folder_fault l examples a.examples refl oe) ∙ q2) in
-              allowed_append allows l tp (np ++ rp) (folder_held allows l tests a.tests refl (goes_on _ allows tests a.tests t f2)) (λ q3.
-              let f3 = none_of (ran_out_of_memory a.bins || ran_out_of_memory a.examples) (ran_out_of_memory a.tests) f2 (sym (folder_fault l tests a.tests refl ot) ∙ q3) in
-              allowed_append allows l np rp (folder_held allows l benches a.benches refl (goes_on _ allows benches a.benches n f3)) (λ q4.
-              let f4 = none_of ((ran_out_of_memory a.bins || ran_out_of_memory a.examples) || ran_out_of_memory a.tests) (ran_out_of_memory a.benches) f3 (sym (folder_fault l benches a.benches refl on) ∙ q4) in
-              root_held allows l asks (λ y. r.1 (asks_and asks _ y f4)))))))),
+              allowed_append allows l ep (tp ++ (np ++ rp)) (folder_held allows l examples a.examples refl (heard_on (ran_out_of_memory a.bins) allows examples a.examples e f1)) (λ q2.
+              let f2 = or_from (ran_out_of_memory a.bins) (ran_out_of_memory a.examples) f1 (sym (folder_fault l examples a.examples refl oe) ∙ q2) in
+              allowed_append allows l tp (np ++ rp) (folder_held allows l tests a.tests refl (heard_on _ allows tests a.tests t f2)) (λ q3.
+              let f3 = or_from (ran_out_of_memory a.bins || ran_out_of_memory a.examples) (ran_out_of_memory a.tests) f2 (sym (folder_fault l tests a.tests refl ot) ∙ q3) in
+              allowed_append allows l np rp (folder_held allows l benches a.benches refl (heard_on _ allows benches a.benches n f3)) (λ q4.
+              let f4 = or_from ((ran_out_of_memory a.bins || ran_out_of_memory a.examples) || ran_out_of_memory a.tests) (ran_out_of_memory a.benches) f3 (sym (folder_fault l benches a.benches refl on) ∙ q4) in
+              root_held allows l asks (λ y. r.1 (and_from asks _ y (ap not f4))))))))),
         );
       };
     }

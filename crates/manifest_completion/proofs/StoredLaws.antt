@@ -1,5 +1,6 @@
 -- Where one answer is stored for each path text, the map of what is stored decides what completion gives.
 use Rattle.std.proofs.Common.{◌≡◌, ◌⊎◌, inl, inr, ⊎_elim, List, [], ◌∷◌, ◌++◌, Bool, true, false, refl, ap, sym, ◌∙◌, map, Option, Some, None, if◌then◌else◌, ◌||◌, subst, Ok, Err}
+use Rattle.std.proofs.Math.Bool.{or-false}
 use Rattle.std.specs.IoError.{error_kind}
 use Rattle.std.specs.List.{AllByRecursion}
 use Rattle.std.specs.Str.{bytes_eq}
@@ -9,7 +10,7 @@ use Rattle.std.specs.declared.io.ErrorKind.{ErrorKind}
 use Rattle.std.specs.declared.io.ErrorKind.TheVariants.{OutOfMemory}
 use Rattle.manifest_schema.specs.Paths.{Text}
 use Rattle.manifest_schema.specs.Contents.{StringOrBool, a_text, a_flag, Product, Package, Manifest}
-use Rattle.manifest_value.specs.declared.error.Error.TheVariants.{Parse, Io, Utf8, Other, Memory}
+use Rattle.manifest_value.specs.declared.error.Error.TheVariants.{Io, Other, Memory}
 use Rattle.manifest_completion.specs.Listings.{Answer, names, fault, names_of, is_memory_kind, is_memory_fault, TargetFolder, bins, examples, tests, benches, Place, source, folder, entry, root, path_text, entry_answer, FolderListing, ListingMap, folder_of, at}
 use Rattle.manifest_completion.specs.Completed.{PackageTargets, folder_places, target_places, root_places, up_to_memory_fault, has_memory_fault, asks_root, root_fault, after_root, Library, no_file, known, library, source_fault, Completion, completed_to, refused, no_library, completed_targets, asked_targets, completed, asked, completed_by, asked_by, completion_with, targets_of, AllAllowed}
 use Rattle.manifest_completion.specs.Stored.{AnswersAsStored, stored_folder, stored_map}
@@ -27,20 +28,12 @@ memory_fault : (a : Answer) → is_memory_fault a ≡ true → a ≡ fault OutOf
 memory_fault (names ns) e = cc
 memory_fault (fault k) e = ap fault (memory_kind k e)
 
-second : (x y : Bool) → x ≡ false → (x || y) ≡ true → y ≡ true
-second true y e f = cc
-second false y e f = f
-
 -- memory ran out for the folder of the manifest, which was asked
 root_lost : (b : Option StringOrBool) (l : ListingMap) → has_memory_fault (at l) (root_places (asks_root b)) ≡ true → root_fault b l.root ≡ Some OutOfMemory
 root_lost b l h = asked_root b h
   where
     lost : (is_memory_fault l.root || false) ≡ true → l.root ≡ fault OutOfMemory
-    lost e = memory_fault l.root (one (is_memory_fault l.root) e)
-      where
-        one : (x : Bool) → (x || false) ≡ true → x ≡ true
-        one true f = refl
-        one false f = f
+    lost e = memory_fault l.root (sym (or-false (is_memory_fault l.root)) ∙ e)
 
     asked_root : (o : Option StringOrBool) → has_memory_fault (at l) (root_places (asks_root o)) ≡ true → root_fault o l.root ≡ Some OutOfMemory
     asked_root None e = rw (lost e) refl
@@ -147,7 +140,7 @@ module _ (stored : Text → Answer) where
           one : (b : Bool) → has_memory_fault (at l) (target_places l) ≡ b → (has_memory_fault (at l) (target_places l) || has_memory_fault (at l) (root_places (asks_root t.build))) ≡ true
               → (if b then refused OutOfMemory else after_root t lib l (root_fault t.build l.root)) ≡ refused OutOfMemory
           one true e f = refl
-          one false e f = ap (after_root t lib l) (root_lost t.build l (second (has_memory_fault (at l) (target_places l)) (has_memory_fault (at l) (root_places (asks_root t.build))) e f))
+          one false e f = ap (after_root t lib l) (root_lost t.build l (rw e at f))
 
       pub targets_settled : AllAllowed (AnswersAsStored stored) l (asked_targets t l) → IsSettled
       targets_settled h = ⊎_elim (λ same. by_source same (source_fault l.source) (library t l.source) refl refl) (λ lost. inr (rw lost refl)) h.0
@@ -184,5 +177,4 @@ stored_decides stored t (Err (Other s)) h =
     ⊎_elim (λ same. (same, h.1)) (λ lost. cc)
     (by_stored (completed_targets t h.0.0) (completed_targets t (stored_map stored)) no_library (targets_settled stored h.0.0 t h.0.1.allowed) h.0.2)
 stored_decides stored t (Err (Memory e)) h = tt
-stored_decides stored t (Err (Parse e)) h = absurd h
-stored_decides stored t (Err (Utf8 e)) h = absurd h
+stored_decides stored t (Err _) h = absurd h

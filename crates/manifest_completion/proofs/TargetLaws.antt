@@ -1,8 +1,10 @@
 -- A completed list of targets is completed.
-use Rattle.std.proofs.Common.{◌≡◌, List, [], ◌∷◌, ◌++◌, Bool, true, false, refl, ap, sym, ◌∙◌, map, ◌||◌, Option, Some, None, if◌then◌else◌, subst}
+use Rattle.std.proofs.Common.{◌≡◌, List, [], ◌∷◌, ◌++◌, Bool, true, false, refl, ap, sym, ◌∙◌, map, ◌||◌, Option, Some, None, if◌then◌else◌, subst, ⊎_elim}
 use Rattle.std.specs.Option.{option_or}
 use Rattle.std.specs.List.{AllByRecursion}
 use Rattle.std.specs.Str.{bytes_eq}
+use Rattle.std.proofs.Math.Bool.{or-false}
+use Rattle.std.proofs.lemmas.Bool.{or_cases, or_left, or_right}
 use Rattle.std.proofs.lemmas.List.{append-nil, append_assoc}
 use Rattle.std.proofs.lemmas.List.Folds.{list_any-append}
 use Rattle.std.proofs.lemmas.Slice.Eq.{bytes_eq-Decides}
@@ -16,23 +18,6 @@ pub or_idem : {A : Type 0} (a d : Option A) → option_or (option_or a d) d ≡ 
 or_idem (Some x) d = refl
 or_idem None None = refl
 or_idem None (Some x) = refl
-
--- TRUTH TABLES
-or_left : (a b : Bool) → a ≡ true → (a || b) ≡ true
-or_left true b e = refl
-or_left false b e = cc
-
-or_right : (a b : Bool) → b ≡ true → (a || b) ≡ true
-or_right true b e = refl
-or_right false b e = e
-
-or_split : (a b : Bool) (P : Type 0) → (a || b) ≡ true → (a ≡ true → P) → (b ≡ true → P) → P
-or_split true b P e f g = f refl
-or_split false b P e f g = g e
-
-or_false : (a : Bool) → (a || false) ≡ true → a ≡ true
-or_false true e = refl
-or_false false e = e
 
 -- SETTLED: the target takes no path from the finds
 abbrev Settled : List Find → Product → Type 0
@@ -110,8 +95,9 @@ covers (g ∷ gs) had base sub = one (has_path had g.path) refl (λ (base' : Lis
     itself = (bytes_eq-Decides g.path g.path).1 refl
 
     in_more : (base' : List Text) → ((q : Text) → has_path had q ≡ true → has_path base' q ≡ true) → has_path base' g.path ≡ true → (q : Text) → has_path (had ++ g.path ∷ []) q ≡ true → has_path base' q ≡ true
-    in_more base' f here q e = or_split (has_path had q) (has_path (g.path ∷ []) q) (has_path base' q ≡ true) (sym (has_append had (g.path ∷ []) q) ∙ e) (f q)
-        (λ k. let same : q ≡ g.path = (bytes_eq-Decides q g.path).0 (or_false (bytes_eq q g.path) k) in rw same here)
+    in_more base' f here q e = ⊎_elim (f q)
+        (λ k. let same : q ≡ g.path = (bytes_eq-Decides q g.path).0 (sym (or-false (bytes_eq q g.path)) ∙ k) in rw same here)
+        (or_cases (has_path had q) (has_path (g.path ∷ []) q) (sym (has_append had (g.path ∷ []) q) ∙ e))
 
     one : (b : Bool) → has_path had g.path ≡ b
         → ((base' : List Text) → ((q : Text) → has_path (had ++ g.path ∷ []) q ≡ true → has_path base' q ≡ true) → AllHad (base' ++ paths_of (added (had ++ g.path ∷ []) gs)) gs)

@@ -32,7 +32,7 @@ refused_weaker P Q (Ok x) w h = tt
 refused_weaker P Q (Err f) w h = fault_weaker P Q f w h
 
 -- two more, one of each
-all_zip-push : {A B : Type 0} (R : A → B → Type 0) (xs : List A) (ys : List B) (x : A) (y : B) → AllZip R xs ys → R x y → AllZip R (xs ++ x ∷ []) (ys ++ y ∷ [])
+pub all_zip-push : {A B : Type 0} (R : A → B → Type 0) (xs : List A) (ys : List B) (x : A) (y : B) → AllZip R xs ys → R x y → AllZip R (xs ++ x ∷ []) (ys ++ y ∷ [])
 all_zip-push R [] [] x y h r = (r, tt)
 all_zip-push R [] (b ∷ ys) x y h r = absurd h
 all_zip-push R (a ∷ xs) [] x y h r = absurd h

@@ -5,10 +5,11 @@ use Rattle.std.specs.Map.Iter.{deref}
 use Rattle.std.proofs.lemmas.Map.Iter.{rest_so_far, rest_more, rest_all}
 use Rattle.std.proofs.lemmas.List.{map_push, map-append, append-nil}
 use Rattle.manifest_schema.specs.Paths.{Text}
+use Rattle.manifest_value.proofs.CallLemmas.{all_zip-push}
 use Rattle.manifest_completion.specs.Listings.{joined, is_memory_fault}
 use Rattle.manifest_completion.specs.Answered.{answer_of}
 use Rattle.manifest_completion.specs.Asking.{Heard}
-use Rattle.manifest_completion.proofs.AskLemmas.{zip_push, Answered, entries_all, entries_stop}
+use Rattle.manifest_completion.proofs.AskLemmas.{Answered, entries_all, entries_stop}
 use Rattle.manifest_completion.proofs.ask.ask_entries.Goals as goal
 
 abbrev text_of : Bor (String Global) → Text
@@ -30,7 +31,7 @@ loop-name-preserved g c =
     let ok : Heard allows (joined d n) a = subst (λ p. Heard allows p a) e c.ask-answer.ensures in
     let found : is_memory_fault a ≡ false = cc (c.is_memory_fault-is_last.ensures, c.if-is_last.false) in
     rw (map_push text_of c.loop-name.yielded c.in-Some.name, c.in_ok-push.ensures.items, map_push answer_of c.loop-name.entries.items c.ask-answer.result)
-    (zip_push (Answered allows d) (map text_of c.loop-name.yielded) (map answer_of c.loop-name.entries.items) n a c.loop-name.invariant (ok, found))
+    (all_zip-push (Answered allows d) (map text_of c.loop-name.yielded) (map answer_of c.loop-name.entries.items) n a c.loop-name.invariant (ok, found))
 
 pub returns-then-is_last : goal.returns-then-is_last
 returns-then-is_last g c =
