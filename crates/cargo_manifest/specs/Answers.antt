@@ -39,7 +39,8 @@ pub record RefusesDocument (K W : Kind Data) (bytes : List ℕ) (e : Error) : Ty
   pub parsed : parse_document bytes ≡ Some document
   pub refused : RefusesTable K W document e
 
--- a text is refused: by `toml`, at a place in it, only where it is no document or out of memory; or as its table is
+-- a text is refused: as no TOML, at a place in it, where it is no document or memory ran out; for a fault of its table; or
+-- as out of memory
 abbrev pub RefusesText : Kind Data → Kind Data → List ℕ → Error → Type 0
 RefusesText K W text (Parse (Toml e)) = IsWithin text e.value × (¬ IsMemory e.value → parse_document text ≡ None)
 RefusesText K W text (Parse (Schema f)) = RefusesDocument K W text (Parse (Schema f))

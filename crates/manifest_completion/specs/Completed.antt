@@ -44,7 +44,7 @@ abbrev pub own_edition : Option (Inheritable Edition) → Option Edition
 own_edition (Some (local e)) = Some e
 own_edition _ = None
 
--- FLAGS: whether finds are added to a list: as the package says, else if not legacy or the list has no target
+-- FLAGS: whether finds are added to a list: as the package says; else always, but in legacy mode only to an empty list
 abbrev pub discovers : {A : Type 0} → Option Bool → Bool → List A → Bool
 discovers own legacy ps = unwrap_or own (not (legacy && not (is_empty ps)))
 
@@ -165,7 +165,8 @@ root_fault_if asks (fault k) = if asks then Some k else None
 abbrev pub root_fault : Option StringOrBool → Answer → Option ErrorKind
 root_fault b a = root_fault_if (asks_root b) a
 
--- the first of: a fault of `src`, no library file, out of memory at a target, a fault of the root; else the targets
+-- refused for the first of these: a fault of `src`, a library without a file, memory that ran out for a folder of targets,
+-- a fault of the manifest's folder; else the targets, filled in
 abbrev pub after_root : PackageTargets → Option Product → ListingMap → Option ErrorKind → Completion PackageTargets
 after_root t lib l (Some k) = refused k
 after_root t lib l None = completed_to (filled t lib l)

@@ -52,7 +52,7 @@ unfoldable pub scan : ℕ → Nesting → Text → Nesting
 scan zero n text = n
 scan (suc k) n text = unwrap_or (option_map (λ r. scan k r.0 r.1) (step n text)) n
 
--- IT NESTS DENSELY: by a header, a key, and all brackets in one another, each after a key, all keys with the most dots
+-- IT NESTS DENSELY: a header, a key, and all open brackets, each with as many dots as any key has, could nest deeper than 384
 abbrev pub is_dense : Nesting → Bool
 is_dense n = nat_lt 384 ((n.most_brackets + 3) * (n.most_dots + 1))
 

@@ -39,7 +39,8 @@ AreTooDeep bytes =
     ⊎ ((document : Members) × (parse_document bytes ≡ Some document)
       × (128 < members_depth document))
 
--- the text is no such document: it nests densely; it is no TOML, at a place in it, memory aside; or out of memory
+-- the text is no such document: it nests too deep; it is no TOML, at a place in it (where that is said because memory ran
+-- out, it may be TOML); or memory ran out
 abbrev pub RefusesToParse : Text → InputError → Type 0
 RefusesToParse text TooDeep = AreTooDeep text
 RefusesToParse text (NoManifest (Parse (NoToml e))) =
@@ -75,7 +76,7 @@ abbrev pub HoldFault : Text → Error → Type 0
 HoldFault bytes e =
     (value : Data) × (bytes ≡ encoded value) × RefusedAs (faulty_manifest metadata metadata value) e
 
--- they are not: those of a value with this fault, or out of memory; of the two other refusals nothing is promised
+-- they are not: they are the bytes of a value with this fault, or memory ran out; the other refusals promise nothing
 abbrev pub RefusesTagged : Text → InputError → Type 0
 RefusesTagged bytes (NoManifest e) = IsOutOfMemory e ⊎ HoldFault bytes e
 RefusesTagged bytes _ = Unit {0}
