@@ -91,7 +91,7 @@ pub struct Package<M = Value> {
     pub resolver: Option<Resolver>,
 }
 
-/// The rows of a package.
+/// The rows of a package, for the macros of `manifest_value::row_macros`.
 macro_rules! package {
     ($make:ident $given:tt) => {
         $make! { $given

@@ -67,7 +67,7 @@ impl Profiles {
     }
 }
 
-/// The rows of profiles; every other key is the name of a custom profile.
+/// The rows of profiles; every other key is the name of a custom profile, for the macros of `manifest_value::row_macros`.
 macro_rules! profiles {
     ($make:ident $given:tt) => {
         $make! { $given

@@ -54,7 +54,7 @@ pub struct DeclaredTargets<'a> {
     pub bench: &'a [Product],
 }
 
-/// What it makes of them: the build script, the library and the four lists.
+/// What completion makes of the declared targets: the build script, the library and the four lists.
 #[derive(Debug, Drop)]
 pub struct CompletedTargets {
     /// The build script: `build.rs` where it is found, else what the package says.
@@ -141,7 +141,7 @@ fn asks_root(build: &Option<StringOrBool>) -> bool
     }
 }
 
-/// The answer at `src`, unless it is a fault other than that it is not there.
+/// Returns the answer at `src`; refuses with it where it is a fault other than that `src` is not there.
 fn check_source(source: io::Result<BTreeSet<String>>) -> Result<io::Result<BTreeSet<String>>, Error>
     ensures { MatchResult result (λ s. (s ≡ source) × (source_fault (answer_of source) ≡ None))
         (IsFault (source_fault (answer_of source))) }
@@ -193,7 +193,7 @@ fn completed_build(
     }
 }
 
-/// What tests and benches take where they have none.
+/// The edition that a test or a bench takes where it has none: the package's own.
 fn test_defaults(declared: &DeclaredTargets<'_>) -> TargetDefaults
     ensures { defaults_content result ≡ test_defaults (declared_content declared.now) }
 {
@@ -204,7 +204,7 @@ fn test_defaults(declared: &DeclaredTargets<'_>) -> TargetDefaults
     }
 }
 
-/// What examples take.
+/// The edition and the crate type `bin` that an example takes where it has none.
 fn example_defaults(declared: &DeclaredTargets<'_>) -> TargetDefaults
     ensures { defaults_content result ≡ example_defaults (declared_content declared.now) }
 {
@@ -215,7 +215,8 @@ fn example_defaults(declared: &DeclaredTargets<'_>) -> TargetDefaults
     }
 }
 
-/// What binaries take: in legacy mode also the path `src/main.rs`, where `src` lists it.
+/// What a binary takes where it has none: the package's own edition, and in legacy mode the path `src/main.rs`, where
+/// `src` lists it.
 fn bin_defaults(
     declared: &DeclaredTargets<'_>,
     source: &io::Result<BTreeSet<String>>,

@@ -48,7 +48,7 @@ impl Scenario {
         }
     }
 
-    /// Adds the listings.
+    /// Puts the listings of the scenario into `listings`.
     fn put(self, alloc: Global, listings: &mut Listings) -> Result<(), AllocError> {
         let root = (".", [].as_slice());
         match self {
@@ -69,7 +69,7 @@ impl Scenario {
         }
     }
 
-    /// The listings.
+    /// The listings of the scenario.
     pub fn listings(self, alloc: Global) -> Result<Listings, AllocError> {
         let mut listings = Listings::new(alloc);
         self.put(alloc, &mut listings).and(Ok(listings))

@@ -30,7 +30,7 @@ pub fn is_same<T: Compared>(x: &T, y: &T) -> bool
     x == y
 }
 
-/// A copy of a value whose copies need no memory: it never fails.
+/// A copy of a value whose copies need no memory: it is never an `Err`.
 pub fn small_copy<T: Compared>(x: &T) -> Result<T, AllocError>
     ensures { IsOkAnd result (λ y. T.held y ≡ T.held x.now) }
 {
