@@ -167,7 +167,7 @@ impl<M> Package<M> {
     }
 }
 
-/// A package of this name, and nothing else.
+/// A package of this name, in which no other field is given.
 fn package_with_name<M>(name: String) -> Package<M>
     ensures { (f : M → Data)
         → IsOfTable (package_rows kept) (package_content f)

@@ -28,14 +28,14 @@ fn has_key(table: &Table, key: &str) -> bool
     find(table, key).is_some()
 }
 
-/// Whether the table has a `package` or a `workspace`.
+/// Whether the table has a header: a `package` or a `workspace`.
 fn has_package_or_workspace(table: &Table) -> bool
     ensures { result ≡ has_header (table_view table.now) }
 {
     has_key(table, "package") | has_key(table, "workspace")
 }
 
-/// The package under an old header: that of `project`, or else of the whole table.
+/// Reads the package of a table without a header: from `project`, or else from the whole table.
 fn read_old_package<P: Metadata>(alloc: Global, table: &Table) -> Result<Package<P>, ReadFault>
     ensures ok { let ms = table_view table.now in
         IfOk result (λ p. (package_form P.kind).reads

@@ -70,8 +70,8 @@ impl<P: Metadata, W: Metadata> Manifest<P, W> {
         }
     }
 
-    /// The same text, where it takes at most a given number of bytes; `None` where it could take more, by
-    /// [`printed_bound`](crate::printed_bound) of its table, which is counted before anything is printed. So a small
+    /// The text of [`Manifest::to_toml_string`], where it takes at most `most` bytes; `None` where it could take more,
+    /// by [`printed_bound`](crate::printed_bound) of its table, which is counted before anything is printed. So a small
     /// manifest that prints as a large text is refused without the text.
     ///
     /// Refuses as [`Manifest::to_toml_string`] does.

@@ -15,7 +15,7 @@ use std::path::Path;
 use std::rt::Files;
 use std::{fs, io};
 
-/// Reads the manifest of a file.
+/// Reads a file, and the manifest that its bytes mean. Nothing is completed.
 fn read_manifest<H: Files + AllocGlobal>(rt: &H, file: &str) -> Result<Manifest, Error>
     ensures { IfOk result (λ m. IsFileOf (manifest_content view view m)) }
 {

@@ -36,7 +36,7 @@ fn write_text<W: Write>(output: &mut W, text: &[u8]) -> io::Result<()>
     Err(io::Error::other("the output has not taken the text"))
 }
 
-/// Writes a text and flushes the output.
+/// Writes all of a text, as [`write_text`] does, and flushes the output.
 #[tactic(auto, using(crate::proofs::Printed::appends_kept, crate::proofs::Printed::begins_whole))]
 fn print<W: Write>(output: &mut W, text: &str) -> io::Result<()>
     ensures ok { OnOk result (Appends (W.contents output.old) (W.contents output.new) text.now) }

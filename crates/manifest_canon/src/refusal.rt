@@ -20,7 +20,7 @@ fn error_line(alloc: Global, error: &Error) -> Result<String, AllocError> {
     }
 }
 
-/// A name as it is written in a key path.
+/// A name as it is written in a key path: between quotes where it is no bare key.
 fn key_text(alloc: Global, name: &str) -> Result<String, AllocError>
     ensures { IfOk result (λ text. string_bytes text ≡ key_text name.now) }
 {

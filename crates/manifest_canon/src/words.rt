@@ -17,8 +17,8 @@ pub enum Request<'a> {
     CanonFile(&'a str),
     /// To print the manifest of a file, completed over its folder: `complete FILE`.
     CompleteFile(&'a str),
-    /// The same, with what is inherited from the workspace of another file put in before: `complete FILE --workspace
-    /// ROOT`.
+    /// To print the manifest of a file, with what it inherits from the workspace of another file, and completed over
+    /// its folder: `complete FILE --workspace ROOT`.
     CompleteMember(&'a str, &'a str),
 }
 

@@ -100,7 +100,7 @@ pub fn is_legacy(edition: &Option<MaybeInherited<Edition>>) -> bool
     }
 }
 
-/// The edition of the package's own.
+/// The package's own edition; `None` where it is absent or inherited.
 ///
 /// ```ignore
 /// let edition = own_edition(&Some(MaybeInherited::Local(Edition::E2021))); // `Some(E2021)`
@@ -115,8 +115,8 @@ pub fn own_edition(edition: &Option<MaybeInherited<Edition>>) -> Option<Edition>
     }
 }
 
-/// Whether found targets are added to a list: as the package says, and where it says nothing, unless targets are
-/// discovered in legacy mode and the list has one.
+/// Whether found targets are added to a list: as the package says by a flag such as `autobins`, here `own`; and where
+/// it says nothing, unless in legacy mode the list has a declared target.
 ///
 /// ```ignore
 /// let adds = discovers(None, false, &declared); // true: the package says nothing, and it is not legacy mode
@@ -281,7 +281,7 @@ fn completed_bins(
     )
 }
 
-/// The four completed lists.
+/// Completes the four lists: binaries, examples, tests and benches.
 fn completed_lists(
     alloc: Global,
     declared: &DeclaredTargets<'_>,

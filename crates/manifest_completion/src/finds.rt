@@ -19,7 +19,7 @@ pub struct FoundTarget {
     pub path: String,
 }
 
-/// A name without its ending `.rs`.
+/// A name without its ending `.rs`; `None` where it has another ending.
 #[tactic(auto, using(crate::proofs::FindLemmas::stem_is))]
 fn stem(name: &str) -> Option<&str>
     ensures { option_copied result ≡ stem name.now }

@@ -39,7 +39,7 @@ impl<'a> IndexedFinds<'a> {
         Ok(IndexedFinds { finds, paths })
     }
 
-    /// The path of the first find of a name.
+    /// The path of the first find of a name; `None` where no find has the name.
     pub fn first_path(&self, name: &str) -> Option<&'a str>
         ensures { option_copied result ≡ first_path self.now name.now }
     {

@@ -87,7 +87,7 @@ fn names_of(alloc: Global, given: &[&[u8]]) -> Result<BTreeSet<String>, Refusal>
     Ok(names)
 }
 
-/// What a folder answers.
+/// The names or the fault of a folder that was passed in. Refuses names that do not ascend or are not UTF-8.
 fn answer_of(alloc: Global, folder: &Folder<'_>) -> Result<Listed, Refusal>
     ensures ok { IfOk result (λ listed. listed_answer listed ≡ folder_answer folder.now) }
     ensures names { IfOk result (λ _. AreNames (texts folder.now.names.now)) }

@@ -128,7 +128,6 @@ pub(crate) fn make(
 }
 
 /// The canonical text of a manifest; refused with `TooLong` where its bound is more than `most`.
-
 fn text_of(alloc: Global, manifest: &Manifest, most: usize) -> Result<Vec<u8>, Refusal>
     ensures { let m = manifest_content view view manifest.now in
         IsMade (Writes CanonicalText most m) (RefusesOutput CanonicalText most m) result }
@@ -161,7 +160,7 @@ fn table_of(alloc: Global, manifest: &Manifest, most: usize) -> Result<Vec<u8>, 
     tagged_bytes(alloc, &value, most)
 }
 
-/// What is asked for of a manifest.
+/// The canonical text of a manifest, or its table as tagged bytes, as `output` says; `TooLong` above `most` bytes.
 fn output_of(
     alloc: Global,
     output: Output,

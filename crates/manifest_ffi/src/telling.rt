@@ -56,7 +56,7 @@ fn memory(alloc: Global, _refused: AllocError) -> Told
     with_text(6, 0, Vec::new(alloc))
 }
 
-/// The number of a cause.
+/// The number by which an answer reports a cause of a fault of the schema.
 fn cause_number(cause: Cause) -> u8
     ensures { result ≡ cause_number (cause_of cause) }
 {
@@ -72,7 +72,7 @@ fn cause_number(cause: Cause) -> u8
     }
 }
 
-/// The number of a fault of a listing.
+/// The number by which an answer reports the kind of a folder's fault.
 fn kind_number(fault: io::Error) -> u8
     ensures { result ≡ kind_number (error_kind fault) }
 {

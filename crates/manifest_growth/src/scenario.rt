@@ -24,7 +24,7 @@ fn names(alloc: Global, names: &[&str]) -> Result<Listing, AllocError> {
     Ok(Listing::Names(set))
 }
 
-/// Adds a listing of names for each folder.
+/// Puts a listing into `listings` for each folder: its path and the names in it.
 fn put_all(
     alloc: Global,
     listings: &mut Listings,

@@ -23,7 +23,7 @@ pub trait Compared: Copied + PartialEq {
     ghost succeeds: { (x : Self) → Self.is_infallible x };
 }
 
-/// Whether two values are equal.
+/// Whether two values are equal by `==`: it is proved that they are if and only if they hold the same.
 pub fn is_same<T: Compared>(x: &T, y: &T) -> bool
     ensures { IsTrue result ↔ (T.held x.now ≡ T.held y.now) }
 {
@@ -37,7 +37,7 @@ pub fn small_copy<T: Compared>(x: &T) -> Result<T, AllocError>
     x.clone()
 }
 
-/// The order of two strip settings.
+/// The order of two strip settings by `cmp`, with a contract that says which it is.
 pub fn strip_order(x: &StripSetting, y: &StripSetting) -> Ordering
     ensures { result ≡ strip_cmp (strip_content x.now) (strip_content y.now) }
 {

@@ -166,7 +166,7 @@ fn write_quoted_char<W: fmt::Write>(f: &mut fmt::Formatter<W>, c: char) -> fmt::
     }
 }
 
-/// Writes a control character by its number.
+/// Writes a control character as `\u` and four hexadecimal digits.
 #[tactic(auto, using(std::proofs::lemmas::Fmt::hex_byte))]
 fn write_escaped<W: fmt::Write>(f: &mut fmt::Formatter<W>, byte: u8) -> fmt::Result
     ensures { WritesOnOk W.write_str_gives f.old result (escaped byte) f.new }

@@ -44,7 +44,7 @@ impl<'t> Source<'t> {
         }
     }
 
-    /// The table that the value is.
+    /// The table that the value is, borrowed or owned as the value is.
     ///
     /// A value that is no table is refused at itself with `WrongKind`, and an owned one is dropped.
     ///
