@@ -119,6 +119,8 @@ impl<P, W> Manifest<P, W> {
     }
 }
 
+/// The rows of `manifest!`. [`Rowed`] says what each method does, and `manifest_value::row_macros` what the macro makes
+/// of the rows.
 impl<P: Metadata, W: Metadata> Rowed for Manifest<P, W> {
     ghost Content = { Contents.Manifest };
 
@@ -147,6 +149,7 @@ impl<P: Metadata, W: Metadata> Rowed for Manifest<P, W> {
     }
 }
 
+/// A form: each field is a row, so it is read and written by its list alone, and `Schema` comes with it.
 impl<P: Metadata, W: Metadata> Form for Manifest<P, W> {
     fn covers() {}
 

@@ -194,6 +194,8 @@ pub fn package_from<M: Metadata>(alloc: Global, table: &Table) -> Result<Package
     read_form(alloc, TableSource::Lent(table))
 }
 
+/// The rows of `package!`. [`Rowed`] says what each method does, and `manifest_value::row_macros` what the macro makes
+/// of the rows.
 impl<M: Metadata> Rowed for Package<M> {
     ghost Content = { Contents.Package };
 
@@ -222,6 +224,7 @@ impl<M: Metadata> Rowed for Package<M> {
     }
 }
 
+/// A form: each field is a row, so it is read and written by its list alone, and `Schema` comes with it.
 impl<M: Metadata> Form for Package<M> {
     fn covers() {}
 

@@ -82,6 +82,8 @@ macro_rules! profiles {
 
 static PROFILES: &[Spellings] = profiles!(names_of_rows());
 
+/// The rows of `profiles!`. [`Rowed`] says what each method does, and `manifest_value::row_macros` what the macro makes
+/// of the rows.
 impl Rowed for Profiles {
     ghost Content = { Contents.Profiles };
 
@@ -127,6 +129,8 @@ fn profiles_from(alloc: Global, table: TableSource<'_>) -> Result<Profiles, Read
     }
 }
 
+/// Read from a table: the keys that Cargo names are rows, and every other key is a custom profile. Any other value is
+/// refused with `WrongKind`.
 impl Schema for Profiles {
     ghost Content = { Contents.Profiles };
 

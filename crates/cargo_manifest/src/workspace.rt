@@ -84,6 +84,8 @@ macro_rules! workspace_package {
 
 static LENT: &[Spellings] = workspace_package!(names_of_rows());
 
+/// The rows of `workspace_package!`. [`Rowed`] says what each method does, and `manifest_value::row_macros` what the
+/// macro makes of the rows.
 impl Rowed for WorkspacePackage {
     ghost Content = { Contents.WorkspacePackage };
 
@@ -112,6 +114,7 @@ impl Rowed for WorkspacePackage {
     }
 }
 
+/// A form: each field is a row, so it is read and written by its list alone, and `Schema` comes with it.
 impl Form for WorkspacePackage {
     fn covers() {}
 
@@ -183,6 +186,8 @@ impl<M> Workspace<M> {
     }
 }
 
+/// The rows of `workspace!`. [`Rowed`] says what each method does, and `manifest_value::row_macros` what the macro
+/// makes of the rows.
 impl<M: Metadata> Rowed for Workspace<M> {
     ghost Content = { Contents.Workspace };
 
@@ -211,6 +216,7 @@ impl<M: Metadata> Rowed for Workspace<M> {
     }
 }
 
+/// A form: each field is a row, so it is read and written by its list alone, and `Schema` comes with it.
 impl<M: Metadata> Form for Workspace<M> {
     fn covers() {}
 

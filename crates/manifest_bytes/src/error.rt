@@ -11,12 +11,14 @@ pub enum DecodeError {
     Memory(AllocError),
 }
 
+/// A refused allocation, which `?` passes on as `DecodeError::Memory`.
 impl From<AllocError> for DecodeError {
     fn from(refused: AllocError) -> DecodeError {
         DecodeError::Memory(refused)
     }
 }
 
+/// A refused allocation, which `?` passes on as `DecodeError::Memory`.
 impl<T: Drop> From<AllocFailed<T>> for DecodeError {
     fn from(refused: AllocFailed<T>) -> DecodeError {
         DecodeError::Memory(AllocError::from(refused))

@@ -57,6 +57,8 @@ fn names_in<R: Files + AllocGlobal + Clone + Drop>(
     Ok(names)
 }
 
+/// Lists a folder of the disk, below the path of this filesystem. All that is promised of the names is that they
+/// ascend.
 impl<R: Files + AllocGlobal + Clone + Drop> AbstractFilesystem for Filesystem<'_, R> {
     ghost allows = { λ _ path answer. AnyAscending path answer };
 

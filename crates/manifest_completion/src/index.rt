@@ -19,6 +19,7 @@ pub struct IndexedFinds<'a> {
     paths: BTreeMap<&'a str, &'a str>,
 }
 
+/// A contract sees the finds; it is kept that `paths` has the path of the first find of each name.
 impl<'a> Model for IndexedFinds<'a> {
     ghost Value = { List Find };
 

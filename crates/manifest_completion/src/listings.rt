@@ -64,6 +64,7 @@ impl Listings {
     }
 }
 
+/// Answers what was put at the path last, and `NotFound` where nothing was.
 impl AbstractFilesystem for Listings {
     ghost allows = { λ it path answer. AnswersAsStored (stored_at it.listed) path answer };
 

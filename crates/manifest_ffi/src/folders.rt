@@ -127,6 +127,7 @@ impl<'a> GivenFolders<'a> {
     }
 }
 
+/// Answers what was passed in for the path, and `NotFound` for a path that no folder has.
 impl AbstractFilesystem for GivenFolders<'_> {
     ghost allows = { λ it path answer. AnswersAsStored (given_by it) path answer };
 

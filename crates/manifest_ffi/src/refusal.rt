@@ -15,6 +15,7 @@ pub enum InputError {
     TooDeep,
 }
 
+/// A refused allocation, which `?` passes on as `InputError::Manifest` of `Error::Memory`.
 impl From<AllocError> for InputError {
     ghost use Rattle.manifest_ffi.specs.Read.{ReadingRanOut};
 
@@ -25,6 +26,7 @@ impl From<AllocError> for InputError {
     }
 }
 
+/// A refused allocation, which `?` passes on as `InputError::Manifest` of `Error::Memory`.
 impl<T: Drop> From<AllocFailed<T>> for InputError {
     ghost use Rattle.manifest_ffi.specs.Read.{ReadingRanOut};
 
@@ -54,6 +56,7 @@ pub enum Refusal {
     Memory(AllocError),
 }
 
+/// A refused allocation, which `?` passes on as `Refusal::Memory`.
 impl From<AllocError> for Refusal {
     ghost use Rattle.manifest_ffi.specs.Made.{IsOutOfMemory};
 
@@ -64,6 +67,7 @@ impl From<AllocError> for Refusal {
     }
 }
 
+/// A refused allocation, which `?` passes on as `Refusal::Memory`.
 impl<T: Drop> From<AllocFailed<T>> for Refusal {
     ghost use Rattle.manifest_ffi.specs.Made.{IsOutOfMemory};
 

@@ -146,6 +146,8 @@ fn run<W: Write>(alloc: Global, trial: Trial, output: &mut W) -> Result<(), Erro
     }
 }
 
+/// Runs the trial that the first argument names. Exit status 0 where it ran, 1 where the output fails, and 2, with the
+/// usage line, for another argument. A refusal outside of the call that is tried is printed as `elsewhere`.
 fn main(rt: HostRuntime) -> ExitCode {
     let mut output = rt.stdout();
     let ran = match asked_trial(&rt) {

@@ -43,6 +43,7 @@ pub enum FinishError {
     Resolve(ResolveError),
 }
 
+/// The error of a manifest that is read, completed or printed, which `?` passes on as `FinishError::Manifest`.
 impl From<cargo_manifest::Error> for FinishError {
     ghost use Rattle.std.specs.Prelude.{◌≡◌};
     ghost use Rattle.manifest_inherit.specs.declared.error.FinishError.TheVariants.{Manifest};
@@ -54,6 +55,7 @@ impl From<cargo_manifest::Error> for FinishError {
     }
 }
 
+/// A refused allocation, which `?` passes on as `ResolveError::Memory`.
 impl From<AllocError> for ResolveError {
     ghost use Rattle.std.specs.Prelude.{◌≡◌};
     ghost use Rattle.manifest_inherit.specs.declared.error.ResolveError.TheVariants.{Memory};
@@ -65,6 +67,7 @@ impl From<AllocError> for ResolveError {
     }
 }
 
+/// A refused allocation, which `?` passes on as `ResolveError::Memory`.
 impl<T: Drop> From<AllocFailed<T>> for ResolveError {
     ghost use Rattle.manifest_inherit.specs.Answers.{IsOutOfMemory};
 

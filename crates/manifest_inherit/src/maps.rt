@@ -43,6 +43,7 @@ pub(crate) trait Heir: Sized + Drop {
             IfErr result (RefusedIn (refuses all name.now (content self.now))) };
 }
 
+/// A dependency becomes what [`resolved_dependency`] makes of it under its name.
 impl Heir for Dependency {
     ghost Content = { Contents.Dependency };
 
@@ -62,6 +63,7 @@ impl Heir for Dependency {
     }
 }
 
+/// A platform's table becomes one whose three maps of dependencies are resolved; its own name plays no part.
 impl Heir for Target {
     ghost Content = { Contents.Target };
 

@@ -26,7 +26,7 @@ pub enum Edition {
 }
 
 impl Edition {
-    /// The text by which a manifest says it.
+    /// The text of the edition in a manifest, as `2021`.
     ///
     /// ```ignore
     /// let text = Edition::E2021.as_str(); // "2021"
@@ -104,7 +104,7 @@ pub enum Resolver {
 }
 
 impl Resolver {
-    /// The text by which a manifest says it.
+    /// The text of the resolver's version in a manifest, as `2`.
     fn as_str(&self) -> &'static str
         ensures { result.now ≡ resolver_text (resolver_content self.now) }
     {
@@ -174,7 +174,7 @@ pub enum LintLevel {
 }
 
 impl LintLevel {
-    /// The text by which a manifest says it.
+    /// The text of the level in a manifest, as `warn`.
     ///
     /// ```ignore
     /// let text = LintLevel::Deny.as_str(); // "deny"
@@ -247,7 +247,7 @@ pub enum MaintenanceStatus {
 }
 
 impl MaintenanceStatus {
-    /// The text by which a manifest says it.
+    /// The text of the status in a manifest, as `as-is`.
     fn as_str(&self) -> &'static str
         ensures { result.now ≡ status_text (status_content self.now) }
     {

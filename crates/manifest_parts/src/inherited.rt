@@ -49,6 +49,7 @@ impl Schema for True {
     ghost lawful = { truth_lawful };
 }
 
+/// The only value.
 impl Default for True {
     fn default() -> True {
         True

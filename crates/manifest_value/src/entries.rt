@@ -62,6 +62,7 @@ pub(crate) enum Entries<'t> {
     Rest(vec::IntoIter<Entry<'t>, Global>),
 }
 
+/// Gives each entry, its key and its value, borrowed or owned as the table is.
 impl<'t> Iterator for Entries<'t> {
     type Item = Entry<'t>;
 

@@ -85,6 +85,7 @@ pub fn refusal(fault: ReadFault) -> Error
     }
 }
 
+/// A fault of a file, a folder or a stream, which `?` passes on as `Error::Io`.
 impl From<io::Error> for Error {
     ghost use Rattle.std.specs.Prelude.{◌≡◌};
     ghost use Rattle.manifest_value.specs.declared.error.Error.TheVariants.{Io};
@@ -96,6 +97,7 @@ impl From<io::Error> for Error {
     }
 }
 
+/// Bytes that are not UTF-8, which `?` passes on as `Error::Utf8`.
 impl From<Utf8Error> for Error {
     ghost use Rattle.std.specs.Prelude.{◌≡◌};
     ghost use Rattle.manifest_value.specs.declared.error.Error.TheVariants.{Utf8};
@@ -107,6 +109,7 @@ impl From<Utf8Error> for Error {
     }
 }
 
+/// A reader's fault, which `?` passes on as by [`refusal`].
 impl From<ReadFault> for Error {
     ghost from_gives = { IsRefusal };
 
@@ -115,6 +118,7 @@ impl From<ReadFault> for Error {
     }
 }
 
+/// A refused allocation, which `?` passes on as `Error::Memory`.
 impl From<AllocError> for Error {
     ghost use Rattle.std.specs.Prelude.{◌≡◌};
     ghost use Rattle.manifest_value.specs.declared.error.Error.TheVariants.{Memory};
@@ -126,6 +130,7 @@ impl From<AllocError> for Error {
     }
 }
 
+/// A refused allocation, which `?` passes on as `Error::Memory`.
 impl<T: Drop> From<AllocFailed<T>> for Error {
     ghost use Rattle.manifest_value.specs.Refusals.{IsOutOfMemory};
 

@@ -96,6 +96,7 @@ pub enum ReadFault {
     Memory(AllocError),
 }
 
+/// A refused allocation, which `?` passes on as `ReadFault::Memory`.
 impl From<AllocError> for ReadFault {
     ghost from_gives = { λ e f. FaultIn no_fault f };
 
@@ -104,6 +105,7 @@ impl From<AllocError> for ReadFault {
     }
 }
 
+/// A refused allocation, which `?` passes on as `ReadFault::Memory`.
 impl<T: Drop> From<AllocFailed<T>> for ReadFault {
     ghost from_gives = { λ e f. FaultIn no_fault f };
 

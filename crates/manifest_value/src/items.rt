@@ -25,6 +25,7 @@ pub(crate) enum Items<'t> {
     Taken(vec::IntoIter<Value, Global>),
 }
 
+/// Gives each item, borrowed or owned as the list is.
 impl<'t> Iterator for Items<'t> {
     type Item = Source<'t>;
 

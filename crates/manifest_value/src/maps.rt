@@ -138,6 +138,7 @@ pub fn entries_table<T: Schema>(
     entries_by(alloc, map, &|x: &T| x.to_value(alloc))
 }
 
+/// Read from a table, each value as a `T`, and written as one. A value that is no table is refused with `WrongKind`.
 impl<T: Schema> Schema for BTreeMap<String, T> {
     ghost Content = { Contents T.Content };
 

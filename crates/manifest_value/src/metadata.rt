@@ -47,6 +47,7 @@ pub fn put_tree<M: Metadata>(
     put_optional(alloc, table, first, value)
 }
 
+/// Metadata that may not be there: each value is refused, with `Cause::Metadata`. No value is well-formed.
 impl Schema for () {
     ghost Content = { Unit {0} };
 
@@ -71,6 +72,7 @@ impl Schema for () {
     ghost lawful = { nothing_laws };
 }
 
+/// Its laws hold since no value is well-formed.
 impl Metadata for () {
     ghost without_floats = { λ x g. absurd g };
 
@@ -93,6 +95,7 @@ impl Metadata for Value {
 #[derive(Debug, Clone, Copy, PartialEq, Eq)]
 pub struct Unread;
 
+/// Each value is read, and the empty table is written.
 impl Schema for Unread {
     ghost Content = { Unit {0} };
 
@@ -117,6 +120,7 @@ impl Schema for Unread {
     ghost lawful = { unread_laws };
 }
 
+/// Its laws hold since the empty table has no float.
 impl Metadata for Unread {
     ghost without_floats = { λ x g. refl };
 

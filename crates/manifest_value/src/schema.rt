@@ -74,6 +74,7 @@ pub trait Schema: Sized + Drop {
     ghost lawful: { IsLawful kind };
 }
 
+/// Read from a string, and written as one. Any other value is refused with `WrongKind`.
 impl Schema for String {
     ghost Content = { List ℕ };
 
@@ -100,6 +101,7 @@ impl Schema for String {
     ghost lawful = { text_lawful };
 }
 
+/// Read from a boolean, and written as one. Any other value is refused with `WrongKind`.
 impl Schema for bool {
     ghost Content = { Bool };
 
@@ -125,6 +127,7 @@ impl Schema for bool {
     ghost lawful = { flag_lawful };
 }
 
+/// Read from an array, each item as a `T`, and written as one. A value that is no array is refused with `WrongKind`.
 impl<T: Schema> Schema for Vec<T> {
     ghost Content = { List T.Content };
 
