@@ -23,7 +23,8 @@ pub fn means_one<P: Metadata, W: Metadata>()
     ensures { MeansOne (tree_of P.kind) (tree_of W.kind) }
 {}
 
-/// What is written of a well-formed manifest is read as that manifest.
+/// What is written of a well-formed manifest is read as that manifest, by the form of a manifest (which takes no old
+/// header into account).
 #[tactic(auto, using(manifest_schema::proofs::MeaningLaws::written_is_read, manifest_schema::proofs::KindLaws::tree_lawful))]
 pub fn written_is_read<P: Metadata, W: Metadata>()
     ensures { WrittenIsRead (tree_of P.kind) (tree_of W.kind) }
@@ -49,13 +50,13 @@ pub fn written_means_the_same<P: Metadata, W: Metadata>()
     ensures { WrittenMeansTheSame (tree_of P.kind) (tree_of W.kind) }
 {}
 
-/// The rewritten table of an accepted table means the same manifest.
+/// The rewritten table of an accepted table (the canonical table of what it means) means the same manifest.
 #[tactic(auto, using(manifest_schema::proofs::MeaningLaws::rewritten_means_the_same, manifest_schema::proofs::KindLaws::tree_lawful))]
 pub fn rewritten_means_the_same<P: Metadata, W: Metadata>()
     ensures { RewrittenMeansTheSame (tree_of P.kind) (tree_of W.kind) }
 {}
 
-/// What a rewritten table means is rewritten as the same table.
+/// Rewriting twice is rewriting once: the rewritten table of a rewritten table is itself.
 pub fn rewritten_twice_is_once<P: Metadata, W: Metadata>()
     ensures { RewrittenTwiceIsOnce (tree_of P.kind) (tree_of W.kind) }
 {}

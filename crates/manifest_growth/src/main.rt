@@ -60,7 +60,7 @@ fn trial_of_name(name: &str) -> Option<Trial> {
     }
 }
 
-/// The trial that the first word after the program's name names.
+/// The trial that the first argument names; `None` where it names none, or there is no argument.
 fn asked_trial(rt: &HostRuntime) -> io::Result<Option<Trial>> {
     let word = env::args(rt)?.nth(1);
     Ok(word.and_then(|word| trial_of_name(word.as_str())))

@@ -14,7 +14,8 @@ pub fn means_one<P: LawfulKind, W: LawfulKind>()
     ensures { MeansOne (tree_of P.kind) (tree_of W.kind) }
 {}
 
-/// What is written of a well-formed manifest is read as that manifest.
+/// What is written of a well-formed manifest is read as that manifest, by the form of a manifest (which takes no old
+/// header into account).
 #[tactic(auto, using(crate::proofs::MeaningLaws::written_is_read, crate::proofs::KindLaws::tree_lawful))]
 pub fn written_is_read<P: LawfulKind, W: LawfulKind>()
     ensures { WrittenIsRead (tree_of P.kind) (tree_of W.kind) }
@@ -32,13 +33,13 @@ pub fn written_means_the_same<P: LawfulKind, W: LawfulKind>()
     ensures { WrittenMeansTheSame (tree_of P.kind) (tree_of W.kind) }
 {}
 
-/// The rewritten table of an accepted table means the same manifest.
+/// The rewritten table of an accepted table (the canonical table of what it means) means the same manifest.
 #[tactic(auto, using(crate::proofs::MeaningLaws::rewritten_means_the_same, crate::proofs::KindLaws::tree_lawful))]
 pub fn rewritten_means_the_same<P: LawfulKind, W: LawfulKind>()
     ensures { RewrittenMeansTheSame (tree_of P.kind) (tree_of W.kind) }
 {}
 
-/// What a rewritten table means is rewritten as the same table.
+/// Rewriting twice is rewriting once: the rewritten table of a rewritten table is itself.
 pub fn rewritten_twice_is_once<P: LawfulKind, W: LawfulKind>()
     ensures { RewrittenTwiceIsOnce (tree_of P.kind) (tree_of W.kind) }
 {}
