@@ -7,8 +7,9 @@ use Rattle.manifest_schema.specs.Paths.{Text}
 use Rattle.manifest_schema.specs.Contents.{Manifest}
 use Rattle.manifest_value.specs.declared.error.Error.{Error}
 use Rattle.manifest_value.specs.declared.error.Error.TheVariants.{Io}
+use Rattle.manifest_schema.specs.Dates.{kept_metadata}
 use Rattle.cargo_manifest.specs.Answers.{Refuses, RefusesToPrint}
-use Rattle.cargo_manifest.specs.Canonical.{metadata, rewritten, Means, IsTextOf}
+use Rattle.cargo_manifest.specs.Canonical.{rewritten, Means, IsTextOf}
 use Rattle.cargo_manifest.specs.Completes.{ComesTo}
 use Rattle.manifest_completion.specs.Listings.{AnyAscending}
 use Rattle.manifest_completion.specs.Completed.{completed_to}
@@ -104,7 +105,7 @@ IsBegun bytes old new = BeginsOne (Means bytes) old new
 -- why bytes have no canonical text: reading refuses them, or printing refuses the rewritten table of what they mean
 abbrev pub RefusesCanonical : List ℕ → Error → Type 0
 RefusesCanonical bytes e =
-    Refuses metadata metadata bytes e
+    Refuses kept_metadata kept_metadata bytes e
     ⊎ ((m : Manifest) × Means bytes m × RefusesToPrint (rewritten m) e)
 
 -- why the bytes were not printed, and what was written: at an I/O fault at most a beginning, and else nothing

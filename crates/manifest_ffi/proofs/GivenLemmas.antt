@@ -20,7 +20,7 @@ use Rattle.manifest_ffi.specs.declared.folders.Listed.{Listed}
 use Rattle.manifest_ffi.specs.declared.refusal.Refusal.{Refusal}
 use Rattle.manifest_ffi.specs.declared.refusal.Refusal.TheVariants.{Bytes, Root, Listings, Finishing, Printing, TooLong, Memory}
 use Rattle.manifest_ffi.specs.Made.{RefusesUnless}
-use Rattle.manifest_ffi.specs.Given.{texts, AreInOrder, AreNames, AreListings, IsLeast, goes_before, folder_answer, folder_at, listed_answer, listed_at}
+use Rattle.manifest_ffi.specs.Given.{texts, AreInOrder, AreNames, AreListings, goes_before, folder_answer, folder_at, listed_answer, listed_at}
 
 -- NAMES
 in_order_rest : (n : Text) (ns : List Text) → AreInOrder (n ∷ ns) → AreInOrder ns
@@ -36,6 +36,12 @@ is_lt_Less : (o : Ordering) → is_lt o ≡ true → o ≡ Less
 is_lt_Less Less h = refl
 is_lt_Less Equal h = cc
 is_lt_Less Greater h = cc
+
+-- the least of some names that ascend, where there are any
+abbrev pub IsLeast : Option (Bor Text) → List Text → Type 0
+IsLeast None [] = Unit {0}
+IsLeast (Some t) (n ∷ ns) = t.now ≡ n
+IsLeast _ _ = ⊥
 
 -- one name more is before the least of the others exactly where they are in order with it
 pub before_least : (least : Option (Bor Text)) (n : Text) (ns : List Text) → IsLeast least ns → AreInOrder (n ∷ ns) → goes_before n least ≡ true

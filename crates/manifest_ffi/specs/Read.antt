@@ -12,8 +12,8 @@ use Rattle.manifest_value.specs.Refusals.{RefusedIn as RefusedAs, IsOutOfMemory}
 use Rattle.manifest_value.specs.declared.error.Error.{Error}
 use Rattle.manifest_value.specs.declared.error.Error.TheVariants.{Parse, Utf8, Memory}
 use Rattle.manifest_value.specs.declared.error.ParseFault.TheVariants.{Toml as NoToml, Schema}
+use Rattle.manifest_schema.specs.Dates.{kept_metadata}
 use Rattle.cargo_manifest.specs.Answers.{IsFaulty}
-use Rattle.cargo_manifest.specs.Canonical.{metadata}
 use Rattle.manifest_bytes.specs.Encoded.{encoded}
 use Rattle.manifest_ffi.specs.declared.reading.Input.{Input}
 use Rattle.manifest_ffi.specs.declared.reading.Input.TheVariants.{Toml, Tagged}
@@ -69,12 +69,12 @@ RefusesText K W bytes e = RefusesDocument bytes e
 pub record IsTaggedOf (bytes : Text) (m : Manifest) : Type 0 where
   pub value : Data
   pub tagged : bytes ≡ encoded value
-  pub read : reads_manifest metadata metadata value m
+  pub read : reads_manifest kept_metadata kept_metadata value m
 
 -- the bytes are those of a value that has this fault
 abbrev pub HoldFault : Text → Error → Type 0
 HoldFault bytes e =
-    (value : Data) × (bytes ≡ encoded value) × RefusedAs (faulty_manifest metadata metadata value) e
+    (value : Data) × (bytes ≡ encoded value) × RefusedAs (faulty_manifest kept_metadata kept_metadata value) e
 
 -- they are not: they are the bytes of a value with this fault, or memory ran out; the other refusals promise nothing
 abbrev pub RefusesTagged : Text → InputError → Type 0
@@ -83,9 +83,9 @@ RefusesTagged bytes _ = Unit {0}
 
 -- THE BYTES ARE THE MANIFEST, one way or the other
 abbrev pub Are : Input → Text → Manifest → Type 0
-Are Toml = IsSourceOf metadata metadata
+Are Toml = IsSourceOf kept_metadata kept_metadata
 Are Tagged = IsTaggedOf
 
 abbrev pub RefusesToRead : Input → Text → InputError → Type 0
-RefusesToRead Toml = RefusesText metadata metadata
+RefusesToRead Toml = RefusesText kept_metadata kept_metadata
 RefusesToRead Tagged = RefusesTagged
