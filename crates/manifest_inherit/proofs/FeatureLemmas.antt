@@ -3,7 +3,7 @@ use Rattle.std.proofs.Common.{◌≡◌, ℕ, ◌+◌, ◌<◌, true, false, Lis
 use Rattle.std.specs.List.{list_any}
 use Rattle.std.specs.Str.{bytes_eq}
 use Rattle.manifest_schema.specs.Paths.{Text}
-use Rattle.manifest_completion.proofs.HeardLemmas.{any_map}
+use Rattle.manifest_completion.proofs.AnswerLemmas.{any_map}
 use Rattle.manifest_inherit.specs.Resolved.{new_features}
 
 -- the texts of the features from the i-th on, which is x
