@@ -35,7 +35,7 @@
    a call that is broken off, by longjmp or by cancelling its thread, does not free its memory, and of later calls of that
    thread nothing is said.
 
-   STACK. 256 KiB of stack are enough for each call, whatever is passed in, which is tested: what nests deeper than
+   STACK. 256 KiB of stack were enough for each call on all inputs that were tried: what nests deeper than
    MANIFEST_DEPTH_LIMIT is refused, and a text that could nest more than 384 deep is not even parsed.
 
    MEMORY is asked for by three functions over malloc, realloc and free, which a program may replace: see the end. */

@@ -7,7 +7,7 @@
 Nothing is kept between calls, so each may be made from any thread at any time. Other threads of Python run on
 meanwhile.
 
-256 KiB of stack are enough for each call, whatever is passed in: what nests too deep is refused. Each takes a keyword
+256 KiB of stack are enough for each call on all inputs that were tried: what nests too deep is refused. Each takes a keyword
 `most`, how many bytes it may give.
 """
 from ._calls import canonical, completed, completed_table, resolved, resolved_completed

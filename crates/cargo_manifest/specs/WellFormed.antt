@@ -24,5 +24,5 @@ abbrev pub ManifestByParts : Kind Data → Kind Data → Type 0
 ManifestByParts K W =
     (m : Manifest) → well_formed K W m
     ↔ (good_some (form (package_rows K)) m.«package»
-      × good_some (form (workspace_rows W)) m.workspace
+    × good_some (form (workspace_rows W)) m.workspace
     × good_some (form profiles_rows) m.profile × good_some (form lints_rows) m.lints)

@@ -17,7 +17,7 @@ use manifest_value::{Error, Metadata};
 use std::alloc::Global;
 use toml::Value;
 
-/// What completion reads of a package and of its manifest.
+/// Borrows what completion reads of a package and of its manifest: its names, flags and declared targets.
 fn declared_targets<'a, P: Metadata>(
     manifest: &'a Manifest<P, Value>,
     package: &'a Package<P>,

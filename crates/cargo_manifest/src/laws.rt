@@ -18,7 +18,7 @@ pub use manifest_completion::laws::{
 };
 use manifest_value::Metadata;
 
-/// A table means at most one manifest.
+/// A table means at most one manifest: there is at most one that it is read as.
 pub fn means_one<P: Metadata, W: Metadata>()
     ensures { MeansOne (tree_of P.kind) (tree_of W.kind) }
 {}
@@ -70,7 +70,7 @@ pub fn same_written_is_same<P: Metadata, W: Metadata>()
     ensures { SameWrittenIsSame (tree_of P.kind) (tree_of W.kind) }
 {}
 
-/// A table with a fault means nothing.
+/// A table with a fault means nothing: there is no manifest that it is read as.
 pub fn faulty_means_nothing<P: Metadata, W: Metadata>()
     ensures { FaultyMeansNothing (tree_of P.kind) (tree_of W.kind) }
 {}

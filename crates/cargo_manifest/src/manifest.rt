@@ -77,7 +77,7 @@ pub struct Manifest<P = Value, W = Value> {
     pub lints: Option<MaybeInheritedLintsSet>,
 }
 
-/// The rows of a manifest.
+/// The rows of a manifest, for the macros of `manifest_value::row_macros`.
 macro_rules! manifest {
     ($make:ident $given:tt) => {
         $make! { $given
@@ -154,7 +154,7 @@ impl<P: Metadata, W: Metadata> Form for Manifest<P, W> {
         (tree_lawful W.lawful) };
 }
 
-/// The table that is written.
+/// The canonical table of a manifest: each row under its first spelling, where it is written.
 pub(crate) fn manifest_table<P: Metadata, W: Metadata>(
     alloc: Global,
     x: &Manifest<P, W>,

@@ -91,7 +91,7 @@ pub struct Package<M = Value> {
     pub resolver: Option<Resolver>,
 }
 
-/// The rows of a package.
+/// The rows of a package, for the macros of `manifest_value::row_macros`.
 macro_rules! package {
     ($make:ident $given:tt) => {
         $make! { $given
@@ -167,7 +167,7 @@ impl<M> Package<M> {
     }
 }
 
-/// A package of this name, and nothing else.
+/// A package of this name, in which no other field is given.
 fn package_with_name<M>(name: String) -> Package<M>
     ensures { (f : M → Data)
         → IsOfTable (package_rows kept) (package_content f)

@@ -10,13 +10,15 @@ use std::fmt::{Display, Formatter, Write};
 use toml::{Table, Value};
 use toml_writer::write_key;
 
-/// Counts the bytes that are written to it, and stores none.
+/// Counts the bytes of what is written to it, and keeps none of them: `toml` writes a key or a value to it, to learn
+/// how long its text is.
 #[derive(Drop)]
 struct Count {
     bytes: usize,
 }
 
-/// Fails where the count would not fit.
+/// Adds the length of what is written; fails above `usize::MAX`. The `ghost` line is its contract: how the count `t`
+/// after writing `text` follows from the count `s` before.
 impl Write for Count {
     ghost write_str_gives = { λ s text t. t.bytes ≡ s.bytes + length text };
 
@@ -31,7 +33,7 @@ impl Write for Count {
     }
 }
 
-/// What a key takes, with a dot or a blank after it.
+/// How many bytes a key takes in a document, with a dot or a blank after it; `None` above `usize::MAX`.
 fn key_size(key: &str) -> Option<usize>
     ensures { IfSome result (λ n. n ≡ spec.key_size key.now) }
 {
@@ -42,7 +44,7 @@ fn key_size(key: &str) -> Option<usize>
     }
 }
 
-/// How long the text of a value is on the right of `=`.
+/// How many bytes a value takes on the right of `=`; `None` above `usize::MAX`.
 fn shown_size(value: &Value) -> Option<usize>
     ensures { IfSome result (λ n.
         (text : List ℕ) × IsValueText false (view value.now) text × (n ≡ length text)) }
@@ -54,7 +56,8 @@ fn shown_size(value: &Value) -> Option<usize>
     }
 }
 
-/// What a value takes after a path of keys of a given length in bytes.
+/// How many bytes a value takes in a document at most. `path` is the length of the keys above it, which the header of a
+/// table repeats. `None` above `usize::MAX`.
 #[cycle(printed)]
 fn value_size(path: usize, value: &Value) -> Option<usize>
     ensures { IfSome result (λ n. n ≡ spec.printed_size path (view value.now)) }
@@ -72,7 +75,7 @@ fn value_size(path: usize, value: &Value) -> Option<usize>
     }
 }
 
-/// What the items of an array take.
+/// How many bytes the items of an array take at most, as [`value_size`] counts them.
 #[cycle(printed)]
 fn items_size(path: usize, items: &Vec<Value>) -> Option<usize>
     ensures { IfSome result (λ n. n ≡ spec.printed_items path (array_view items.now)) }
@@ -84,7 +87,7 @@ fn items_size(path: usize, items: &Vec<Value>) -> Option<usize>
     Some(size)
 }
 
-/// What the members of a table take.
+/// How many bytes the entries of a table take at most, keys and values, as [`value_size`] counts them.
 #[cycle(printed)]
 fn members_size(path: usize, members: &Table) -> Option<usize>
     ensures { IfSome result (λ n. n ≡ spec.printed_members path (table_view members.now)) }

@@ -48,7 +48,7 @@ pub struct Profiles {
 }
 
 impl Profiles {
-    /// No profile at all.
+    /// An empty set of profiles: none of the five, and no custom one.
     ///
     /// ```ignore
     /// let profiles = Profiles::default(alloc);
@@ -67,7 +67,7 @@ impl Profiles {
     }
 }
 
-/// The rows of profiles; every other key is the name of a custom profile.
+/// The rows of profiles, for the macros of `manifest_value::row_macros`; every other key names a custom profile.
 macro_rules! profiles {
     ($make:ident $given:tt) => {
         $make! { $given

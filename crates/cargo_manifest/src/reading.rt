@@ -28,14 +28,14 @@ fn has_key(table: &Table, key: &str) -> bool
     find(table, key).is_some()
 }
 
-/// Whether the table has a `package` or a `workspace`.
+/// Whether the table has a header: a `package` or a `workspace`.
 fn has_package_or_workspace(table: &Table) -> bool
     ensures { result ≡ has_header (table_view table.now) }
 {
     has_key(table, "package") | has_key(table, "workspace")
 }
 
-/// The package under an old header: that of `project`, or else of the whole table.
+/// Reads the package of a table without a header: from `project`, or else from the whole table.
 fn read_old_package<P: Metadata>(alloc: Global, table: &Table) -> Result<Package<P>, ReadFault>
     ensures ok { let ms = table_view table.now in
         IfOk result (λ p. (package_form P.kind).reads
@@ -90,7 +90,7 @@ fn read_table<P: Metadata, W: Metadata>(
     }
 }
 
-/// Reads into a manifest what the table of a document means.
+/// Reads into a manifest what the table of a document means: [`read_table`], with its fault as an [`Error`].
 fn read_document<P: Metadata, W: Metadata>(
     manifest: &mut Manifest<P, W>,
     alloc: Global,
@@ -107,7 +107,7 @@ fn read_document<P: Metadata, W: Metadata>(
     }
 }
 
-/// Reads into a manifest what a text means.
+/// Parses a text as TOML, and reads into a manifest what its table means.
 fn read_text<P: Metadata, W: Metadata>(
     manifest: &mut Manifest<P, W>,
     alloc: Global,
@@ -130,7 +130,7 @@ fn read_text<P: Metadata, W: Metadata>(
     }
 }
 
-/// Reads into a manifest what bytes mean.
+/// Reads into a manifest what bytes mean, if they are UTF-8, as [`read_text`] does.
 fn read_bytes<P: Metadata, W: Metadata>(
     manifest: &mut Manifest<P, W>,
     alloc: Global,
@@ -147,8 +147,8 @@ fn read_bytes<P: Metadata, W: Metadata>(
     }
 }
 
-/// A manifest that is read in its place. Each public call makes its own: a manifest takes 5 kB, which every function
-/// that passes it on would clear once more.
+/// The body of a public call: makes an empty manifest, and reads into it by `$read`. It is a macro, since a manifest
+/// takes 5 kB, which every function that returns one would clear once more.
 macro_rules! manifest_by {
     ($read:ident, $alloc:ident, $input:ident) => {{
         let mut manifest = Manifest::default($alloc);

@@ -58,7 +58,7 @@ pub struct WorkspacePackage {
     pub publish: Option<Publish>,
 }
 
-/// The rows of the package fields of a workspace.
+/// The rows of the package fields of a workspace, for the macros of `manifest_value::row_macros`.
 macro_rules! workspace_package {
     ($make:ident $given:tt) => {
         $make! { $given
@@ -151,7 +151,7 @@ pub struct Workspace<M = Value> {
     pub lints: Option<LintsSet>,
 }
 
-/// The rows of a workspace.
+/// The rows of a workspace, for the macros of `manifest_value::row_macros`.
 macro_rules! workspace {
     ($make:ident $given:tt) => {
         $make! { $given

@@ -18,7 +18,8 @@ use toml::Table;
 /// The error's text for a table with a date-time that TOML cannot write.
 pub const INVALID_DATE: &str = "a date-time of a kept value is not a valid date";
 
-/// The text of a table.
+/// The document that `toml` writes of a table. Refuses a date-time that `toml` counts as invalid with [`Error::Other`]
+/// of [`INVALID_DATE`].
 fn table_text(alloc: Global, table: &Table) -> Result<String, Error>
     ensures text { let ms = table_view table.now in
         IfOk result (λ s. IsDocumentText false ms (string_bytes s)) }
@@ -69,8 +70,8 @@ impl<P: Metadata, W: Metadata> Manifest<P, W> {
         }
     }
 
-    /// The same text, where it takes at most a given number of bytes; `None` where it could take more, by
-    /// [`printed_bound`](crate::printed_bound) of its table, which is counted before anything is printed. So a small
+    /// The text of [`Manifest::to_toml_string`], where it takes at most `most` bytes; `None` where it could take more,
+    /// by [`printed_bound`](crate::printed_bound) of its table, which is counted before anything is printed. So a small
     /// manifest that prints as a large text is refused without the text.
     ///
     /// Refuses as [`Manifest::to_toml_string`] does.

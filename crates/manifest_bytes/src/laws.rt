@@ -6,7 +6,7 @@ ghost use Rattle.manifest_bytes.specs.Laws.{EncodedIsDecoded, TableIsDecoded};
 
 use manifest_schema::kinds::LawfulKind;
 
-/// A value without floats is what its bytes hold.
+/// A value without floats is what its bytes hold: `decoded` of `encoded` of it is the value, by these two definitions.
 pub fn encoded_is_decoded()
     ensures { EncodedIsDecoded }
 {}

@@ -1,5 +1,5 @@
-//! The value that some bytes may hold: the way back from `values`. What is read here is only sought, and
-//! `value_of_bytes` keeps it where its bytes are those that were read.
+//! Reads a value from tagged bytes: the way back from `values`. Nothing here but `inside` has a contract:
+//! `value_of_bytes` encodes the result again, and returns it only if the bytes are equal.
 
 ghost use Rattle.std.specs.Prelude.{◌≡◌, ◌+◌, IfOk};
 
@@ -9,24 +9,26 @@ use std::num::f64_from_bits_with_nan;
 use toml::{Table, Value};
 use toml_datetime::{Date, Datetime, Offset, Time};
 
-/// What is read, or nothing where the bytes hold none; and an error where it nests too deep or there is no memory for
-/// it.
+/// What is read; `Ok(None)` where the bytes hold no such thing; an error where it nests too deep or memory runs out.
 type Read<T> = Result<Option<T>, DecodeError>;
 
-/// Bytes that are read from the beginning.
+/// The bytes that are still to be read. Each method returns what stands at their beginning, and moves past it; `None`
+/// where that is not there.
 #[derive(Drop)]
 pub(crate) struct Reader<'a> {
     pub(crate) left: &'a [u8],
 }
 
 impl<'a> Reader<'a> {
+    /// The next byte; `None` at the end.
     fn byte(&mut self) -> Option<u8> {
         let (first, left) = self.left.split_first()?;
         self.left = left;
         Some(*first)
     }
 
-    /// Groups of seven bits, the lowest first, with 128 added to each but the last.
+    /// A number: unsigned LEB128, ten bytes at most; `None` if the bytes end or it exceeds `u64`. A form that is longer
+    /// than needed passes here, and is refused by `value_of_bytes`.
     fn number(&mut self) -> Option<u64> {
         let mut number: u64 = 0;
         let mut unit: u64 = 1;
@@ -42,6 +44,7 @@ impl<'a> Reader<'a> {
         number.checked_add(last.checked_mul(unit)?)
     }
 
+    /// A string without its tag: its length in bytes, and the bytes; `None` where they end too early or are not UTF-8.
     fn text(&mut self) -> Option<&'a str> {
         let length = usize::try_from(self.number()?).ok()?;
         let (text, left) = self.left.split_at_checked(length)?;
@@ -49,7 +52,7 @@ impl<'a> Reader<'a> {
         std::str::from_utf8(text).ok()
     }
 
-    /// Whether a part stands here that may be left out.
+    /// The byte before a part that may be left out: 0 where it is absent, 1 where it follows; `None` for another byte.
     fn has_part(&mut self) -> Option<bool> {
         match self.byte()? {
             0 => Some(false),
@@ -58,6 +61,7 @@ impl<'a> Reader<'a> {
         }
     }
 
+    /// A date: the month, the day, and the year as a number.
     fn date(&mut self) -> Option<Date> {
         let month = self.byte()?;
         let day = self.byte()?;
@@ -65,6 +69,7 @@ impl<'a> Reader<'a> {
         Some(Date { year, month, day })
     }
 
+    /// The seconds of a time, which may be absent (the inner `None`).
     fn second(&mut self) -> Option<Option<u8>> {
         if self.has_part()? {
             Some(Some(self.byte()?))
@@ -73,6 +78,7 @@ impl<'a> Reader<'a> {
         }
     }
 
+    /// The nanoseconds of a time, which may be absent (the inner `None`).
     fn nanosecond(&mut self) -> Option<Option<u32>> {
         if self.has_part()? {
             Some(Some(u32::try_from(self.number()?).ok()?))
@@ -81,6 +87,7 @@ impl<'a> Reader<'a> {
         }
     }
 
+    /// A time: hour, minute, seconds and nanoseconds.
     fn time(&mut self) -> Option<Time> {
         let hour = self.byte()?;
         let minute = self.byte()?;
@@ -94,6 +101,7 @@ impl<'a> Reader<'a> {
         })
     }
 
+    /// An offset: 0 for `Z`, 1 and the minutes, or 2 and -1 minus the minutes, where they are below 0.
     fn offset(&mut self) -> Option<Offset> {
         match self.byte()? {
             0 => Some(Offset::Z),
@@ -109,6 +117,7 @@ impl<'a> Reader<'a> {
         }
     }
 
+    /// A date-time without its tag: date, time and offset, each of which may be absent.
     fn datetime(&mut self) -> Option<Datetime> {
         let date = if self.has_part()? {
             Some(self.date()?)
@@ -128,7 +137,7 @@ impl<'a> Reader<'a> {
         Some(Datetime { date, time, offset })
     }
 
-    /// What stands after the tag of a value that holds no other, where that is no text.
+    /// What stands after `tag`, of an integer, a boolean, a date-time or a float; `None` for any other tag.
     fn simple(&mut self, tag: u8) -> Option<Value> {
         match tag {
             2 => Some(Value::Integer(i64::try_from(self.number()?).ok()?)),
@@ -142,7 +151,7 @@ impl<'a> Reader<'a> {
     }
 }
 
-/// A text.
+/// Reads a string without its tag, into memory of its own.
 fn read_text(alloc: Global, reader: &mut Reader<'_>) -> Read<String> {
     match reader.text() {
         Some(text) => Ok(Some(String::from_str(alloc, text)?)),
@@ -150,7 +159,8 @@ fn read_text(alloc: Global, reader: &mut Reader<'_>) -> Read<String> {
     }
 }
 
-/// How deep the values may nest that stand in an array or a table.
+/// The depth that is left for the values inside an array or a table: one less. Refuses with `TooDeep` where none is
+/// left.
 fn inside(deepest: usize) -> Result<usize, DecodeError>
     ensures { IfOk result (λ inside. inside + 1 ≡ deepest) }
 {
@@ -161,7 +171,7 @@ fn inside(deepest: usize) -> Result<usize, DecodeError>
     }
 }
 
-/// A value whose arrays and tables nest at most this deep.
+/// Reads a value with its tag. Its arrays and tables may nest `deepest` deep.
 #[cycle(reading)]
 pub(crate) fn read_value(alloc: Global, deepest: usize, reader: &mut Reader<'_>) -> Read<Value> {
     match reader.byte() {
@@ -182,7 +192,7 @@ pub(crate) fn read_value(alloc: Global, deepest: usize, reader: &mut Reader<'_>)
     }
 }
 
-/// How many items there are, and the items.
+/// Reads an array without its tag: how many items there are, and the items.
 #[cycle(reading)]
 fn read_items(alloc: Global, deepest: usize, reader: &mut Reader<'_>) -> Read<Vec<Value>> {
     let mut items = Vec::new(alloc);
@@ -198,7 +208,8 @@ fn read_items(alloc: Global, deepest: usize, reader: &mut Reader<'_>) -> Read<Ve
     Ok(Some(items))
 }
 
-/// How many members there are, and the members.
+/// Reads a table without its tag: how many entries there are, and each key with its value. A key that stands twice
+/// passes here, and is refused by `value_of_bytes`.
 #[cycle(reading)]
 fn read_members(alloc: Global, deepest: usize, reader: &mut Reader<'_>) -> Read<Table> {
     let mut members = Table::new(alloc);

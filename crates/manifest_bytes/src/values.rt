@@ -1,4 +1,4 @@
-//! The bytes of a value.
+//! The tagged bytes of a value.
 
 ghost use Rattle.std.specs.Prelude.{◌≡◌, ◌++◌, ◌∷◌, [], OnOk, IfOk, IfSome, option_map};
 ghost use Rattle.toml.specs.View.{view, array_view, table_view};
@@ -12,7 +12,7 @@ use std::num::f64_to_bits_with_nan;
 use toml::{Table, Value};
 use toml_datetime::{Date, Datetime, Offset, Time};
 
-/// Appends a number.
+/// Appends a number as unsigned LEB128: groups of seven bits, the lowest first, with 128 added to each but the last.
 #[tactic(auto, using(crate::proofs::NumberLemmas::number_more, crate::proofs::NumberLemmas::number_last))]
 fn push_number(out: &mut Vec<u8>, number: u64) -> Result<(), AllocError>
     ensures { OnOk result (out.new.items ≡ out.old.items ++ number_bytes number) }
@@ -26,7 +26,7 @@ fn push_number(out: &mut Vec<u8>, number: u64) -> Result<(), AllocError>
     Ok(())
 }
 
-/// Appends a text.
+/// Appends a string without a tag: its length in bytes, as a number, and its bytes.
 fn push_text(out: &mut Vec<u8>, text: &str) -> Result<(), AllocError>
     ensures { OnOk result (out.new.items ≡ out.old.items ++ text_bytes text.now) }
 {
@@ -34,7 +34,7 @@ fn push_text(out: &mut Vec<u8>, text: &str) -> Result<(), AllocError>
     out.extend_from_slice(text.as_bytes())
 }
 
-/// Appends a whole number, with its tag.
+/// Appends an integer with its tag: 2 and the number, or 3 and -1 minus the number, where it is below 0.
 fn push_integer(out: &mut Vec<u8>, number: i64) -> Result<(), AllocError>
     ensures { OnOk result (out.new.items ≡ out.old.items ++ integer_bytes number) }
 {
@@ -47,7 +47,7 @@ fn push_integer(out: &mut Vec<u8>, number: i64) -> Result<(), AllocError>
     }
 }
 
-/// Appends a date.
+/// Appends a date: the month, the day, and the year as a number.
 fn push_date(out: &mut Vec<u8>, date: Date) -> Result<(), AllocError>
     ensures { OnOk result (out.new.items ≡ out.old.items ++ date_bytes date) }
 {
@@ -56,7 +56,7 @@ fn push_date(out: &mut Vec<u8>, date: Date) -> Result<(), AllocError>
     push_number(out, u64::from(date.year))
 }
 
-/// Appends the seconds of a time.
+/// Appends the seconds of a time: 0 for none, or 1 and a byte.
 fn push_second(out: &mut Vec<u8>, second: Option<u8>) -> Result<(), AllocError>
     ensures { OnOk result (out.new.items ≡ out.old.items ++ part_bytes second_bytes second) }
 {
@@ -70,7 +70,7 @@ fn push_second(out: &mut Vec<u8>, second: Option<u8>) -> Result<(), AllocError>
     Ok(())
 }
 
-/// Appends the nanoseconds of a time.
+/// Appends the nanoseconds of a time: 0 for none, or 1 and a number.
 fn push_nanosecond(out: &mut Vec<u8>, nanosecond: Option<u32>) -> Result<(), AllocError>
     ensures { OnOk result (out.new.items ≡ out.old.items ++ part_bytes number_bytes nanosecond) }
 {
@@ -86,7 +86,7 @@ fn push_nanosecond(out: &mut Vec<u8>, nanosecond: Option<u32>) -> Result<(), All
     }
 }
 
-/// Appends a time.
+/// Appends a time: hour, minute, seconds and nanoseconds.
 fn push_time(out: &mut Vec<u8>, time: Time) -> Result<(), AllocError>
     ensures { OnOk result (out.new.items ≡ out.old.items ++ time_bytes time) }
 {
@@ -96,7 +96,7 @@ fn push_time(out: &mut Vec<u8>, time: Time) -> Result<(), AllocError>
     push_nanosecond(out, time.nanosecond)
 }
 
-/// Appends an offset.
+/// Appends an offset: 0 for `Z`, 1 and the minutes, or 2 and -1 minus the minutes, where they are below 0.
 fn push_offset(out: &mut Vec<u8>, offset: Offset) -> Result<(), AllocError>
     ensures { OnOk result (out.new.items ≡ out.old.items ++ offset_bytes offset) }
 {
@@ -117,7 +117,7 @@ fn push_offset(out: &mut Vec<u8>, offset: Offset) -> Result<(), AllocError>
     }
 }
 
-/// Appends a date-time.
+/// Appends a date-time without its tag: date, time and offset, each of them 0 for none, or 1 and the part.
 fn push_datetime(out: &mut Vec<u8>, datetime: Datetime) -> Result<(), AllocError>
     ensures { OnOk result (out.new.items ≡ out.old.items ++ datetime_bytes datetime) }
 {
@@ -147,7 +147,8 @@ fn push_datetime(out: &mut Vec<u8>, datetime: Datetime) -> Result<(), AllocError
     }
 }
 
-/// Appends a value.
+/// Appends a value: its tag and what stands after it (`docs/LIBRARY.md`, Tagged bytes). After an error `out` may hold a
+/// part of it.
 #[cycle(bytes)]
 fn push_value(out: &mut Vec<u8>, value: &Value) -> Result<(), AllocError>
     ensures { OnOk result (out.new.items ≡ out.old.items ++ encoded (view value.now)) }
@@ -181,7 +182,7 @@ fn push_value(out: &mut Vec<u8>, value: &Value) -> Result<(), AllocError>
     }
 }
 
-/// Appends how many items there are, and the items.
+/// Appends an array without its tag: how many items there are, and the items.
 #[cycle(bytes)]
 fn push_items(out: &mut Vec<u8>, items: &Vec<Value>) -> Result<(), AllocError>
     ensures { let ds = array_view items.now in
@@ -195,7 +196,7 @@ fn push_items(out: &mut Vec<u8>, items: &Vec<Value>) -> Result<(), AllocError>
     Ok(())
 }
 
-/// Appends how many members there are, and the members.
+/// Appends a table without its tag: how many entries there are, and each key with its value.
 #[cycle(bytes)]
 fn push_members(out: &mut Vec<u8>, members: &Table) -> Result<(), AllocError>
     ensures { let ms = table_view members.now in
@@ -210,7 +211,7 @@ fn push_members(out: &mut Vec<u8>, members: &Table) -> Result<(), AllocError>
     Ok(())
 }
 
-/// The bytes of a value.
+/// The tagged bytes of a value.
 ///
 /// ```ignore
 /// let value = Value::from_str(alloc, "[true, 300]")?;
@@ -224,10 +225,13 @@ pub fn value_bytes(alloc: Global, value: &Value) -> Result<Vec<u8>, AllocError>
     Ok(out)
 }
 
-/// The value whose bytes these are: what is read of them is kept where its bytes are the same again. None where they
-/// are the bytes of no value, as where a text is not UTF-8, or the keys of a table do not ascend. The stack that it
-/// takes grows with `deepest` alone: bytes of a value whose arrays and tables nest deeper are refused with
-/// [`DecodeError::TooDeep`], unless they are found to be invalid first.
+/// The value whose bytes these are: what is read of them is encoded again, and returned only if the bytes are equal. It
+/// is `None` where they are the bytes of no value, as where a text is not UTF-8, or the keys of a table do not ascend.
+/// Bytes of a value whose arrays and tables nest deeper than `deepest` are refused with [`DecodeError::TooDeep`],
+/// unless they are found to be invalid first.
+///
+/// It is proved that a value which is returned has these bytes. When it is `None` or `TooDeep`, and that the stack
+/// grows with `deepest` alone, is only tested.
 ///
 /// ```ignore
 /// let value = value_of_bytes(alloc, 128, &[7, 2, 5, 2, 172, 2])?; // `[true, 300]`

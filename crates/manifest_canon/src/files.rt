@@ -15,7 +15,7 @@ use std::path::Path;
 use std::rt::Files;
 use std::{fs, io};
 
-/// Reads the manifest of a file.
+/// Reads a file, and the manifest that its bytes mean. Nothing is completed.
 fn read_manifest<H: Files + AllocGlobal>(rt: &H, file: &str) -> Result<Manifest, Error>
     ensures { IfOk result (λ m. IsFileOf (manifest_content view view m)) }
 {
@@ -23,7 +23,8 @@ fn read_manifest<H: Files + AllocGlobal>(rt: &H, file: &str) -> Result<Manifest,
     Manifest::from_slice(rt.alloc(), bytes.as_slice())
 }
 
-/// Finishes a manifest by its root, where there is one, and by the folder that FILE stands in.
+/// Puts into a manifest what it inherits from the workspace of its root, where there is one, and completes it over the
+/// folder that FILE stands in.
 fn finish_in<H: Files + AllocGlobal + Clone + Drop>(
     rt: &H,
     file: &str,
@@ -42,7 +43,7 @@ fn finish_in<H: Files + AllocGlobal + Clone + Drop>(
     }
 }
 
-/// The same with the root's file.
+/// Finishes a manifest as [`finish_in`] does, with a root that is read from its file first, where there is one.
 fn finish_at<H: Files + AllocGlobal + Clone + Drop>(
     rt: &H,
     file: &str,

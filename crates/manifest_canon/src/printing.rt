@@ -11,8 +11,8 @@ use std::alloc::Global;
 use std::io;
 use std::io::{ErrorKind, Write};
 
-/// Writes a text. An interrupted write is tried again; one that takes nothing is refused, and so is an output that has
-/// not taken the text after 4,294,967,295 writes.
+/// Writes all of a text. An interrupted write is tried again; one that takes nothing is refused, and so is an output
+/// that has not taken the text after 4,294,967,295 writes.
 fn write_text<W: Write>(output: &mut W, text: &[u8]) -> io::Result<()>
     ensures ok { OnOk result (Appends (W.contents output.old) (W.contents output.new) text.now) }
     ensures refused { OnErr result
@@ -36,7 +36,7 @@ fn write_text<W: Write>(output: &mut W, text: &[u8]) -> io::Result<()>
     Err(io::Error::other("the output has not taken the text"))
 }
 
-/// Writes a text and flushes the output.
+/// Writes all of a text, as [`write_text`] does, and flushes the output.
 #[tactic(auto, using(crate::proofs::Printed::appends_kept, crate::proofs::Printed::begins_whole))]
 fn print<W: Write>(output: &mut W, text: &str) -> io::Result<()>
     ensures ok { OnOk result (Appends (W.contents output.old) (W.contents output.new) text.now) }
@@ -47,7 +47,7 @@ fn print<W: Write>(output: &mut W, text: &str) -> io::Result<()>
     output.flush()
 }
 
-/// Prints the text of a manifest, and lets the manifest go.
+/// Makes the canonical text of a manifest, drops the manifest, and prints the text.
 #[tactic(auto, using(crate::proofs::Printed::fails_unwritten))]
 pub fn print_manifest<W: Write>(
     alloc: Global,

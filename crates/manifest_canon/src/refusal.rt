@@ -8,7 +8,7 @@ use manifest_inherit::{FinishError, ResolveError};
 use std::alloc::{AllocError, Global};
 use std::io::Write;
 
-/// The line of an error of a manifest.
+/// The line on standard error for an error of a manifest.
 fn error_line(alloc: Global, error: &Error) -> Result<String, AllocError> {
     match error {
         Error::Parse(ParseFault::Toml(_)) => String::from_str(alloc, "error: toml\n"),
@@ -20,7 +20,7 @@ fn error_line(alloc: Global, error: &Error) -> Result<String, AllocError> {
     }
 }
 
-/// A name as it is written in a key path.
+/// A name as it is written in a key path: between quotes where it is no bare key.
 fn key_text(alloc: Global, name: &str) -> Result<String, AllocError>
     ensures { IfOk result (λ text. string_bytes text ≡ key_text name.now) }
 {
@@ -29,7 +29,7 @@ fn key_text(alloc: Global, name: &str) -> Result<String, AllocError>
     KeyPath { steps }.to_text(alloc)
 }
 
-/// The line that says why a member is not resolved.
+/// The line on standard error for a member that is not resolved.
 fn resolve_line(alloc: Global, refused: &ResolveError) -> Result<String, AllocError> {
     match refused {
         ResolveError::NotInWorkspace(name) => {
@@ -48,7 +48,7 @@ fn resolve_line(alloc: Global, refused: &ResolveError) -> Result<String, AllocEr
     }
 }
 
-/// The line of a refusal.
+/// The line on standard error for a refusal.
 fn line_of(alloc: Global, refusal: &FinishError) -> Result<String, AllocError> {
     match refusal {
         FinishError::Manifest(error) => error_line(alloc, error),

@@ -65,7 +65,7 @@ fn canon<R: Read, W: Write>(alloc: Global, input: &mut R, output: &mut W) -> Res
     print_canonical(alloc, bytes.as_slice(), output)
 }
 
-/// Prints what is asked for.
+/// Does what a request asks for: reads the manifest, completes it if asked to, and prints it.
 fn serve<H: Files + AllocGlobal + Clone + Drop, R: Read, W: Write>(
     rt: &H,
     request: Request<'_>,

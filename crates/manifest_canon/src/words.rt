@@ -1,4 +1,4 @@
-//! The words after the program's name.
+//! The words of the program: its command-line arguments.
 
 ghost use Rattle.std.specs.Prelude.{◌≡◌};
 ghost use Rattle.manifest_canon.specs.Words.{IsRequestOf, IsPairOf, IsFourOf};
@@ -17,12 +17,12 @@ pub enum Request<'a> {
     CanonFile(&'a str),
     /// To print the manifest of a file, completed over its folder: `complete FILE`.
     CompleteFile(&'a str),
-    /// The same, with what is inherited from the workspace of another file put in before: `complete FILE --workspace
-    /// ROOT`.
+    /// To print the manifest of a file, with what it inherits from the workspace of another file, and completed over
+    /// its folder: `complete FILE --workspace ROOT`.
     CompleteMember(&'a str, &'a str),
 }
 
-/// What two words ask for. `-` names no file.
+/// What two arguments ask for; `None` where they are wrong. `-` names no file.
 fn pair_request<'a>(verb: &str, file: &'a str) -> Option<Request<'a>>
     ensures { IsPairOf verb.now file.now result }
 {
@@ -39,7 +39,7 @@ fn pair_request<'a>(verb: &str, file: &'a str) -> Option<Request<'a>>
     }
 }
 
-/// What four words ask for.
+/// What four arguments ask for, `complete FILE --workspace ROOT`; `None` where they are wrong.
 fn member_request<'a>(verb: &str, file: &'a str, option: &str, root: &'a str) -> Option<Request<'a>>
     ensures { IsFourOf verb.now file.now option.now root.now result }
 {
@@ -50,7 +50,7 @@ fn member_request<'a>(verb: &str, file: &'a str, option: &str, root: &'a str) ->
     }
 }
 
-/// What the words ask for, or `None` where they are wrong.
+/// What the arguments ask for, or `None` where they are wrong.
 pub fn request_from_words(words: &[String]) -> Option<Request<'_>>
     ensures { IsRequestOf words.now result }
 {
@@ -67,7 +67,7 @@ pub fn request_from_words(words: &[String]) -> Option<Request<'_>>
     }
 }
 
-/// Writes the usage line, and answers the status of wrong words, 2.
+/// Writes the usage line, and returns the exit status of wrong arguments, 2.
 ///
 /// ```ignore
 /// let status = refuse_words(errors); // 2

@@ -262,7 +262,7 @@ abbrev pub asked_targets : PackageTargets → ListingMap → List Place
 asked_targets t l =
     source
     ∷ (if stops_at_source t l.source then []
-      else up_to_memory_fault (at l) (target_places l ++ root_places (asks_root t.build)))
+    else up_to_memory_fault (at l) (target_places l ++ root_places (asks_root t.build)))
 
 abbrev pub asked_by : Option Package → Manifest → ListingMap → List Place
 asked_by None m l = []

@@ -12,7 +12,7 @@ use std::collections::BTreeSet;
 use std::io;
 use std::io::ErrorKind;
 
-/// `folder/name`.
+/// The path text of an entry: `folder/name`.
 pub fn join(alloc: Global, folder: &str, name: &str) -> Result<String, AllocError>
     ensures { IfOk result (λ s. string_bytes s ≡ joined folder.now name.now) }
 {
@@ -51,7 +51,7 @@ fn is_memory_fault(answer: &io::Result<BTreeSet<String>>) -> bool
     }
 }
 
-/// The names of a set ascend.
+/// A law, with an empty body: the names of a set ascend.
 #[tactic(auto, using(crate::proofs::AskLemmas::set_ascends))]
 pub fn names_ascend(names: &BTreeSet<String>)
     ensures { IsAscending (set_names names.now) }
@@ -59,7 +59,7 @@ pub fn names_ascend(names: &BTreeSet<String>)
     let _ascending = names.len();
 }
 
-/// Asks at a path.
+/// Asks the filesystem for the names in the folder at a path.
 #[tactic(auto, using(crate::proofs::AskLemmas::none_ascend))]
 pub fn ask<FS: AbstractFilesystem>(
     alloc: Global,
@@ -77,7 +77,8 @@ pub fn ask<FS: AbstractFilesystem>(
     }
 }
 
-/// Asks at each name in a folder, up to the first answer that is out of memory.
+/// Asks at the path of each name in a folder, whether it is a folder or not, up to the first answer that is out of
+/// memory.
 fn ask_entries<FS: AbstractFilesystem>(
     alloc: Global,
     fs: &FS,
@@ -100,7 +101,7 @@ fn ask_entries<FS: AbstractFilesystem>(
     Ok(entries)
 }
 
-/// Asks at a folder of targets and at its entries.
+/// Asks at a folder of targets, as `examples`, and at each of its entries.
 fn ask_folder<FS: AbstractFilesystem>(
     alloc: Global,
     fs: &FS,
@@ -117,7 +118,7 @@ fn ask_folder<FS: AbstractFilesystem>(
 }
 
 impl FolderAnswers {
-    /// Those of a folder that is not asked.
+    /// The answers of a folder that is not asked: not found, and no entries.
     fn of_unasked_folder(alloc: Global) -> FolderAnswers
         ensures own { answer_of result.own ≡ fault NotFound }
         ensures entries { result.entries.items ≡ [] }
@@ -128,7 +129,7 @@ impl FolderAnswers {
         }
     }
 
-    /// Whether one of them ran out of memory.
+    /// Whether the listing of the folder or of one of its entries ran out of memory.
     fn ran_out_of_memory(&self) -> bool
         ensures { result ≡ ran_out_of_memory self.now }
     {
@@ -164,7 +165,7 @@ fn ask_folder_unless<FS: AbstractFilesystem>(
     ask_folder(alloc, fs, folder)
 }
 
-/// Asks at the folder of the manifest, where it is to be asked.
+/// Asks at `.`, the folder of the manifest, if `asks` is true; else returns that it is not found, and asks nothing.
 fn ask_root_if<FS: AbstractFilesystem>(
     asks: bool,
     alloc: Global,

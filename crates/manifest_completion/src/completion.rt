@@ -55,7 +55,7 @@ pub struct DeclaredTargets<'a> {
     pub bench: &'a [Product],
 }
 
-/// What it makes of them: the build script, the library and the four lists.
+/// What completion makes of the declared targets: the build script, the library and the four lists.
 #[derive(Debug, Drop)]
 pub struct CompletedTargets {
     /// The build script: `build.rs` where it is found, else what the package says.
@@ -101,7 +101,7 @@ pub fn is_legacy(edition: &Option<MaybeInherited<Edition>>) -> bool
     }
 }
 
-/// The edition of the package's own.
+/// The package's own edition; `None` where it is absent or inherited.
 ///
 /// ```ignore
 /// let edition = own_edition(&Some(MaybeInherited::Local(Edition::E2021))); // `Some(E2021)`
@@ -116,8 +116,8 @@ pub fn own_edition(edition: &Option<MaybeInherited<Edition>>) -> Option<Edition>
     }
 }
 
-/// Whether found targets are added to a list: as the package says, and where it says nothing, unless targets are
-/// discovered in legacy mode and the list has one.
+/// Whether found targets are added to a list: as the package says by a flag such as `autobins`, here `own`; and where
+/// it says nothing, unless in legacy mode the list has a declared target.
 ///
 /// ```ignore
 /// let adds = discovers(None, false, &declared); // true: the package says nothing, and it is not legacy mode
@@ -142,7 +142,7 @@ fn asks_root(build: &Option<StringOrBool>) -> bool
     }
 }
 
-/// The answer at `src`, unless it is a fault other than that it is not there.
+/// Returns the answer at `src`; refuses with it where it is a fault other than that `src` is not there.
 fn check_source(source: io::Result<BTreeSet<String>>) -> Result<io::Result<BTreeSet<String>>, Error>
     ensures { MatchResult result (λ s. (s ≡ source) × (source_fault (answer_of source) ≡ None))
         (IsFault (source_fault (answer_of source))) }
@@ -194,7 +194,7 @@ fn completed_build(
     }
 }
 
-/// What tests and benches take where they have none.
+/// The edition that a test or a bench takes where it has none: the package's own.
 fn test_defaults(declared: &DeclaredTargets<'_>) -> TargetDefaults
     ensures { defaults_content result ≡ test_defaults (declared_content declared.now) }
 {
@@ -205,7 +205,7 @@ fn test_defaults(declared: &DeclaredTargets<'_>) -> TargetDefaults
     }
 }
 
-/// What examples take.
+/// The edition and the crate type `bin` that an example takes where it has none.
 fn example_defaults(declared: &DeclaredTargets<'_>) -> TargetDefaults
     ensures { defaults_content result ≡ example_defaults (declared_content declared.now) }
 {
@@ -216,7 +216,8 @@ fn example_defaults(declared: &DeclaredTargets<'_>) -> TargetDefaults
     }
 }
 
-/// What binaries take: in legacy mode also the path `src/main.rs`, where `src` lists it.
+/// What a binary takes where it has none: the package's own edition, and in legacy mode the path `src/main.rs`, where
+/// `src` lists it.
 fn bin_defaults(
     declared: &DeclaredTargets<'_>,
     source: &io::Result<BTreeSet<String>>,
@@ -281,7 +282,7 @@ fn completed_bins(
     )
 }
 
-/// The four completed lists.
+/// Completes the four lists: binaries, examples, tests and benches.
 fn completed_lists(
     alloc: Global,
     declared: &DeclaredTargets<'_>,

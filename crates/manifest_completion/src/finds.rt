@@ -19,7 +19,7 @@ pub struct FoundTarget {
     pub path: String,
 }
 
-/// A name without its ending `.rs`.
+/// A name without its ending `.rs`; `None` where it has another ending.
 #[tactic(auto, using(crate::proofs::FindLemmas::stem_is))]
 fn stem(name: &str) -> Option<&str>
     ensures { option_copied result ≡ stem name.now }
@@ -27,7 +27,7 @@ fn stem(name: &str) -> Option<&str>
     name.strip_suffix(".rs")
 }
 
-/// Whether an answer has a name.
+/// Whether an answer lists a name. A fault lists none.
 pub fn lists(answer: &io::Result<BTreeSet<String>>, name: &str) -> bool
     ensures { result ≡ lists (answer_of answer.now) name.now }
 {
@@ -37,7 +37,8 @@ pub fn lists(answer: &io::Result<BTreeSet<String>>, name: &str) -> bool
     }
 }
 
-/// Puts the finds of one entry at the end.
+/// Appends the finds of one entry of a folder of targets: a file `x.rs` is a target `x`, and so is a folder `x` whose
+/// listing, `answer`, has `main.rs`.
 fn push_entry_finds(
     finds: &mut Vec<FoundTarget>,
     alloc: Global,
@@ -90,7 +91,7 @@ pub fn folder_finds(
     Ok(finds)
 }
 
-/// Puts the binary of `src/main.rs` at the end, where `src` lists it.
+/// Appends the binary of `src/main.rs`, under the package's name, where `src` lists it.
 pub fn push_main_find(
     finds: &mut Vec<FoundTarget>,
     alloc: Global,

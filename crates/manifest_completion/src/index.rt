@@ -39,7 +39,7 @@ impl<'a> IndexedFinds<'a> {
         Ok(IndexedFinds { finds, paths })
     }
 
-    /// The path of the first find of a name.
+    /// The path of the first find of a name; `None` where no find has the name.
     pub fn first_path(&self, name: &str) -> Option<&'a str>
         ensures { option_copied result ≡ first_path self.now name.now }
     {
@@ -47,7 +47,7 @@ impl<'a> IndexedFinds<'a> {
     }
 }
 
-/// Takes a path. Answers whether it was not taken before.
+/// Adds a path to those that are taken; true where it was not taken before.
 pub fn take_path<'a>(taken: &mut BTreeSet<&'a str>, path: &'a str) -> Result<bool, AllocError>
     ensures new { IfOk result (λ is_new. is_new ≡ not (has_path (paths_in taken.old) path.now)) }
     ensures taken { let more = paths_in taken.old ++ path.now ∷ [] in

@@ -51,7 +51,7 @@ fn library_file(
     Ok(None)
 }
 
-/// The path of a declared library.
+/// The path of a declared library: its own, or else the file that is found for it (see [`library_file`]).
 fn library_path(
     alloc: Global,
     declared: &DeclaredTargets<'_>,

@@ -15,7 +15,7 @@ use manifest_value::copy_of;
 use std::alloc::{AllocError, Global};
 use std::collections::BTreeSet;
 
-/// What targets take where they have none.
+/// The edition, crate type and path that a target takes where it has none.
 #[derive(Debug, Clone, Copy)]
 pub struct TargetDefaults {
     pub edition: Option<Edition>,
@@ -36,7 +36,7 @@ fn path_of<'a>(target: &'a Product, finds: &IndexedFinds<'a>) -> Option<&'a str>
     }
 }
 
-/// The paths of the targets, filled in from the finds.
+/// The paths that the declared targets have, once filled in from the finds.
 fn taken_paths<'a>(
     alloc: Global,
     targets: &'a [Product],
@@ -54,7 +54,7 @@ fn taken_paths<'a>(
     Ok(taken)
 }
 
-/// A copy of the crate type of a target, or the one that it takes.
+/// A copy of the target's own crate type, or else a list of the default one, if there is one.
 pub fn crate_type_of(
     alloc: Global,
     own: &Option<Vec<String>>,
@@ -127,7 +127,7 @@ fn found_target(
     })
 }
 
-/// Puts the finds whose path is not taken at the end, as targets.
+/// Appends a target for each find whose path is not taken yet, and takes it.
 fn push_found<'a>(
     list: &mut Vec<Product>,
     alloc: Global,

@@ -37,7 +37,7 @@ abbrev pub AreTooDeep : Text → Type 0
 AreTooDeep bytes =
     (nests_densely bytes ≡ true)
     ⊎ ((document : Members) × (parse_document bytes ≡ Some document)
-      × (128 < members_depth document))
+    × (128 < members_depth document))
 
 -- the text is no such document: it nests too deep; it is no TOML, at a place in it (where that is said because memory ran
 -- out, it may be TOML); or memory ran out

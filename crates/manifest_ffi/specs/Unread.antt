@@ -41,4 +41,4 @@ abbrev pub RefusesDocument : ℕ → List ℕ → Refusals
 RefusesDocument most bytes e =
     OfBytes (IsNoDocument bytes) e
     ⊎ ((document : Members) × IsDocument bytes document
-      × RefusesTagged most (encoded (table document)) e)
+    × RefusesTagged most (encoded (table document)) e)

@@ -31,7 +31,8 @@ pub struct Answer {
 // as the other languages declare it: `scripts/library` compares the number
 const _: () = prove!(size_of::<Answer>() == 32);
 
-/// Copies a text to the beginning of `out`, where there is room for it.
+/// Copies a text to the beginning of `out`, where there is room for all of it. Returns how long the text is in either
+/// case.
 fn copy_to_front(text: &[u8], out: &mut [u8]) -> usize
     ensures { IsHanded text.now result out.old out.new }
 {
@@ -42,7 +43,7 @@ fn copy_to_front(text: &[u8], out: &mut [u8]) -> usize
     length
 }
 
-/// What is reported of what was made.
+/// The report (numbers and text) of what was made: status 0 and the text, or the refusal.
 pub(crate) fn outcome(alloc: Global, made: Result<Vec<u8>, Refusal>) -> Told
     ensures { Outcome made result }
 {

@@ -42,7 +42,7 @@ pub struct GivenFolders<'a> {
     by_path: BTreeMap<&'a str, Listed>,
 }
 
-/// The kind of a fault.
+/// The kind of I/O error that stands for the number of a folder's fault.
 fn fault_kind(number: u8) -> ErrorKind
     ensures { result ≡ fault_kind number }
 {
@@ -65,7 +65,8 @@ fn goes_before(name: &str, least: Option<&str>) -> bool
     }
 }
 
-/// A set of names that ascend. It goes from the last to the first, so that each goes before those that are there.
+/// The set of the names. Refuses names that do not ascend or are not UTF-8. It goes from the last to the first, so that
+/// each goes before those that are there.
 fn names_of(alloc: Global, given: &[&[u8]]) -> Result<BTreeSet<String>, Refusal>
     ensures ok { IfOk result (λ names. set_names names ≡ texts given.now) }
     ensures names { IfOk result (λ _. AreNames (texts given.now)) }
@@ -86,7 +87,7 @@ fn names_of(alloc: Global, given: &[&[u8]]) -> Result<BTreeSet<String>, Refusal>
     Ok(names)
 }
 
-/// What a folder answers.
+/// The names or the fault of a folder that was passed in. Refuses names that do not ascend or are not UTF-8.
 fn answer_of(alloc: Global, folder: &Folder<'_>) -> Result<Listed, Refusal>
     ensures ok { IfOk result (λ listed. listed_answer listed ≡ folder_answer folder.now) }
     ensures names { IfOk result (λ _. AreNames (texts folder.now.names.now)) }
@@ -101,7 +102,8 @@ fn answer_of(alloc: Global, folder: &Folder<'_>) -> Result<Listed, Refusal>
 }
 
 impl<'a> GivenFolders<'a> {
-    /// The filesystem of some folders. It goes from the last to the first.
+    /// The filesystem of the folders. Refuses two folders of one path, a path that is not UTF-8, and wrong names. It
+    /// goes from the last to the first.
     pub(crate) fn new(alloc: Global, folders: &'a [Folder<'a>]) -> Result<GivenFolders<'a>, Refusal>
         ensures ok { IfOk result (λ it. given_by it ≡ given folders.now) }
         ensures listings { IfOk result (λ _. AreListings folders.now) }

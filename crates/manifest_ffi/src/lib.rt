@@ -53,8 +53,8 @@ pub extern "C" fn manifest_canonical(
     respond(alloc, asked, bytes, None, None, out)
 }
 
-/// The same for the manifest completed over the folders: a path that none of them has is not there, and what is not
-/// asked for makes no difference.
+/// As [`manifest_canonical`], of the manifest completed over the folders: a path that none of them has is not there,
+/// and folders that are not asked for make no difference.
 ///
 /// ```ignore
 /// let answer = manifest_completed(alloc, bytes, &[src, root], usize::MAX, &mut out);
@@ -79,7 +79,8 @@ pub extern "C" fn manifest_completed(
     respond(alloc, asked, bytes, None, Some(folders), out)
 }
 
-/// The same for the manifest with what it inherits from the workspace of `root`, the bytes of another `Cargo.toml`.
+/// As [`manifest_canonical`], of the manifest with what it inherits from the workspace of `root`, the bytes of another
+/// `Cargo.toml`.
 ///
 /// ```ignore
 /// let answer = manifest_resolved(alloc, member, root, usize::MAX, &mut out);
@@ -104,7 +105,8 @@ pub extern "C" fn manifest_resolved(
     respond(alloc, asked, bytes, Some(root), None, out)
 }
 
-/// The same, resolved and then completed.
+/// As [`manifest_canonical`], of the manifest resolved as by [`manifest_resolved`], and then completed as by
+/// [`manifest_completed`].
 ///
 /// ```ignore
 /// let answer = manifest_resolved_completed(alloc, member, root, &[src], usize::MAX, &mut out);
@@ -150,7 +152,7 @@ pub extern "C" fn manifest_table(alloc: Global, bytes: &[u8], most: usize, out: 
     respond(alloc, asked, bytes, None, None, out)
 }
 
-/// The same for the manifest completed over the folders, as by [`manifest_completed`].
+/// As [`manifest_table`], of the manifest completed over the folders, as by [`manifest_completed`].
 ///
 /// ```ignore
 /// let answer = manifest_completed_table(alloc, bytes, &[src, root], usize::MAX, &mut out);
@@ -174,7 +176,7 @@ pub extern "C" fn manifest_completed_table(
     respond(alloc, asked, bytes, None, Some(folders), out)
 }
 
-/// The same for the manifest with what it inherits, as by [`manifest_resolved`].
+/// As [`manifest_table`], of the manifest with what it inherits, as by [`manifest_resolved`].
 ///
 /// ```ignore
 /// let answer = manifest_resolved_table(alloc, member, root, usize::MAX, &mut out);
@@ -198,7 +200,7 @@ pub extern "C" fn manifest_resolved_table(
     respond(alloc, asked, bytes, Some(root), None, out)
 }
 
-/// The same, resolved and then completed, as by [`manifest_resolved_completed`].
+/// As [`manifest_table`], of the manifest resolved and then completed, as by [`manifest_resolved_completed`].
 ///
 /// ```ignore
 /// let answer = manifest_resolved_completed_table(alloc, member, root, &[src], usize::MAX, &mut out);
@@ -223,8 +225,8 @@ pub extern "C" fn manifest_resolved_completed_table(
     respond(alloc, asked, bytes, Some(root), Some(folders), out)
 }
 
-/// The same as [`manifest_table`], but that the metadata of the package and of the workspace is not looked at: where
-/// there is any, it is written as the empty table. So metadata refuses nothing.
+/// As [`manifest_table`], but the metadata of the package and of the workspace is not looked at: where there is any, it
+/// is written as the empty table. So nothing is refused for its metadata.
 ///
 /// ```ignore
 /// let answer = manifest_table_without_metadata(alloc, bytes, usize::MAX, &mut out);

@@ -28,7 +28,8 @@ pub(crate) enum Output {
     TaggedTable,
 }
 
-/// Finishes a manifest by its root and its folders, where there are any.
+/// Puts into a manifest what it inherits from the workspace of the root, where there is one, and then completes it over
+/// the folders, where there are any.
 fn finish_by(
     alloc: Global,
     manifest: &mut Manifest,
@@ -47,7 +48,7 @@ fn finish_by(
     }
 }
 
-/// The same for a root that is still bytes.
+/// Finishes a manifest as [`finish_by`] does, with a root that is still bytes: it is read first.
 fn finish_by_bytes(
     alloc: Global,
     input: Input,
@@ -75,7 +76,7 @@ fn finish_by_bytes(
     }
 }
 
-/// The manifest that the bytes are, finished by its root and its folders.
+/// Reads a manifest from the bytes, and finishes it as [`finish_by_bytes`] does.
 fn make_over(
     alloc: Global,
     input: Input,
@@ -126,8 +127,7 @@ pub(crate) fn make(
     }
 }
 
-/// The canonical text of a manifest.
-
+/// The canonical text of a manifest; refused with `TooLong` where its bound is more than `most`.
 fn text_of(alloc: Global, manifest: &Manifest, most: usize) -> Result<Vec<u8>, Refusal>
     ensures { let m = manifest_content view view manifest.now in
         IsMade (Writes CanonicalText most m) (RefusesOutput CanonicalText most m) result }
@@ -139,7 +139,7 @@ fn text_of(alloc: Global, manifest: &Manifest, most: usize) -> Result<Vec<u8>, R
     }
 }
 
-/// The tagged bytes of a value.
+/// The tagged bytes of a value; refused with `TooLong` where they are more than `most`.
 pub(crate) fn tagged_bytes(alloc: Global, value: &Value, most: usize) -> Result<Vec<u8>, Refusal>
     ensures { let tagged = encoded (view value.now) in
         IsMade (AreWithin most tagged) (RefusesTagged most tagged) result }
@@ -151,7 +151,7 @@ pub(crate) fn tagged_bytes(alloc: Global, value: &Value, most: usize) -> Result<
     Ok(bytes)
 }
 
-/// The tagged bytes of a manifest's table.
+/// The tagged bytes of a manifest's canonical table; refused with `TooLong` where they are more than `most`.
 fn table_of(alloc: Global, manifest: &Manifest, most: usize) -> Result<Vec<u8>, Refusal>
     ensures { let bytes = encoded (table (rewritten (manifest_content view view manifest.now))) in
         IsMade (AreWithin most bytes) (RefusesTagged most bytes) result }
@@ -160,7 +160,7 @@ fn table_of(alloc: Global, manifest: &Manifest, most: usize) -> Result<Vec<u8>, 
     tagged_bytes(alloc, &value, most)
 }
 
-/// What is asked for of a manifest.
+/// The canonical text of a manifest, or its table as tagged bytes, as `output` says; `TooLong` above `most` bytes.
 fn output_of(
     alloc: Global,
     output: Output,
@@ -176,7 +176,7 @@ fn output_of(
     }
 }
 
-/// What is asked for of a manifest that was made, or why none was.
+/// What is asked for of the manifest that was made, or the refusal with which none was.
 pub(crate) fn output_or_refusal(
     alloc: Global,
     output: Output,

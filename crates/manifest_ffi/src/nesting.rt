@@ -1,5 +1,6 @@
-//! How deep a text may nest what it says, found before it is parsed. `toml` parses a text, or fails on it, by calls
-//! that go no deeper than that.
+//! A bound on how deep the tables and arrays of a text can nest, counted before it is parsed. `toml` parses a text, or
+//! fails on it, by calls that go no deeper than that (tested, not proved). `docs/LIBRARY.md` (How long, and how deep)
+//! says what is counted.
 
 ghost use Rattle.std.specs.Prelude.{◌≡◌, IfOk};
 ghost use Rattle.manifest_ffi.specs.Nesting.{count_up, after_opening_bracket, after_closing_bracket, after_dot, after_key, after_byte, scan, is_dense, nests_densely, Steps};
@@ -28,7 +29,7 @@ const START: Nesting = Nesting {
     most_dots: 0,
 };
 
-/// One more.
+/// The count plus one; at `MOST_NESTING` it stays as it is.
 #[inline(always)]
 fn count_up(count: u16) -> u16
     ensures { result ≡ count_up count }
@@ -40,7 +41,8 @@ fn count_up(count: u16) -> u16
     }
 }
 
-/// After an opening bracket.
+/// The counts after one more opening bracket, which begins a new key: `brackets` goes up, and `most_brackets` with it;
+/// `dots` is 0.
 #[inline(always)]
 fn after_opening_bracket(nesting: Nesting) -> Nesting
     ensures { result ≡ after_opening_bracket nesting }
@@ -54,7 +56,7 @@ fn after_opening_bracket(nesting: Nesting) -> Nesting
     }
 }
 
-/// After a closing bracket.
+/// The counts after one more closing bracket: `brackets` goes down, and stays at 0 where none is open.
 #[inline(always)]
 fn after_closing_bracket(nesting: Nesting) -> Nesting
     ensures { result ≡ after_closing_bracket nesting }
@@ -67,7 +69,7 @@ fn after_closing_bracket(nesting: Nesting) -> Nesting
     }
 }
 
-/// After a dot.
+/// The counts after one more dot of a key: `dots` goes up, and `most_dots` with it.
 #[inline(always)]
 fn after_dot(nesting: Nesting) -> Nesting
     ensures { result ≡ after_dot nesting }
@@ -81,7 +83,7 @@ fn after_dot(nesting: Nesting) -> Nesting
     }
 }
 
-/// After the end of a key.
+/// The counts after the end of a key: `dots` is 0, and the most of both stay.
 #[inline(always)]
 fn after_key(nesting: Nesting) -> Nesting
     ensures { result ≡ after_key nesting }
@@ -94,7 +96,8 @@ fn after_key(nesting: Nesting) -> Nesting
     }
 }
 
-/// After a byte outside strings and comments.
+/// The counts after a byte outside strings and comments: a bracket, a dot, or `,`, `=` or LF, which end a key. Any
+/// other byte changes nothing.
 #[inline(always)]
 fn after_byte(byte: u8, nesting: Nesting) -> Nesting
     ensures { result ≡ after_byte byte nesting }
@@ -112,7 +115,8 @@ fn after_byte(byte: u8, nesting: Nesting) -> Nesting
     }
 }
 
-/// After the next string, comment or byte; `None` at the end of the text, or where it is no TOML from here on.
+/// The counts after the next string, comment or byte, and the text that is left. `None` ends the counting: at the end
+/// of the text, an unterminated string, or a character that TOML allows only in strings and comments.
 #[inline(always)]
 fn step<'t>(
     alloc: Global,
@@ -137,7 +141,8 @@ fn step<'t>(
     }
 }
 
-/// Whether this many brackets in one another, each after a key of this many dots, would be too much nesting.
+/// Whether a header, a key and the most brackets that were open, each with as many dots as any key has, could nest
+/// deeper than `MOST_NESTING`.
 fn is_dense(nesting: Nesting) -> bool
     ensures { result ≡ is_dense nesting }
 {

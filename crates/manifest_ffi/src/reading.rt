@@ -30,7 +30,7 @@ pub(crate) enum Input {
     Tagged,
 }
 
-/// The table of the document that a text is, where the text does not nest densely.
+/// Parses a text as a document. Refuses one that nests densely (see `nesting`) before it is parsed.
 fn parse(alloc: Global, text: &str) -> Result<Table, InputError>
     ensures ok { IfOk result (λ t. (nests_densely text.now ≡ false)
         × (parse_document text.now ≡ Some (table_view t))) }
@@ -106,7 +106,7 @@ fn from_tagged(alloc: Global, bytes: &[u8]) -> Result<Manifest, InputError>
     }
 }
 
-/// The manifest that the bytes are.
+/// The manifest that the bytes are: a document, or the tagged bytes of a table, as `input` says.
 pub(crate) fn read(alloc: Global, input: Input, bytes: &[u8]) -> Result<Manifest, InputError>
     ensures ok { IfOk result (λ m. Are input bytes.now (manifest_content view view m)) }
     ensures refused { IfErr result (RefusesToRead input bytes.now) }

@@ -13,7 +13,7 @@ use std::alloc::{AllocError, Global};
 use std::io;
 use std::io::ErrorKind;
 
-/// What is reported: the numbers of an answer, and its text.
+/// A report: the numbers of an answer, and its text. `docs/LIBRARY.md` has the numbers.
 #[derive(Debug, Drop)]
 pub struct Told {
     pub status: u8,
@@ -26,7 +26,7 @@ pub struct Told {
 /// Added to the status where it is the root that is refused.
 const OF_ROOT: u8 = 16;
 
-/// A status with a cause and a text.
+/// The report of a status, a cause and a text; `start` and `end` are 0.
 pub(crate) fn with_text(status: u8, cause: u8, text: Vec<u8>) -> Told
     ensures told { IsTold result status cause text.items }
     ensures utf8 { IsUtf8 text.items → IsUtf8 result.text.items }
@@ -40,7 +40,7 @@ pub(crate) fn with_text(status: u8, cause: u8, text: Vec<u8>) -> Told
     }
 }
 
-/// The same with the bytes of a string.
+/// The report of a status, a cause and a string.
 fn with_string(status: u8, cause: u8, text: String) -> Told
     ensures told { IsTold result status cause (string_bytes text) }
     ensures utf8 { IsUtf8 result.text.items }
@@ -48,7 +48,7 @@ fn with_string(status: u8, cause: u8, text: String) -> Told
     with_text(status, cause, text.into_bytes())
 }
 
-/// Out of memory. It takes the error of the refused allocation, so that it cannot be made up.
+/// The report of out of memory. It takes the error of the refused allocation, so that it cannot be made up.
 fn memory(alloc: Global, _refused: AllocError) -> Told
     ensures told { TellsMemory result }
     ensures utf8 { IsUtf8 result.text.items }
@@ -56,7 +56,7 @@ fn memory(alloc: Global, _refused: AllocError) -> Told
     with_text(6, 0, Vec::new(alloc))
 }
 
-/// The number of a cause.
+/// The number by which an answer reports a cause of a fault of the schema.
 fn cause_number(cause: Cause) -> u8
     ensures { result ≡ cause_number (cause_of cause) }
 {
@@ -72,7 +72,7 @@ fn cause_number(cause: Cause) -> u8
     }
 }
 
-/// The number of a fault of a listing.
+/// The number by which an answer reports the kind of a folder's fault.
 fn kind_number(fault: io::Error) -> u8
     ensures { result ≡ kind_number (error_kind fault) }
 {
@@ -83,7 +83,7 @@ fn kind_number(fault: io::Error) -> u8
     }
 }
 
-/// The status, where it is the root that is refused.
+/// The status, plus 16 where it is the root that is refused.
 fn at_root(is_root: bool, status: u8) -> u8
     requires { status ≤ 15 }
     ensures { result ≡ at_root is_root status }
@@ -91,7 +91,7 @@ fn at_root(is_root: bool, status: u8) -> u8
     if is_root { status + OF_ROOT } else { status }
 }
 
-/// A text that is no TOML: `toml`'s words, and where in the bytes.
+/// The report of a text that is no TOML: the message of `toml`, and where in the bytes.
 fn tell_toml(alloc: Global, fault: &toml::de::Error, is_root: bool) -> Told
     ensures told { TellsMemory result ⊎ TellsToml is_root fault.now result }
     ensures utf8 { IsUtf8 result.text.items }
@@ -111,7 +111,7 @@ fn tell_toml(alloc: Global, fault: &toml::de::Error, is_root: bool) -> Told
     }
 }
 
-/// A fault of the schema: its cause, and the text of its key path.
+/// The report of a fault of the schema: its cause, and the text of its key path.
 fn tell_schema(alloc: Global, fault: &SchemaFault, is_root: bool) -> Told
     ensures told { TellsMemory result ⊎ TellsSchema is_root fault.now result }
     ensures utf8 { IsUtf8 result.text.items }
@@ -125,7 +125,7 @@ fn tell_schema(alloc: Global, fault: &SchemaFault, is_root: bool) -> Told
     }
 }
 
-/// An error of a manifest.
+/// The report of an error of a manifest.
 fn tell_error(alloc: Global, error: Error, is_root: bool) -> Told
     ensures told { TellsMemory result ⊎ TellsError is_root error result }
     ensures utf8 { IsUtf8 result.text.items }
@@ -140,7 +140,7 @@ fn tell_error(alloc: Global, error: Error, is_root: bool) -> Told
     }
 }
 
-/// Why bytes are no manifest.
+/// The report of why bytes are no manifest.
 fn tell_input(alloc: Global, error: InputError, is_root: bool) -> Told
     ensures told { TellsMemory result ⊎ TellsInput is_root error result }
     ensures utf8 { IsUtf8 result.text.items }
@@ -152,7 +152,7 @@ fn tell_input(alloc: Global, error: InputError, is_root: bool) -> Told
     }
 }
 
-/// Why a manifest is not resolved.
+/// The report of why a manifest is not resolved.
 fn tell_resolving(alloc: Global, error: ResolveError) -> Told
     ensures told { TellsMemory result ⊎ TellsResolving error result }
     ensures utf8 { IsUtf8 result.text.items }
@@ -166,7 +166,7 @@ fn tell_resolving(alloc: Global, error: ResolveError) -> Told
     }
 }
 
-/// Why a manifest is not finished.
+/// The report of why a manifest is not resolved or not completed.
 fn tell_finishing(alloc: Global, error: FinishError) -> Told
     ensures told { TellsMemory result ⊎ TellsFinishing error result }
     ensures utf8 { IsUtf8 result.text.items }
@@ -178,7 +178,7 @@ fn tell_finishing(alloc: Global, error: FinishError) -> Told
     }
 }
 
-/// Why a manifest's table is not printed.
+/// The report of why a manifest's table is not printed.
 fn tell_printing(alloc: Global, error: Error) -> Told
     ensures told { TellsMemory result ⊎ TellsPrinting error result }
     ensures utf8 { IsUtf8 result.text.items }
@@ -189,7 +189,7 @@ fn tell_printing(alloc: Global, error: Error) -> Told
     }
 }
 
-/// The numbers and the text of a refusal.
+/// The report of a refusal.
 pub(crate) fn tell(alloc: Global, refusal: Refusal) -> Told
     ensures told { TellsMemory result ⊎ Tells refusal result }
     ensures utf8 { IsUtf8 result.text.items }

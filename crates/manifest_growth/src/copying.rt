@@ -29,7 +29,7 @@ fn fault(alloc: Global) -> Result<Error, Error> {
 }
 
 impl Original {
-    /// The error.
+    /// Makes the error that is copied.
     fn error(self, alloc: Global) -> Result<Error, Error> {
         match self {
             Original::Fault => fault(alloc),

@@ -36,7 +36,7 @@ enum Trial {
     Copy(Original),
 }
 
-/// The trial of a name.
+/// The trial that a name asks for.
 fn trial_of_name(name: &str) -> Option<Trial> {
     match name {
         "badges" => Some(Trial::Reading(Document::Badges)),

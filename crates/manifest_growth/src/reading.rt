@@ -35,7 +35,7 @@ pub enum Document {
 type Answer = Result<Manifest<Value, Value>, Error>;
 
 impl Document {
-    /// The manifest.
+    /// The bytes of the manifest.
     fn bytes(self) -> &'static [u8] {
         match self {
             Document::Badges => {
@@ -78,7 +78,7 @@ impl Document {
     }
 }
 
-/// The line that says where memory ran out, or nothing.
+/// The line that says where memory ran out; the empty text for any other answer.
 fn cause(read: &Answer) -> &'static str {
     match read {
         Err(Error::Memory(_)) => "memory\n",

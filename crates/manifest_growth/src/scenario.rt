@@ -24,7 +24,7 @@ fn names(alloc: Global, names: &[&str]) -> Result<Listing, AllocError> {
     Ok(Listing::Names(set))
 }
 
-/// Adds a listing of names for each folder.
+/// Puts a listing into `listings` for each folder: its path and the names in it.
 fn put_all(
     alloc: Global,
     listings: &mut Listings,
@@ -48,7 +48,7 @@ impl Scenario {
         }
     }
 
-    /// Adds the listings.
+    /// Puts the listings of the scenario into `listings`.
     fn put(self, alloc: Global, listings: &mut Listings) -> Result<(), AllocError> {
         let root = (".", [].as_slice());
         match self {
@@ -69,7 +69,7 @@ impl Scenario {
         }
     }
 
-    /// The listings.
+    /// The listings of the scenario.
     pub fn listings(self, alloc: Global) -> Result<Listings, AllocError> {
         let mut listings = Listings::new(alloc);
         self.put(alloc, &mut listings).and(Ok(listings))

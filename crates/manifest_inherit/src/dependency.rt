@@ -16,7 +16,7 @@ use manifest_parts::{Dependency, DependencyDetail, DepsSet, InheritedDependencyD
 use manifest_value::copy_of;
 use std::alloc::{AllocError, Global};
 
-/// The workspace's dependency of this name.
+/// The workspace's dependency of this name; `None` where the workspace does not have it, or no dependencies at all.
 fn workspace_dependency<'a>(lent: &'a Option<DepsSet>, name: &str) -> Option<&'a Dependency>
     ensures { option_map (λ d. dependency_content d.now) result
         ≡ workspace_dependency (lent_by_map lent.now) name.now }
@@ -27,7 +27,7 @@ fn workspace_dependency<'a>(lent: &'a Option<DepsSet>, name: &str) -> Option<&'a
     }
 }
 
-/// A detail of a version alone.
+/// A `DependencyDetail` of this version, in which no other field is given.
 fn version_alone(version: &String) -> Result<DependencyDetail, AllocError>
     ensures { IfOk result (λ d. detail_content d ≡ version_alone (string_bytes version.now)) }
 {
@@ -37,7 +37,7 @@ fn version_alone(version: &String) -> Result<DependencyDetail, AllocError>
     Ok(detail)
 }
 
-/// What the member says, or else the workspace.
+/// What the member says, or else what the workspace says.
 fn own_or_workspace(own: Option<bool>, lent: Option<bool>) -> Option<bool>
     ensures { option_map (λ b. b) result
         ≡ option_or (option_map (λ b. b) own) (option_map (λ b. b) lent) }
@@ -48,7 +48,8 @@ fn own_or_workspace(own: Option<bool>, lent: Option<bool>) -> Option<bool>
     }
 }
 
-/// The workspace's detail, with what the member says, simplified.
+/// The workspace's dependency, with the features of both, `optional` of the member, and the default features as the
+/// member says or else the workspace; simplified.
 fn join_dependency(
     alloc: Global,
     own: &InheritedDependencyDetail,
@@ -64,7 +65,8 @@ fn join_dependency(
     Ok(Dependency::Detailed(detail).simplify())
 }
 
-/// What the dependency of this name becomes.
+/// What a member's dependency of this name becomes: an inherited one the workspace's of the same name, joined with what
+/// the member says; any other one a copy of itself.
 pub(crate) fn resolved_dependency(
     alloc: Global,
     lent: &Option<DepsSet>,

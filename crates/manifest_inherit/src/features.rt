@@ -5,7 +5,7 @@ ghost use Rattle.manifest_inherit.specs.Resolved.{new_features, joined_features}
 
 use std::alloc::{AllocError, Global};
 
-/// Adds the features that are not there yet, in their order.
+/// Appends those of the member's features that the list does not have yet, in their order.
 fn add_new(alloc: Global, features: &mut Vec<String>, own: &[String]) -> Result<(), AllocError>
     ensures { let had = map string_bytes features.old.items in
         OnOk result (map string_bytes features.new.items

@@ -34,6 +34,7 @@ fn check_field<T: Schema>(
 }
 
 /// The fields that may be inherited from a workspace, each with its key, in the order of the definitions.
+/// `lendable!(put_of(own, lent))` calls `put_of!` with these arguments and then the fields.
 macro_rules! lendable {
     ($make:ident $given:tt) => {
         $make! { $given
@@ -57,12 +58,12 @@ macro_rules! lendable {
     };
 }
 
-/// The keys of the fields.
+/// The keys of the fields, as a slice.
 macro_rules! keys_of {
     (() $($field:ident: $key:literal;)*) => { &[$($key),*] };
 }
 
-/// The body of `check_at` by the list.
+/// The body of `check_at` by the list, a `match` on `i`.
 macro_rules! check_of {
     (($alloc:ident, $own:ident, $lent:ident, $i:ident) $($field:ident: $key:literal;)*) => {
         at_place!($i; Ok(()); $({ check_field($alloc, $key, &$own.$field, &$lent.$field) })*)
@@ -79,7 +80,7 @@ macro_rules! put_of {
 
 static KEYS: &[&str] = lendable!(keys_of());
 
-/// As many keys as there are fields.
+/// The keys of the fields. Their number is all that the contract says.
 #[tactic(auto, unfolding(crate::specs::Fields::lendable))]
 fn keys() -> &'static [&'static str]
     ensures { length result.now ≡ how_many lendable }
@@ -87,7 +88,7 @@ fn keys() -> &'static [&'static str]
     KEYS
 }
 
-/// Refuses the field at a place, if it is inherited and the workspace does not have it.
+/// Refuses field `i` of the list, if the package inherits it and the workspace does not have it.
 #[tactic(auto, unfolding(crate::specs::Fields::lendable))]
 fn check_at<M: Metadata>(
     alloc: Global,

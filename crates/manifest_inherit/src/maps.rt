@@ -17,7 +17,8 @@ use manifest_value::maps::map_of_list;
 use std::alloc::Global;
 use std::collections::BTreeMap;
 
-/// What stands in a map under a name and may be inherited, or have in it what is.
+/// A value of a map in a manifest which inherits from the workspace: a dependency, by its name, or a platform's table,
+/// by the dependencies in it.
 pub(crate) trait Heir: Sized + Drop {
     ghost Content: { Type 0 };
 
@@ -27,7 +28,8 @@ pub(crate) trait Heir: Sized + Drop {
 
     ghost refuses: { Entries Contents.Dependency → List ℕ → Content → Refusal → Type 0 };
 
-    /// What it becomes under this name, made apart from it.
+    /// What the value becomes under this name, as a new value. `lent` has the workspace's dependencies. Refuses where
+    /// the workspace does not have what is inherited.
     fn resolve_under_name(
         &self,
         alloc: Global,
@@ -86,7 +88,7 @@ impl Heir for Target {
     }
 }
 
-/// What the entries become, in their order.
+/// What the entries of a map become, in their order; the first refusal ends it.
 fn resolved_list<T: Heir>(
     alloc: Global,
     lent: &Option<DepsSet>,
@@ -111,7 +113,7 @@ fn resolved_list<T: Heir>(
     Ok(list)
 }
 
-/// What a map becomes.
+/// A new map with what each value of a map becomes, under the same keys.
 fn resolved_map<T: Heir>(
     alloc: Global,
     lent: &Option<DepsSet>,
@@ -131,7 +133,7 @@ fn resolved_map<T: Heir>(
     Ok(map_of_list(alloc, list)?)
 }
 
-/// Puts what a map becomes, where there is one, into its place.
+/// Puts what the map becomes into `place`, where there is a map.
 pub(crate) fn make_map<T: Heir>(
     alloc: Global,
     lent: &Option<DepsSet>,

@@ -33,7 +33,7 @@ pub(crate) struct Made {
 }
 
 impl Made {
-    /// Nothing yet.
+    /// One in which nothing is made yet.
     fn new() -> Made {
         Made {
             fields: WorkspacePackage::default(),
@@ -46,7 +46,7 @@ impl Made {
     }
 }
 
-/// Copies what the package inherits, where there is a package.
+/// Copies what the package inherits, where there is a package, into the fields of what is made.
 fn make_package<M: Metadata>(
     alloc: Global,
     own: &Option<Package<M>>,
@@ -80,7 +80,7 @@ fn make_package<M: Metadata>(
     }
 }
 
-/// Puts everything that the manifest inherits, as it becomes, into its place.
+/// Makes everything that the manifest inherits, as it becomes, in the fields of `made`. The manifest stays as it is.
 #[tactic(auto, unfolding(crate::specs::Refused::refuses))]
 fn make_all<P: Metadata, W: Metadata, V: Metadata>(
     alloc: Global,
@@ -119,7 +119,7 @@ fn make_all<P: Metadata, W: Metadata, V: Metadata>(
     Ok(())
 }
 
-/// Makes everything that the manifest inherits.
+/// Makes everything that the manifest inherits, apart from the manifest.
 fn make<P: Metadata, W: Metadata, V: Metadata>(
     alloc: Global,
     manifest: &Manifest<P, W>,

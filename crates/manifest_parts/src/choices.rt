@@ -26,7 +26,7 @@ pub enum Edition {
 }
 
 impl Edition {
-    /// The text that stands for it.
+    /// The text by which a manifest says it.
     ///
     /// ```ignore
     /// let text = Edition::E2021.as_str(); // "2021"
@@ -43,7 +43,8 @@ impl Edition {
     }
 }
 
-/// It is read of one of its texts. A value that is no text is refused with `WrongKind`, another text with `NotAChoice`.
+/// Read from one of the texts of `as_str`, and written as it. A value that is no text is refused with `WrongKind`,
+/// another text with `NotAChoice`.
 impl Schema for Edition {
     ghost Content = { Contents.Edition };
 
@@ -103,7 +104,7 @@ pub enum Resolver {
 }
 
 impl Resolver {
-    /// The text that stands for it.
+    /// The text by which a manifest says it.
     fn as_str(&self) -> &'static str
         ensures { result.now ≡ resolver_text (resolver_content self.now) }
     {
@@ -115,7 +116,8 @@ impl Resolver {
     }
 }
 
-/// It is read of one of its texts. A value that is no text is refused with `WrongKind`, another text with `NotAChoice`.
+/// Read from one of the texts of `as_str`, and written as it. A value that is no text is refused with `WrongKind`,
+/// another text with `NotAChoice`.
 impl Schema for Resolver {
     ghost Content = { Contents.Resolver };
 
@@ -172,7 +174,7 @@ pub enum LintLevel {
 }
 
 impl LintLevel {
-    /// The text that stands for it.
+    /// The text by which a manifest says it.
     ///
     /// ```ignore
     /// let text = LintLevel::Deny.as_str(); // "deny"
@@ -189,7 +191,8 @@ impl LintLevel {
     }
 }
 
-/// It is read of one of its texts. A value that is no text is refused with `WrongKind`, another text with `NotAChoice`.
+/// Read from one of the texts of `as_str`, and written as it. A value that is no text is refused with `WrongKind`,
+/// another text with `NotAChoice`.
 impl Schema for LintLevel {
     ghost Content = { Contents.LintLevel };
 
@@ -244,7 +247,7 @@ pub enum MaintenanceStatus {
 }
 
 impl MaintenanceStatus {
-    /// The text that stands for it.
+    /// The text by which a manifest says it.
     fn as_str(&self) -> &'static str
         ensures { result.now ≡ status_text (status_content self.now) }
     {
@@ -260,7 +263,7 @@ impl MaintenanceStatus {
     }
 }
 
-/// The status that a text stands for.
+/// The status that a text says, by the list `status_words` of `Choices.antt`; `None` for any other text.
 fn status_of(text: &str) -> Option<MaintenanceStatus>
     ensures { option_map status_content result ≡ meaning_of status_words text.now }
 {
@@ -276,7 +279,8 @@ fn status_of(text: &str) -> Option<MaintenanceStatus>
     }
 }
 
-/// It is read of one of its texts. A value that is no text is refused with `WrongKind`, another text with `NotAChoice`.
+/// Read from one of the texts of `as_str`, and written as it. A value that is no text is refused with `WrongKind`,
+/// another text with `NotAChoice`.
 impl Schema for MaintenanceStatus {
     ghost Content = { Contents.MaintenanceStatus };
 

@@ -23,21 +23,21 @@ pub trait Compared: Copied + PartialEq {
     ghost succeeds: { (x : Self) → Self.is_infallible x };
 }
 
-/// Whether two values are equal.
+/// Whether two values are equal by `==`: it is proved that they are if and only if they hold the same.
 pub fn is_same<T: Compared>(x: &T, y: &T) -> bool
     ensures { IsTrue result ↔ (T.held x.now ≡ T.held y.now) }
 {
     x == y
 }
 
-/// A copy of a value whose copies need no memory: it never fails.
+/// A copy of a value whose copies need no memory: it is never an `Err`.
 pub fn small_copy<T: Compared>(x: &T) -> Result<T, AllocError>
     ensures { IsOkAnd result (λ y. T.held y ≡ T.held x.now) }
 {
     x.clone()
 }
 
-/// The order of two strip settings.
+/// The order of two strip settings by `cmp`, with a contract that says which it is.
 pub fn strip_order(x: &StripSetting, y: &StripSetting) -> Ordering
     ensures { result ≡ strip_cmp (strip_content x.now) (strip_content y.now) }
 {

@@ -20,7 +20,7 @@ use toml::{Table, Value};
 #[derive(Clone, Debug, PartialEq, Eq, Drop)]
 pub struct True;
 
-/// It is read of the boolean true. False is refused with `NotTrue`, another value with `WrongKind`.
+/// Read from the boolean true. False is refused with `NotTrue`, another value with `WrongKind`.
 impl Schema for True {
     ghost Content = { Unit {0} };
 

@@ -8,7 +8,7 @@ ghost use Rattle.manifest_schema.specs.Contents;
 ghost use Rattle.manifest_schema.specs.Choices.{edition, edition_text, level, level_text};
 ghost use Rattle.manifest_parts.specs.Queries.{simplify, req, req_features, is_optional, package_of, git_of, is_crates_io};
 
-/// What was simplified stays as it is.
+/// Simplifying a dependency that was simplified changes nothing.
 pub fn simplify_twice_is_once()
     ensures { (d : Contents.Dependency) → simplify (simplify d) ≡ simplify d }
 {}

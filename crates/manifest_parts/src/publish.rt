@@ -19,7 +19,7 @@ pub enum StringOrBool {
     Bool(bool),
 }
 
-/// It is read of a text or a boolean. Any other value is refused with `WrongKind`.
+/// Read from a text or a boolean. Any other value is refused with `WrongKind`.
 impl Schema for StringOrBool {
     ghost Content = { Contents.StringOrBool };
 
@@ -62,8 +62,7 @@ pub enum Publish {
     Registry(Vec<String>),
 }
 
-/// It is read of a boolean or a list of texts. Any other value, and an item that is no text, is refused with
-/// `WrongKind`.
+/// Read from a boolean or a list of texts. Any other value, and an item that is no text, is refused with `WrongKind`.
 impl Schema for Publish {
     ghost Content = { Contents.Publish };
 

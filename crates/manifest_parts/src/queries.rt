@@ -131,10 +131,10 @@ impl Dependency {
         }
     }
 
-    /// Whether the dependency comes from crates.io: it is `Simple`, or `Detailed` and names neither a folder, nor
-    /// another registry, nor a repository, nor a part of one. An `Inherited` one is not, since only the workspace says
-    /// where it comes from. See the
-    /// [Cargo reference](https://doc.rust-lang.org/cargo/reference/specifying-dependencies.html).
+    /// Whether the dependency comes from crates.io: it is `Simple`, or `Detailed` without any of `path`, `registry`,
+    /// `registry-index`, `git`, `tag`, `branch` and `rev`. An `Inherited` one is not, since only the workspace says
+    /// where it comes from. See the [Cargo
+    /// reference](https://doc.rust-lang.org/cargo/reference/specifying-dependencies.html).
     ///
     /// ```ignore
     /// let is_crates_io = dependency.is_crates_io(); // of `{ version = '1', path = '../a' }`, false
@@ -150,7 +150,7 @@ impl Dependency {
     }
 }
 
-/// The text, or this one where there is none.
+/// The text in the option, or `default` for `None`.
 fn text_or<'a>(text: &'a Option<String>, default: &'a str) -> &'a str
     ensures { result.now ≡ unwrap_or (option_map string_bytes text.now) default.now }
 {
@@ -160,7 +160,7 @@ fn text_or<'a>(text: &'a Option<String>, default: &'a str) -> &'a str
     }
 }
 
-/// The texts, or none of them.
+/// The texts in the option, or an empty slice for `None`.
 fn texts_of(texts: &Option<Vec<String>>) -> &[String]
     ensures { result.now ≡ items_part texts.now }
 {
@@ -170,7 +170,7 @@ fn texts_of(texts: &Option<Vec<String>>) -> &[String]
     }
 }
 
-/// The boolean, or false where there is none.
+/// The boolean in the option, or false for `None`.
 fn flag_or_false(flag: &Option<bool>) -> bool
     ensures { result ≡ unwrap_or (option_map (λ b. b) flag.now) false }
 {
@@ -180,14 +180,15 @@ fn flag_or_false(flag: &Option<bool>) -> bool
     }
 }
 
-/// Whether a field is given.
+/// Whether a field is given: `is_some`, with a contract that speaks of its content.
 fn is_given<T: Schema>(field: &Option<T>) -> bool
     ensures { result ≡ is_some (option_map T.content field.now) }
 {
     field.is_some()
 }
 
-/// Whether the detail names a place other than crates.io, or a part of one.
+/// Whether any of `path`, `registry`, `registry-index`, `git`, `tag`, `branch`, `rev` is given: then it is no
+/// dependency on crates.io.
 fn is_elsewhere(detail: &DependencyDetail) -> bool
     ensures { result ≡ is_elsewhere (detail_content detail.now) }
 {
@@ -200,7 +201,7 @@ fn is_elsewhere(detail: &DependencyDetail) -> bool
         || is_given(&detail.rev)
 }
 
-/// Whether the detail says more than a version.
+/// Whether any field other than `version` is given.
 fn says_more(detail: &DependencyDetail) -> bool
     ensures { result ≡ says_more (detail_content detail.now) }
 {
@@ -211,7 +212,7 @@ fn says_more(detail: &DependencyDetail) -> bool
         || is_given(&detail.package)
 }
 
-/// The version alone, where the detail says no more.
+/// `Simple` of the version, where that is the only field that is given; else `Detailed`, unchanged.
 fn simplify_detail(mut detail: DependencyDetail) -> Dependency
     ensures { dependency_content result ≡ simplify (detailed (detail_content detail)) }
 {
@@ -250,7 +251,7 @@ impl<T> MaybeInherited<T> {
         }
     }
 
-    /// The same with a reference to the value.
+    /// The same variant with a reference to the value, as `Option::as_ref`.
     ///
     /// ```ignore
     /// let version = version.as_ref(); // of `Local(x)`, `Local(&x)`

@@ -28,8 +28,8 @@ pub enum StripSetting {
 }
 
 impl StripSetting {
-    /// The same reading, with the refusal as a text: `'X' is not a valid value for 'strip'` of another text X, and
-    /// `wrong data type for strip setting` of another kind.
+    /// Reads a setting as `Schema::from_value` does, but refuses with `Error::Other` of a text: `'X' is not a valid
+    /// value for 'strip'` of another text X, and `wrong data type for strip setting` of another kind.
     ///
     /// ```ignore
     /// let strip = StripSetting::try_from(alloc, Value::Boolean(true))?; // `Symbols`
@@ -50,7 +50,7 @@ impl StripSetting {
     }
 }
 
-/// The setting that a text stands for.
+/// The setting that a text says; any other text is refused as [`StripSetting::try_from`] does.
 fn setting_of(alloc: Global, text: &str) -> Result<StripSetting, Error>
     ensures ok { IfOk result (λ x. strip_meaning (string text.now) ≡ Some (strip_content x)) }
     ensures refused { IfErr result (RefusesStrip (string text.now)) }
@@ -66,7 +66,7 @@ fn setting_of(alloc: Global, text: &str) -> Result<StripSetting, Error>
     }
 }
 
-/// It is read of a boolean or of one of its texts. Another text is refused with `NotAChoice`, another kind with
+/// Read from a boolean or from one of its texts. Another text is refused with `NotAChoice`, another kind with
 /// `WrongKind`.
 impl Schema for StripSetting {
     ghost Content = { Contents.StripSetting };

@@ -98,7 +98,7 @@ pub fn made_kinds_are_total<K: TotalKind>()
     ensures tree_is { IsTotal (tree_of K.kind) }
 {}
 
-/// The needs of a field satisfy the laws.
+/// Each need of a field satisfies the laws of a need, over a lawful kind.
 pub fn needs_are_lawful<K: LawfulKind>()
     ensures required_is { IsLawfulNeed (required K.kind) }
     ensures optional_is { IsLawfulNeed (optional K.kind) }

@@ -9,7 +9,7 @@ ghost use Rattle.manifest_schema.specs.Former.{OldWrittenIsRead};
 
 use crate::kinds::{LawfulKind, TotalKind};
 
-/// A table means at most one manifest.
+/// A table means at most one manifest: there is at most one that it is read as.
 pub fn means_one<P: LawfulKind, W: LawfulKind>()
     ensures { MeansOne (tree_of P.kind) (tree_of W.kind) }
 {}
@@ -53,7 +53,7 @@ pub fn same_written_is_same<P: LawfulKind, W: LawfulKind>()
     ensures { SameWrittenIsSame (tree_of P.kind) (tree_of W.kind) }
 {}
 
-/// A table with a fault means nothing.
+/// A table with a fault means nothing: there is no manifest that it is read as.
 pub fn faulty_means_nothing<P: LawfulKind, W: LawfulKind>()
     ensures { FaultyMeansNothing (tree_of P.kind) (tree_of W.kind) }
 {}

@@ -13,7 +13,8 @@ use std::alloc::Global;
 use std::collections::BTreeMap;
 use toml::{Table, Value};
 
-/// The result of a call.
+/// Calls `f(x)`. The contract says that `f` may give the result for what `x` points to, whichever reference to it is
+/// passed.
 pub(crate) fn call_at<X, R, F: Fn(&X) -> R>(f: &F, x: &X) -> R
     requires { (b : _) → b.now ≡ x.now → F.pre f.now b }
     ensures { FnReturnsAt F.Fn f.now x.now result }
@@ -51,7 +52,8 @@ fn item_at<T: Drop, F: Fn(&Value) -> Result<T, ReadFault>>(
     }
 }
 
-/// The reader's answers at some items.
+/// What the reader makes of each item, in their order; or its fault at the first item that it refuses, with the item's
+/// index before the path.
 fn items_of<T: Drop, F: Fn(&Value) -> Result<T, ReadFault>>(
     alloc: Global,
     items: &[Value],
@@ -112,7 +114,8 @@ fn entry_at<T: Drop, F: Fn(&Value) -> Result<T, ReadFault>>(
     }
 }
 
-/// The reader's answers at the entries of a table.
+/// What the reader makes of the value of each entry, under its key; or its fault at the first value that it refuses,
+/// with the key before the path.
 fn entries_of<T: Drop, F: Fn(&Value) -> Result<T, ReadFault>>(
     alloc: Global,
     table: &Table,

@@ -12,7 +12,8 @@ use std::alloc::AllocError;
 use std::collections::BTreeMap;
 use toml::Value;
 
-/// A type whose copies by `clone` hold what they are copied from.
+/// A type of which it is proved that a copy by `clone` holds what it is copied from. There is no method to implement:
+/// an impl says what a value holds (`held`), and proves it of copies (`copies`).
 ///
 /// A copy fails only when out of memory.
 pub trait Copied: Clone {

@@ -31,7 +31,8 @@ impl Key<'_> {
         }
     }
 
-    /// The key as a text of its own. It fails where there is no memory for the copy of a borrowed one, and only there.
+    /// The key as a string of its own: copies a borrowed key, which can fail when out of memory, and moves an owned
+    /// one.
     ///
     /// ```ignore
     /// let name = Key::Lent("serde").into_string(alloc)?; // "serde"

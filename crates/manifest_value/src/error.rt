@@ -68,7 +68,7 @@ impl Error {
     }
 }
 
-/// The error of a reader's fault.
+/// The [`Error`] that a public call returns for a reader's fault: `Parse` of a fault of the schema, or `Memory`.
 ///
 /// ```ignore
 /// match text(alloc, value) {

@@ -112,7 +112,7 @@ impl<T: Drop> From<AllocFailed<T>> for ReadFault {
     }
 }
 
-/// The fault at the value itself.
+/// The fault of this cause at the value itself, with the empty path. It is never `Memory`.
 ///
 /// ```ignore
 /// let fault = fault_here(alloc, Cause::WrongKind); // reported as `wrong kind at (top)`

@@ -47,7 +47,7 @@ impl<'t> Iterator for Items<'t> {
     }
 }
 
-/// What is read of an item, with its index before the path of a fault.
+/// Reads an item; a fault gets the item's index before its path.
 #[inline(always)]
 #[tactic(auto, using(crate::proofs::Behind::fault_behind))]
 fn read_item<T: Schema>(alloc: Global, source: Source<'_>, i: usize) -> Result<T, ReadFault>
@@ -61,7 +61,7 @@ fn read_item<T: Schema>(alloc: Global, source: Source<'_>, i: usize) -> Result<T
     }
 }
 
-/// What is read of items, in their order: the first fault is reported where it is met.
+/// Reads items in their order into a list of room for `room` items, and stops at the first fault.
 pub(crate) fn read_items<T: Schema>(
     alloc: Global,
     room: usize,

@@ -56,8 +56,8 @@ fn members_hold_float(members: &Table) -> bool
     false
 }
 
-/// Passes a value without floats, and refuses with the place of the first float that it meets: items by their
-/// indexes, entries in the order of their keys.
+/// Accepts a value without floats, and refuses any other with the path of the first float that it meets, in the order
+/// of items and of keys.
 #[cycle(places)]
 fn refuse_float(alloc: Global, value: &Value) -> Result<(), ReadFault>
     ensures ok { OnOk result (IsTrue (plain (view value.now))) }
@@ -71,7 +71,7 @@ fn refuse_float(alloc: Global, value: &Value) -> Result<(), ReadFault>
     }
 }
 
-/// Passes items without floats, and refuses with the place of the first float.
+/// Accepts items without floats, and refuses others with the path of the first float.
 #[cycle(places)]
 fn refuse_float_in_items(alloc: Global, items: &Vec<Value>) -> Result<(), ReadFault>
     ensures ok { OnOk result (IsTrue (plain_items (array_view items.now))) }
@@ -85,7 +85,7 @@ fn refuse_float_in_items(alloc: Global, items: &Vec<Value>) -> Result<(), ReadFa
     Ok(())
 }
 
-/// Passes entries without floats, and refuses with the place of the first float.
+/// Accepts entries without floats, and refuses others with the path of the first float.
 #[cycle(places)]
 fn refuse_float_in_members(alloc: Global, members: &Table) -> Result<(), ReadFault>
     ensures ok { OnOk result (IsTrue (plain_members (table_view members.now))) }

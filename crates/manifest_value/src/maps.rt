@@ -1,4 +1,4 @@
-//! Maps by a text.
+//! Maps whose keys are strings: made of entries in order, read from a table, and written as one.
 ghost use Rattle.std.specs.Prelude.{◌≡◌, IfOk, IfErr, string_bytes};
 ghost use Rattle.std.specs.List.Sorted.{IsStrictlySortedBy};
 ghost use Rattle.std.specs.Map.{keys_of};
@@ -39,7 +39,7 @@ pub fn map_of_list<X: Drop>(
     BTreeMap::from_iter(alloc, all)
 }
 
-/// The key, and what is read of the value, with the key before the path of a fault.
+/// Reads an entry: its key as a string of its own, and its value; a fault of the value gets the key before its path.
 #[inline(always)]
 fn read_entry<T: Schema>(
     alloc: Global,
@@ -56,7 +56,7 @@ fn read_entry<T: Schema>(
     Ok((name, x))
 }
 
-/// What is read of entries, in their order: the first fault is reported where it is met.
+/// Reads entries in their order into a list of room for `room` entries, and stops at the first fault.
 fn list_of_entries<T: Schema>(
     alloc: Global,
     room: usize,
@@ -76,7 +76,7 @@ fn list_of_entries<T: Schema>(
     Ok(all)
 }
 
-/// The map of entries whose keys ascend, each value of one kind.
+/// Reads entries whose keys ascend into a map, each value as a `T`; stops at the first fault.
 fn read_map<T: Schema>(
     alloc: Global,
     room: usize,
@@ -110,7 +110,7 @@ pub fn map_of_entries<T: Schema>(
     read_map(alloc, rest.len(), Entries::Rest(rest.into_iter()))
 }
 
-/// The entries of a table, each of one kind.
+/// Reads a table as a map: each value as a `T`, under its key.
 fn map_from<T: Schema>(
     alloc: Global,
     table: TableSource<'_>,
@@ -123,7 +123,7 @@ fn map_from<T: Schema>(
     read_map(alloc, room, table.entries())
 }
 
-/// The table of a map.
+/// The table that is written of a map: what is written of each value, under its key.
 ///
 /// ```ignore
 /// let features: Table = entries_table(alloc, &map)?; // the keys of the map, each with what is written of its value

@@ -26,7 +26,7 @@ pub trait Metadata: Schema {
         → Self.kind.written x ≡ Self.kind.written y → Self.kind.good y };
 }
 
-/// Puts a row of metadata into the table where it is there.
+/// Puts what is written of the metadata into the table, under the key `first`; nothing for `None`.
 ///
 /// ```ignore
 /// put_tree(alloc, &mut table, "metadata", &package.metadata)?;

@@ -1,4 +1,4 @@
-//! Whole numbers of a range.
+//! Reading and writing `u16` and `i8`.
 
 ghost use Rattle.std.specs.Prelude.{ℤ, pos, negsuc};
 ghost use Rattle.manifest_schema.specs.Kinds.{whole};
@@ -10,7 +10,7 @@ use crate::source::Source;
 use std::alloc::{AllocError, Global};
 use toml::Value;
 
-/// A whole number from 0 to 65535.
+/// Read from an integer from 0 to 65535. Another one is refused with `OutOfRange`, any other value with `WrongKind`.
 impl Schema for u16 {
     ghost Content = { ℤ };
 
@@ -47,7 +47,7 @@ impl Schema for u16 {
     ghost lawful = { whole_lawful (pos 0) (pos 65535) };
 }
 
-/// A whole number from -128 to 127.
+/// Read from an integer from -128 to 127. Another one is refused with `OutOfRange`, any other value with `WrongKind`.
 impl Schema for i8 {
     ghost Content = { ℤ };
 

@@ -86,7 +86,7 @@ impl fmt::Display for SchemaFault {
     }
 }
 
-/// Writes a step that begins a path.
+/// Writes a step that begins a path: no dot before a key.
 fn write_step<W: fmt::Write>(f: &mut fmt::Formatter<W>, step: &Step) -> fmt::Result
     ensures { WritesOnOk W.write_str_gives f.old result (step_text (step_of step.now)) f.new }
 {
@@ -96,7 +96,7 @@ fn write_step<W: fmt::Write>(f: &mut fmt::Formatter<W>, step: &Step) -> fmt::Res
     }
 }
 
-/// Writes a step that follows another.
+/// Writes a step that follows another: a dot before a key.
 fn write_next_step<W: fmt::Write>(f: &mut fmt::Formatter<W>, step: &Step) -> fmt::Result
     ensures { WritesOnOk W.write_str_gives f.old result (next_text (step_of step.now)) f.new }
 {
@@ -117,7 +117,7 @@ fn write_key<W: fmt::Write>(f: &mut fmt::Formatter<W>, key: &str) -> fmt::Result
     }
 }
 
-/// Whether the key stands as it is.
+/// Whether a key stands in a path as it is, without quotes.
 #[tactic(auto, using(crate::proofs::TextLemmas::nonempty_is_bare_key))]
 fn is_bare_key(key: &str) -> bool
     ensures { result ≡ is_bare_key key.now }
@@ -132,7 +132,7 @@ fn all_bare(bytes: &[u8]) -> bool
     bytes.iter().all(|byte| is_bare(*byte))
 }
 
-/// Whether the byte is one of a bare key.
+/// Whether a bare key may have the byte: `A` to `Z`, `a` to `z`, `0` to `9`, `_` or `-`.
 fn is_bare(byte: u8) -> bool
     ensures { result ≡ is_bare byte }
 {
@@ -166,7 +166,7 @@ fn write_quoted_char<W: fmt::Write>(f: &mut fmt::Formatter<W>, c: char) -> fmt::
     }
 }
 
-/// Writes a control character by its number.
+/// Writes a control character as `\u` and four hexadecimal digits.
 #[tactic(auto, using(std::proofs::lemmas::Fmt::hex_byte))]
 fn write_escaped<W: fmt::Write>(f: &mut fmt::Formatter<W>, byte: u8) -> fmt::Result
     ensures { WritesOnOk W.write_str_gives f.old result (escaped byte) f.new }

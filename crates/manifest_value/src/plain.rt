@@ -1,4 +1,4 @@
-//! Types that no table stands for.
+//! Types that are never read from a table, nor written as one.
 
 ghost use Rattle.std.specs.Prelude.{◌≡◌};
 ghost use Rattle.toml.specs.Data.{Data, Members, table};

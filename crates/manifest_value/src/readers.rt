@@ -119,7 +119,7 @@ pub fn table(alloc: Global, value: &Value) -> Result<&Table, ReadFault>
     }
 }
 
-/// The value under a key.
+/// The value under a key; `None` where the table does not have the key.
 ///
 /// ```ignore
 /// let name = find(table, "name");

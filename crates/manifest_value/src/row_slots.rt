@@ -23,7 +23,7 @@ pub enum RowSlot<'t> {
 }
 
 impl<'t> RowSlot<'t> {
-    /// What the slot holds. What is there is moved out, and nothing is moved where it is absent, as most are.
+    /// Takes out what the slot holds. Nothing is moved where it is `Absent`, as most slots are.
     #[inline(always)]
     pub(crate) fn take(&mut self) -> RowSlot<'t>
         ensures { result ≡ self.old }

@@ -1,4 +1,4 @@
-//! A value under a key, and rows that are written.
+//! Reading a value under a key, and writing the rows of a form.
 ghost use Rattle.std.specs.Prelude.{◌≡◌, Some, map, IfOk, IfErr, OnOk, option_map};
 ghost use Rattle.manifest_schema.specs.Kinds.{list_of};
 ghost use Rattle.toml.specs.View.{view, table_view};
@@ -14,7 +14,7 @@ use crate::source::{Source, source_under};
 use std::alloc::{AllocError, Global};
 use toml::{Table, Value};
 
-/// A fault at a key of the table.
+/// The fault of this cause at a key of the table: its path is the key. `Memory` where there is no memory for the key.
 ///
 /// ```ignore
 /// let fault = at_key(alloc, "name", Cause::Missing); // reported as `missing at name`
@@ -27,7 +27,7 @@ pub fn at_key(alloc: Global, word: &str, cause: Cause) -> ReadFault
     fault_under_key(alloc, word, fault_here(alloc, cause))
 }
 
-/// The value under a key, with the key before the path of a fault.
+/// Reads a value that stands under the key `word`: a fault gets this key before its path.
 ///
 /// ```ignore
 /// let name: String = read_under(alloc, value, "name")?; // of the value 1 it is refused as `wrong kind at name`
@@ -42,7 +42,7 @@ pub fn read_under<T: Schema>(alloc: Global, value: &Value, word: &str) -> Result
     source_under(alloc, Source::Lent(value), word)
 }
 
-/// Puts a row into the table.
+/// Puts what is written of the value into the table under the key `first`, in place of what stands there.
 ///
 /// ```ignore
 /// put_row(alloc, &mut table, "name", &package.name)?;
@@ -61,7 +61,7 @@ pub fn put_row<T: Schema>(
     Ok(())
 }
 
-/// Puts a row into the table where it is there.
+/// Puts what is written of the value in an option into the table, as [`put_row`] does; nothing for `None`.
 ///
 /// ```ignore
 /// put_optional(alloc, &mut table, "version", &package.version)?;
@@ -84,7 +84,8 @@ pub fn put_optional<T: Schema>(
     }
 }
 
-/// Puts a row into the table, unless its value stands for its absence.
+/// Puts what is written of the value into the table, as [`put_row`] does, unless `skipped` is true: it says that the
+/// value is the default, which is not written.
 ///
 /// ```ignore
 /// put_unless(alloc, &mut table, "test", product.test, &product.test)?; // only false is put
@@ -108,7 +109,7 @@ pub fn put_unless<T: Schema>(
     put_row(alloc, table, first, value)
 }
 
-/// Puts a row of a list into the table, unless the list is empty.
+/// Puts what is written of a list into the table, as [`put_row`] does, unless the list is empty.
 ///
 /// ```ignore
 /// put_nonempty(alloc, &mut table, "bin", &manifest.bin)?;

@@ -22,26 +22,30 @@ use toml::Value;
 
 /// A type that stands in a field of a manifest.
 ///
-/// It names its content (what it holds, apart from where that lies in memory) and its kind: which values are read
-/// as which content, which faults a value has, what is written, and what is well-formed.
+/// It names its content (what it holds, apart from where that lies in memory) and its kind: which values are read as
+/// which content, which faults a value has, what is written, and what is well-formed. The methods do what the kind
+/// says; an impl has these contracts, and writes none.
 pub trait Schema: Sized + Drop {
+    /// The type of the contents, of which the definitions speak.
     ghost Content: { Type 0 };
 
+    /// The content of a value.
     ghost content: { Self → Content };
 
+    /// How values are read and written, as a definition: `kind.reads`, `kind.faulty`, `kind.written` and `kind.good`.
     ghost kind: { Kind Content };
 
     /// Whether reading takes no memory, so that it never fails as out of memory.
     ghost takes_no_memory: { Type 0 } = { ⊥ };
 
-    /// The one reading of the value, or a fault that it has, or `Memory`. What an owned value holds is moved where the
-    /// type can do so, and else copied.
+    /// Reads a value: returns the one reading that it has by the kind, or a fault that it has, or `Memory`. What an
+    /// owned value holds is moved where the type can do so, and else copied.
     fn read(alloc: Global, source: Source<'_>) -> Result<Self, ReadFault>
         ensures ok { IfOk result (Reads kind content (source_view source.entry)) }
         ensures fault { IfErr result (FaultIn (kind.faulty (source_view source.entry))) }
         ensures schema { takes_no_memory → IfErr result IsSchema };
 
-    /// The one reading of the value.
+    /// Reads a borrowed value: returns the one reading that it has by the kind.
     ///
     /// Refuses with `Error::Parse(ParseFault::Schema(..))` of a cause that the value has and its key path in the value,
     /// and when out of memory with [`Error::Memory`].
@@ -58,7 +62,7 @@ pub trait Schema: Sized + Drop {
         Self::read(alloc, Source::Lent(value)).map_err(refusal)
     }
 
-    /// The value that is written. It fails only when out of memory.
+    /// The value that is written of `self`, by the kind. It fails only when out of memory.
     fn to_value(&self, alloc: Global) -> Result<Value, AllocError>
         ensures { IfOk result (λ v. view v ≡ kind.written (content self.now)) };
 
@@ -66,6 +70,7 @@ pub trait Schema: Sized + Drop {
     fn is_well_formed(&self) -> bool
         ensures { IsTrue result ↔ kind.good (content self.now) };
 
+    /// The proof that the kind has the laws of a kind, as that what is written is read back.
     ghost lawful: { IsLawful kind };
 }
 

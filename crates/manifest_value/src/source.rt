@@ -33,7 +33,7 @@ pub enum TableSource<'t> {
 }
 
 impl<'t> Source<'t> {
-    /// The value itself.
+    /// The value, by reference, whether it is borrowed or owned.
     #[inline(always)]
     pub fn value(&self) -> &Value
         ensures { view result.now ≡ source_view self.now }
@@ -44,7 +44,7 @@ impl<'t> Source<'t> {
         }
     }
 
-    /// The table that the value is.
+    /// The table that the value is, borrowed or owned as the value is.
     ///
     /// A value that is no table is refused at itself with `WrongKind`, and an owned one is dropped.
     ///
@@ -65,7 +65,7 @@ impl<'t> Source<'t> {
 }
 
 impl<'t> TableSource<'t> {
-    /// The table itself.
+    /// The table, by reference, whether it is borrowed or owned.
     pub fn table(&self) -> &Table
         ensures { data_of result.now ≡ table_source self.now }
     {
@@ -88,7 +88,7 @@ impl<'t> TableSource<'t> {
     }
 }
 
-/// The value under a key, with the key before the path of a fault.
+/// Reads a value that stands under the key `word`: a fault gets this key before its path.
 #[inline(always)]
 #[tactic(auto, using(crate::proofs::Behind::fault_behind))]
 pub(crate) fn source_under<T: Schema>(

@@ -12,7 +12,7 @@ use crate::source::{Source, TableSource};
 use crate::spellings::Spellings;
 use std::alloc::{AllocError, Global};
 
-/// The spelling that the key is, if it is one of the row.
+/// The spelling of the row that equals the key, if there is one.
 #[inline(always)]
 fn spelling_of(row: &Spellings, key: &str) -> Option<&'static str>
     ensures { let words = spell (spellings_view row.now) [] in
@@ -28,7 +28,7 @@ fn spelling_of(row: &Spellings, key: &str) -> Option<&'static str>
     }
 }
 
-/// The place of the row that has the key as a spelling, and that spelling.
+/// The index of the row that has the key as a spelling, and that spelling; `None` where no row has it.
 #[inline(always)]
 pub(crate) fn row_of(rows: &[Spellings], key: &str) -> Option<(usize, &'static str)>
     ensures { let ss = map spellings_view rows.now in
@@ -43,7 +43,7 @@ pub(crate) fn row_of(rows: &[Spellings], key: &str) -> Option<(usize, &'static s
     None
 }
 
-/// Slots in which nothing is found yet.
+/// A slot for each row, in which nothing is found yet.
 fn empty_slots<'t>(alloc: Global, rows: &[Spellings]) -> Result<Vec<RowSlot<'t>>, AllocError>
     ensures views { IfOk result
         (λ v. map row_view v.items ≡ slots_at (map spellings_view rows.now) no_members) }
@@ -56,7 +56,7 @@ fn empty_slots<'t>(alloc: Global, rows: &[Spellings]) -> Result<Vec<RowSlot<'t>>
     Ok(slots)
 }
 
-/// A slot in which one more value is found: a second one clashes with the first.
+/// The slot after one more value is found for it: `One` of an absent slot, and else `Clash`.
 #[inline(always)]
 fn slot_with_value<'t>(slot: &RowSlot<'t>, spelling: &'static str, value: Source<'t>) -> RowSlot<'t>
     ensures { row_view result ≡ filled (row_view slot.now) spelling.now (source_view value.entry) }
@@ -68,7 +68,7 @@ fn slot_with_value<'t>(slot: &RowSlot<'t>, spelling: &'static str, value: Source
     }
 }
 
-/// Finds one more value in a slot of a list.
+/// Puts a value that was found under `spelling` into slot `i`; a second one makes it `Clash`.
 #[inline(always)]
 fn fill_slot<'t>(slots: &mut Vec<RowSlot<'t>>, i: usize, spelling: &'static str, value: Source<'t>)
     requires { i < length slots.now.items }
@@ -82,8 +82,8 @@ fn fill_slot<'t>(slots: &mut Vec<RowSlot<'t>>, i: usize, spelling: &'static str,
 /// Walks once over a table: what it holds under the spellings of each row, and all other keys. Nothing of a borrowed
 /// table is copied, what an owned one holds is moved, and the values are not looked at.
 ///
-/// All spellings of the rows have to differ, which asks nothing where there is no row. It fails where there is no
-/// memory for the slots or the list of the other keys, and only there.
+/// All spellings of the rows have to differ, which asks nothing where there is no row. It fails when out of memory for
+/// the slots or the list of the other keys.
 ///
 /// ```ignore
 /// let rows = spelled!["name", "proc-macro" | "proc_macro"];

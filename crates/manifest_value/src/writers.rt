@@ -16,7 +16,7 @@ use toml::{Table, Value};
 
 /// Writes a text: a string of the same bytes.
 ///
-/// It fails where there is no memory for the copy, and only there.
+/// It fails when out of memory for the copy.
 ///
 /// ```ignore
 /// let name = write_text(alloc, "serde")?;
@@ -29,7 +29,7 @@ pub fn write_text(alloc: Global, text: &str) -> Result<Value, AllocError>
 
 /// Writes a list of texts, in order.
 ///
-/// It fails where there is no memory for the list or a copy, and only there.
+/// It fails when out of memory for the list or a copy.
 ///
 /// ```ignore
 /// let members = write_texts(alloc, manifest.members.as_slice())?;
