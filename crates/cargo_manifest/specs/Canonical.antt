@@ -1,24 +1,20 @@
 -- What a canonical text is of, where metadata is kept as it is.
 use Rattle.std.specs.Prelude.{◌≡◌, ℕ, ◌≤◌, List, false, Some}
-use Rattle.toml.specs.Data.{Data, Members, members_depth}
+use Rattle.toml.specs.Data.{Members, members_depth}
 use Rattle.toml.specs.Parse.{parse_document}
 use Rattle.toml.specs.Text.{IsDocumentText}
-use Rattle.manifest_schema.specs.Kinds.{Kind, kept, tree_of}
 use Rattle.manifest_schema.specs.Contents.{Manifest}
 use Rattle.manifest_schema.specs.Meaning.{rewritten as rewritten_by}
+use Rattle.manifest_schema.specs.Dates.{kept_metadata}
 use Rattle.cargo_manifest.specs.Folders.{IsRead}
-
--- metadata is kept as it is
-abbrev pub metadata : Kind Data
-metadata = tree_of kept
 
 -- the one table of a manifest: the rewritten table of what means it
 abbrev pub rewritten : Manifest → Members
-rewritten = rewritten_by metadata metadata
+rewritten = rewritten_by kept_metadata kept_metadata
 
 -- the bytes are a document of a table that means the manifest
 abbrev pub Means : List ℕ → Manifest → Type 0
-Means = IsRead metadata metadata
+Means = IsRead kept_metadata kept_metadata
 
 -- the bytes are a document of an accepted table
 abbrev pub IsAccepted : List ℕ → Type 0
@@ -28,7 +24,3 @@ IsAccepted bytes = (m : Manifest) × Means bytes m
 pub record IsTextOf (m : Manifest) (text : List ℕ) : Type 0 where
   pub document : IsDocumentText false (rewritten m) text
   pub reads_back : members_depth (rewritten m) ≤ 80 → parse_document text ≡ Some (rewritten m)
-
--- the text is that of what the bytes mean
-abbrev pub IsCanonicalOf : List ℕ → List ℕ → Type 0
-IsCanonicalOf bytes text = (m : Manifest) × Means bytes m × IsTextOf m text

@@ -5,7 +5,7 @@ use Rattle.std.specs.BTreeMap.{BTreeMap}
 use Rattle.toml.specs.Data.{Data}
 use Rattle.manifest_schema.specs.Kinds.{Kind, Entries, tree_of}
 use Rattle.manifest_schema.specs.Forms.{form}
-use Rattle.manifest_schema.specs.ManifestForms.{package_rows, workspace_rows}
+use Rattle.manifest_schema.specs.ManifestForms.{package_rows}
 use Rattle.manifest_schema.specs.Contents
 use Rattle.manifest_value.specs.Entries.{entries_content}
 use Rattle.manifest_value.specs.Reading.{written_as}
@@ -95,10 +95,6 @@ workspace_content tree w = record {
 -- the same, whose metadata has the contents m of this kind
 abbrev pub workspace_of : {M A : Type 0} → Kind A → (M → A) → Workspace M → Contents.Workspace
 workspace_of K m w = workspace_content (written_as K m) w
-
--- the form of a workspace whose metadata has this kind
-abbrev pub workspace_form : {A : Type 0} → Kind A → Kind Contents.Workspace
-workspace_form K = form (workspace_rows (tree_of K))
 
 abbrev pub profiles_content : Profiles → Contents.Profiles
 profiles_content p = record {

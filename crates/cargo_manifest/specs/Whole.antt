@@ -3,9 +3,7 @@ use Rattle.std.specs.Prelude.{map, option_map, string_bytes}
 use Rattle.toml.specs.Data.{Data}
 use Rattle.toml.specs.View.{view}
 use Rattle.toml.specs.declared.value.Value.{Value}
-use Rattle.manifest_schema.specs.Kinds.{Kind, tree_of}
-use Rattle.manifest_schema.specs.Forms.{form}
-use Rattle.manifest_schema.specs.ManifestForms.{manifest_rows}
+use Rattle.manifest_schema.specs.Kinds.{Kind}
 use Rattle.manifest_schema.specs.Contents
 use Rattle.manifest_value.specs.Entries.{entries_content}
 use Rattle.manifest_value.specs.Reading.{written_as}
@@ -41,7 +39,3 @@ manifest_of K L p w m = manifest_content (written_as K p) (written_as L w) m
 -- the same, where the workspace's metadata is kept as it stands
 abbrev pub manifest_kept : {P A : Type 0} → Kind A → (P → A) → Manifest P Value → Contents.Manifest
 manifest_kept K p m = manifest_content (written_as K p) view m
-
--- the form of a manifest whose metadata has these kinds
-abbrev pub manifest_form : {A B : Type 0} → Kind A → Kind B → Kind Contents.Manifest
-manifest_form K L = form (manifest_rows (tree_of K) (tree_of L))

@@ -5,8 +5,9 @@ use Rattle.std.proofs.KnownBytes.{Keeps-refl}
 use Rattle.manifest_schema.specs.Contents.{Manifest}
 use Rattle.manifest_value.specs.declared.error.Error.{Error}
 use Rattle.manifest_value.specs.declared.error.Error.TheVariants.{Parse, Io, Utf8, Other, Memory}
+use Rattle.manifest_schema.specs.Dates.{kept_metadata}
 use Rattle.cargo_manifest.specs.Answers.{Refuses, RefusesToPrint}
-use Rattle.cargo_manifest.specs.Canonical.{metadata, rewritten, Means}
+use Rattle.cargo_manifest.specs.Canonical.{rewritten, Means}
 use Rattle.manifest_canon.specs.Run.{Begins, FailsToPrint, IsRefused}
 
 -- a flush keeps what was written
@@ -29,7 +30,7 @@ fails_unwritten m old (Other e) r = (r, Keeps-refl old)
 fails_unwritten m old (Memory e) r = (r, Keeps-refl old)
 
 -- where the bytes are refused nothing is written
-pub refused_by_bytes : (bytes : List ℕ) (old : Option (List ℕ)) (e : Error) → Refuses metadata metadata bytes e → IsRefused bytes old old e
+pub refused_by_bytes : (bytes : List ℕ) (old : Option (List ℕ)) (e : Error) → Refuses kept_metadata kept_metadata bytes e → IsRefused bytes old old e
 refused_by_bytes bytes old (Io e) r = inl (Keeps-refl old)
 refused_by_bytes bytes old (Parse e) r = (inl r, Keeps-refl old)
 refused_by_bytes bytes old (Utf8 e) r = (inl r, Keeps-refl old)

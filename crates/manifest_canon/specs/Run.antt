@@ -7,8 +7,9 @@ use Rattle.manifest_schema.specs.Paths.{Text}
 use Rattle.manifest_schema.specs.Contents.{Manifest}
 use Rattle.manifest_value.specs.declared.error.Error.{Error}
 use Rattle.manifest_value.specs.declared.error.Error.TheVariants.{Io}
+use Rattle.manifest_schema.specs.Dates.{kept_metadata}
 use Rattle.cargo_manifest.specs.Answers.{Refuses, RefusesToPrint}
-use Rattle.cargo_manifest.specs.Canonical.{metadata, rewritten, Means, IsTextOf}
+use Rattle.cargo_manifest.specs.Canonical.{rewritten, Means, IsTextOf}
 use Rattle.cargo_manifest.specs.Completes.{ComesTo}
 use Rattle.manifest_completion.specs.Listings.{AnyAscending}
 use Rattle.manifest_completion.specs.Completed.{completed_to}
@@ -58,10 +59,10 @@ IsFinishedBy None m n = IsFinished None m n
 IsFinishedBy (Some root) m n = (r : Manifest) × IsFileOf r × IsFinished (Some r) m n
 
 -- the manifests that may be printed where it is asked for
-abbrev pub Gives : Asked → Manifest → Type 0
-Gives canon_file m = IsFileOf m
-Gives complete_file m = (read : Manifest) × IsFileOf read × IsFinished None read m
-Gives complete_member m =
+abbrev pub MayPrint : Asked → Manifest → Type 0
+MayPrint canon_file m = IsFileOf m
+MayPrint complete_file m = (read : Manifest) × IsFileOf read × IsFinished None read m
+MayPrint complete_member m =
     (read : Manifest) × IsFileOf read × (root : Manifest) × IsFileOf root × IsFinished (Some root) read m
 
 -- OUTPUT: known bytes grow by a beginning of the text
@@ -104,7 +105,7 @@ IsBegun bytes old new = BeginsOne (Means bytes) old new
 -- why bytes have no canonical text: reading refuses them, or printing refuses the rewritten table of what they mean
 abbrev pub RefusesCanonical : List ℕ → Error → Type 0
 RefusesCanonical bytes e =
-    Refuses metadata metadata bytes e
+    Refuses kept_metadata kept_metadata bytes e
     ⊎ ((m : Manifest) × Means bytes m × RefusesToPrint (rewritten m) e)
 
 -- why the bytes were not printed, and what was written: at an I/O fault at most a beginning, and else nothing

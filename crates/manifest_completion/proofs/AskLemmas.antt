@@ -11,7 +11,7 @@ use Rattle.std.specs.String.{string_cmp}
 use Rattle.std.proofs.lemmas.Map.Text.{is_eq-slice_cmp}
 use Rattle.manifest_schema.specs.Paths.{Text}
 use Rattle.manifest_completion.specs.Listings.{Answer, joined, is_memory_fault, IsAscending}
-use Rattle.manifest_completion.specs.Asking.{Heard, EntriesHeard}
+use Rattle.manifest_completion.specs.Asking.{IsAllowedAnswer, AreAllowedAnswers}
 
 -- NAMES of a set ascend
 above : (x : String Global) (xs : List (String Global)) → AllByRecursion (λ y. string_cmp x y ≡ Less) xs → AllByRecursion (λ n. slice_cmp nat_cmp (string_bytes x) n ≡ Less) (map string_bytes xs)
@@ -43,18 +43,18 @@ ascending_differ (n ∷ ns) h = (none_same n ns h.0, ascending_differ ns h.1)
 -- ENTRIES
 module _ (allows : Text → Answer → Type 0) (d : Text) where
   abbrev pub Answered : Text → Answer → Type 0
-  Answered n a = Heard allows (joined d n) a × (is_memory_fault a ≡ false)
+  Answered n a = IsAllowedAnswer allows (joined d n) a × (is_memory_fault a ≡ false)
 
   -- each entry was asked, and found memory
-  pub entries_all : (ns : List Text) (heard : List Answer) → AllZip Answered ns heard → EntriesHeard allows d ns heard
+  pub entries_all : (ns : List Text) (given : List Answer) → AllZip Answered ns given → AreAllowedAnswers allows d ns given
   entries_all [] [] h = tt
-  entries_all [] (a ∷ heard) h = absurd h
+  entries_all [] (a ∷ given) h = absurd h
   entries_all (n ∷ ns) [] h = absurd h
-  entries_all (n ∷ ns) (a ∷ heard) h = (h.0.0, rw h.0.1 (entries_all ns heard h.1))
+  entries_all (n ∷ ns) (a ∷ given) h = (h.0.0, rw h.0.1 (entries_all ns given h.1))
 
   -- the last one that was asked found none
-  pub entries_stop : (ns : List Text) (heard : List Answer) (n : Text) (rest : List Text) (a : Answer) → AllZip Answered ns heard → Heard allows (joined d n) a → is_memory_fault a ≡ true → EntriesHeard allows d (ns ++ n ∷ rest) (heard ++ a ∷ [])
+  pub entries_stop : (ns : List Text) (given : List Answer) (n : Text) (rest : List Text) (a : Answer) → AllZip Answered ns given → IsAllowedAnswer allows (joined d n) a → is_memory_fault a ≡ true → AreAllowedAnswers allows d (ns ++ n ∷ rest) (given ++ a ∷ [])
   entries_stop [] [] n rest a h ok e = (ok, rw e refl)
-  entries_stop [] (b ∷ heard) n rest a h ok e = absurd h
+  entries_stop [] (b ∷ given) n rest a h ok e = absurd h
   entries_stop (m ∷ ns) [] n rest a h ok e = absurd h
-  entries_stop (m ∷ ns) (b ∷ heard) n rest a h ok e = (h.0.0, rw h.0.1 (entries_stop ns heard n rest a h.1 ok e))
+  entries_stop (m ∷ ns) (b ∷ given) n rest a h ok e = (h.0.0, rw h.0.1 (entries_stop ns given n rest a h.1 ok e))

@@ -18,24 +18,25 @@ use Rattle.manifest_completion.specs.Listings.{Answer, fault, names_of, is_memor
 use Rattle.manifest_completion.specs.Finds.{Find, finds, entry_finds}
 use Rattle.manifest_completion.specs.Completed.{PackageTargets, Explains, folder_places, target_places, has_memory_fault, completed_to, refused, no_library, filled, library, no_file, known, source_fault, root_fault, after_root, completed_targets, asked_targets, asks_root, stops_at_source, completed, asked}
 use Rattle.manifest_completion.specs.Answered.{answer_of, answers_of}
-use Rattle.manifest_completion.specs.Asking.{Heard, EntriesHeard, HeardInTurn, folder_listing, listing_map, AllHeard, ran_out_of_memory, some_ran_out_of_memory}
-use Rattle.manifest_completion.specs.Outcome.{completed_content, IsFault, RefusesLibrary, TargetsComeTo, TargetsRefused, TargetsCompleted, paired_finds, folder_paired, TargetsMade, heard_fault, CompletesHeard}
+use Rattle.manifest_completion.specs.Asking.{IsAllowedAnswer, AreAllowedAnswers, IsAnsweredInTurn, folder_listing, listing_map, AllIsAnswered, ran_out_of_memory, some_ran_out_of_memory}
+use Rattle.manifest_completion.specs.Outcome.{completed_content, TargetsComeTo, TargetsRefused, TargetsCompleted}
+use Rattle.manifest_completion.specs.Steps.{IsFault, RefusesLibrary, paired_finds, folder_paired, TargetsMade, fault_of_answers, CompletesByAnswers}
 use Rattle.manifest_completion.proofs.DecidesLaws.{with_library}
 use Rattle.manifest_completion.proofs.AskLemmas.{none_ascend, ascending_differ}
-use Rattle.manifest_completion.proofs.HeardLemmas.{folder_fault, entry_answers, padded, any_map}
+use Rattle.manifest_completion.proofs.AnswerLemmas.{folder_fault, entry_answers, padded, any_map}
 
 -- FINDS: those that are computed are those of the map
-paired_is : (d : Text) (f : Text → Answer) (ns : List Text) (heard : List Answer) → map f ns ≡ padded ns heard → EntriesHeard (λ path answer. Unit {0}) d ns heard → list_any is_memory_fault heard ≡ false → paired_finds d ns heard ≡ flat_map (λ n. entry_finds d n (f n)) ns
-paired_is d f [] heard e h q = refl
+paired_is : (d : Text) (f : Text → Answer) (ns : List Text) (given : List Answer) → map f ns ≡ padded ns given → AreAllowedAnswers (λ path answer. Unit {0}) d ns given → list_any is_memory_fault given ≡ false → paired_finds d ns given ≡ flat_map (λ n. entry_finds d n (f n)) ns
+paired_is d f [] given e h q = refl
 paired_is d f (n ∷ ns) [] e h q = absurd h
-paired_is d f (n ∷ ns) (a ∷ heard) e h q =
+paired_is d f (n ∷ ns) (a ∷ given) e h q =
     let here : f n ≡ a = cc e in
-    let there : map f ns ≡ padded ns heard = cc e in
-    let kept : is_memory_fault a ≡ false = (or_parts (is_memory_fault a) (list_any is_memory_fault heard) q).0 in
+    let there : map f ns ≡ padded ns given = cc e in
+    let kept : is_memory_fault a ≡ false = (or_parts (is_memory_fault a) (list_any is_memory_fault given) q).0 in
     rw here (ap (λ (xs : List Find). entry_finds d n a ++ xs)
-    (paired_is d f ns heard there (rw kept at h.1) (or_parts (is_memory_fault a) (list_any is_memory_fault heard) q).1))
+    (paired_is d f ns given there (rw kept at h.1) (or_parts (is_memory_fault a) (list_any is_memory_fault given) q).1))
 
-folder_paired_is : (l : ListingMap) (d : TargetFolder) (a : FolderAnswers) → folder_of l d ≡ folder_listing a → HeardInTurn d a → ran_out_of_memory a ≡ false → folder_paired (folder_text d) a ≡ finds l d
+folder_paired_is : (l : ListingMap) (d : TargetFolder) (a : FolderAnswers) → folder_of l d ≡ folder_listing a → IsAnsweredInTurn d a → ran_out_of_memory a ≡ false → folder_paired (folder_text d) a ≡ finds l d
 folder_paired_is l d a e h q =
     let own : (folder_of l d).own ≡ answer_of a.own = ap (λ (f : FolderListing). f.own) e in
     let kept : list_any is_memory_fault (answers_of a.entries) ≡ false = any_map is_memory_fault answer_of a.entries.items ∙ (or_parts (is_memory_fault (answer_of a.own)) _ q).1 in
@@ -60,7 +61,7 @@ only_ascends src d (entry tests n) = none_ascend
 only_ascends src d (entry benches n) = none_ascend
 only_ascends src d root = none_ascend
 
-module _ (allows : Text → Answer → Type 0) (t : PackageTargets) (src : Answer) (ok : Heard allows (path_text source) src) where
+module _ (allows : Text → Answer → Type 0) (t : PackageTargets) (src : Answer) (ok : IsAllowedAnswer allows (path_text source) src) where
   explains_stop : stops_at_source t src ≡ true → Explains allows (only_source src) (asked_targets t (only_source src))
   explains_stop e = record { ascending = only_ascends src ok.0; allowed = rw e (ok.1, tt) }
 
@@ -82,9 +83,9 @@ module _ (allows : Text → Answer → Type 0) (t : PackageTargets) (src : Answe
   library_error none _ h = absurd h
 
 -- all was answered
-module _ (allows : Text → Answer → Type 0) (t : PackageTargets) (a : Answers) (heard : AllHeard allows (asks_root t.build) a) (none : source_fault (answer_of a.source) ≡ None) (lib : Option Product) (got : library t (answer_of a.source) ≡ known lib) where
+module _ (allows : Text → Answer → Type 0) (t : PackageTargets) (a : Answers) (given : AllIsAnswered allows (asks_root t.build) a) (none : source_fault (answer_of a.source) ≡ None) (lib : Option Product) (got : library t (answer_of a.source) ≡ known lib) where
   explains_all : Explains allows (listing_map a) (asked_targets t (listing_map a))
-  explains_all = rw (none, got) heard.explained
+  explains_all = rw (none, got) given.explained
 
   any_fault : has_memory_fault (at (listing_map a)) (target_places (listing_map a)) ≡ some_ran_out_of_memory a
   any_fault =
@@ -92,11 +93,11 @@ module _ (allows : Text → Answer → Type 0) (t : PackageTargets) (a : Answers
       list_any-append t (folder_places l bins) (folder_places l examples ++ (folder_places l tests ++ folder_places l benches))
       ∙ ap (λ b. list_any t (folder_places l bins) || b) (list_any-append t (folder_places l examples) (folder_places l tests ++ folder_places l benches)
       ∙ ap (λ b. list_any t (folder_places l examples) || b) (list_any-append t (folder_places l tests) (folder_places l benches)))
-      ∙ cc (folder_fault l bins a.bins refl heard.bins, folder_fault l examples a.examples refl heard.examples, folder_fault l tests a.tests refl heard.tests, folder_fault l benches a.benches refl heard.benches)
+      ∙ cc (folder_fault l bins a.bins refl given.bins, folder_fault l examples a.examples refl given.examples, folder_fault l tests a.tests refl given.tests, folder_fault l benches a.benches refl given.benches)
 
   -- what is answered decides what the targets become
-  heard_outcome : completed_targets t (listing_map a) ≡ after_root t lib (listing_map a) (heard_fault t a)
-  heard_outcome =
+  answered_outcome : completed_targets t (listing_map a) ≡ after_root t lib (listing_map a) (fault_of_answers t a)
+  answered_outcome =
       with_library t (listing_map a) lib none got
       ∙ ap (λ (b : Bool). if b then refused OutOfMemory else after_root t lib (listing_map a) (root_fault t.build (answer_of a.root))) any_fault
       ∙ one (some_ran_out_of_memory a)
@@ -106,7 +107,7 @@ module _ (allows : Text → Answer → Type 0) (t : PackageTargets) (a : Answers
       one true = refl
       one false = refl
 
-  calm : heard_fault t a ≡ None → some_ran_out_of_memory a ≡ false
+  calm : fault_of_answers t a ≡ None → some_ran_out_of_memory a ≡ false
   calm e = one (some_ran_out_of_memory a) (root_fault t.build (answer_of a.root)) e
     where
       one : (b : Bool) (k : Option ErrorKind) → (if b then Some OutOfMemory else k) ≡ None → b ≡ false
@@ -120,13 +121,13 @@ module _ (allows : Text → Answer → Type 0) (t : PackageTargets) (a : Answers
       let (q1, r1) = or_parts (ran_out_of_memory a.bins) _ e in
       let (q2, r2) = or_parts (ran_out_of_memory a.examples) _ r1 in
       let (q3, q4) = or_parts (ran_out_of_memory a.tests) (ran_out_of_memory a.benches) r2 in
-      let fb = folder_paired_is l bins a.bins refl heard.bins q1 in let fe = folder_paired_is l examples a.examples refl heard.examples q2 in
-      let ft = folder_paired_is l tests a.tests refl heard.tests q3 in let fn = folder_paired_is l benches a.benches refl heard.benches q4 in
+      let fb = folder_paired_is l bins a.bins refl given.bins q1 in let fe = folder_paired_is l examples a.examples refl given.examples q2 in
+      let ft = folder_paired_is l tests a.tests refl given.tests q3 in let fn = folder_paired_is l benches a.benches refl given.benches q4 in
       rw (made.build, made.library, made.lists.bin, made.lists.example, made.lists.test, made.lists.bench, fb, fe, ft, fn) refl
 
-  pub by_answers : (r : Result CompletedTargets Error) → CompletesHeard t lib a r → TargetsCompleted allows t r
-  by_answers (Ok c) h = (listing_map a, explains_all, heard_outcome ∙ ap (after_root t lib (listing_map a)) h.0 ∙ ap completed_to (filled_is (calm h.0) c h.1))
-  by_answers (Err (Io e)) h = (listing_map a, explains_all, heard_outcome ∙ ap (after_root t lib (listing_map a)) h)
+  pub by_answers : (r : Result CompletedTargets Error) → CompletesByAnswers t lib a r → TargetsCompleted allows t r
+  by_answers (Ok c) h = (listing_map a, explains_all, answered_outcome ∙ ap (after_root t lib (listing_map a)) h.0 ∙ ap completed_to (filled_is (calm h.0) c h.1))
+  by_answers (Err (Io e)) h = (listing_map a, explains_all, answered_outcome ∙ ap (after_root t lib (listing_map a)) h)
   by_answers (Err (Memory e)) h = tt
   by_answers (Err _) h = absurd h
 

@@ -13,7 +13,7 @@ use Rattle.std.proofs.lemmas.Map.Text.{is_eq-slice_cmp}
 use Rattle.manifest_schema.specs.Paths.{Text}
 use Rattle.manifest_schema.proofs.CopyLaws.{items_copied}
 use Rattle.manifest_completion.specs.Finds.{stem}
-use Rattle.manifest_completion.specs.Outcome.{paired_finds}
+use Rattle.manifest_completion.specs.Steps.{paired_finds}
 
 -- a set has a text where the texts of its keys do
 pub has_text : {K : Type 0} (text : K → Text) (n : Text) (ks : List K) → list_any (λ k. is_eq (slice_cmp nat_cmp n (text k))) ks ≡ list_any (bytes_eq n) (map text ks)

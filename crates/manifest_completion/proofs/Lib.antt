@@ -9,5 +9,5 @@ pub mod IndexLemmas
 pub mod LibraryLemmas
 pub mod ListingLemmas
 pub mod AskLemmas
-pub mod HeardLemmas
+pub mod AnswerLemmas
 pub mod CompleteLemmas

@@ -10,24 +10,24 @@ use Rattle.manifest_completion.specs.Completed.{Explains, up_to_memory_fault, ta
 use Rattle.manifest_completion.specs.Answered.{answer_of, answers_of}
 
 -- an answer that is allowed at a path, its names ascending
-abbrev pub Heard : (Text → Answer → Type 0) → Text → Answer → Type 0
-Heard allows path a = IsAscending (names_of a) × allows path a
+abbrev pub IsAllowedAnswer : (Text → Answer → Type 0) → Text → Answer → Type 0
+IsAllowedAnswer allows path a = IsAscending (names_of a) × allows path a
 
 -- the answers for the names in a folder, in order, up to the first that ran out of memory
-abbrev pub EntriesHeard : (Text → Answer → Type 0) → Text → List Text → List Answer → Type 0
-EntriesHeard allows d [] [] = Unit {0}
-EntriesHeard allows d [] (a ∷ heard) = ⊥
-EntriesHeard allows d (n ∷ ns) [] = ⊥
-EntriesHeard allows d (n ∷ ns) (a ∷ heard) = Heard allows (joined d n) a × MatchBool (is_memory_fault a) (heard ≡ []) (EntriesHeard allows d ns heard)
+abbrev pub AreAllowedAnswers : (Text → Answer → Type 0) → Text → List Text → List Answer → Type 0
+AreAllowedAnswers allows d [] [] = Unit {0}
+AreAllowedAnswers allows d [] (a ∷ given) = ⊥
+AreAllowedAnswers allows d (n ∷ ns) [] = ⊥
+AreAllowedAnswers allows d (n ∷ ns) (a ∷ given) = IsAllowedAnswer allows (joined d n) a × MatchBool (is_memory_fault a) (given ≡ []) (AreAllowedAnswers allows d ns given)
 
 -- what was answered at a folder and at its entries
-pub record FolderHeard (allows : Text → Answer → Type 0) (d : Text) (a : FolderAnswers) : Type 0 where
-  pub own : Heard allows d (answer_of a.own)
-  pub entries : EntriesHeard allows d (names_of (answer_of a.own)) (answers_of a.entries)
+pub record FolderIsAnswered (allows : Text → Answer → Type 0) (d : Text) (a : FolderAnswers) : Type 0 where
+  pub own : IsAllowedAnswer allows d (answer_of a.own)
+  pub entries : AreAllowedAnswers allows d (names_of (answer_of a.own)) (answers_of a.entries)
 
 -- the names in the folder ascend, and its entries were answered in turn, up to the first that ran out of memory
-abbrev pub HeardInTurn : TargetFolder → FolderAnswers → Type 0
-HeardInTurn d a = FolderHeard (λ path answer. Unit {0}) (folder_text d) a
+abbrev pub IsAnsweredInTurn : TargetFolder → FolderAnswers → Type 0
+IsAnsweredInTurn d a = FolderIsAnswered (λ path answer. Unit {0}) (folder_text d) a
 
 -- the map of what was answered
 abbrev pub folder_listing : FolderAnswers → FolderListing
@@ -48,11 +48,11 @@ abbrev pub all_places : Bool → ListingMap → List Place
 all_places asks l = source ∷ up_to_memory_fault (at l) (target_places l ++ root_places asks)
 
 -- what was answered at `src`, all target folders and their entries, and the manifest's folder where that was asked
-pub record AllHeard (allows : Text → Answer → Type 0) (asks : Bool) (a : Answers) : Type 0 where
-  pub bins : HeardInTurn bins a.bins
-  pub examples : HeardInTurn examples a.examples
-  pub tests : HeardInTurn tests a.tests
-  pub benches : HeardInTurn benches a.benches
+pub record AllIsAnswered (allows : Text → Answer → Type 0) (asks : Bool) (a : Answers) : Type 0 where
+  pub bins : IsAnsweredInTurn bins a.bins
+  pub examples : IsAnsweredInTurn examples a.examples
+  pub tests : IsAnsweredInTurn tests a.tests
+  pub benches : IsAnsweredInTurn benches a.benches
   pub explained : Explains allows (listing_map a) (all_places asks (listing_map a))
 
 -- the folder's answer or one of its entries' ran out of memory

@@ -9,3 +9,4 @@ pub mod Answered
 pub mod Stored
 pub mod Asking
 pub mod Outcome
+pub mod Steps

@@ -4,7 +4,7 @@ ghost use Rattle.std.specs.Prelude.{◌≡◌, [], codes, IfOk, string_bytes, tr
 ghost use Rattle.std.specs.declared.io.ErrorKind.TheVariants.{NotFound};
 ghost use Rattle.manifest_completion.specs.Listings.{joined, is_memory_fault, fault, IsAscending};
 ghost use Rattle.manifest_completion.specs.Answered.{answer_of, answers_of, set_names};
-ghost use Rattle.manifest_completion.specs.Asking.{Heard, EntriesHeard, FolderHeard, AllHeard, ran_out_of_memory, some_ran_out_of_memory};
+ghost use Rattle.manifest_completion.specs.Asking.{IsAllowedAnswer, AreAllowedAnswers, FolderIsAnswered, AllIsAnswered, ran_out_of_memory, some_ran_out_of_memory};
 
 use crate::filesystem::AbstractFilesystem;
 use std::alloc::{AllocError, Global};
@@ -66,7 +66,7 @@ pub fn ask<FS: AbstractFilesystem>(
     fs: &FS,
     path: &str,
 ) -> io::Result<BTreeSet<String>>
-    ensures { Heard (FS.allows fs.now) path.now (answer_of result) }
+    ensures { IsAllowedAnswer (FS.allows fs.now) path.now (answer_of result) }
 {
     match fs.file_names_in(alloc, path) {
         Ok(names) => {
@@ -86,7 +86,7 @@ fn ask_entries<FS: AbstractFilesystem>(
     names: &BTreeSet<String>,
 ) -> Result<Vec<io::Result<BTreeSet<String>>>, AllocError>
     ensures { IfOk result
-        (λ v. EntriesHeard (FS.allows fs.now) folder.now (set_names names.now) (answers_of v)) }
+        (λ v. AreAllowedAnswers (FS.allows fs.now) folder.now (set_names names.now) (answers_of v)) }
 {
     let mut entries = Vec::new(alloc);
     for name in names.iter() {
@@ -107,7 +107,7 @@ fn ask_folder<FS: AbstractFilesystem>(
     fs: &FS,
     folder: &str,
 ) -> Result<FolderAnswers, AllocError>
-    ensures { IfOk result (λ a. FolderHeard (FS.allows fs.now) folder.now a) }
+    ensures { IfOk result (λ a. FolderIsAnswered (FS.allows fs.now) folder.now a) }
 {
     let own = ask(alloc, fs, folder);
     let entries = match &own {
@@ -156,7 +156,7 @@ fn ask_folder_unless<FS: AbstractFilesystem>(
     folder: &str,
 ) -> Result<FolderAnswers, AllocError>
     ensures { IfOk result
-        (λ a. FolderHeard (λ path answer. stopped ≡ false → FS.allows fs.now path answer) folder.now
+        (λ a. FolderIsAnswered (λ path answer. stopped ≡ false → FS.allows fs.now path answer) folder.now
         a) }
 {
     if stopped {
@@ -171,7 +171,7 @@ fn ask_root_if<FS: AbstractFilesystem>(
     alloc: Global,
     fs: &FS,
 ) -> io::Result<BTreeSet<String>>
-    ensures { Heard (λ path answer. asks ≡ true → FS.allows fs.now path answer) (codes ".")
+    ensures { IsAllowedAnswer (λ path answer. asks ≡ true → FS.allows fs.now path answer) (codes ".")
         (answer_of result) }
 {
     if asks {
@@ -189,9 +189,9 @@ pub fn ask_folders<FS: AbstractFilesystem>(
     source: io::Result<BTreeSet<String>>,
     asks_root: bool,
 ) -> Result<Answers, AllocError>
-    requires { Heard (FS.allows fs.now) (codes "src") (answer_of source) }
+    requires { IsAllowedAnswer (FS.allows fs.now) (codes "src") (answer_of source) }
     ensures source { IfOk result (λ a. a.source ≡ source) }
-    ensures heard { IfOk result (λ a. AllHeard (FS.allows fs.now) asks_root a) }
+    ensures answered { IfOk result (λ a. AllIsAnswered (FS.allows fs.now) asks_root a) }
 {
     let bins = ask_folder(alloc, fs, "src/bin")?;
     let after_bins = bins.ran_out_of_memory();

@@ -8,7 +8,8 @@ ghost use Rattle.manifest_completion.specs.Answered.{answer_of};
 ghost use Rattle.manifest_completion.specs.Finds.{main_find};
 ghost use Rattle.manifest_completion.specs.Targets.{targets};
 ghost use Rattle.manifest_completion.specs.Completed.{is_legacy, own_edition, discovers, asks_root, build_of, bin_defaults, example_defaults, test_defaults, source_fault, root_fault_if};
-ghost use Rattle.manifest_completion.specs.Outcome.{declared_content, defaults_content, folder_paired, IsFault, TargetsCompleted, ListsCompleted, CompletesHeard};
+ghost use Rattle.manifest_completion.specs.Outcome.{declared_content, TargetsCompleted};
+ghost use Rattle.manifest_completion.specs.Steps.{defaults_content, folder_paired, IsFault, ListsCompleted, CompletesByAnswers};
 
 use crate::ask::{Answers, FolderAnswers, ask, ask_folders};
 use crate::copies::copy_optional_text;
@@ -331,7 +332,7 @@ fn complete_by_answers(
     answers: &Answers,
 ) -> Result<CompletedTargets, Error>
     ensures { let t = declared_content declared.now in
-        CompletesHeard t (option_map product_content lib) answers.now result }
+        CompletesByAnswers t (option_map product_content lib) answers.now result }
 {
     if answers.ran_out_of_memory() {
         return Err(Error::Io(io::Error::from(ErrorKind::OutOfMemory)));

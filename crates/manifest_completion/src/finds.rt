@@ -5,7 +5,7 @@ ghost use Rattle.std.specs.Option.{option_copied};
 ghost use Rattle.manifest_completion.specs.Listings.{lists};
 ghost use Rattle.manifest_completion.specs.Answered.{answer_of};
 ghost use Rattle.manifest_completion.specs.Finds.{stem, entry_finds, main_find};
-ghost use Rattle.manifest_completion.specs.Outcome.{finds_content, folder_paired};
+ghost use Rattle.manifest_completion.specs.Steps.{finds_content, folder_paired};
 
 use crate::ask::{FolderAnswers, join};
 use std::alloc::{AllocError, Global};

@@ -4,7 +4,7 @@ ghost use Rattle.std.specs.Prelude.{◌≡◌, List, ◌++◌, ◌∷◌, [], If
 ghost use Rattle.std.specs.Option.{option_copied};
 ghost use Rattle.manifest_completion.specs.Finds.{Find};
 ghost use Rattle.manifest_completion.specs.Targets.{first_path, has_path};
-ghost use Rattle.manifest_completion.specs.Outcome.{finds_content};
+ghost use Rattle.manifest_completion.specs.Steps.{finds_content};
 ghost use Rattle.manifest_completion.specs.Index.{Indexes, paths_in, SamePaths};
 
 use crate::finds::FoundTarget;

@@ -5,7 +5,7 @@ ghost use Rattle.std.specs.Option.{option_copied, option_or};
 ghost use Rattle.manifest_parts.specs.Records.{product_content};
 ghost use Rattle.manifest_completion.specs.Targets.{paths_of, pathed, found, added, with_defaults, targets};
 ghost use Rattle.manifest_completion.specs.Index.{paths_in, SamePaths};
-ghost use Rattle.manifest_completion.specs.Outcome.{find_content, finds_content, defaults_content};
+ghost use Rattle.manifest_completion.specs.Steps.{find_content, finds_content, defaults_content};
 
 use crate::copies::{copy_optional_text, one_text};
 use crate::finds::FoundTarget;

@@ -18,7 +18,7 @@ use Rattle.manifest_schema.proofs.MeaningLaws.{accepted_is_well_formed}
 use Rattle.manifest_completion.specs.Listings.{Answer as Listed}
 use Rattle.manifest_completion.specs.Stored.{stored_map}
 use Rattle.manifest_completion.proofs.CompletedLaws.{completed_fixed}
-use Rattle.cargo_manifest.specs.Canonical.{metadata}
+use Rattle.manifest_schema.specs.Dates.{kept_metadata}
 use Rattle.cargo_manifest.proofs.WellFormedLaws.{package_by_metadata, workspace_by_parts, manifest_by_parts}
 use Rattle.manifest_inherit.specs.Finished.{Inherits}
 use Rattle.manifest_inherit.proofs.FormedLaws.{stays_well_formed}
@@ -29,10 +29,10 @@ use Rattle.manifest_ffi.specs.declared.making.Output.{Output}
 use Rattle.manifest_ffi.specs.declared.making.Output.TheVariants.{CanonicalText, TaggedTable}
 use Rattle.manifest_ffi.specs.declared.refusal.Refusal.{Refusal}
 use Rattle.manifest_ffi.specs.Read.{Are}
-use Rattle.manifest_ffi.specs.Made.{Completes, IsRoot, Makes, Refusals, Writes, Holds, Gives, RefusesOutput, OrOutput, IsMade}
+use Rattle.manifest_ffi.specs.Made.{CompletesStored, IsRoot, Makes, Refusals, Writes, Holds, Gives, RefusesOutput, OrOutput, IsMade}
 
 abbrev IsFormed : Manifest → Type 0
-IsFormed m = well_formed metadata metadata m
+IsFormed m = well_formed kept_metadata kept_metadata m
 
 abbrev AreFormed : Option Manifest → Type 0
 AreFormed None = Unit {0}
@@ -45,7 +45,7 @@ read_formed Toml bytes m is =
     (accepted_is_well_formed kept_tree kept_tree is.document m is.meant).0
 read_formed Tagged bytes m is =
     let kept_tree = tree_lawful kept_lawful in
-    (manifest_lawful metadata metadata kept_tree kept_tree).well is.value m is.read
+    (manifest_lawful kept_metadata kept_metadata kept_tree kept_tree).well is.value m is.read
 
 root_formed : (input : Input) (bytes : Option (List ℕ)) (root : Option Manifest) → IsRoot input bytes root → AreFormed root
 root_formed input None None is = tt
@@ -57,15 +57,15 @@ root_formed input (Some b) (Some r) is = read_formed input b r is
 inherits_formed : (root : Option Manifest) (m n : Manifest) → AreFormed root → IsFormed m → Inherits root m n → IsFormed n
 inherits_formed None m n root formed same = subst IsFormed (sym same) formed
 inherits_formed (Some r) m n root formed (w, has, resolves) =
-    let by_manifest = manifest_by_parts metadata metadata in
-    let lends = subst (good_some (form (workspace_rows metadata))) has ((by_manifest r).0 root).1 in
-    stays_well_formed metadata metadata metadata (package_by_metadata metadata) (workspace_by_parts metadata) by_manifest m n w formed lends resolves
+    let by_manifest = manifest_by_parts kept_metadata kept_metadata in
+    let lends = subst (good_some (form (workspace_rows kept_metadata))) has ((by_manifest r).0 root).1 in
+    stays_well_formed kept_metadata kept_metadata kept_metadata (package_by_metadata kept_metadata) (workspace_by_parts kept_metadata) by_manifest m n w formed lends resolves
 
-completes_formed : (stored : Option (Text → Listed)) (m n : Manifest) → IsFormed m → Completes stored m n → IsFormed n
+completes_formed : (stored : Option (Text → Listed)) (m n : Manifest) → IsFormed m → CompletesStored stored m n → IsFormed n
 completes_formed None m n formed same = subst IsFormed (sym same) formed
 completes_formed (Some s) m n formed becomes =
     let kept_tree = tree_lawful kept_lawful in
-    (completed_fixed metadata metadata kept_tree kept_tree m n (stored_map s) formed becomes).formed
+    (completed_fixed kept_metadata kept_metadata kept_tree kept_tree m n (stored_map s) formed becomes).formed
 
 made_formed : (input : Input) (bytes : List ℕ) (root : Option (List ℕ)) (folders : Option (List Folder)) (m : Manifest) → Makes input bytes root folders m → IsFormed m
 made_formed input bytes root folders m (listings, (n, is, (r, is_root, (o, inherits, completes)))) =
@@ -73,12 +73,12 @@ made_formed input bytes root folders m (listings, (n, is, (r, is_root, (o, inher
 
 -- THE LAST STEP
 -- metadata that is kept is written without floats
-kept_is_floatless : IsFloatless metadata
+kept_is_floatless : IsFloatless kept_metadata
 kept_is_floatless = tree_floatless kept (λ x g. g)
 
 held : (output : Output) (most : ℕ) (m : Manifest) (text : Text) → IsFormed m → Writes output most m text → Holds output m text
 held CanonicalText most m text g written = tt
-held TaggedTable most m text g written = ap decoded written.0 ∙ table_is_decoded metadata metadata kept_is_floatless kept_is_floatless m g
+held TaggedTable most m text g written = ap decoded written.0 ∙ table_is_decoded kept_metadata kept_metadata kept_is_floatless kept_is_floatless m g
 
 given_of : (output : Output) (most : ℕ) (makes : Manifest → Type 0) (refuses : Refusals) (m : Manifest) (r : Result (Vec ℕ Global) Refusal) → makes m → IsFormed m
     → IsMade (Writes output most m) (RefusesOutput output most m) r → IsMade (Gives output most makes) (OrOutput output most makes refuses) r

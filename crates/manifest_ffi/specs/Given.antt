@@ -75,12 +75,6 @@ abbrev pub goes_before : Text → Option (Bor Text) → Bool
 goes_before n None = true
 goes_before n (Some t) = is_lt (slice_cmp nat_cmp n t.now)
 
--- the least of some names that ascend, where there are any
-abbrev pub IsLeast : Option (Bor Text) → List Text → Type 0
-IsLeast None [] = Unit {0}
-IsLeast (Some t) (n ∷ ns) = t.now ≡ n
-IsLeast _ _ = ⊥
-
 -- the answers of the filesystem of some folders
 abbrev pub given_by : GivenFolders → Text → Answer
 given_by it path = or_not_found (listed_at it.by_path path)

@@ -10,7 +10,7 @@ use Rattle.manifest_inherit.specs.Fields.{Fields, no_more, ◌⨾◌, lendable}
 use Rattle.manifest_inherit.specs.Resolved.{resolved_field, resolved_fields, resolved_package}
 use Rattle.manifest_inherit.specs.Refused.{Refusal, NoneHolds, not_in_workspace, refuses_field, refuses_fields}
 use Rattle.manifest_inherit.specs.Own.{IsOwn, AreOwn}
-use Rattle.manifest_inherit.specs.ForProofs.{how_many, refuses_at, IsLent, lent_at, first_lent}
+use Rattle.manifest_inherit.specs.ForProofs.{how_many, refuses_at, IsLent, lent_at}
 
 -- A FIELD
 field_own : {A : Type 0} (key : Text) (own : Option (Inheritable A)) (lent : Option A) → NoneHolds (refuses_field key own lent) → IsOwn (resolved_field own lent)
@@ -71,7 +71,13 @@ package_same = fields_same lendable all_kept
 pub package_accepted : (w : Option WorkspacePackage) (p : Package) → AreOwn lendable p → NoneHolds (refuses_fields lendable w p)
 package_accepted = fields_accepted lendable
 
--- WHAT THE WORKSPACE HAS: one more field
+-- WHAT THE WORKSPACE HAS
+-- of the first n fields the workspace has those that are inherited
+abbrev pub first_lent : ℕ → Fields → Option WorkspacePackage → Package → Type 0
+first_lent (suc n) (f ⨾ fs) w p = IsLent (f.own p) (f.lent w) × first_lent n fs w p
+first_lent _ _ w p = Unit {0}
+
+-- one more field
 pub one_lent : (fs : Fields) (i : ℕ) (w : Option WorkspacePackage) (p : Package) → first_lent i fs w p → lent_at i fs w p → first_lent (suc i) fs w p
 one_lent no_more i w p h n = tt
 one_lent (f ⨾ fs) zero w p h n = (n, tt)

@@ -1,5 +1,6 @@
 -- What is resolved stays well-formed, and resolved when it is completed. Its premises are laws of `cargo_manifest`.
 use Rattle.std.proofs.Common.{◌≡◌, inr, [], ◌∷◌, Bool, true, false, refl, sym, Option, Some, None, option_map, codes, subst, IsTrue}
+use Rattle.std.specs.Option.{IfSome}
 use Rattle.toml.specs.Data.{Data}
 use Rattle.manifest_schema.specs.Kinds.{Kind, Entries, map_of}
 use Rattle.manifest_schema.specs.Needs.{good_some}
@@ -15,7 +16,7 @@ use Rattle.cargo_manifest.specs.WellFormed.{PackageByMetadata, WorkspaceByParts,
 use Rattle.manifest_inherit.specs.Fields.{lendable}
 use Rattle.manifest_inherit.specs.Resolved.{resolved_package, resolved_lints_by, resolved_lints, resolved}
 use Rattle.manifest_inherit.specs.Refused.{NoneHolds, tool_named_workspace, refuses_lints_by, refuses_lints, refuses_some, refuses}
-use Rattle.manifest_inherit.specs.Own.{AreOwn, IfThere, InheritsNothing}
+use Rattle.manifest_inherit.specs.Own.{AreOwn, InheritsNothing}
 use Rattle.manifest_inherit.specs.Laws.{ResolvedIsWellFormed, CompletedStaysResolved}
 use Rattle.manifest_inherit.proofs.SettledLaws.{resolved_is_settled, own_is_settled}
 
@@ -56,7 +57,7 @@ module _ (K W V : Kind Data) (package_by : PackageByMetadata K) (workspace_by : 
 targets_own : (p : Package) (m : Manifest) (t : PackageTargets) → m.«package» ≡ Some p → InheritsNothing m → InheritsNothing (with_targets p m t)
 unfolding lendable
 targets_own p m t e h = record {
-  fields = subst (IfThere (AreOwn lendable)) e h.fields;
+  fields = subst (λ o. IfSome o (AreOwn lendable)) e h.fields;
   dependencies = h.dependencies;
   dev_dependencies = h.dev_dependencies;
   build_dependencies = h.build_dependencies;

@@ -1,5 +1,6 @@
 -- What is resolved inherits nothing, and what inherits nothing is resolved to itself.
 use Rattle.std.proofs.Common.{◌≡◌, inl, inr, [], ◌∷◌, Bool, true, false, refl, ap, sym, Option, Some, None, option_map, codes, subst}
+use Rattle.std.specs.Option.{IfSome}
 use Rattle.manifest_schema.specs.Paths.{Text}
 use Rattle.manifest_schema.specs.Kinds.{Entries}
 use Rattle.manifest_schema.specs.Contents.{InheritedDependencyDetail, DependencyDetail, Dependency, simple, by_workspace, detailed, Lint, MaybeInheritedLintsSet, Target, Workspace, Manifest}
@@ -7,7 +8,8 @@ use Rattle.manifest_parts.specs.Queries.{says_more, simplify}
 use Rattle.manifest_inherit.specs.Fields.{lendable}
 use Rattle.manifest_inherit.specs.Resolved.{resolved_package, workspace_dependency, version_alone, lent_by, joined, with_lent, resolved_dependency, resolved_entries, resolved_dependencies, resolved_platform, resolved_platforms, resolved_lints_by, resolved_lints, lent_dependencies, resolved}
 use Rattle.manifest_inherit.specs.Refused.{Refusals, NoneHolds, not_in_workspace, inherited_in_workspace, refuses_fields, refuses_lender, refuses_dependency, refuses_entries, refuses_dependencies, refuses_platform, refuses_platforms, refuses_lints_by, refuses_lints, refuses_some, refuses}
-use Rattle.manifest_inherit.specs.Own.{AreOwn, IsOwnDependency, AllValues, AreOwnDependencies, IsOwnPlatform, AreOwnPlatforms, AreOwnLints, IfThere, InheritsNothing}
+use Rattle.manifest_schema.specs.Former.{AllValues}
+use Rattle.manifest_inherit.specs.Own.{AreOwn, IsOwnDependency, AreOwnDependencies, IsOwnPlatform, AreOwnPlatforms, AreOwnLints, InheritsNothing}
 use Rattle.manifest_inherit.specs.Laws.{ResolvedIsSettled, OwnIsSettled}
 use Rattle.manifest_inherit.proofs.FieldLaws.{package_own, package_same, package_accepted}
 
@@ -98,15 +100,15 @@ lints_accepted : (lent : Option (Entries (Entries Lint))) (l : MaybeInheritedLin
 lints_accepted lent l e = subst (λ (u : Option (Unit {0})). NoneHolds (refuses_lints_by u lent l)) (sym e) (λ r x. x)
 
 -- WHAT MAY BE ABSENT
-some_own : {A : Type 0} (R : A → Refusals) (P : A → Type 0) (f : A → A) → ((x : A) → NoneHolds (R x) → P (f x)) → (o : Option A) → NoneHolds (refuses_some R o) → IfThere P (option_map f o)
+some_own : {A : Type 0} (R : A → Refusals) (P : A → Type 0) (f : A → A) → ((x : A) → NoneHolds (R x) → P (f x)) → (o : Option A) → NoneHolds (refuses_some R o) → IfSome (option_map f o) P
 some_own R P f k None h = tt
 some_own R P f k (Some x) h = k x h
 
-some_same : {A : Type 0} (P : A → Type 0) (f : A → A) → ((x : A) → P x → f x ≡ x) → (o : Option A) → IfThere P o → option_map f o ≡ o
+some_same : {A : Type 0} (P : A → Type 0) (f : A → A) → ((x : A) → P x → f x ≡ x) → (o : Option A) → IfSome o P → option_map f o ≡ o
 some_same P f k None h = refl
 some_same P f k (Some x) h = ap Some (k x h)
 
-some_accepted : {A : Type 0} (R : A → Refusals) (P : A → Type 0) → ((x : A) → P x → NoneHolds (R x)) → (o : Option A) → IfThere P o → NoneHolds (refuses_some R o)
+some_accepted : {A : Type 0} (R : A → Refusals) (P : A → Type 0) → ((x : A) → P x → NoneHolds (R x)) → (o : Option A) → IfSome o P → NoneHolds (refuses_some R o)
 some_accepted R P k None h r x = x
 some_accepted R P k (Some y) h r x = k y h r x
 

@@ -48,11 +48,6 @@ lent_at zero (f ⨾ fs) w p = IsLent (f.own p) (f.lent w)
 lent_at (suc i) (f ⨾ fs) w p = lent_at i fs w p
 lent_at _ _ w p = Unit {0}
 
--- of the first n fields the workspace has those that are inherited
-abbrev pub first_lent : ℕ → Fields → Option WorkspacePackage → Package → Type 0
-first_lent (suc n) (f ⨾ fs) w p = IsLent (f.own p) (f.lent w) × first_lent n fs w p
-first_lent _ _ w p = Unit {0}
-
 -- a manifest with what is made in the place of what it inherits
 abbrev pub with_made : Made → Manifest → Manifest
 with_made made m = record m {

@@ -1,7 +1,9 @@
 -- What inherits nothing.
-use Rattle.std.specs.Prelude.{◌≡◌, [], ◌∷◌, Option, Some, None}
+use Rattle.std.specs.Prelude.{◌≡◌, Option, Some, None}
+use Rattle.std.specs.Option.{IfSome}
 use Rattle.manifest_schema.specs.Kinds.{Inheritable, inherited, Entries}
 use Rattle.manifest_schema.specs.Contents.{Dependency, by_workspace, MaybeInheritedLintsSet, Target, Package, Manifest}
+use Rattle.manifest_schema.specs.Former.{AllValues}
 use Rattle.manifest_inherit.specs.Fields.{Fields, no_more, ◌⨾◌, lendable}
 
 -- a field is not inherited
@@ -18,11 +20,6 @@ AreOwn (f ⨾ fs) p = IsOwn (f.own p) × AreOwn fs p
 abbrev pub IsOwnDependency : Dependency → Type 0
 IsOwnDependency (by_workspace own) = ⊥
 IsOwnDependency d = Unit {0}
-
--- this holds of each value of a map
-abbrev pub AllValues : {A : Type 0} → (A → Type 0) → Entries A → Type 0
-AllValues P [] = Unit {0}
-AllValues P (e ∷ es) = P e.1 × AllValues P es
 
 abbrev pub AreOwnDependencies : Entries Dependency → Type 0
 AreOwnDependencies = AllValues IsOwnDependency
@@ -41,16 +38,11 @@ AreOwnPlatforms = AllValues IsOwnPlatform
 abbrev pub AreOwnLints : MaybeInheritedLintsSet → Type 0
 AreOwnLints l = l.workspace ≡ None
 
--- this holds of what is there
-abbrev pub IfThere : {A : Type 0} → (A → Type 0) → Option A → Type 0
-IfThere P None = Unit {0}
-IfThere P (Some x) = P x
-
 -- NOTHING IS INHERITED FROM A WORKSPACE; `patch` and the manifest's own `workspace` are not looked at
 pub record InheritsNothing (m : Manifest) : Type 0 where
-  pub fields : IfThere (AreOwn lendable) m.«package»
-  pub dependencies : IfThere AreOwnDependencies m.dependencies
-  pub dev_dependencies : IfThere AreOwnDependencies m.dev_dependencies
-  pub build_dependencies : IfThere AreOwnDependencies m.build_dependencies
-  pub platforms : IfThere AreOwnPlatforms m.target
-  pub lints : IfThere AreOwnLints m.lints
+  pub fields : IfSome m.«package» (AreOwn lendable)
+  pub dependencies : IfSome m.dependencies AreOwnDependencies
+  pub dev_dependencies : IfSome m.dev_dependencies AreOwnDependencies
+  pub build_dependencies : IfSome m.build_dependencies AreOwnDependencies
+  pub platforms : IfSome m.target AreOwnPlatforms
+  pub lints : IfSome m.lints AreOwnLints

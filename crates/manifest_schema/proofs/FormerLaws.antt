@@ -1,5 +1,6 @@
 -- Where no inherited dependency chooses its default features, what is written is what the former schema wrote.
 use Rattle.std.proofs.Common.{◌≡◌, [], ◌∷◌, Option, Some, None, refl, ap, ap₂, subst}
+use Rattle.std.specs.Option.{IfSome}
 use Rattle.toml.specs.Data.{Data, table, member}
 use Rattle.manifest_schema.specs.Slots.{put_some}
 use Rattle.manifest_schema.specs.Kinds.{Kind, Entries, written_entries, map_of}
@@ -10,7 +11,7 @@ use Rattle.manifest_schema.specs.Contents.{InheritedDependencyDetail, Dependency
 use Rattle.manifest_schema.specs.PartForms.{inherited_rows, dependency, platform_rows}
 use Rattle.manifest_schema.specs.ManifestForms.{workspace_rows, manifest_rows}
 use Rattle.manifest_schema.specs.Meaning.{reads_manifest, written_manifest}
-use Rattle.manifest_schema.specs.Former.{former_inherited_rows, former_dependency, former_platform_rows, former_workspace_rows, former_manifest_rows, former_written, LeavesDefaults, OfEach, OfSome, PlatformLeavesDefaults, WorkspaceLeavesDefaults, ManifestLeavesDefaults, OldWrittenIsRead}
+use Rattle.manifest_schema.specs.Former.{former_inherited_rows, former_dependency, former_platform_rows, former_workspace_rows, former_manifest_rows, former_written, LeavesDefaults, AllValues, PlatformLeavesDefaults, WorkspaceLeavesDefaults, ManifestLeavesDefaults, OldWrittenIsRead}
 use Rattle.manifest_schema.proofs.MeaningLaws.{written_is_read}
 
 -- WHERE P HOLDS of a content, K writes of it what L writes
@@ -18,15 +19,15 @@ record WritesAs {A : Type 0} (P : A → Type 0) (K L : Kind A) : Type 0 where
   pub same : (x : A) → P x → K.written x ≡ L.written x
 
 module _ {A : Type 0} {P : A → Type 0} {K L : Kind A} (k : WritesAs P K L) where
-  some_same : (o : Option A) → OfSome P o → written_some K o ≡ written_some L o
+  some_same : (o : Option A) → IfSome o P → written_some K o ≡ written_some L o
   some_same None p = refl
   some_same (Some x) p = ap Some (k.same x p)
 
-  entries_same : (es : Entries A) → OfEach P es → written_entries K es ≡ written_entries L es
+  entries_same : (es : Entries A) → AllValues P es → written_entries K es ≡ written_entries L es
   entries_same [] p = refl
   entries_same (e ∷ es) p = ap₂ (member e.0) (k.same e.1 p.0) (entries_same es p.1)
 
-  map_same : WritesAs (OfEach P) (map_of K) (map_of L)
+  map_same : WritesAs (AllValues P) (map_of K) (map_of L)
   map_same = record { same = λ es p. ap table (entries_same es p) }
 
 -- DEPENDENCIES
@@ -39,7 +40,7 @@ each_same (simple s) p = refl
 each_same (by_workspace i) p = inherited_same i p
 each_same (detailed d) p = refl
 
-dependencies_same : WritesAs (OfEach LeavesDefaults) (map_of dependency) (map_of former_dependency)
+dependencies_same : WritesAs (AllValues LeavesDefaults) (map_of dependency) (map_of former_dependency)
 dependencies_same = map_same (record { same = each_same })
 
 platform_same : WritesAs PlatformLeavesDefaults (form platform_rows) (form former_platform_rows)

@@ -22,16 +22,16 @@ pub record KeepsValidDates (m : Manifest) : Type 0 where
   pub profile : IfSome m.profile (λ p. HasValidDates ((form profiles_rows).written p))
 
 -- metadata is kept as it is
-abbrev metadata : Kind Data
-metadata = tree_of kept
+abbrev pub kept_metadata : Kind Data
+kept_metadata = tree_of kept
 
 -- what is meant by a table whose date-times are valid keeps valid ones
 abbrev pub MeantDatesAreValid : Type 0
 MeantDatesAreValid =
-    (ms : Members) (m : Manifest) → means metadata metadata ms m → MembersHaveValidDates ms
+    (ms : Members) (m : Manifest) → means kept_metadata kept_metadata ms m → MembersHaveValidDates ms
     → KeepsValidDates m
 
 -- so has what is written of it
 abbrev pub WrittenDatesAreValid : Type 0
 WrittenDatesAreValid =
-    (m : Manifest) → KeepsValidDates m → MembersHaveValidDates (rewritten metadata metadata m)
+    (m : Manifest) → KeepsValidDates m → MembersHaveValidDates (rewritten kept_metadata kept_metadata m)

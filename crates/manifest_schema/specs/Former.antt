@@ -1,5 +1,6 @@
 -- The schema before an inherited dependency could choose its default features, and what is promised of its tables.
-use Rattle.std.specs.Prelude.{◌≡◌, Bool, true, false, [], ◌∷◌, Option, Some, None, codes}
+use Rattle.std.specs.Prelude.{◌≡◌, Bool, true, false, [], ◌∷◌, None, codes}
+use Rattle.std.specs.Option.{IfSome}
 use Rattle.toml.specs.Data.{Data, same_key}
 use Rattle.manifest_schema.specs.Paths.{Text}
 use Rattle.manifest_schema.specs.Slots.{only, also_underscored, first}
@@ -70,32 +71,27 @@ abbrev pub LeavesDefaults : Dependency → Type 0
 LeavesDefaults (by_workspace i) = i.default_features ≡ None
 LeavesDefaults _ = Unit {0}
 
--- it holds of each value of a map
-abbrev pub OfEach : {A : Type 0} → (A → Type 0) → Entries A → Type 0
-OfEach P [] = Unit {0}
-OfEach P (e ∷ es) = P e.1 × OfEach P es
-
--- it holds of what is there
-abbrev pub OfSome : {A : Type 0} → (A → Type 0) → Option A → Type 0
-OfSome P None = Unit {0}
-OfSome P (Some x) = P x
+-- this holds of each value of a map
+abbrev pub AllValues : {A : Type 0} → (A → Type 0) → Entries A → Type 0
+AllValues P [] = Unit {0}
+AllValues P (e ∷ es) = P e.1 × AllValues P es
 
 abbrev pub PlatformLeavesDefaults : Target → Type 0
 PlatformLeavesDefaults p =
-    OfEach LeavesDefaults p.dependencies
-    × OfEach LeavesDefaults p.dev_dependencies
-    × OfEach LeavesDefaults p.build_dependencies
+    AllValues LeavesDefaults p.dependencies
+    × AllValues LeavesDefaults p.dev_dependencies
+    × AllValues LeavesDefaults p.build_dependencies
 
 abbrev pub WorkspaceLeavesDefaults : Workspace → Type 0
-WorkspaceLeavesDefaults w = OfSome (OfEach LeavesDefaults) w.dependencies
+WorkspaceLeavesDefaults w = IfSome w.dependencies (AllValues LeavesDefaults)
 
 pub record ManifestLeavesDefaults (m : Manifest) : Type 0 where
-  pub workspace : OfSome WorkspaceLeavesDefaults m.workspace
-  pub dependencies : OfSome (OfEach LeavesDefaults) m.dependencies
-  pub dev_dependencies : OfSome (OfEach LeavesDefaults) m.dev_dependencies
-  pub build_dependencies : OfSome (OfEach LeavesDefaults) m.build_dependencies
-  pub target : OfSome (OfEach PlatformLeavesDefaults) m.target
-  pub patch : OfSome (OfEach (OfEach LeavesDefaults)) m.patch
+  pub workspace : IfSome m.workspace WorkspaceLeavesDefaults
+  pub dependencies : IfSome m.dependencies (AllValues LeavesDefaults)
+  pub dev_dependencies : IfSome m.dev_dependencies (AllValues LeavesDefaults)
+  pub build_dependencies : IfSome m.build_dependencies (AllValues LeavesDefaults)
+  pub target : IfSome m.target (AllValues PlatformLeavesDefaults)
+  pub patch : IfSome m.patch (AllValues (AllValues LeavesDefaults))
 
 -- PROMISED: of such a manifest both schemas write the same; what the former wrote of a well-formed one is read as it
 abbrev pub OldWrittenIsRead : Kind Data → Kind Data → Type 0

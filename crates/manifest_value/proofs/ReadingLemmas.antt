@@ -11,7 +11,7 @@ use Rattle.toml.specs.View.{members_view}
 use Rattle.manifest_schema.specs.Paths.{Text}
 use Rattle.manifest_schema.specs.Slots.{is_among, without}
 use Rattle.manifest_schema.specs.Kinds.{Kind, Entries, has_entry, reads_items, reads_entries}
-use Rattle.manifest_value.specs.Entries.{entries_content, reads_first, reads_first_items}
+use Rattle.manifest_value.specs.Entries.{entries_content, reads_first}
 use Rattle.manifest_value.specs.Walks.{IsBelow, Ascend}
 
 -- one more entry is read
@@ -26,6 +26,12 @@ pub next_within : {A : Type 0} (K : Kind A) (ms : Members) (es : Entries A) (k :
 next_within K ms [] k d rest h = rw h (inl (refl, refl))
 next_within K no_members (e ∷ es) k d rest h = absurd h
 next_within K (member l c ms) (e ∷ es) k d rest h = inr (next_within K ms es k d rest h.2)
+
+-- the contents are read of the first items, and the rest is left
+abbrev pub reads_first_items : {A : Type 0} → Kind A → Items → List A → Items → Type 0
+reads_first_items K ds [] rest = ds ≡ rest
+reads_first_items K no_items (x ∷ xs) rest = ⊥
+reads_first_items K (item d ds) (x ∷ xs) rest = K.reads d x × reads_first_items K ds xs rest
 
 -- one more item is read
 pub items_more : {A X : Type 0} (K : Kind A) (f : X → A) (ds : Items) (xs : List X) (x : X) (d : Data) (rest : Items)

@@ -1,7 +1,7 @@
 -- The entries of a map by what they hold, and what is read of the first entries of a table and first items of a list.
 use Rattle.std.specs.Prelude.{◌≡◌, List, [], ◌∷◌, map, String, string_bytes}
 use Rattle.std.specs.declared.alloc.Global.{Global}
-use Rattle.toml.specs.Data.{Items, no_items, item, Members, no_members, member}
+use Rattle.toml.specs.Data.{Members, no_members, member}
 use Rattle.manifest_schema.specs.Kinds.{Kind, Entries}
 
 abbrev pub entries_content : {X A : Type 0} → (X → A) → List (String Global × X) → Entries A
@@ -12,9 +12,3 @@ abbrev pub reads_first : {A : Type 0} → Kind A → Members → Entries A → M
 reads_first K ms [] rest = ms ≡ rest
 reads_first K no_members (e ∷ es) rest = ⊥
 reads_first K (member k d ms) (e ∷ es) rest = (k ≡ e.0) × K.reads d e.1 × reads_first K ms es rest
-
--- the contents are read of the first items, and the rest is left
-abbrev pub reads_first_items : {A : Type 0} → Kind A → Items → List A → Items → Type 0
-reads_first_items K ds [] rest = ds ≡ rest
-reads_first_items K no_items (x ∷ xs) rest = ⊥
-reads_first_items K (item d ds) (x ∷ xs) rest = K.reads d x × reads_first_items K ds xs rest

@@ -8,7 +8,7 @@ use Rattle.manifest_schema.specs.Paths.{Text}
 use Rattle.manifest_value.proofs.CallLemmas.{all_zip-push}
 use Rattle.manifest_completion.specs.Listings.{joined, is_memory_fault}
 use Rattle.manifest_completion.specs.Answered.{answer_of}
-use Rattle.manifest_completion.specs.Asking.{Heard}
+use Rattle.manifest_completion.specs.Asking.{IsAllowedAnswer}
 use Rattle.manifest_completion.proofs.AskLemmas.{Answered, entries_all, entries_stop}
 use Rattle.manifest_completion.proofs.ask.ask_entries.Goals as goal
 
@@ -28,7 +28,7 @@ loop-name-preserved g c =
     let allows = g.FS.AbstractFilesystem.allows c.args.fs.now in let d = c.args.folder.now in
     let n = string_bytes c.in-Some.name.now in let a = answer_of c.ask-answer.result in
     let e : c.as_str-in-loop-name.result.now ≡ joined d n = cc (c.as_str-in-loop-name.ensures.value, c.in_ok-path.ensures, c.as_str.ensures.value) in
-    let ok : Heard allows (joined d n) a = subst (λ p. Heard allows p a) e c.ask-answer.ensures in
+    let ok : IsAllowedAnswer allows (joined d n) a = subst (λ p. IsAllowedAnswer allows p a) e c.ask-answer.ensures in
     let found : is_memory_fault a ≡ false = cc (c.is_memory_fault-is_last.ensures, c.if-is_last.false) in
     rw (map_push text_of c.loop-name.yielded c.in-Some.name, c.in_ok-push.ensures.items, map_push answer_of c.loop-name.entries.items c.ask-answer.result)
     (all_zip-push (Answered allows d) (map text_of c.loop-name.yielded) (map answer_of c.loop-name.entries.items) n a c.loop-name.invariant (ok, found))
@@ -38,7 +38,7 @@ returns-then-is_last g c =
     let allows = g.FS.AbstractFilesystem.allows c.args.fs.now in let d = c.args.folder.now in
     let n = string_bytes c.in-Some.name.now in let a = answer_of c.ask-answer.result in
     let e : c.as_str-in-loop-name.result.now ≡ joined d n = cc (c.as_str-in-loop-name.ensures.value, c.in_ok-path.ensures, c.as_str.ensures.value) in
-    let ok : Heard allows (joined d n) a = subst (λ p. Heard allows p a) e c.ask-answer.ensures in
+    let ok : IsAllowedAnswer allows (joined d n) a = subst (λ p. IsAllowedAnswer allows p a) e c.ask-answer.ensures in
     let lost : is_memory_fault a ≡ true = cc (c.is_memory_fault-is_last.ensures, c.if-is_last.true) in
     let all = rest_so_far deref c.loop-name.yielded c.into_iter-name-iterator.result c.loop-name.name-iterator c.loop-name.yielded_by in
     let step = rest_more deref c.loop-name.name-iterator c.next.new.self c.next.result c.in-Some.name c.in-Some.is c.next.ensures.steps in

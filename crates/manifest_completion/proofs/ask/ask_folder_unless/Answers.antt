@@ -1,10 +1,10 @@
 use Rattle.std.proofs.Common.{◌≡◌, false}
 use Rattle.std.proofs.lemmas.Result.{IfOk-weaker}
-use Rattle.manifest_completion.proofs.HeardLemmas.{folder_weaker, none_heard}
+use Rattle.manifest_completion.proofs.AnswerLemmas.{folder_weaker, none_answered}
 use Rattle.manifest_completion.proofs.ask.ask_folder_unless.Goals as goal
 
 pub returns-then-stopped : goal.returns-then-stopped
-returns-then-stopped g c = none_heard c.args.stopped (g.FS.AbstractFilesystem.allows c.args.fs.now) c.args.folder.now c.of_unasked_folder.result c.if-stopped.true c.of_unasked_folder.ensures.own c.of_unasked_folder.ensures.entries
+returns-then-stopped g c = none_answered c.args.stopped (g.FS.AbstractFilesystem.allows c.args.fs.now) c.args.folder.now c.of_unasked_folder.result c.if-stopped.true c.of_unasked_folder.ensures.own c.of_unasked_folder.ensures.entries
 
 pub returns : goal.returns
 returns g c =

@@ -3,7 +3,7 @@ use Rattle.std.specs.Slice.Iter.{iter_rest}
 use Rattle.std.proofs.lemmas.List.{nil_from_length}
 use Rattle.manifest_completion.specs.Answered.{answer_of}
 use Rattle.manifest_completion.specs.Finds.{Find}
-use Rattle.manifest_completion.specs.Outcome.{finds_content, paired_finds}
+use Rattle.manifest_completion.specs.Steps.{finds_content, paired_finds}
 use Rattle.manifest_completion.proofs.FindLemmas.{paired_none}
 use Rattle.manifest_completion.proofs.finds.folder_finds.Goals as goal
 

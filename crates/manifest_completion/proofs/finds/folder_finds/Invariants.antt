@@ -1,7 +1,7 @@
 use Rattle.std.proofs.Common.{◌≡◌, ◌++◌, map, string_bytes}
 use Rattle.std.specs.Slice.Iter.{iter_rest}
 use Rattle.manifest_completion.specs.Answered.{answer_of}
-use Rattle.manifest_completion.specs.Outcome.{finds_content, paired_finds, folder_paired}
+use Rattle.manifest_completion.specs.Steps.{finds_content, paired_finds, folder_paired}
 use Rattle.manifest_completion.proofs.finds.folder_finds.Given as goal
 
 abbrev pub invariant-loop-name : goal.invariant-loop-name

@@ -1,6 +1,6 @@
 use Rattle.std.proofs.Common.{arith}
 use Rattle.std.proofs.lemmas.Grind.{common_steps}
-use Rattle.manifest_completion.specs.Outcome.{finds_content}
+use Rattle.manifest_completion.specs.Steps.{finds_content}
 use Rattle.manifest_completion.proofs.IndexLemmas.{added_same}
 use Rattle.manifest_completion.proofs.targets.completed_list.Goals as goal
 use Rattle.manifest_completion.proofs.targets.completed_list.Goals.{then-discovers+in_ok-taken+in_ok-push_found, else-discovers}

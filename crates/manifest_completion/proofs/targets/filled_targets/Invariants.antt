@@ -1,7 +1,7 @@
 use Rattle.std.proofs.Common.{◌≡◌, ◌++◌, map, drop}
 use Rattle.manifest_parts.specs.Records.{product_content}
 use Rattle.manifest_completion.specs.Targets.{pathed, with_defaults}
-use Rattle.manifest_completion.specs.Outcome.{defaults_content}
+use Rattle.manifest_completion.specs.Steps.{defaults_content}
 use Rattle.manifest_completion.proofs.targets.filled_targets.Given as goal
 
 abbrev pub invariant-loop-target : goal.invariant-loop-target

@@ -1,7 +1,7 @@
 use Rattle.std.proofs.Common.{◌+◌, drop, arith}
 use Rattle.std.proofs.lemmas.Grind.{common_steps}
 use Rattle.manifest_completion.specs.Index.{paths_in}
-use Rattle.manifest_completion.specs.Outcome.{find_content, finds_content}
+use Rattle.manifest_completion.specs.Steps.{find_content, finds_content}
 use Rattle.manifest_completion.proofs.IndexLemmas.{added_more}
 use Rattle.manifest_completion.proofs.targets.push_found.Goals as goal
 

@@ -2,7 +2,7 @@ use Rattle.std.proofs.Common.{◌≡◌, ◌++◌, map, drop}
 use Rattle.manifest_parts.specs.Records.{product_content}
 use Rattle.manifest_completion.specs.Targets.{added, with_defaults}
 use Rattle.manifest_completion.specs.Index.{paths_in}
-use Rattle.manifest_completion.specs.Outcome.{finds_content, defaults_content}
+use Rattle.manifest_completion.specs.Steps.{finds_content, defaults_content}
 use Rattle.manifest_completion.proofs.targets.push_found.Given as goal
 
 abbrev pub invariant-loop-find : goal.invariant-loop-find

@@ -3,7 +3,8 @@ use Rattle.std.specs.Borrow.{Bor}
 use Rattle.std.specs.Slice.Iter.{iter_rest}
 use Rattle.manifest_schema.specs.Paths.{Text}
 use Rattle.manifest_completion.specs.Answered.{set_names}
-use Rattle.manifest_ffi.specs.Given.{texts, AreNames, IsLeast}
+use Rattle.manifest_ffi.specs.Given.{texts, AreNames}
+use Rattle.manifest_ffi.proofs.GivenLemmas.{IsLeast}
 use Rattle.manifest_ffi.proofs.folders.names_of.Given as goal
 
 -- the names that it has gone over are names, and the set has them

@@ -2,9 +2,9 @@ use Rattle.std.proofs.Common.{rules, ◌≡◌, Some, arith, add-one, subst}
 use Rattle.cargo_manifest.specs.Tables.{workspace_package_content, package_of}
 use Rattle.manifest_inherit.specs.Fields.{lendable}
 use Rattle.manifest_inherit.specs.Refused.{refuses_fields}
-use Rattle.manifest_inherit.specs.ForProofs.{how_many, refuses_at, first_lent}
+use Rattle.manifest_inherit.specs.ForProofs.{how_many, refuses_at}
 use Rattle.manifest_inherit.proofs.EntryLemmas.{refused_weaker}
-use Rattle.manifest_inherit.proofs.FieldLaws.{one_lent, none_refused, field_refused}
+use Rattle.manifest_inherit.proofs.FieldLaws.{first_lent, one_lent, none_refused, field_refused}
 use Rattle.manifest_inherit.proofs.fields.check_fields.Goals as goal
 
 pub check_at-requires : goal.check_at-requires

@@ -1,7 +1,7 @@
 use Rattle.std.specs.Prelude.{Some}
 use Rattle.cargo_manifest.specs.Tables.{workspace_package_content, package_of}
 use Rattle.manifest_inherit.specs.Fields.{lendable}
-use Rattle.manifest_inherit.specs.ForProofs.{first_lent}
+use Rattle.manifest_inherit.proofs.FieldLaws.{first_lent}
 use Rattle.manifest_inherit.proofs.fields.check_fields.Given as goal
 
 -- the workspace has the fields so far that are inherited

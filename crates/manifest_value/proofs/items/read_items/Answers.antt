@@ -3,10 +3,9 @@ use Rattle.toml.specs.Data.{Data, Items}
 use Rattle.toml.specs.View.{items_view}
 use Rattle.manifest_schema.specs.Kinds.{faulty_item}
 use Rattle.manifest_schema.specs.Paths.{behind, index}
-use Rattle.manifest_value.specs.Entries.{reads_first_items}
 use Rattle.manifest_value.specs.Sources.{source_view, items_left}
 use Rattle.manifest_value.proofs.Behind.{fault_weaker}
-use Rattle.manifest_value.proofs.ReadingLemmas.{items_more, next_item, no_item_left}
+use Rattle.manifest_value.proofs.ReadingLemmas.{reads_first_items, items_more, next_item, no_item_left}
 use Rattle.manifest_value.proofs.items.read_items.Goals as goal
 
 pub loop-source-preserved : goal.loop-source-preserved

@@ -1,7 +1,7 @@
 use Rattle.std.proofs.Common.{map}
 use Rattle.toml.specs.View.{items_view}
-use Rattle.manifest_value.specs.Entries.{reads_first_items}
 use Rattle.manifest_value.specs.Sources.{items_left}
+use Rattle.manifest_value.proofs.ReadingLemmas.{reads_first_items}
 use Rattle.manifest_value.proofs.items.read_items.Given as goal
 
 -- the items so far are read, and the rest is left

@@ -1,7 +1,7 @@
 use Rattle.std.proofs.Common.{◌≡◌, ◌++◌, List}
 use Rattle.std.specs.Slice.Iter.{iter_rest}
 use Rattle.manifest_completion.specs.declared.finds.FoundTarget.{FoundTarget}
-use Rattle.manifest_completion.specs.Outcome.{finds_content}
+use Rattle.manifest_completion.specs.Steps.{finds_content}
 use Rattle.manifest_completion.specs.Index.{Indexes}
 use Rattle.manifest_completion.proofs.index.IndexedFinds.new.Given as goal
 
