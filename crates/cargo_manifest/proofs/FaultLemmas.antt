@@ -11,8 +11,8 @@ use Rattle.manifest_value.specs.declared.fault.ReadFault.{ReadFault}
 use Rattle.manifest_value.specs.declared.fault.ReadFault.TheVariants as read
 use Rattle.manifest_value.specs.Refusals.{IsRefusal}
 use Rattle.manifest_value.specs.declared.error.Error.{Error}
-use Rattle.manifest_value.specs.declared.error.Error.TheVariants.{Parse, Io, Utf8, Other, Memory}
-use Rattle.manifest_value.specs.declared.error.ParseFault.TheVariants.{Toml, Schema}
+use Rattle.manifest_value.specs.declared.error.Error.TheVariants.{Parse, Memory}
+use Rattle.manifest_value.specs.declared.error.ParseFault.TheVariants.{Schema}
 use Rattle.cargo_manifest.specs.Answers.{RefusesTable, RefusesText}
 
 pub refuses_table : {K W : Kind Data} (k : IsLawful K) (w : IsLawful W) (ms : Members) (f : ReadFault) (e : Error)
@@ -24,8 +24,5 @@ refuses_table k w ms (read.Memory r) e h is = rw is tt
 pub refuses_text : (K W : Kind Data) (text : List ℕ) (ms : Members) (e : Error)
     → parse_document text ≡ Some ms → RefusesTable K W ms e → RefusesText K W text e
 refuses_text K W text ms (Parse (Schema f)) parsed h = record { document = ms; parsed = parsed; refused = h }
-refuses_text K W text ms (Parse (Toml e)) parsed h = absurd h
 refuses_text K W text ms (Memory e) parsed h = tt
-refuses_text K W text ms (Io e) parsed h = absurd h
-refuses_text K W text ms (Utf8 e) parsed h = absurd h
-refuses_text K W text ms (Other e) parsed h = absurd h
+refuses_text K W text ms _ parsed h = absurd h

@@ -34,7 +34,7 @@ RefusesTable K W document (Memory e) = Unit {0}
 RefusesTable K W document _ = ⊥
 
 -- the bytes are a document of a table that is refused so
-pub record RefusesDocument (K W : Kind Data) (bytes : List ℕ) (e : Error) : Type 0 where
+pub record RefusesTableOf (K W : Kind Data) (bytes : List ℕ) (e : Error) : Type 0 where
   pub document : Members
   pub parsed : parse_document bytes ≡ Some document
   pub refused : RefusesTable K W document e
@@ -42,7 +42,7 @@ pub record RefusesDocument (K W : Kind Data) (bytes : List ℕ) (e : Error) : Ty
 -- the refusal of a text: by `toml` with a place within the text, and, memory aside, only where it is no document; by the schema as its table is; else out of memory
 abbrev pub RefusesText : Kind Data → Kind Data → List ℕ → Error → Type 0
 RefusesText K W text (Parse (Toml e)) = IsWithin text e.value × (¬ IsMemory e.value → parse_document text ≡ None)
-RefusesText K W text (Parse (Schema f)) = RefusesDocument K W text (Parse (Schema f))
+RefusesText K W text (Parse (Schema f)) = RefusesTableOf K W text (Parse (Schema f))
 RefusesText K W text (Memory e) = Unit {0}
 RefusesText K W text _ = ⊥
 

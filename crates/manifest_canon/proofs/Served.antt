@@ -5,7 +5,7 @@ use Rattle.std.specs.declared.alloc.Global.{Global}
 use Rattle.manifest_schema.specs.Paths.{Text}
 use Rattle.manifest_canon.specs.declared.words.Request.{Request}
 use Rattle.manifest_canon.specs.declared.words.Request.TheVariants.{CanonInput, CanonFile, CompleteFile, CompleteMember}
-use Rattle.manifest_canon.specs.Run.{IsCanonInput, Asked, canon_file, complete_file, complete_member, Asks, AreWrong, Gives, PrintsOne, BeginsOne}
+use Rattle.manifest_canon.specs.Run.{IsCanonInput, Asked, canon_file, complete_file, complete_member, Asks, AreWrong, MayPrint, PrintsOne, BeginsOne}
 use Rattle.manifest_canon.specs.Words.{AskFor, IsRequestOf, AskForMember, IsFourOf, Serves, Fails}
 
 -- what words there can be
@@ -94,10 +94,10 @@ four_taken v f o r (Some (CompleteFile g)) p = absurd p
 four_taken v f o r (Some (CompleteMember g s)) m = (string_bytes f, string_bytes r, member_asked _ _ _ _ m, m.file_is, m.root_is)
 four_taken v f o r None not = ((λ i. i), λ a q. not (four_ask v f o r a q))
 
-pub served_file : (b : Option Asked) (a : Asked) (ws : List (String Global)) (known old new : Option (List ℕ)) → AskFor b ws → Asks a ws → Serves b known old new → PrintsOne (Gives a) old new
+pub served_file : (b : Option Asked) (a : Asked) (ws : List (String Global)) (known old new : Option (List ℕ)) → AskFor b ws → Asks a ws → Serves b known old new → PrintsOne (MayPrint a) old new
 served_file b a ws known old new q asks s = subst (λ x. Serves x known old new) (one_asked b (Some a) ws q asks) s
 
-pub failed_file : (b : Option Asked) (a : Asked) (ws : List (String Global)) (known old new : Option (List ℕ)) → AskFor b ws → Asks a ws → Fails b known old new → BeginsOne (Gives a) old new
+pub failed_file : (b : Option Asked) (a : Asked) (ws : List (String Global)) (known old new : Option (List ℕ)) → AskFor b ws → Asks a ws → Fails b known old new → BeginsOne (MayPrint a) old new
 failed_file b a ws known old new q asks s = subst (λ x. Fails x known old new) (one_asked b (Some a) ws q asks) s
 
 -- words that ask for something are not wrong

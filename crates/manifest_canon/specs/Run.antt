@@ -59,10 +59,10 @@ IsFinishedBy None m n = IsFinished None m n
 IsFinishedBy (Some root) m n = (r : Manifest) × IsFileOf r × IsFinished (Some r) m n
 
 -- the manifests that may be printed where it is asked for
-abbrev pub Gives : Asked → Manifest → Type 0
-Gives canon_file m = IsFileOf m
-Gives complete_file m = (read : Manifest) × IsFileOf read × IsFinished None read m
-Gives complete_member m =
+abbrev pub MayPrint : Asked → Manifest → Type 0
+MayPrint canon_file m = IsFileOf m
+MayPrint complete_file m = (read : Manifest) × IsFileOf read × IsFinished None read m
+MayPrint complete_member m =
     (read : Manifest) × IsFileOf read × (root : Manifest) × IsFileOf root × IsFinished (Some root) read m
 
 -- OUTPUT: known bytes grow by a beginning of the text

@@ -4,7 +4,7 @@ use Rattle.std.specs.Borrow.{Bor}
 use Rattle.std.specs.declared.alloc.Global.{Global}
 use Rattle.manifest_canon.specs.declared.words.Request.{Request}
 use Rattle.manifest_canon.specs.declared.words.Request.TheVariants.{CanonInput, CanonFile, CompleteFile, CompleteMember}
-use Rattle.manifest_canon.specs.Run.{IsCanonInput, Asked, canon_file, complete_file, complete_member, IsFile, Asks, AreWrong, Gives, PrintsOne, BeginsOne, IsPrinted, IsBegun}
+use Rattle.manifest_canon.specs.Run.{IsCanonInput, Asked, canon_file, complete_file, complete_member, IsFile, Asks, AreWrong, MayPrint, PrintsOne, BeginsOne, IsPrinted, IsBegun}
 
 -- what is asked for with a file
 abbrev pub asked_by : Request → Option Asked
@@ -55,9 +55,9 @@ IsFourOf v f o r None = ¬ AskForMember v f o r
 -- what was asked for was printed
 abbrev pub Serves : Option Asked → Option (List ℕ) → Option (List ℕ) → Option (List ℕ) → Type 0
 Serves None known old new = IfSome known (λ bytes. IsPrinted bytes old new)
-Serves (Some a) known old new = PrintsOne (Gives a) old new
+Serves (Some a) known old new = PrintsOne (MayPrint a) old new
 
 -- nothing of it was printed, or a beginning
 abbrev pub Fails : Option Asked → Option (List ℕ) → Option (List ℕ) → Option (List ℕ) → Type 0
 Fails None known old new = IfSome known (λ bytes. IsBegun bytes old new)
-Fails (Some a) known old new = BeginsOne (Gives a) old new
+Fails (Some a) known old new = BeginsOne (MayPrint a) old new

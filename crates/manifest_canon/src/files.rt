@@ -4,7 +4,7 @@ ghost use Rattle.std.specs.Prelude.{IfOk, OnOk, OnErr};
 ghost use Rattle.toml.specs.View.{view};
 ghost use Rattle.cargo_manifest.specs.Whole.{manifest_content};
 ghost use Rattle.manifest_inherit.specs.Finished.{root_of};
-ghost use Rattle.manifest_canon.specs.Run.{canon_file, Gives, IsFileOf, IsFinished, IsFinishedBy, PrintsOne, BeginsOne};
+ghost use Rattle.manifest_canon.specs.Run.{canon_file, MayPrint, IsFileOf, IsFinished, IsFinishedBy, PrintsOne, BeginsOne};
 ghost use Rattle.manifest_canon.specs.Words.{completes_by};
 
 use crate::printing::print_manifest;
@@ -71,7 +71,7 @@ fn finished_manifest<H: Files + AllocGlobal + Clone + Drop>(
     file: &str,
     root: Option<&str>,
 ) -> Result<Manifest, FinishError>
-    ensures { IfOk result (λ m. Gives (completes_by root.entry) (manifest_content view view m)) }
+    ensures { IfOk result (λ m. MayPrint (completes_by root.entry) (manifest_content view view m)) }
 {
     let mut manifest = match read_manifest(rt, file) {
         Ok(manifest) => manifest,
@@ -93,9 +93,9 @@ pub fn canon_at<H: Files + AllocGlobal, W: Write>(
     output: &mut W,
 ) -> Result<(), FinishError>
     ensures ok { OnOk result
-        (PrintsOne (Gives canon_file) (W.contents output.old) (W.contents output.new)) }
+        (PrintsOne (MayPrint canon_file) (W.contents output.old) (W.contents output.new)) }
     ensures refused { OnErr result
-        (BeginsOne (Gives canon_file) (W.contents output.old) (W.contents output.new)) }
+        (BeginsOne (MayPrint canon_file) (W.contents output.old) (W.contents output.new)) }
 {
     let manifest = match read_manifest(rt, file) {
         Ok(manifest) => manifest,
@@ -113,9 +113,9 @@ pub fn complete_at<H: Files + AllocGlobal + Clone + Drop, W: Write>(
     root: Option<&str>,
     output: &mut W,
 ) -> Result<(), FinishError>
-    ensures ok { OnOk result (PrintsOne (Gives (completes_by root.entry))
+    ensures ok { OnOk result (PrintsOne (MayPrint (completes_by root.entry))
         (W.contents output.old) (W.contents output.new)) }
-    ensures refused { OnErr result (BeginsOne (Gives (completes_by root.entry))
+    ensures refused { OnErr result (BeginsOne (MayPrint (completes_by root.entry))
         (W.contents output.old) (W.contents output.new)) }
 {
     let manifest = match finished_manifest(rt, file, root) {

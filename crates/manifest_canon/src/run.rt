@@ -3,7 +3,7 @@
 ghost use Rattle.std.specs.Prelude.{◌≡◌, ◌⊎◌, IfOk, IfErr, OnOk, OnErr, IfSome};
 ghost use Rattle.std.specs.Io.KnownBytes.{Keeps};
 ghost use Rattle.cargo_manifest.specs.Canonical.{IsAccepted};
-ghost use Rattle.manifest_canon.specs.Run.{IsCanonInput, Asked, Asks, AreWrong, Gives, PrintsOne, BeginsOne, IsPrinted, IsBegun, IsRefused};
+ghost use Rattle.manifest_canon.specs.Run.{IsCanonInput, Asked, Asks, AreWrong, MayPrint, PrintsOne, BeginsOne, IsPrinted, IsBegun, IsRefused};
 ghost use Rattle.manifest_canon.specs.Words.{asked_by, Serves, Fails};
 
 use crate::files::{canon_at, complete_at};
@@ -122,9 +122,9 @@ pub fn run<H: Files + AllocGlobal + Clone + Drop, R: Read, W: Write, E: Write>(
         → (result ≡ 1) × Keeps (W.contents output.old) (W.contents output.new)) }
     ensures file_status { (a : Asked) → Asks a words.now → (result ≡ 0) ⊎ (result ≡ 1) }
     ensures file_printed { (a : Asked) → Asks a words.now → result ≡ 0
-        → PrintsOne (Gives a) (W.contents output.old) (W.contents output.new) }
+        → PrintsOne (MayPrint a) (W.contents output.old) (W.contents output.new) }
     ensures file_refused { (a : Asked) → Asks a words.now → result ≡ 1
-        → BeginsOne (Gives a) (W.contents output.old) (W.contents output.new) }
+        → BeginsOne (MayPrint a) (W.contents output.old) (W.contents output.new) }
     ensures wrong_words { AreWrong words.now
         → (result ≡ 2) × Keeps (W.contents output.old) (W.contents output.new) }
 {

@@ -9,6 +9,7 @@ use Rattle.manifest_schema.specs.Kinds.{Kind}
 use Rattle.manifest_schema.specs.Needs.{good_some}
 use Rattle.manifest_schema.specs.Forms.{form}
 use Rattle.manifest_schema.specs.Lawful.{IsLawful}
+use Rattle.manifest_schema.specs.Slots.{underscored}
 use Rattle.manifest_schema.specs.Contents.{StringOrBool, a_text, a_flag, Product, Package, Manifest}
 use Rattle.manifest_schema.specs.ManifestForms.{package_rows}
 use Rattle.manifest_schema.specs.Meaning.{well_formed}
@@ -17,7 +18,7 @@ use Rattle.manifest_schema.proofs.ManifestLaws.{manifest_lawful}
 use Rattle.manifest_completion.specs.Listings.{Answer, names, fault, lists, is_memory_fault, examples, tests, benches, Place, source, ListingMap, at}
 use Rattle.manifest_completion.specs.Finds.{finds, bin_finds}
 use Rattle.manifest_completion.specs.Targets.{found}
-use Rattle.manifest_completion.specs.Completed.{PackageTargets, is_legacy, own_edition, underscored, library_type, library_path, Library, no_file, known, declared_library, inferred_library, library_of, library, asks_root, build_of, bin_defaults, example_defaults, test_defaults, filled, Completion, completed_to, refused, no_library, target_places, has_memory_fault, source_fault, root_fault, completed_targets, targets_of, with_targets, completion_with, completed_by, completed, up_to_memory_fault, root_places, asked_targets, asked_by, asked}
+use Rattle.manifest_completion.specs.Completed.{PackageTargets, is_legacy, own_edition, library_type, library_path, Library, no_file, known, declared_library, inferred_library, library_of, library, asks_root, build_of, bin_defaults, example_defaults, test_defaults, filled, Completion, completed_to, refused, no_library, target_places, has_memory_fault, source_fault, root_fault, completed_targets, targets_of, with_targets, completion_with, completed_by, completed, up_to_memory_fault, root_places, asked_targets, asked_by, asked}
 use Rattle.manifest_completion.specs.Laws.{IsAmong, IsFixed, CompletedIsFixed}
 use Rattle.manifest_completion.proofs.TargetLaws.{or_idem, targets_fixed}
 

@@ -19,7 +19,7 @@ use Rattle.manifest_completion.specs.Targets.{first_path, has_path, found, added
 use Rattle.manifest_completion.specs.Index.{Indexes, paths_in, SamePaths}
 use Rattle.manifest_completion.proofs.FindLemmas.{has_text}
 
-bytes_eq-sym : (a b : Text) → bytes_eq a b ≡ bytes_eq b a
+pub bytes_eq-sym : (a b : Text) → bytes_eq a b ≡ bytes_eq b a
 bytes_eq-sym a b = same_from_decides (bytes_eq a b) (bytes_eq b a) (bytes_eq-Decides a b) (Decides-like (bytes_eq b a) sym sym (bytes_eq-Decides b a))
 
 -- FINDS

@@ -4,9 +4,9 @@ use Rattle.std.specs.Str.{NoCharPasses}
 use Rattle.std.specs.Str.Pattern.{FindsChar}
 use Rattle.std.specs.Str.Replace.{ReplacesMatches}
 use Rattle.std.proofs.lemmas.Str.Pattern.{NoCharPasses-char, drop_at_char}
-use Rattle.std.proofs.lemmas.List.{map-append, take-append-drop}
+use Rattle.std.proofs.lemmas.List.{take-append-drop}
 use Rattle.std.proofs.lemmas.Bool.Decides.{nat_tests}
-use Rattle.manifest_completion.specs.Completed.{underscored}
+use Rattle.manifest_schema.specs.Slots.{underscored}
 
 -- no `-`, no change
 same : (xs : List ℕ) → ((i : ℕ) → i < length xs → get_or xs i 0 ≢ 45) → underscored xs ≡ xs
@@ -21,6 +21,10 @@ same (x ∷ xs) h =
 unchanged : (s : List ℕ) → NoCharPasses (λ d. nat_eq d 45) s → underscored s ≡ s
 unchanged s h = same s (λ i l. NoCharPasses-char 45 s i h (omega arith) l)
 
+underscored_append : (xs ys : List ℕ) → underscored (xs ++ ys) ≡ underscored xs ++ underscored ys
+underscored_append [] ys = refl
+underscored_append (x ∷ xs) ys = ap (λ (zs : List ℕ). (if nat_eq x 45 then 95 else x) ∷ zs) (underscored_append xs ys)
+
 -- what `replace('-', "_")` gives
 pub underscored_is : (n : ℕ) (s out : List ℕ) → ReplacesMatches FindsChar (λ p q. q ≡ p) (95 ∷ []) n 45 s out → out ≡ underscored s
 underscored_is zero s out h = h.1 ∙ sym (unchanged s h.0)
@@ -30,5 +34,5 @@ underscored_is (suc n) s out (a, b, q, rest, found, kept, goes, made) =
     let front : underscored (take a s) ≡ take a s = unchanged (take a s) found.0 in
     let apart : b ≡ a + 1 = found.1.ends in
     let back : rest ≡ underscored (drop b s) = ⊎_elim (λ g. underscored_is n (drop b s) rest (rw kept at g.1)) (λ g. absurd (omega (arith, g.0, apart))) goes in
-    let spread : underscored s ≡ take a s ++ 95 ∷ underscored (drop b s) = ap underscored whole ∙ map-append (λ x. if nat_eq x 45 then 95 else x) (take a s) (45 ∷ drop b s) ∙ ap (λ (xs : List ℕ). xs ++ 95 ∷ underscored (drop b s)) front in
+    let spread : underscored s ≡ take a s ++ 95 ∷ underscored (drop b s) = ap underscored whole ∙ underscored_append (take a s) (45 ∷ drop b s) ∙ ap (λ (xs : List ℕ). xs ++ 95 ∷ underscored (drop b s)) front in
     made ∙ ap (λ (xs : List ℕ). take a s ++ 95 ∷ xs) back ∙ sym spread

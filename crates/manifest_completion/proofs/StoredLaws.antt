@@ -15,7 +15,7 @@ use Rattle.manifest_completion.specs.Listings.{Answer, names, fault, names_of, i
 use Rattle.manifest_completion.specs.Completed.{PackageTargets, folder_places, target_places, root_places, up_to_memory_fault, has_memory_fault, asks_root, root_fault, after_root, Library, no_file, known, library, source_fault, Completion, completed_to, refused, no_library, completed_targets, asked_targets, completed, asked, completed_by, asked_by, completion_with, targets_of, AllAllowed}
 use Rattle.manifest_completion.specs.Stored.{AnswersAsStored, stored_folder, stored_map}
 use Rattle.manifest_completion.specs.Outcome.{completed_content}
-use Rattle.manifest_completion.specs.Laws.{AgreeAt, StoredDecides}
+use Rattle.manifest_completion.specs.Laws.{AgreeAt, StoredDecidesTargets}
 use Rattle.manifest_completion.proofs.AskedLaws.{together}
 use Rattle.manifest_completion.proofs.DecidesLaws.{goes_on, with_library, targets_decide}
 
@@ -166,7 +166,7 @@ module _ (stored : Text → Answer) where
 pub by_stored : {A : Type 0} (c d e : Completion A) → (c ≡ d) ⊎ (c ≡ refused OutOfMemory) → c ≡ e → (d ≡ e) ⊎ (e ≡ refused OutOfMemory)
 by_stored c d e h f = ⊎_elim (λ same. inl (sym same ∙ f)) (λ lost. inr (sym f ∙ lost)) h
 
-pub stored_decides : StoredDecides
+pub stored_decides : StoredDecidesTargets
 stored_decides stored t (Ok c) h =
     ⊎_elim (λ same. same) (λ lost. cc)
     (by_stored (completed_targets t h.0) (completed_targets t (stored_map stored)) (completed_to (completed_content t c)) (targets_settled stored h.0 t h.1.allowed) h.2)

@@ -1,10 +1,11 @@
 -- What completion makes of a manifest, as a function of the listings; and which places are asked for it.
-use Rattle.std.specs.Prelude.{◌≡◌, List, [], ◌∷◌, ◌++◌, map, codes, if◌then◌else◌, Option, Some, None, Bool, true, false, is_some, unwrap_or, ◌&&◌, ◌||◌, not, nat_eq}
+use Rattle.std.specs.Prelude.{◌≡◌, List, [], ◌∷◌, ◌++◌, map, codes, if◌then◌else◌, Option, Some, None, Bool, true, false, is_some, unwrap_or, ◌&&◌, ◌||◌, not}
 use Rattle.std.specs.Option.{option_or}
 use Rattle.std.specs.List.{list_any, AllByRecursion}
 use Rattle.std.specs.declared.io.ErrorKind.{ErrorKind}
 use Rattle.std.specs.declared.io.ErrorKind.TheVariants.{NotFound, OutOfMemory}
 use Rattle.manifest_schema.specs.Paths.{Text}
+use Rattle.manifest_schema.specs.Slots.{underscored}
 use Rattle.manifest_schema.specs.Kinds.{Inheritable, inherited, local}
 use Rattle.manifest_schema.specs.Contents.{Edition, e2015, StringOrBool, a_text, a_flag, Product, Package, Manifest}
 use Rattle.manifest_schema.specs.Needs.{is_empty}
@@ -49,10 +50,6 @@ abbrev pub discovers : {A : Type 0} → Option Bool → Bool → List A → Bool
 discovers own legacy ps = unwrap_or own (not (legacy && not (is_empty ps)))
 
 -- LIBRARY
--- the name of the package, with `_` in place of each `-`
-abbrev pub underscored : Text → Text
-underscored bs = map (λ b. if nat_eq b 45 then 95 else b) bs
-
 abbrev pub library_type : List Text
 library_type = codes "lib" ∷ []
 

@@ -33,8 +33,8 @@ AskedDecides =
     (asked m l ≡ asked m k) × (completed m l ≡ completed m k)
 
 -- where one answer is stored for each path text, what is stored decides what completing answers
-abbrev pub StoredDecides : Type 0
-StoredDecides =
+abbrev pub StoredDecidesTargets : Type 0
+StoredDecidesTargets =
     (stored : Text → Answer) (t : PackageTargets) (r : Result CompletedTargets Error) →
     TargetsCompleted (AnswersAsStored stored) t r → CompletedAsStored stored t r
 

@@ -2,7 +2,7 @@
 //! workspace. Each function returns at once: it is there for its contract, a law of the definitions.
 
 ghost use Rattle.manifest_schema.specs.Kinds.{tree_of};
-ghost use Rattle.manifest_completion.specs.Laws.{AskedDiffer, AscendingDiffer, AskedDecides, StoredDecides, CompletedIsFixed};
+ghost use Rattle.manifest_completion.specs.Laws.{AskedDiffer, AscendingDiffer, AskedDecides, StoredDecidesTargets, CompletedIsFixed};
 ghost use Rattle.manifest_completion.specs.Unchanged.{DeclaredStays, OthersChangeNothing};
 
 use manifest_schema::kinds::LawfulKind;
@@ -31,7 +31,7 @@ pub fn asked_decides()
 /// or other lack of memory, aside.
 #[tactic(auto, using(crate::proofs::StoredLaws::stored_decides))]
 pub fn stored_decides()
-    ensures { StoredDecides }
+    ensures { StoredDecidesTargets }
 {}
 
 /// Completing a well-formed manifest, writing it, reading it and completing it again over the same listings changes nothing

@@ -3,7 +3,8 @@
 ghost use Rattle.std.specs.Prelude.{◌≡◌, ◌++◌, codes, IfOk, IfErr, MatchResult, string_bytes, option_map, Some};
 ghost use Rattle.manifest_parts.specs.Records.{product_content};
 ghost use Rattle.manifest_completion.specs.Answered.{answer_of};
-ghost use Rattle.manifest_completion.specs.Completed.{library, known, declared_library, inferred_library, library_path, library_file, library_type, underscored, is_legacy};
+ghost use Rattle.manifest_schema.specs.Slots.{underscored};
+ghost use Rattle.manifest_completion.specs.Completed.{library, known, declared_library, inferred_library, library_path, library_file, library_type, is_legacy};
 ghost use Rattle.manifest_completion.specs.Outcome.{declared_content, RefusesLibrary};
 
 use crate::ask::join;

@@ -28,7 +28,7 @@ use Rattle.manifest_ffi.specs.declared.refusal.Refusal.TheVariants.{Bytes, Root,
 use Rattle.manifest_ffi.specs.declared.telling.Told.{Told}
 use Rattle.manifest_ffi.specs.Told.{TellsError, TellsInput, TellsResolving, TellsFinishing, TellsPrinting, Tells}
 use Rattle.manifest_ffi.specs.Read.{Are}
-use Rattle.manifest_ffi.specs.Made.{Completes, Makes, RefusesToMake, RefusesOutput, Gives, OrOutput, IsMade}
+use Rattle.manifest_ffi.specs.Made.{CompletesStored, Makes, RefusesToMake, RefusesOutput, Gives, OrOutput, IsMade}
 use Rattle.manifest_ffi.specs.Answered.{Outcome}
 
 -- WHAT IS MADE of texts keeps valid date-times
@@ -39,7 +39,7 @@ inherits_keeps : (root : Option Manifest) (m n : Manifest) → KeepsValidDates m
 inherits_keeps None m n keeps same = subst KeepsValidDates (sym same) keeps
 inherits_keeps (Some r) m n keeps (w, has, resolves) = resolved_dates_are_valid m n w keeps resolves
 
-completes_keeps : (stored : Option (Text → Listed)) (m n : Manifest) → KeepsValidDates m → Completes stored m n → KeepsValidDates n
+completes_keeps : (stored : Option (Text → Listed)) (m n : Manifest) → KeepsValidDates m → CompletesStored stored m n → KeepsValidDates n
 completes_keeps None m n keeps same = subst KeepsValidDates (sym same) keeps
 completes_keeps (Some s) m n keeps becomes = completed_dates_are_valid m n (stored_map s) keeps becomes
 
@@ -97,10 +97,7 @@ printing_is_not_seven : (output : Output) (most : ℕ) (bytes : List ℕ) (root 
     → OrOutput output most (Makes Toml bytes root folders) (RefusesToMake Toml bytes root folders) (Printing e) → TellsPrinting e t → t.status ≡ 7 → ⊥
 printing_is_not_seven output most bytes root folders (error.Other s) t (inl r) h seven = not_made_by_printing bytes root folders (error.Other s) r
 printing_is_not_seven output most bytes root folders (error.Other s) t (inr (m, is, r)) h seven = date_is_valid output most m s (made_keeps bytes root folders m is) r
-printing_is_not_seven output most bytes root folders (error.Parse e) t r h seven = error_is_not_seven false (error.Parse e) t h seven
-printing_is_not_seven output most bytes root folders (error.Io e) t r h seven = error_is_not_seven false (error.Io e) t h seven
-printing_is_not_seven output most bytes root folders (error.Utf8 e) t r h seven = error_is_not_seven false (error.Utf8 e) t h seven
-printing_is_not_seven output most bytes root folders (error.Memory e) t r h seven = error_is_not_seven false (error.Memory e) t h seven
+printing_is_not_seven output most bytes root folders e t r h seven = error_is_not_seven false e t h seven
 
 refusal_is_not_seven : (output : Output) (most : ℕ) (bytes : List ℕ) (root : Option (List ℕ)) (folders : Option (List Folder)) (e : Refusal) (t : Told)
     → OrOutput output most (Makes Toml bytes root folders) (RefusesToMake Toml bytes root folders) e → Tells e t → t.status ≡ 7 → ⊥

@@ -11,10 +11,9 @@ use Rattle.std.specs.String.{string_cmp}
 use Rattle.std.specs.declared.cmp.Ordering.{Ordering}
 use Rattle.std.specs.declared.cmp.Ordering.TheVariants.{Less, Equal, Greater}
 use Rattle.std.proofs.lemmas.Map.Text.{btree_map_updates_str}
-use Rattle.std.proofs.lemmas.Bool.Decides.{same_from_decides, Decides-like}
-use Rattle.std.proofs.lemmas.Slice.Eq.{bytes_eq-Decides}
 use Rattle.manifest_schema.specs.Paths.{Text}
 use Rattle.manifest_completion.specs.Listings.{Answer}
+use Rattle.manifest_completion.proofs.IndexLemmas.{bytes_eq-sym}
 use Rattle.manifest_ffi.specs.declared.folders.Folder.{Folder}
 use Rattle.manifest_ffi.specs.declared.folders.Listed.{Listed}
 use Rattle.manifest_ffi.specs.declared.refusal.Refusal.{Refusal}
@@ -71,9 +70,6 @@ insert_first (x ∷ ks) k (n ∷ ns) same o =
 pub listings_behind : (front back : List Folder) → AreListings (front ++ back) → AreListings back
 listings_behind [] back h = h
 listings_behind (f ∷ front) back h = listings_behind front back h.2
-
-bytes_eq-sym : (a b : Text) → bytes_eq a b ≡ bytes_eq b a
-bytes_eq-sym a b = same_from_decides (bytes_eq a b) (bytes_eq b a) (bytes_eq-Decides a b) (Decides-like (bytes_eq b a) sym sym (bytes_eq-Decides b a))
 
 -- one folder more in the map, before those that are there
 pub one_listed : (m n : BTreeMap (Bor Text) Listed) (path : Bor Text) (l : Listed) (f : Folder) (fs : List Folder) → path.now ≡ f.path.now → listed_answer l ≡ folder_answer f →

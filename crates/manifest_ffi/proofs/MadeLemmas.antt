@@ -29,7 +29,7 @@ use Rattle.manifest_ffi.specs.declared.making.Output.{Output}
 use Rattle.manifest_ffi.specs.declared.making.Output.TheVariants.{CanonicalText, TaggedTable}
 use Rattle.manifest_ffi.specs.declared.refusal.Refusal.{Refusal}
 use Rattle.manifest_ffi.specs.Read.{Are}
-use Rattle.manifest_ffi.specs.Made.{Completes, IsRoot, Makes, Refusals, Writes, Holds, Gives, RefusesOutput, OrOutput, IsMade}
+use Rattle.manifest_ffi.specs.Made.{CompletesStored, IsRoot, Makes, Refusals, Writes, Holds, Gives, RefusesOutput, OrOutput, IsMade}
 
 abbrev IsFormed : Manifest → Type 0
 IsFormed m = well_formed kept_metadata kept_metadata m
@@ -61,7 +61,7 @@ inherits_formed (Some r) m n root formed (w, has, resolves) =
     let lends = subst (good_some (form (workspace_rows kept_metadata))) has ((by_manifest r).0 root).1 in
     stays_well_formed kept_metadata kept_metadata kept_metadata (package_by_metadata kept_metadata) (workspace_by_parts kept_metadata) by_manifest m n w formed lends resolves
 
-completes_formed : (stored : Option (Text → Listed)) (m n : Manifest) → IsFormed m → Completes stored m n → IsFormed n
+completes_formed : (stored : Option (Text → Listed)) (m n : Manifest) → IsFormed m → CompletesStored stored m n → IsFormed n
 completes_formed None m n formed same = subst IsFormed (sym same) formed
 completes_formed (Some s) m n formed becomes =
     let kept_tree = tree_lawful kept_lawful in

@@ -42,23 +42,23 @@ OfBytes refuses (Bytes e) = refuses e
 OfBytes refuses _ = ⊥
 
 -- ONE STEP: completed over what is stored for the paths, where anything is
-abbrev pub Completes : Option (Text → Answer) → Manifest → Manifest → Type 0
-Completes None m n = n ≡ m
-Completes (Some stored) m n = completed m (stored_map stored) ≡ completed_to n
+abbrev pub CompletesStored : Option (Text → Answer) → Manifest → Manifest → Type 0
+CompletesStored None m n = n ≡ m
+CompletesStored (Some stored) m n = completed m (stored_map stored) ≡ completed_to n
 
-abbrev pub RefusesToComplete : Option (Text → Answer) → Manifest → FinishError → Type 0
-RefusesToComplete (Some stored) m (Incomplete e) = IsRefusalOf (completed m (stored_map stored)) e
-RefusesToComplete _ m _ = ⊥
+abbrev pub RefusesToCompleteStored : Option (Text → Answer) → Manifest → FinishError → Type 0
+RefusesToCompleteStored (Some stored) m (Incomplete e) = IsRefusalOf (completed m (stored_map stored)) e
+RefusesToCompleteStored _ m _ = ⊥
 
 -- BOTH STEPS: with what is inherited from the root's workspace, where there is a root, and then completed
-abbrev pub Finishes : Option Manifest → Option (Text → Answer) → Manifest → Manifest → Type 0
-Finishes root stored m n = (o : Manifest) × Inherits root m o × Completes stored o n
+abbrev pub FinishesStored : Option Manifest → Option (Text → Answer) → Manifest → Manifest → Type 0
+FinishesStored root stored m n = (o : Manifest) × Inherits root m o × CompletesStored stored o n
 
-abbrev pub RefusesToFinish : Option Manifest → Option (Text → Answer) → Manifest → Refusals
-RefusesToFinish root stored m (Finishing e) =
+abbrev pub RefusesToFinishStored : Option Manifest → Option (Text → Answer) → Manifest → Refusals
+RefusesToFinishStored root stored m (Finishing e) =
     ((n : Manifest) × RefusesToInherit root m n e)
-    ⊎ ((n : Manifest) × Inherits root m n × RefusesToComplete stored n e)
-RefusesToFinish root stored m _ = ⊥
+    ⊎ ((n : Manifest) × Inherits root m n × RefusesToCompleteStored stored n e)
+RefusesToFinishStored root stored m _ = ⊥
 
 -- THE ROOT is what its bytes are, where there are any
 abbrev pub IsRoot : Input → Option (List ℕ) → Option Manifest → Type 0
@@ -71,12 +71,12 @@ RefusesRoot input (Some bytes) (Root e) = RefusesToRead input bytes e
 RefusesRoot input _ _ = ⊥
 
 abbrev pub FinishesByBytes : Input → Option (List ℕ) → Option (Text → Answer) → Manifest → Manifest → Type 0
-FinishesByBytes input root stored m n = (r : Option Manifest) × IsRoot input root r × Finishes r stored m n
+FinishesByBytes input root stored m n = (r : Option Manifest) × IsRoot input root r × FinishesStored r stored m n
 
 abbrev pub RefusesByBytes : Input → Option (List ℕ) → Option (Text → Answer) → Manifest → Refusals
 RefusesByBytes input root stored m e =
     RefusesRoot input root e
-    ⊎ ((r : Option Manifest) × IsRoot input root r × RefusesToFinish r stored m e)
+    ⊎ ((r : Option Manifest) × IsRoot input root r × RefusesToFinishStored r stored m e)
 
 -- THE MANIFESTS THAT ARE MADE of the bytes, over what is stored for the paths
 abbrev pub MakesOver : Input → List ℕ → Option (List ℕ) → Option (Text → Answer) → Manifest → Type 0

@@ -8,7 +8,7 @@ use Rattle.manifest_schema.specs.Paths.{Text}
 use Rattle.manifest_schema.specs.Kinds.{Kind}
 use Rattle.manifest_schema.specs.Contents.{Manifest}
 use Rattle.manifest_schema.specs.Meaning.{means, reads_manifest, faulty_manifest}
-use Rattle.manifest_value.specs.Refusals.{RefusedIn as RefusedAs, IsOutOfMemory}
+use Rattle.manifest_value.specs.Refusals.{RefusedIn, IsOutOfMemory}
 use Rattle.manifest_value.specs.declared.error.Error.{Error}
 use Rattle.manifest_value.specs.declared.error.Error.TheVariants.{Parse, Utf8, Memory}
 use Rattle.manifest_value.specs.declared.error.ParseFault.TheVariants.{Toml as NoToml, Schema}
@@ -47,9 +47,9 @@ RefusesToParse text (NoManifest (Memory e)) = Unit {0}
 RefusesToParse text _ = ⊥
 
 -- the bytes are no such document: they are not UTF-8, or as above
-abbrev pub RefusesDocument : Text → InputError → Type 0
-RefusesDocument bytes (NoManifest (Utf8 e)) = ¬ IsUtf8 bytes
-RefusesDocument bytes e = RefusesToParse bytes e
+abbrev pub IsNoDocument : Text → InputError → Type 0
+IsNoDocument bytes (NoManifest (Utf8 e)) = ¬ IsUtf8 bytes
+IsNoDocument bytes e = RefusesToParse bytes e
 
 -- THE BYTES ARE A TEXT OF THE MANIFEST: a document of a table that means it. K and W are the kinds of metadata
 pub record IsSourceOf (K W : Kind Data) (bytes : Text) (m : Manifest) : Type 0 where
@@ -58,10 +58,10 @@ pub record IsSourceOf (K W : Kind Data) (bytes : Text) (m : Manifest) : Type 0 w
   pub meant : means K W document m
 
 -- they are none: a document of a table with this fault, or no document
-abbrev pub RefusesText : Kind Data → Kind Data → Text → InputError → Type 0
-RefusesText K W bytes (NoManifest (Parse (Schema f))) =
+abbrev pub RefusesSource : Kind Data → Kind Data → Text → InputError → Type 0
+RefusesSource K W bytes (NoManifest (Parse (Schema f))) =
     (document : Members) × IsDocument bytes document × IsFaulty K W document f
-RefusesText K W bytes e = RefusesDocument bytes e
+RefusesSource K W bytes e = IsNoDocument bytes e
 
 -- THE BYTES ARE TAGGED BYTES OF THE MANIFEST: those of a table that the form of a manifest reads as it
 pub record IsTaggedOf (bytes : Text) (m : Manifest) : Type 0 where
@@ -72,12 +72,12 @@ pub record IsTaggedOf (bytes : Text) (m : Manifest) : Type 0 where
 -- the bytes are those of a value that has this fault
 abbrev pub HoldFault : Text → Error → Type 0
 HoldFault bytes e =
-    (value : Data) × (bytes ≡ encoded value) × RefusedAs (faulty_manifest kept_metadata kept_metadata value) e
+    (value : Data) × (bytes ≡ encoded value) × RefusedIn (faulty_manifest kept_metadata kept_metadata value) e
 
 -- they are none: those of a faulty value, or out of memory; else no tagged bytes, or of a value that nests too deep, of which nothing is promised
-abbrev pub RefusesTagged : Text → InputError → Type 0
-RefusesTagged bytes (NoManifest e) = IsOutOfMemory e ⊎ HoldFault bytes e
-RefusesTagged bytes _ = Unit {0}
+abbrev pub RefusesTaggedInput : Text → InputError → Type 0
+RefusesTaggedInput bytes (NoManifest e) = IsOutOfMemory e ⊎ HoldFault bytes e
+RefusesTaggedInput bytes _ = Unit {0}
 
 -- THE BYTES ARE THE MANIFEST, one way or the other
 abbrev pub Are : Input → Text → Manifest → Type 0
@@ -85,5 +85,5 @@ Are Toml = IsSourceOf kept_metadata kept_metadata
 Are Tagged = IsTaggedOf
 
 abbrev pub RefusesToRead : Input → Text → InputError → Type 0
-RefusesToRead Toml = RefusesText kept_metadata kept_metadata
-RefusesToRead Tagged = RefusesTagged
+RefusesToRead Toml = RefusesSource kept_metadata kept_metadata
+RefusesToRead Tagged = RefusesTaggedInput

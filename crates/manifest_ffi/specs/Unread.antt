@@ -7,7 +7,7 @@ use Rattle.manifest_schema.specs.Contents.{Manifest}
 use Rattle.manifest_schema.specs.Meaning.{written_manifest}
 use Rattle.manifest_bytes.specs.Encoded.{encoded}
 use Rattle.manifest_bytes.specs.Decoded.{decoded}
-use Rattle.manifest_ffi.specs.Read.{IsDocument, RefusesDocument as RefusesToParse, IsSourceOf, RefusesText}
+use Rattle.manifest_ffi.specs.Read.{IsDocument, IsNoDocument, IsSourceOf, RefusesSource}
 use Rattle.manifest_ffi.specs.Made.{Refusals, OfBytes, AreWithin, RefusesTagged}
 
 -- METADATA IS NOT LOOKED AT: whatever it is, the empty table stands for it
@@ -27,7 +27,7 @@ GivesUnread most bytes text =
 -- the bytes are refused as they are read, or the tagged bytes as they are made
 abbrev pub RefusesUnread : ℕ → List ℕ → Refusals
 RefusesUnread most bytes e =
-    OfBytes (RefusesText no_metadata no_metadata bytes) e
+    OfBytes (RefusesSource no_metadata no_metadata bytes) e
     ⊎ ((m : Manifest) × IsSourceOf no_metadata no_metadata bytes m
     × RefusesTagged most (encoded (unread_table m)) e)
 
@@ -39,5 +39,5 @@ GivesDocument most bytes text =
 -- the bytes are refused as they are read, or the tagged bytes as they are made
 abbrev pub RefusesDocument : ℕ → List ℕ → Refusals
 RefusesDocument most bytes e =
-    OfBytes (RefusesToParse bytes) e
+    OfBytes (IsNoDocument bytes) e
     ⊎ ((document : Members) × IsDocument bytes document × RefusesTagged most (encoded (table document)) e)

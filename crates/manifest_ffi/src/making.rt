@@ -8,7 +8,7 @@ ghost use Rattle.cargo_manifest.specs.Whole.{manifest_content};
 ghost use Rattle.cargo_manifest.specs.Canonical.{rewritten};
 ghost use Rattle.manifest_inherit.specs.Finished.{root_of};
 ghost use Rattle.manifest_ffi.specs.declared.making.Output.TheVariants.{CanonicalText};
-ghost use Rattle.manifest_ffi.specs.Made.{stored_by, Finishes, RefusesToFinish, FinishesByBytes, RefusesByBytes, MakesOver, RefusesOver, Makes, RefusesToMake, AreWithin, RefusesTagged, Writes, RefusesOutput, IsMade};
+ghost use Rattle.manifest_ffi.specs.Made.{stored_by, FinishesStored, RefusesToFinishStored, FinishesByBytes, RefusesByBytes, MakesOver, RefusesOver, Makes, RefusesToMake, AreWithin, RefusesTagged, Writes, RefusesOutput, IsMade};
 
 use crate::folders::{Folder, GivenFolders};
 use crate::reading::{Input, read};
@@ -35,9 +35,9 @@ fn finish_by(
     root: Option<&Manifest>,
     folders: Option<&GivenFolders<'_>>,
 ) -> Result<(), Refusal>
-    ensures ok { OnOk result (Finishes (root_of root.entry) (stored_by folders.entry)
+    ensures ok { OnOk result (FinishesStored (root_of root.entry) (stored_by folders.entry)
         (manifest_content view view manifest.old) (manifest_content view view manifest.new)) }
-    ensures refused { IfErr result (RefusesToFinish (root_of root.entry) (stored_by folders.entry)
+    ensures refused { IfErr result (RefusesToFinishStored (root_of root.entry) (stored_by folders.entry)
         (manifest_content view view manifest.old)) }
 {
     stored_decides();

@@ -8,7 +8,7 @@ ghost use Rattle.manifest_schema.specs.Kinds.{tree_of};
 ghost use Rattle.cargo_manifest.specs.Whole.{manifest_content, manifest_of};
 ghost use Rattle.manifest_ffi.specs.declared.reading.Input.TheVariants.{Tagged};
 ghost use Rattle.manifest_ffi.specs.Nesting.{nests_densely};
-ghost use Rattle.manifest_ffi.specs.Read.{IsDocument, RefusesToParse, RefusesDocument, IsSourceOf, RefusesText, Are, RefusesToRead};
+ghost use Rattle.manifest_ffi.specs.Read.{IsDocument, RefusesToParse, IsNoDocument, IsSourceOf, RefusesSource, Are, RefusesToRead};
 
 use crate::nesting::nests_densely;
 use crate::refusal::InputError;
@@ -51,7 +51,7 @@ fn parse(alloc: Global, text: &str) -> Result<Table, InputError>
 /// The table of the document that the bytes are, where it nests no deeper than the limit.
 pub(crate) fn document(alloc: Global, bytes: &[u8]) -> Result<Table, InputError>
     ensures ok { IfOk result (λ t. IsDocument bytes.now (table_view t)) }
-    ensures refused { IfErr result (RefusesDocument bytes.now) }
+    ensures refused { IfErr result (IsNoDocument bytes.now) }
 {
     let text = match std::str::from_utf8(bytes) {
         Ok(text) => text,
@@ -75,7 +75,7 @@ pub(crate) fn from_text<P: Metadata, W: Metadata>(
 ) -> Result<Manifest<P, W>, InputError>
     ensures ok { IfOk result (λ m. IsSourceOf (tree_of P.kind) (tree_of W.kind) bytes.now
         (manifest_of P.kind W.kind P.content W.content m)) }
-    ensures refused { IfErr result (RefusesText (tree_of P.kind) (tree_of W.kind) bytes.now) }
+    ensures refused { IfErr result (RefusesSource (tree_of P.kind) (tree_of W.kind) bytes.now) }
 {
     let table = match document(alloc, bytes) {
         Ok(table) => table,

@@ -10,18 +10,15 @@ use Rattle.manifest_schema.specs.Kinds.{Entries}
 use Rattle.manifest_value.specs.Entries.{entries_content}
 use Rattle.manifest_inherit.specs.Resolved.{resolved_entries}
 use Rattle.manifest_inherit.specs.Refused.{Refusal, Refusals, NoneHolds, refuses_entries}
-use Rattle.manifest_inherit.specs.Answers.{RefusedIn}
+use Rattle.manifest_inherit.specs.Answers.{ResolveRefusedIn}
 use Rattle.manifest_inherit.specs.ForProofs.{Accepted}
 use Rattle.manifest_inherit.specs.declared.error.ResolveError.{ResolveError}
-use Rattle.manifest_inherit.specs.declared.error.ResolveError.TheVariants.{NotInWorkspace, InheritedInWorkspace, MixedLints, ToolNamedWorkspace, Memory}
+use Rattle.manifest_inherit.specs.declared.error.ResolveError.TheVariants.{Memory}
 
 -- what is told of some refusals is told of more of them
-pub refused_weaker : (P Q : Refusals) (e : ResolveError) → ((r : Refusal) → P r → Q r) → RefusedIn P e → RefusedIn Q e
-refused_weaker P Q (NotInWorkspace s) w h = w _ h
-refused_weaker P Q (InheritedInWorkspace s) w h = w _ h
-refused_weaker P Q MixedLints w h = w _ h
-refused_weaker P Q ToolNamedWorkspace w h = w _ h
+pub refused_weaker : (P Q : Refusals) (e : ResolveError) → ((r : Refusal) → P r → Q r) → ResolveRefusedIn P e → ResolveRefusedIn Q e
 refused_weaker P Q (Memory e) w h = tt
+refused_weaker P Q _ w h = w _ h
 
 -- what refuses an entry refuses the map
 pub refuses_within : {X A : Type 0} (R : Text → A → Refusals) (f : X → A) (done : List (String Global × X)) (e : String Global × X) (more : List (String Global × X)) (r : Refusal)
@@ -74,13 +71,3 @@ ascend_as {A = A} g f (x ∷ es) (y ∷ fs) h s =
     let key = ap (λ (ts : Entries A). (get_or ts 0 (string_bytes x.0, f x.1)).0) h in
     let tails : entries_content f es ≡ resolved_entries g (entries_content f fs) = cc in
     (below_as g f x.0 y.0 es fs key tails s.0, ascend_as g f es fs tails s.1)
-
--- entries that are the same hold the same
-pub same_content : {X A : Type 0} (f : X → A) (es fs : List (String Global × X)) → entries_content (λ x. x) es ≡ entries_content (λ x. x) fs → entries_content f es ≡ entries_content f fs
-same_content f [] [] h = refl
-same_content f [] (y ∷ fs) h = cc
-same_content f (x ∷ es) [] h = cc
-same_content {X = X} f (x ∷ es) (y ∷ fs) h =
-    let key = ap (λ (ts : Entries X). (get_or ts 0 (string_bytes x.0, x.1)).0) h in
-    let value = ap (λ (ts : Entries X). (get_or ts 0 (string_bytes x.0, x.1)).1) h in
-    rw (key, value, same_content f es fs (cc)) refl

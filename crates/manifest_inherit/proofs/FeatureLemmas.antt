@@ -3,26 +3,19 @@ use Rattle.std.proofs.Common.{◌≡◌, ℕ, ◌+◌, ◌<◌, true, false, Lis
 use Rattle.std.specs.List.{list_any}
 use Rattle.std.specs.Str.{bytes_eq}
 use Rattle.manifest_schema.specs.Paths.{Text}
+use Rattle.manifest_completion.proofs.HeardLemmas.{any_map}
 use Rattle.manifest_inherit.specs.Resolved.{new_features}
 
 -- the texts of the features from the i-th on, which is x
 pub from_feature : (own : List (String Global)) (i : ℕ) (x : String Global) → i < length own → x ≡ get_or own i x → map string_bytes (drop i own) ≡ string_bytes x ∷ map string_bytes (drop (i + 1) own)
 from_feature own i x h is = rw (drop-cons own i x h, add-one, ← is) refl
 
-any_text : (f : Text) (fs : List (String Global)) → list_any (λ h. bytes_eq h f) (map string_bytes fs) ≡ list_any (λ s. bytes_eq (string_bytes s) f) fs
-any_text f [] = refl
-any_text f (s ∷ fs) = rw (any_text f fs) refl
-
 -- a feature that is there adds nothing
 pub feature_had : (had : List (String Global)) (f : Text) (fs : List Text) → list_any (λ s. bytes_eq (string_bytes s) f) had ≡ true
     → new_features (map string_bytes had) (f ∷ fs) ≡ new_features (map string_bytes had) fs
-feature_had had f fs h = rw (any_text f had, h) refl
+feature_had had f fs h = rw (any_map (λ t. bytes_eq t f) string_bytes had, h) refl
 
 -- any other is added at the end
 pub feature_added : (had : List (String Global)) (f : Text) (fs : List Text) → list_any (λ s. bytes_eq (string_bytes s) f) had ≡ false
     → map string_bytes had ++ new_features (map string_bytes had) (f ∷ fs) ≡ (map string_bytes had ++ f ∷ []) ++ new_features (map string_bytes had ++ f ∷ []) fs
-feature_added had f fs h = rw (any_text f had, h) (sym (append_assoc (map string_bytes had) (f ∷ []) _))
-
-pub texts_last : (fs : List (String Global)) (s : String Global) → map string_bytes (fs ++ s ∷ []) ≡ map string_bytes fs ++ string_bytes s ∷ []
-texts_last [] s = refl
-texts_last (f ∷ fs) s = ap (λ ts. string_bytes f ∷ ts) (texts_last fs s)
+feature_added had f fs h = rw (any_map (λ t. bytes_eq t f) string_bytes had, h) (sym (append_assoc (map string_bytes had) (f ∷ []) _))

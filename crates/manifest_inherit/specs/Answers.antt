@@ -12,12 +12,12 @@ pub record ResolvesTo (m : Manifest) (w : Workspace) (n : Manifest) : Type 0 whe
   pub becomes : n ≡ resolved m w
 
 -- the error tells one of these refusals, or out of memory
-abbrev pub RefusedIn : Refusals → ResolveError → Type 0
-RefusedIn refuses (NotInWorkspace s) = refuses (not_in_workspace (string_bytes s))
-RefusedIn refuses (InheritedInWorkspace s) = refuses (inherited_in_workspace (string_bytes s))
-RefusedIn refuses MixedLints = refuses mixed_lints
-RefusedIn refuses ToolNamedWorkspace = refuses tool_named_workspace
-RefusedIn refuses (Memory e) = Unit {0}
+abbrev pub ResolveRefusedIn : Refusals → ResolveError → Type 0
+ResolveRefusedIn refuses (NotInWorkspace s) = refuses (not_in_workspace (string_bytes s))
+ResolveRefusedIn refuses (InheritedInWorkspace s) = refuses (inherited_in_workspace (string_bytes s))
+ResolveRefusedIn refuses MixedLints = refuses mixed_lints
+ResolveRefusedIn refuses ToolNamedWorkspace = refuses tool_named_workspace
+ResolveRefusedIn refuses (Memory e) = Unit {0}
 
 -- out of memory
 abbrev pub IsOutOfMemory : ResolveError → Type 0
@@ -27,4 +27,4 @@ IsOutOfMemory _ = ⊥
 -- WHAT RESOLVING A MANIFEST ANSWERS, which it leaves as the second one
 abbrev pub Resolves : Manifest → Workspace → Manifest → Result (Unit {0}) ResolveError → Type 0
 Resolves old w new (Ok u) = ResolvesTo old w new
-Resolves old w new (Err e) = RefusedIn (refuses old w) e
+Resolves old w new (Err e) = ResolveRefusedIn (refuses old w) e

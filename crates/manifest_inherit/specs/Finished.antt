@@ -7,10 +7,10 @@ use Rattle.manifest_schema.specs.Paths.{Text}
 use Rattle.manifest_schema.specs.Contents.{Workspace, Manifest}
 use Rattle.manifest_completion.specs.Listings.{Answer}
 use Rattle.manifest_completion.specs.Completed.{completed_to}
-use Rattle.cargo_manifest.specs.Completes.{ComesTo, RefusesToComplete as RefusesOver}
+use Rattle.cargo_manifest.specs.Completes.{ComesTo, RefusesToComplete}
 use Rattle.cargo_manifest.specs.Whole.{manifest_content}
 use Rattle.cargo_manifest.specs.declared.manifest.Manifest.{Manifest as ManifestOfCode}
-use Rattle.manifest_inherit.specs.Answers.{ResolvesTo, RefusedIn}
+use Rattle.manifest_inherit.specs.Answers.{ResolvesTo, ResolveRefusedIn}
 use Rattle.manifest_inherit.specs.Refused.{refuses}
 use Rattle.manifest_inherit.specs.declared.error.FinishError.{FinishError}
 use Rattle.manifest_inherit.specs.declared.error.FinishError.TheVariants.{Manifest as Incomplete, NoWorkspace, Resolve}
@@ -28,7 +28,7 @@ Inherits (Some root) m n = (w : Workspace) × (root.workspace ≡ Some w) × Res
 abbrev pub RefusesToInherit : Option Manifest → Manifest → Manifest → FinishError → Type 0
 RefusesToInherit (Some root) m n NoWorkspace = (root.workspace ≡ None) × (n ≡ m)
 RefusesToInherit (Some root) m n (Resolve e) =
-    (w : Workspace) × (root.workspace ≡ Some w) × RefusedIn (refuses m w) e × (n ≡ m)
+    (w : Workspace) × (root.workspace ≡ Some w) × ResolveRefusedIn (refuses m w) e × (n ≡ m)
 RefusesToInherit _ m n _ = ⊥
 
 module _ {F : Type 0} (allows : F → Text → Answer → Type 0) where
@@ -38,9 +38,9 @@ module _ {F : Type 0} (allows : F → Text → Answer → Type 0) where
   CompletedOver (Some folders) m n = ComesTo (allows folders.now) m (completed_to n)
 
   -- the refusal to complete it; the manifest stays as it is
-  abbrev pub RefusesToComplete : Option (Bor F) → Manifest → Manifest → FinishError → Type 0
-  RefusesToComplete (Some folders) m n (Incomplete e) = RefusesOver (allows folders.now) m e × (n ≡ m)
-  RefusesToComplete _ m n _ = ⊥
+  abbrev pub RefusesToCompleteOver : Option (Bor F) → Manifest → Manifest → FinishError → Type 0
+  RefusesToCompleteOver (Some folders) m n (Incomplete e) = RefusesToComplete (allows folders.now) m e × (n ≡ m)
+  RefusesToCompleteOver _ m n _ = ⊥
 
   -- THE MANIFEST IS FINISHED: with what it inherits, and then completed
   abbrev pub Finishes : Option Manifest → Option (Bor F) → Manifest → Manifest → Type 0
@@ -51,4 +51,4 @@ module _ {F : Type 0} (allows : F → Text → Answer → Type 0) where
   abbrev pub RefusesToFinish : Option Manifest → Option (Bor F) → Manifest → Manifest → FinishError → Type 0
   RefusesToFinish root folders old new e =
       RefusesToInherit root old new e
-      ⊎ ((m : Manifest) × Inherits root old m × RefusesToComplete folders m new e)
+      ⊎ ((m : Manifest) × Inherits root old m × RefusesToCompleteOver folders m new e)

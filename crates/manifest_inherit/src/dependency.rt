@@ -7,7 +7,7 @@ ghost use Rattle.manifest_parts.specs.Records.{inherited_content, detail_content
 ghost use Rattle.manifest_parts.specs.Queries.{simplify};
 ghost use Rattle.manifest_inherit.specs.Resolved.{workspace_dependency, version_alone, joined, resolved_dependency};
 ghost use Rattle.manifest_inherit.specs.Refused.{refuses_dependency};
-ghost use Rattle.manifest_inherit.specs.Answers.{RefusedIn};
+ghost use Rattle.manifest_inherit.specs.Answers.{ResolveRefusedIn};
 ghost use Rattle.manifest_inherit.specs.ForProofs.{Accepted, lent_by_map};
 
 use crate::error::{ResolveError, inherited_in_workspace, not_in_workspace};
@@ -74,7 +74,7 @@ pub(crate) fn resolved_dependency(
     ensures ok { let all = lent_by_map lent.now in let d = dependency_content own.now in
         IfOk result (λ x. Accepted (refuses_dependency all name.now d)
         (resolved_dependency all name.now d) (dependency_content x)) }
-    ensures refused { IfErr result (RefusedIn
+    ensures refused { IfErr result (ResolveRefusedIn
         (refuses_dependency (lent_by_map lent.now) name.now (dependency_content own.now))) }
 {
     match own {

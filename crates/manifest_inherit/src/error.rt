@@ -2,7 +2,7 @@
 
 ghost use Rattle.std.specs.Prelude.{◌≡◌};
 ghost use Rattle.manifest_inherit.specs.Refused.{not_in_workspace, inherited_in_workspace};
-ghost use Rattle.manifest_inherit.specs.Answers.{RefusedIn};
+ghost use Rattle.manifest_inherit.specs.Answers.{ResolveRefusedIn};
 
 use std::alloc::{AllocError, AllocFailed, Global};
 use thiserror::Error;
@@ -77,7 +77,7 @@ impl<T: Drop> From<AllocFailed<T>> for ResolveError {
 
 /// The refusal of a name that the workspace does not have.
 pub(crate) fn not_in_workspace(alloc: Global, name: &str) -> ResolveError
-    ensures { RefusedIn (λ r. r ≡ not_in_workspace name.now) result }
+    ensures { ResolveRefusedIn (λ r. r ≡ not_in_workspace name.now) result }
 {
     match String::from_str(alloc, name) {
         Ok(name) => ResolveError::NotInWorkspace(name),
@@ -87,7 +87,7 @@ pub(crate) fn not_in_workspace(alloc: Global, name: &str) -> ResolveError
 
 /// The refusal of a dependency that the workspace itself inherits.
 pub(crate) fn inherited_in_workspace(alloc: Global, name: &str) -> ResolveError
-    ensures { RefusedIn (λ r. r ≡ inherited_in_workspace name.now) result }
+    ensures { ResolveRefusedIn (λ r. r ≡ inherited_in_workspace name.now) result }
 {
     match String::from_str(alloc, name) {
         Ok(name) => ResolveError::InheritedInWorkspace(name),

@@ -6,7 +6,7 @@ ghost use Rattle.cargo_manifest.specs.Tables.{workspace_package_content, package
 ghost use Rattle.manifest_inherit.specs.Fields.{lendable};
 ghost use Rattle.manifest_inherit.specs.Resolved.{resolved_field, resolved_package};
 ghost use Rattle.manifest_inherit.specs.Refused.{NoneHolds, refuses_field, refuses_fields};
-ghost use Rattle.manifest_inherit.specs.Answers.{RefusedIn};
+ghost use Rattle.manifest_inherit.specs.Answers.{ResolveRefusedIn};
 ghost use Rattle.manifest_inherit.specs.ForProofs.{how_many, refuses_at, IsLent, lent_at};
 
 use crate::error::{ResolveError, not_in_workspace};
@@ -25,7 +25,7 @@ fn check_field<T: Schema>(
     ensures ok { let o = option_map (inh_content T.content) own.now in
         OnOk result (IsLent o (option_map T.content lent.now)) }
     ensures refused { let o = option_map (inh_content T.content) own.now in
-        IfErr result (RefusedIn (refuses_field key.now o (option_map T.content lent.now))) }
+        IfErr result (ResolveRefusedIn (refuses_field key.now o (option_map T.content lent.now))) }
 {
     match (own, lent) {
         (Some(MaybeInherited::Inherited { .. }), None) => Err(not_in_workspace(alloc, key)),
@@ -101,7 +101,7 @@ fn check_at<M: Metadata>(
         OnOk result (lent_at i lendable w p) }
     ensures refused { let p = package_of M.kind M.content own.now in
         let w = Some (workspace_package_content lent.now) in
-        IfErr result (RefusedIn (refuses_at i lendable w p)) }
+        IfErr result (ResolveRefusedIn (refuses_at i lendable w p)) }
 {
     lendable!(check_of(alloc, own, lent, i))
 }
@@ -117,7 +117,7 @@ pub(crate) fn check_fields<M: Metadata>(
         OnOk result (NoneHolds (refuses_fields lendable w p)) }
     ensures refused { let p = package_of M.kind M.content own.now in
         let w = Some (workspace_package_content lent.now) in
-        IfErr result (RefusedIn (refuses_fields lendable w p)) }
+        IfErr result (ResolveRefusedIn (refuses_fields lendable w p)) }
 {
     for i in 0..keys().len() {
         check_at(alloc, own, lent, i)?;

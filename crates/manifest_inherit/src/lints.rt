@@ -4,7 +4,7 @@ ghost use Rattle.std.specs.Prelude.{◌≡◌, OnOk, IfErr, option_map};
 ghost use Rattle.manifest_parts.specs.Records.{lints_content};
 ghost use Rattle.manifest_inherit.specs.Resolved.{resolved_lints};
 ghost use Rattle.manifest_inherit.specs.Refused.{refuses_lints, refuses_some};
-ghost use Rattle.manifest_inherit.specs.Answers.{RefusedIn};
+ghost use Rattle.manifest_inherit.specs.Answers.{ResolveRefusedIn};
 ghost use Rattle.manifest_inherit.specs.ForProofs.{Accepted, tools_content};
 
 use crate::error::{ResolveError, not_in_workspace};
@@ -27,7 +27,7 @@ pub(crate) fn make_lints(
         (option_map (resolved_lints (option_map tools_content place.new)) o)) }
     ensures refused { let all = option_map tools_content lent.now in
         let o = option_map lints_content own.now in
-        IfErr result (RefusedIn (refuses_some (refuses_lints all) o)) }
+        IfErr result (ResolveRefusedIn (refuses_some (refuses_lints all) o)) }
 {
     let Some(own) = own else {
         return Ok(());

@@ -7,7 +7,7 @@ ghost use Rattle.manifest_value.specs.Entries.{entries_content};
 ghost use Rattle.manifest_parts.specs.Records.{dependency_content, platform_content};
 ghost use Rattle.manifest_inherit.specs.Resolved.{resolved_entries, resolved_dependency, resolved_platform};
 ghost use Rattle.manifest_inherit.specs.Refused.{Refusal, refuses_entries, refuses_dependency, refuses_platform, refuses_some};
-ghost use Rattle.manifest_inherit.specs.Answers.{RefusedIn};
+ghost use Rattle.manifest_inherit.specs.Answers.{ResolveRefusedIn};
 ghost use Rattle.manifest_inherit.specs.ForProofs.{Accepted, lent_by_map};
 
 use crate::dependency::resolved_dependency;
@@ -38,7 +38,7 @@ pub(crate) trait Heir: Sized + Drop {
             IfOk result (λ y. Accepted (refuses all name.now x)
             (resolved all name.now x) (content y)) }
         ensures refused { let all = lent_by_map lent.now in
-            IfErr result (RefusedIn (refuses all name.now (content self.now))) };
+            IfErr result (ResolveRefusedIn (refuses all name.now (content self.now))) };
 }
 
 impl Heir for Dependency {
@@ -98,7 +98,7 @@ fn resolved_list<T: Heir>(
         (resolved_entries (T.resolved all) es) (entries_content T.content v.items)) }
     ensures refused { let all = lent_by_map lent.now in
         let es = entries_content T.content own.now.entries in
-        IfErr result (RefusedIn (refuses_entries (T.refuses all) es)) }
+        IfErr result (ResolveRefusedIn (refuses_entries (T.refuses all) es)) }
 {
     let mut list = Vec::new(alloc);
     for (key, x) in own.iter() {
@@ -123,7 +123,7 @@ fn resolved_map<T: Heir>(
         (resolved_entries (T.resolved all) es) (entries_content T.content m.entries)) }
     ensures refused { let all = lent_by_map lent.now in
         let es = entries_content T.content own.now.entries in
-        IfErr result (RefusedIn (refuses_entries (T.refuses all) es)) }
+        IfErr result (ResolveRefusedIn (refuses_entries (T.refuses all) es)) }
 {
     // (the keys of the map ascend)
     let _in_order = own.len();
@@ -145,7 +145,7 @@ pub(crate) fn make_map<T: Heir>(
         (option_map (λ m. entries_content T.content m.entries) place.new)) }
     ensures refused { let all = lent_by_map lent.now in
         let o = option_map (λ m. entries_content T.content m.entries) own.now in
-        IfErr result (RefusedIn (refuses_some (refuses_entries (T.refuses all)) o)) }
+        IfErr result (ResolveRefusedIn (refuses_some (refuses_entries (T.refuses all)) o)) }
 {
     match own {
         Some(own) => {

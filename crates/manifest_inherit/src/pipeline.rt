@@ -4,7 +4,7 @@
 ghost use Rattle.std.specs.Prelude.{OnOk, IfErr};
 ghost use Rattle.toml.specs.View.{view};
 ghost use Rattle.cargo_manifest.specs.Whole.{manifest_content};
-ghost use Rattle.manifest_inherit.specs.Finished.{root_of, Inherits, RefusesToInherit, CompletedOver, RefusesToComplete, Finishes, RefusesToFinish};
+ghost use Rattle.manifest_inherit.specs.Finished.{root_of, Inherits, RefusesToInherit, CompletedOver, RefusesToCompleteOver, Finishes, RefusesToFinish};
 
 use crate::error::FinishError;
 use crate::resolution::resolve;
@@ -42,7 +42,7 @@ fn complete<F: AbstractFilesystem>(
 ) -> Result<(), FinishError>
     ensures ok { OnOk result (CompletedOver F.allows folders.entry
         (manifest_content view view manifest.old) (manifest_content view view manifest.new)) }
-    ensures refused { IfErr result (RefusesToComplete F.allows folders.entry
+    ensures refused { IfErr result (RefusesToCompleteOver F.allows folders.entry
         (manifest_content view view manifest.old) (manifest_content view view manifest.new)) }
 {
     match folders {

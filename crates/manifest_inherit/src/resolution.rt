@@ -6,7 +6,7 @@ ghost use Rattle.cargo_manifest.specs.Whole.{manifest_of};
 ghost use Rattle.manifest_inherit.specs.Fields.{lendable};
 ghost use Rattle.manifest_inherit.specs.Resolved.{resolved_package, resolved};
 ghost use Rattle.manifest_inherit.specs.Refused.{refuses_fields, refuses_some, refuses};
-ghost use Rattle.manifest_inherit.specs.Answers.{RefusedIn, Resolves};
+ghost use Rattle.manifest_inherit.specs.Answers.{ResolveRefusedIn, Resolves};
 ghost use Rattle.manifest_inherit.specs.ForProofs.{Accepted, with_made};
 
 use crate::error::ResolveError;
@@ -60,7 +60,7 @@ fn make_package<M: Metadata>(
         (option_map (resolved_package (Some (workspace_package_content made.new))) o)) }
     ensures refused { let w = option_map workspace_package_content lent.now in
         let o = option_map (package_of M.kind M.content) own.now in
-        IfErr result (RefusedIn (refuses_some (refuses_fields lendable w) o)) }
+        IfErr result (ResolveRefusedIn (refuses_some (refuses_fields lendable w) o)) }
 {
     match own {
         Some(own) => match lent {
@@ -92,7 +92,7 @@ fn make_all<P: Metadata, W: Metadata, V: Metadata>(
         let w = workspace_of V.kind V.content workspace.now in
         OnOk result (Accepted (refuses m w) (resolved m w) (with_made made.new m)) }
     ensures refused { let m = manifest_of P.kind W.kind P.content W.content manifest.now in
-        IfErr result (RefusedIn (refuses m (workspace_of V.kind V.content workspace.now))) }
+        IfErr result (ResolveRefusedIn (refuses m (workspace_of V.kind V.content workspace.now))) }
 {
     let lent = &workspace.dependencies;
     make_package(
@@ -129,7 +129,7 @@ fn make<P: Metadata, W: Metadata, V: Metadata>(
         let w = workspace_of V.kind V.content workspace.now in
         IfOk result (λ made. Accepted (refuses m w) (resolved m w) (with_made made m)) }
     ensures refused { let m = manifest_of P.kind W.kind P.content W.content manifest.now in
-        IfErr result (RefusedIn (refuses m (workspace_of V.kind V.content workspace.now))) }
+        IfErr result (ResolveRefusedIn (refuses m (workspace_of V.kind V.content workspace.now))) }
 {
     let mut made = Made::new();
     match make_all(alloc, manifest, workspace, &mut made) {

@@ -9,7 +9,7 @@ use Rattle.std.specs.Map.{keys_of}
 use Rattle.std.specs.String.{string_cmp}
 use Rattle.toml.specs.declared.value.Value.{Value}
 use Rattle.manifest_schema.specs.Paths.{Path, Cause as SchemaCause, Faults, behind, index, key}
-use Rattle.manifest_value.specs.Calls.{Reads, Refused, ItemsGiven, EntriesGiven, ItemRefused, EntryRefused}
+use Rattle.manifest_value.specs.Calls.{ReaderAnswers, Refused, ItemsGiven, EntriesGiven, ItemRefused, EntryRefused}
 use Rattle.manifest_value.specs.Faults.{FaultIn}
 use Rattle.manifest_value.specs.declared.fault.ReadFault.{ReadFault}
 use Rattle.manifest_value.specs.declared.fault.ReadFault.TheVariants.{Schema, Memory}
@@ -21,7 +21,7 @@ pub answer_given : {X Y E : Type 0} (R : X → Result Y E → Type 0) (x : X) (r
 answer_given R x (Ok y) h = h
 answer_given R x (Err e) h = tt
 
-pub fault_given : {T : Type 0} (R : Reads T) (v : Value) (r : Result T ReadFault) → R v r → IfErr r (FaultIn (Refused R v))
+pub fault_given : {T : Type 0} (R : ReaderAnswers T) (v : Value) (r : Result T ReadFault) → R v r → IfErr r (FaultIn (Refused R v))
 fault_given R v (Ok x) h = tt
 fault_given R v (Err (Schema f)) h = record { fault = f; answer = h; path = refl; cause = refl }
 fault_given R v (Err (Memory e)) h = tt
@@ -50,7 +50,7 @@ around : {X : Type 0} (xs : List X) (i : ℕ) (x : X) → i < length xs → x �
 around xs i x b e = sym (take-append-drop i xs) ∙ ap (λ l. take i xs ++ l) (drop_more xs i x b ∙ ap (λ w. w ∷ drop (i + 1) xs) (sym e))
 
 -- a fault of an item, with those before it given
-pub item_refused : {T : Type 0} (R : Reads T) (vs : List Value) (i : ℕ) (v : Value) (xs : List T) (f : ReadFault)
+pub item_refused : {T : Type 0} (R : ReaderAnswers T) (vs : List Value) (i : ℕ) (v : Value) (xs : List T) (f : ReadFault)
     → i < length vs → v ≡ get_or vs i v → ItemsGiven R (take i vs) xs → FaultIn (behind (index i) (Refused R v)) f → FaultIn (ItemRefused R vs) f
 item_refused R vs i v xs f b e h r =
     let long : length (take i vs) ≡ i = grind (arith, common_steps) in
@@ -72,7 +72,7 @@ entries_given-last R done e left gs name y sorted h named r =
     (all_zip-push (λ d g. (string_bytes g.0 ≡ string_bytes d.0) × R d.1 (Ok g.1)) done gs e (name, y) h (named, r))
 
 -- a fault of an entry, with those before it given
-pub entry_refused : {T : Type 0} (R : Reads T) (es before : List (String Global × Value)) (e : String Global × Value) (after : List (String Global × Value)) (xs : List (String Global × T)) (f : ReadFault)
+pub entry_refused : {T : Type 0} (R : ReaderAnswers T) (es before : List (String Global × Value)) (e : String Global × Value) (after : List (String Global × Value)) (xs : List (String Global × T)) (f : ReadFault)
     → es ≡ before ++ e ∷ after → EntriesGiven R before xs → FaultIn (behind (key (string_bytes e.0)) (Refused R e.1)) f → FaultIn (EntryRefused R es) f
 entry_refused R es before e after xs f whole h r =
     fault_weaker (behind (key (string_bytes e.0)) (Refused R e.1)) (EntryRefused R es) f (λ p c q. record { before = before; entry = e; after = after; whole = whole; answers = xs; given = h; refused = q }) r

@@ -5,10 +5,10 @@ use Rattle.toml.specs.Data.{array}
 use Rattle.toml.specs.View.{view, items_view, members_view, table_view}
 use Rattle.toml.specs.declared.value.Value.{Value}
 use Rattle.manifest_schema.specs.Kinds.{Kind, written_items, list_of, written_entries}
-use Rattle.manifest_value.specs.Calls.{Writes, ItemsGiven, EntriesGiven, ListWritten}
+use Rattle.manifest_value.specs.Calls.{WriterAnswers, ItemsGiven, EntriesGiven, ListWritten}
 use Rattle.manifest_value.specs.Entries.{entries_content}
 
-module _ {A X : Type 0} (K : Kind A) (content : X → A) (W : Writes X) where
+module _ {A X : Type 0} (K : Kind A) (content : X → A) (W : WriterAnswers X) where
   items_written : (xs : List X) (vs : List Value) → ItemsGiven W xs vs → ((x : X) (v : Value) → W x (Ok v) → view v ≡ K.written (content x)) → items_view vs ≡ written_items K (map content xs)
   items_written [] [] h is = refl
   items_written [] (v ∷ vs) h is = absurd h

@@ -16,9 +16,9 @@ RefusedIn F (Memory e) = Unit {0}
 RefusedIn F _ = ⊥
 
 -- the error tells a fault of the schema
-abbrev pub TellsSchema : Error → Type 0
-TellsSchema (Parse (Schema f)) = Unit {0}
-TellsSchema _ = ⊥
+abbrev pub IsSchemaError : Error → Type 0
+IsSchemaError (Parse (Schema f)) = Unit {0}
+IsSchemaError _ = ⊥
 
 -- out of memory
 abbrev pub IsOutOfMemory : Error → Type 0

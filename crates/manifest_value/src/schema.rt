@@ -7,7 +7,7 @@ ghost use Rattle.manifest_schema.specs.Lawful.{IsLawful};
 ghost use Rattle.manifest_schema.proofs.KindLaws.{text_lawful, flag_lawful, list_lawful};
 ghost use Rattle.manifest_value.specs.Faults.{FaultIn, IsSchema};
 ghost use Rattle.manifest_value.specs.Reading.{Reads};
-ghost use Rattle.manifest_value.specs.Refusals.{RefusedIn, TellsSchema};
+ghost use Rattle.manifest_value.specs.Refusals.{RefusedIn, IsSchemaError};
 ghost use Rattle.manifest_value.specs.Sources.{source_view};
 
 use crate::error::{Error, refusal};
@@ -53,7 +53,7 @@ pub trait Schema: Sized + Drop {
     fn from_value(alloc: Global, value: &Value) -> Result<Self, Error>
         ensures ok { IfOk result (Reads kind content (view value.now)) }
         ensures refused { IfErr result (RefusedIn (kind.faulty (view value.now))) }
-        ensures schema { takes_no_memory → IfErr result TellsSchema }
+        ensures schema { takes_no_memory → IfErr result IsSchemaError }
     {
         Self::read(alloc, Source::Lent(value)).map_err(refusal)
     }

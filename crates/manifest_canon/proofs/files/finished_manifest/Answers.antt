@@ -4,11 +4,11 @@ use Rattle.toml.specs.View.{view}
 use Rattle.manifest_schema.specs.Paths.{Text}
 use Rattle.manifest_schema.specs.Contents.{Manifest}
 use Rattle.cargo_manifest.specs.Whole.{manifest_content}
-use Rattle.manifest_canon.specs.Run.{Gives, IsFileOf, IsFinishedBy}
+use Rattle.manifest_canon.specs.Run.{MayPrint, IsFileOf, IsFinishedBy}
 use Rattle.manifest_canon.specs.Words.{completes_by}
 use Rattle.manifest_canon.proofs.files.finished_manifest.Goals as goal
 
-given : (root : Option (Bor Text)) (m n : Manifest) → IsFileOf m → IsFinishedBy root m n → Gives (completes_by root) n
+given : (root : Option (Bor Text)) (m n : Manifest) → IsFileOf m → IsFinishedBy root m n → MayPrint (completes_by root) n
 given None m n is h = (m, is, h)
 given (Some r) m n is (root, of_file, h) = (m, is, root, of_file, h)
 

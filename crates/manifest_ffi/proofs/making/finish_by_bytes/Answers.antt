@@ -2,7 +2,7 @@ use Rattle.std.proofs.Common.{Some, inr}
 use Rattle.std.proofs.lemmas.Result.{on_ok_weaker, IfErr-weaker}
 use Rattle.toml.specs.View.{view}
 use Rattle.cargo_manifest.specs.Whole.{manifest_content}
-use Rattle.manifest_ffi.specs.Made.{stored_by, Finishes, FinishesByBytes}
+use Rattle.manifest_ffi.specs.Made.{stored_by, FinishesStored, FinishesByBytes}
 use Rattle.manifest_ffi.proofs.making.finish_by_bytes.Goals as goal
 
 pub returns-in-Ok-clause-ok : goal.returns-in-Ok-clause-ok
@@ -11,7 +11,7 @@ returns-in-Ok-clause-ok c =
     let old = manifest_content view view c.args.manifest.now in
     let new = manifest_content view view c.finish_by-finished.new.manifest in
     let stored = stored_by c.args.folders in
-    let by_bytes : Finishes (Some root) stored old new → FinishesByBytes c.args.input (Some c.in-Some.bytes.now) stored old new = λ h. (Some root, c.in-Ok.ensures.ok, h) in
+    let by_bytes : FinishesStored (Some root) stored old new → FinishesByBytes c.args.input (Some c.in-Some.bytes.now) stored old new = λ h. (Some root, c.in-Ok.ensures.ok, h) in
     rw c.in-Some.is (on_ok_weaker _ by_bytes c.finish_by-finished.ensures.ok)
 
 pub returns-in-Ok-clause-refused : goal.returns-in-Ok-clause-refused

@@ -1,8 +1,9 @@
 use Rattle.std.proofs.Common.{◌≡◌, ◌+◌, ◌++◌, ◌∷◌, [], List, ℕ, map, drop, string_bytes, sym, ap, ◌∙◌}
+use Rattle.std.proofs.lemmas.List.{map_push}
 use Rattle.std.specs.List.{list_any}
 use Rattle.std.specs.Str.{bytes_eq}
 use Rattle.manifest_inherit.specs.Resolved.{new_features}
-use Rattle.manifest_inherit.proofs.FeatureLemmas.{from_feature, feature_had, feature_added, texts_last}
+use Rattle.manifest_inherit.proofs.FeatureLemmas.{from_feature, feature_had, feature_added}
 use Rattle.manifest_inherit.proofs.features.add_new.Goals as goal
 use Rattle.manifest_inherit.proofs.features.add_new.Goals.{then-not-contains+in_ok-from_str+in_ok-push, else-not-contains}
 
@@ -17,7 +18,7 @@ loop-feature-preserved c =
     let before : had ++ new_features had (f ∷ rest) ≡ map string_bytes c.args.features.now.items ++ new_features (map string_bytes c.args.features.now.items) (map string_bytes c.args.own.now) = rw next at l.invariant in
     elim c.if-not-contains.branch [
       | then-not-contains+in_ok-from_str+in_ok-push w ↦
-          let last : map string_bytes w.push.new.self.items ≡ had ++ f ∷ [] = ap (map string_bytes) w.in_ok-push.ensures.items ∙ texts_last l.features.items w.in_ok-from_str.field-0 ∙ ap (λ t. had ++ t ∷ []) (w.in_ok-from_str.ensures.ok ∙ w.as_str.ensures.value) in
+          let last : map string_bytes w.push.new.self.items ≡ had ++ f ∷ [] = ap (map string_bytes) w.in_ok-push.ensures.items ∙ map_push string_bytes l.features.items w.in_ok-from_str.field-0 ∙ ap (λ t. had ++ t ∷ []) (w.in_ok-from_str.ensures.ok ∙ w.as_str.ensures.value) in
           rw (w.features-is, last) (sym (feature_added l.features.items f rest (sym found ∙ w.if-not-contains.true)) ∙ before)
       | else-not-contains w ↦ rw w.features-is (ap (λ fs. had ++ fs) (sym (feature_had l.features.items f rest (sym found ∙ w.if-not-contains.false))) ∙ before)
     ]

@@ -1,7 +1,7 @@
 use Rattle.std.proofs.Common.{◌≡◌, [], ◌∷◌, ◌++◌, String, Global, string_bytes, sym, ap, ◌∙◌, subst, append_assoc}
 use Rattle.manifest_value.specs.Entries.{entries_content}
 use Rattle.manifest_inherit.specs.Refused.{refuses_entries}
-use Rattle.manifest_inherit.specs.Answers.{RefusedIn}
+use Rattle.manifest_inherit.specs.Answers.{ResolveRefusedIn}
 use Rattle.manifest_inherit.specs.ForProofs.{lent_by_map}
 use Rattle.manifest_inherit.proofs.EntryLemmas.{refused_weaker, refuses_within, accepted_last}
 use Rattle.manifest_inherit.proofs.maps.resolved_list.Goals as goal
@@ -13,7 +13,7 @@ returns-in-Err-clause-refused g c =
     let R = g.T.Heir.refuses (lent_by_map c.args.lent.now) in
     let e : String Global × g.row.T.Denot = (c.in-Some.key.now, c.in-Some.x.now) in
     let all = l.invariant.1 ∙ ap (λ es. l.invariant.0 ++ es) c.in-Some.ensures.steps in
-    let named = subst (λ n. RefusedIn (R n (f e.1)) c.in-Err.refusal) c.as_str.ensures.value c.in-Err.ensures.refused in
+    let named = subst (λ n. ResolveRefusedIn (R n (f e.1)) c.in-Err.refusal) c.as_str.ensures.value c.in-Err.ensures.refused in
     refused_weaker _ (refuses_entries R (entries_content f c.args.own.now.entries)) c.in-Err.refusal (λ r h. rw all (refuses_within R f l.invariant.0 e c.next.new.self r h)) named
 
 pub loop-key-preserved : goal.loop-key-preserved

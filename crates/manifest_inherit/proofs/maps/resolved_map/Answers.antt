@@ -1,6 +1,7 @@
 use Rattle.std.proofs.Common.{◌∙◌}
+use Rattle.manifest_value.proofs.CollectLemmas.{same_content}
 use Rattle.manifest_inherit.specs.ForProofs.{lent_by_map}
-use Rattle.manifest_inherit.proofs.EntryLemmas.{ascend_as, same_content}
+use Rattle.manifest_inherit.proofs.EntryLemmas.{ascend_as}
 use Rattle.manifest_inherit.proofs.maps.resolved_map.Goals as goal
 
 pub map_of_list-requires : goal.map_of_list-requires

@@ -1,9 +1,10 @@
-use Rattle.std.proofs.Common.{◌≡◌, Result, Ok, Err, Some, None, OnOk, IfErr, refl, ap}
+use Rattle.std.proofs.Common.{◌≡◌, Result, Some, None, OnOk, IfErr, refl, ap}
+use Rattle.std.proofs.lemmas.Result.{IfErr-weaker, on_ok_weaker}
 use Rattle.cargo_manifest.specs.Tables.{workspace_package_content, package_of}
 use Rattle.manifest_inherit.specs.Fields.{lendable}
 use Rattle.manifest_inherit.specs.Resolved.{resolved_package}
 use Rattle.manifest_inherit.specs.Refused.{Refusal, Refusals, NoneHolds, refuses_fields}
-use Rattle.manifest_inherit.specs.Answers.{RefusedIn}
+use Rattle.manifest_inherit.specs.Answers.{ResolveRefusedIn}
 use Rattle.manifest_inherit.specs.ForProofs.{Accepted}
 use Rattle.manifest_inherit.specs.declared.error.ResolveError.{ResolveError}
 use Rattle.manifest_inherit.proofs.EntryLemmas.{refused_weaker}
@@ -11,12 +12,10 @@ use Rattle.manifest_inherit.proofs.FieldLaws.{nothing_resolved, nothing_refused,
 use Rattle.manifest_inherit.proofs.resolution.make_package.Goals as goal
 
 accepted : {E A : Type 0} (R S : Refusals) (becomes made : A) (r : Result (Unit {0}) E) → (NoneHolds R → NoneHolds S) → made ≡ becomes → OnOk r (NoneHolds R) → OnOk r (Accepted S (Some becomes) (Some made))
-accepted R S becomes made (Ok u) w e h = (w h, ap Some e)
-accepted R S becomes made (Err f) w e h = tt
+accepted R S becomes made r w e = on_ok_weaker r (λ h. (w h, ap Some e))
 
-refused : {T : Type 0} (R S : Refusals) (r : Result T ResolveError) → ((x : Refusal) → R x → S x) → IfErr r (RefusedIn R) → IfErr r (RefusedIn S)
-refused R S (Ok u) w h = tt
-refused R S (Err e) w h = refused_weaker R S e w h
+refused : {T : Type 0} (R S : Refusals) (r : Result T ResolveError) → ((x : Refusal) → R x → S x) → IfErr r (ResolveRefusedIn R) → IfErr r (ResolveRefusedIn S)
+refused R S r w = IfErr-weaker r (ResolveRefusedIn R) (ResolveRefusedIn S) (λ e. refused_weaker R S e w)
 
 pub returns-in_ok-copy_of-in-Some-lent-clause-ok : goal.returns-in_ok-copy_of-in-Some-lent-clause-ok
 returns-in_ok-copy_of-in-Some-lent-clause-ok g c =
