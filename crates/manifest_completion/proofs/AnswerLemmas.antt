@@ -9,7 +9,7 @@ use Rattle.manifest_schema.specs.Paths.{Text}
 use Rattle.manifest_completion.specs.declared.ask.FolderAnswers.{FolderAnswers}
 use Rattle.manifest_completion.specs.declared.ask.Answers.{Answers}
 use Rattle.manifest_completion.specs.Listings.{Answer, fault, names_of, is_memory_fault, TargetFolder, bins, examples, tests, benches, Place, source, folder, entry, root, joined, folder_text, path_text, entry_answer, FolderListing, ListingMap, folder_of, at, IsAscending, NamesAscend}
-use Rattle.manifest_completion.specs.Completed.{up_to_memory_fault, folder_places, has_memory_fault, target_places, root_places}
+use Rattle.manifest_completion.specs.Completed.{up_to_memory_fault, folder_places, has_memory_fault, root_places}
 use Rattle.manifest_completion.specs.Answered.{answer_of, answers_of}
 use Rattle.manifest_completion.specs.Asking.{IsAllowedAnswer, AreAllowedAnswers, FolderIsAnswered, IsAnsweredInTurn, folder_listing, listing_map, AllIsAnswered, ran_out_of_memory}
 use Rattle.manifest_completion.proofs.AskLemmas.{none_ascend, ascending_differ}

@@ -2,12 +2,11 @@
 use Rattle.std.proofs.Common.{Bool, ◌⊎◌, inl, inr, List, [], ◌∷◌, Option, Some, None}
 use Rattle.toml.specs.Data.{Data}
 use Rattle.manifest_schema.specs.Paths.{Text}
-use Rattle.manifest_schema.specs.Kinds.{Kind, Entries, Inheritable, inherited, local, text, flag, truth, list_of, map_of, inh, split, good_items, good_entries, good_inh, good_split}
+use Rattle.manifest_schema.specs.Kinds.{Kind, Entries, Inheritable, inherited, local, list_of, map_of, inh, split, good_items, good_entries, good_inh, good_split}
 use Rattle.manifest_schema.specs.Needs.{Need, required, optional, default, lenient_optional, lenient_default, good_some}
 use Rattle.manifest_schema.specs.Forms.{Rows, no_more, others, ◌⨾◌, Fields, gets, form, good_beside, spelled}
-use Rattle.manifest_schema.specs.Choices.{edition, resolver, level, status, strip}
 use Rattle.manifest_schema.specs.Contents.{Package, Workspace, Manifest}
-use Rattle.manifest_schema.specs.PartForms.{texts, text_or_flag, publish, lint, inherited_rows, detailed_rows, dependency_table, dependency, product_rows, badge_rows, maintenance_rows, badges_rows, profiles_rows, lints_rows, platform_rows}
+use Rattle.manifest_schema.specs.PartForms.{lint, inherited_rows, detailed_rows, dependency_table, dependency, product_rows, badge_rows, maintenance_rows, badges_rows, profiles_rows, lints_rows, platform_rows}
 use Rattle.manifest_schema.specs.ManifestForms.{package_rows, workspace_package_rows, workspace_rows, manifest_rows}
 
 -- EVERYTHING OF THE KIND is well-formed

@@ -1,5 +1,5 @@
 -- A table with one more entry at its end, and what is found in it.
-use Rattle.std.proofs.Common.{◌≡◌, ℕ, zero, suc, Bool, true, false, not, ◌||◌, ◌⊎◌, if◌then◌else◌, List, [], ◌∷◌, Option, Some, None, Ordering, Less, Equal, Greater, nat_cmp, refl, sym, ap, ◌∙◌, subst, true≢false, inl, inr, ◌++◌, map, length, get_or, slice_set, bytes_eq, Bor, ◌<◌, arith, ◌+◌, drop, drop-cons, add-one}
+use Rattle.std.proofs.Common.{◌≡◌, ℕ, zero, suc, Bool, true, false, not, ◌||◌, if◌then◌else◌, List, [], ◌∷◌, Option, Some, None, Ordering, Less, Equal, Greater, nat_cmp, refl, sym, ap, ◌∙◌, subst, true≢false, inl, inr, ◌++◌, map, length, get_or, slice_set, bytes_eq, Bor, ◌<◌, arith, ◌+◌, drop, drop-cons, add-one}
 use Rattle.std.proofs.Math.Bool.{or-false, or_assoc}
 use Rattle.std.proofs.Math.ListN.{replicate}
 use Rattle.std.proofs.lemmas.Bool.{and_parts, or_parts, or_cases, or_right, not-true, cases_Bool}
