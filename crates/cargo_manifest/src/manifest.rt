@@ -115,6 +115,7 @@ impl<P, W> Manifest<P, W> {
         ensures { (f : P → Data) (g : W → Data)
             → IsOfTable (manifest_rows kept kept) (manifest_content f g) no_members result }
     {
+        // the struct and the allocator; no row is required
         manifest!(empty_of(Manifest, alloc, ()))
     }
 }

@@ -167,12 +167,13 @@ impl<M> Package<M> {
     }
 }
 
-/// A package of this name, in which no other field is given.
+/// What the table `{ name = NAME }` is read as: a package of this name, in which every other field is `None`.
 fn package_with_name<M>(name: String) -> Package<M>
     ensures { (f : M → Data)
         → IsOfTable (package_rows kept) (package_content f)
         (member (codes "name") (string (string_bytes name)) no_members) result }
 {
+    // the struct, nothing in place of the allocator, and what `name`, the required row, holds
     package!(empty_of(Package, (), name))
 }
 

@@ -121,11 +121,12 @@ impl Form for WorkspacePackage {
     ghost lawful = { workspace_package_form.lawful };
 }
 
-/// No field at all.
+/// What the empty table is read as: each field is `None`.
 impl Default for WorkspacePackage {
     ghost is_default = { IsOfTable workspace_package_rows workspace_package_content no_members };
 
     fn default() -> WorkspacePackage {
+        // the struct; no row needs the allocator, and none is required
         workspace_package!(empty_of(WorkspacePackage, (), ()))
     }
 }
@@ -182,6 +183,7 @@ impl<M> Workspace<M> {
         ensures { (f : M → Data)
             → IsOfTable (workspace_rows kept) (workspace_content f) no_members result }
     {
+        // the struct and the allocator; no row is required
         workspace!(empty_of(Workspace, alloc, ()))
     }
 }

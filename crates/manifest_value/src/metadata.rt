@@ -47,7 +47,8 @@ pub fn put_tree<M: Metadata>(
     put_optional(alloc, table, first, value)
 }
 
-/// Metadata that may not be there: each value is refused, with `Cause::Metadata`. No value is well-formed.
+/// Metadata that may not be there: each value is refused, with `Cause::Metadata`, and never as out of memory
+/// (`takes_no_memory`). No value is well-formed.
 impl Schema for () {
     ghost Content = { Unit {0} };
 
