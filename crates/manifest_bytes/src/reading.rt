@@ -61,8 +61,8 @@ impl<'a> Reader<'a> {
         }
     }
 
-    /// Reads a date: a byte for the month, a byte for the day, and the year as a number (LEB128); `None` where the bytes
-    /// are no date.
+    /// Reads a date: a byte for the month, a byte for the day, and the year as a number (LEB128); `None` where the
+    /// bytes are no date.
     fn date(&mut self) -> Option<Date> {
         let month = self.byte()?;
         let day = self.byte()?;
@@ -90,8 +90,8 @@ impl<'a> Reader<'a> {
         }
     }
 
-    /// Reads a time: a byte for the hour, a byte for the minute, then the seconds and the nanoseconds, each of which may
-    /// be absent; `None` where the bytes are no time.
+    /// Reads a time: a byte for the hour, a byte for the minute, then the seconds and the nanoseconds, each of which
+    /// may be absent; `None` where the bytes are no time.
     fn time(&mut self) -> Option<Time> {
         let hour = self.byte()?;
         let minute = self.byte()?;
@@ -175,8 +175,8 @@ fn inside(deepest: usize) -> Result<usize, DecodeError>
     }
 }
 
-/// Reads a value with its tag. `Ok(None)` where the bytes do not begin with one; refuses with `TooDeep` where its arrays
-/// and tables nest deeper than `deepest`, and when out of memory.
+/// Reads a value with its tag. `Ok(None)` where the bytes do not begin with one; refuses with `TooDeep` where its
+/// arrays and tables nest deeper than `deepest`, and when out of memory.
 #[cycle(reading)]
 pub(crate) fn read_value(alloc: Global, deepest: usize, reader: &mut Reader<'_>) -> Read<Value> {
     match reader.byte() {
@@ -197,8 +197,8 @@ pub(crate) fn read_value(alloc: Global, deepest: usize, reader: &mut Reader<'_>)
     }
 }
 
-/// Reads an array without its tag: how many items there are, as a number, and the items, whose arrays and tables may nest
-/// `deepest` deep.
+/// Reads an array without its tag: how many items there are, as a number, and the items, whose arrays and tables may
+/// nest `deepest` deep.
 #[cycle(reading)]
 fn read_items(alloc: Global, deepest: usize, reader: &mut Reader<'_>) -> Read<Vec<Value>> {
     let mut items = Vec::new(alloc);

@@ -49,8 +49,8 @@ fn push_integer(out: &mut Vec<u8>, number: i64) -> Result<(), AllocError>
     }
 }
 
-/// Appends a date: a byte for the month, a byte for the day, and the year as a number (LEB128). After an error `out` may
-/// hold a part of it.
+/// Appends a date: a byte for the month, a byte for the day, and the year as a number (LEB128). After an error `out`
+/// may hold a part of it.
 fn push_date(out: &mut Vec<u8>, date: Date) -> Result<(), AllocError>
     ensures { OnOk result (out.new.items ≡ out.old.items ++ date_bytes date) }
 {
@@ -74,8 +74,8 @@ fn push_second(out: &mut Vec<u8>, second: Option<u8>) -> Result<(), AllocError>
     Ok(())
 }
 
-/// Appends the nanoseconds of a time: the byte 0 where they are absent, or 1 and a number (LEB128). After an error `out`
-/// may hold a part of it.
+/// Appends the nanoseconds of a time: the byte 0 where they are absent, or 1 and a number (LEB128). After an error
+/// `out` may hold a part of it.
 fn push_nanosecond(out: &mut Vec<u8>, nanosecond: Option<u32>) -> Result<(), AllocError>
     ensures { OnOk result (out.new.items ≡ out.old.items ++ part_bytes number_bytes nanosecond) }
 {

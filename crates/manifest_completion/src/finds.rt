@@ -19,7 +19,7 @@ pub struct FoundTarget {
     pub path: String,
 }
 
-/// A name without its ending `.rs`; `None` where it has another ending.
+/// A name without its ending `.rs`; `None` where it does not end so.
 #[tactic(auto, using(crate::proofs::FindLemmas::stem_is))]
 fn stem(name: &str) -> Option<&str>
     ensures { option_copied result ≡ stem name.now }
@@ -27,7 +27,7 @@ fn stem(name: &str) -> Option<&str>
     name.strip_suffix(".rs")
 }
 
-/// Whether an answer lists a name. A fault lists none.
+/// Whether an answer lists a name: false of a fault.
 pub fn lists(answer: &io::Result<BTreeSet<String>>, name: &str) -> bool
     ensures { result ≡ lists (answer_of answer.now) name.now }
 {

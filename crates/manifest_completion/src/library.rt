@@ -22,7 +22,7 @@ use std::io;
 /// The text of the refusal of a library without a file.
 const NO_LIBRARY: &str = "can't find library, rename file to `src/lib.rs` or specify lib.path";
 
-/// The name of the package, with `_` in place of each `-`.
+/// The name that a library has by default: the package's `name`, with `_` in place of each `-`.
 fn library_name(alloc: Global, name: &str) -> Result<String, AllocError>
     ensures { IfOk result (λ s. string_bytes s ≡ underscored name.now) }
 {

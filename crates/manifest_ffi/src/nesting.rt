@@ -83,8 +83,8 @@ fn after_dot(nesting: Nesting) -> Nesting
     }
 }
 
-/// The counts after a character that ends a run of dots (`,` `=` or a line feed), or a comment: `dots` is 0, and all else
-/// stays as it is.
+/// The counts after a character that ends a run of dots (`,` `=` or a line feed), or a comment: `dots` is 0, and all
+/// else stays as it is.
 #[inline(always)]
 fn after_key(nesting: Nesting) -> Nesting
     ensures { result ≡ after_key nesting }
@@ -151,8 +151,9 @@ fn is_dense(nesting: Nesting) -> bool
         > u64::from(MOST_NESTING)
 }
 
-/// Whether the brackets and dotted keys of a text could nest tables and arrays deeper than is parsed: counts both to the
-/// end of the text, or to the first place that no TOML text has, and then asks `is_dense`. Fails only when out of memory.
+/// Whether the brackets and dotted keys of a text could nest tables and arrays deeper than is parsed: counts both to
+/// the end of the text, or to the first place that no TOML text has, and then asks `is_dense`. Fails only when out of
+/// memory.
 pub(crate) fn nests_densely(alloc: Global, text: &str) -> Result<bool, AllocError>
     ensures { IfOk result (λ dense. dense ≡ nests_densely text.now) }
 {

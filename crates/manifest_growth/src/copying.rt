@@ -29,7 +29,7 @@ fn fault(alloc: Global) -> Result<Error, Error> {
 }
 
 impl Original {
-    /// Makes the error that is copied.
+    /// The error that is copied; at `Err` a refusal on the way there.
     fn error(self, alloc: Global) -> Result<Error, Error> {
         match self {
             Original::Fault => fault(alloc),

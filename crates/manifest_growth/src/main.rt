@@ -136,7 +136,7 @@ fn complete_scenario<W: Write>(
     printed
 }
 
-/// Tries what is asked for and prints what came of it.
+/// Runs a trial: makes its inputs, makes the one call that is tried, and prints its outcome to `output`.
 fn run<W: Write>(alloc: Global, trial: Trial, output: &mut W) -> Result<(), Error> {
     match trial {
         Trial::Reading(document) => document.read(alloc, output),
