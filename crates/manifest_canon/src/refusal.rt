@@ -8,7 +8,8 @@ use manifest_inherit::{FinishError, ResolveError};
 use std::alloc::{AllocError, Global};
 use std::io::Write;
 
-/// The line that the program prints to standard error for an error of a manifest, with its line feed.
+/// The line that the program prints to standard error for an error of a manifest, with its line feed. It is `error:
+/// toml` also where memory ran out while the text was parsed.
 fn error_line(alloc: Global, error: &Error) -> Result<String, AllocError> {
     match error {
         Error::Parse(ParseFault::Toml(_)) => String::from_str(alloc, "error: toml\n"),

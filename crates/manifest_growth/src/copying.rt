@@ -37,14 +37,14 @@ impl Original {
         }
     }
 
-    /// Copies the error and prints what came of it.
+    /// Makes the error, copies it, and prints to `output` the text of the copy, or that the copy was refused.
     pub fn copy<W: Write>(self, alloc: Global, output: &mut W) -> Result<(), Error> {
         let error = self.error(alloc)?;
         print_copy(alloc, &error, output)
     }
 }
 
-/// Prints the text of a copy.
+/// Prints to `output` the text of a copy of an error.
 fn print_copied<W: Write>(alloc: Global, copy: &Error, output: &mut W) -> Result<(), Error> {
     let text = format!(in alloc; "copied\n{copy}\n")?;
     output.write_all(text.as_bytes())?;

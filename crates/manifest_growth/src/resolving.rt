@@ -20,7 +20,7 @@ fn cause(refusal: &ResolveError) -> &'static str {
     }
 }
 
-/// Prints the text of a manifest that is resolved.
+/// Prints to `output` the canonical text of a manifest that was resolved.
 fn print_resolved<W: Write>(
     alloc: Global,
     manifest: &Manifest<Value, Value>,
@@ -53,7 +53,8 @@ fn print_refused<W: Write>(
     }
 }
 
-/// Resolves a manifest and prints what came of it.
+/// Resolves a manifest by the workspace `lender`, and prints to `output` its text, or as [`print_refused`] does why it
+/// was refused.
 fn resolve_over<W: Write>(
     alloc: Global,
     manifest: &mut Manifest<Value, Value>,

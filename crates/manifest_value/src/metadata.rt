@@ -96,7 +96,8 @@ impl Metadata for Value {
 #[derive(Debug, Clone, Copy, PartialEq, Eq)]
 pub struct Unread;
 
-/// Each value is read: none is refused, and reading takes no memory (`takes_no_memory`). The empty table is written.
+/// Each value is read: none is refused, nor is reading ever out of memory (`takes_no_memory`). The empty table is
+/// written.
 impl Schema for Unread {
     ghost Content = { Unit {0} };
 

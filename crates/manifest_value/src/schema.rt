@@ -35,7 +35,7 @@ pub trait Schema: Sized + Drop {
     /// How values are read and written, as a definition: `kind.reads`, `kind.faulty`, `kind.written` and `kind.good`.
     ghost kind: { Kind Content };
 
-    /// Whether reading takes no memory, so that it never fails as out of memory.
+    /// Whether reading never fails as out of memory: true of a type whose reading copies nothing.
     ghost takes_no_memory: { Type 0 } = { ⊥ };
 
     /// Reads a value: returns the one reading that it has by the kind, or a fault that it has, or `Memory`. What an
