@@ -195,8 +195,8 @@ pub fn package_from<M: Metadata>(alloc: Global, table: &Table) -> Result<Package
     read_form(alloc, TableSource::Lent(table))
 }
 
-/// The rows of `package!`. [`Rowed`] says what each method does, and `manifest_value::row_macros` what the macro makes
-/// of the rows.
+/// [`Rowed`] says what each method does. The body `package!(read_row_of(..))` is made of the rows of `package!`, as a
+/// `match` on the row's index `i`, and so are the others (`manifest_value::row_macros`).
 impl<M: Metadata> Rowed for Package<M> {
     ghost Content = { Contents.Package };
 
@@ -225,7 +225,8 @@ impl<M: Metadata> Rowed for Package<M> {
     }
 }
 
-/// A form: each field is a row, so it is read and written by its list alone, and `Schema` comes with it.
+/// A form: each field is a row, so it is read and written by its list alone, and `Schema` comes with it. `covers` is a
+/// law, with an empty body.
 impl<M: Metadata> Form for Package<M> {
     fn covers() {}
 

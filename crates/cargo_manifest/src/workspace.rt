@@ -114,7 +114,8 @@ impl Rowed for WorkspacePackage {
     }
 }
 
-/// A form: each field is a row, so it is read and written by its list alone, and `Schema` comes with it.
+/// A form: each field is a row, so it is read and written by its list alone, and `Schema` comes with it. `covers` is a
+/// law, with an empty body.
 impl Form for WorkspacePackage {
     fn covers() {}
 
@@ -188,8 +189,8 @@ impl<M> Workspace<M> {
     }
 }
 
-/// The rows of `workspace!`. [`Rowed`] says what each method does, and `manifest_value::row_macros` what the macro
-/// makes of the rows.
+/// [`Rowed`] says what each method does. The body `workspace!(read_row_of(..))` is made of the rows of `workspace!`, as
+/// a `match` on the row's index `i`, and so are the others (`manifest_value::row_macros`).
 impl<M: Metadata> Rowed for Workspace<M> {
     ghost Content = { Contents.Workspace };
 
@@ -218,7 +219,8 @@ impl<M: Metadata> Rowed for Workspace<M> {
     }
 }
 
-/// A form: each field is a row, so it is read and written by its list alone, and `Schema` comes with it.
+/// A form: each field is a row, so it is read and written by its list alone, and `Schema` comes with it. `covers` is a
+/// law, with an empty body.
 impl<M: Metadata> Form for Workspace<M> {
     fn covers() {}
 
