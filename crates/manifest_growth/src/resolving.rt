@@ -68,7 +68,7 @@ fn resolve_over<W: Write>(
     }
 }
 
-/// Resolves a small member over a workspace and prints what came of it.
+/// Reads a small member, resolves it by the workspace `lender`, and prints to `output` as [`resolve_over`] does.
 fn resolve_member<W: Write>(
     alloc: Global,
     lender: &Workspace<Value>,
@@ -80,7 +80,7 @@ fn resolve_member<W: Write>(
     printed
 }
 
-/// Resolves the small member over its workspace and prints what came of it.
+/// Reads the small workspace, and does what [`resolve_member`] does with it.
 pub fn resolve_small<W: Write>(alloc: Global, output: &mut W) -> Result<(), Error> {
     let root = Manifest::from_str(alloc, ROOT)?;
     let printed = match &root.workspace {
