@@ -88,8 +88,9 @@ pub(crate) fn from_text<P: Metadata, W: Metadata>(
     }
 }
 
-/// The manifest that a table means, of which these are the tagged bytes. Refuses bytes that are those of no table with
-/// `Untagged`, and ones that nest too deep with `TooDeep`; else as the manifest of a table is refused.
+/// The manifest that the form of a manifest reads of a value, of which these are the tagged bytes. Refuses bytes of no
+/// value with `Untagged`, and ones that nest too deep with `TooDeep`; else with the refusal of `from_value`, as of a
+/// value that is no table.
 fn from_tagged(alloc: Global, bytes: &[u8]) -> Result<Manifest, InputError>
     ensures ok { IfOk result (λ m. Are Tagged bytes.now (manifest_content view view m)) }
     ensures refused { IfErr result (RefusesToRead Tagged bytes.now) }
