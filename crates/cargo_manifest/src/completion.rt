@@ -43,7 +43,9 @@ fn declared_targets<'a, P: Metadata>(
     }
 }
 
-/// Puts the completed targets in the place of the declared ones. Nothing is allocated.
+/// Puts the completed library, lists and build script into a manifest that has a package; all else stays as it is. Of a
+/// manifest without a package the contract says nothing: it is not called with one. `completed_content before c` is
+/// what `c` holds, with the name, the edition and the flags of `before`, which `c` does not have.
 fn put_targets<P: Metadata>(manifest: &mut Manifest<P, Value>, completed: CompletedTargets)
     ensures { let old = manifest_kept P.kind P.content manifest.old in
         (p : Contents.Package) → old.«package» ≡ Some p

@@ -15,7 +15,8 @@ use std::rt::Files;
 use std::{fs, io};
 use toml::Value;
 
-/// The manifest that the bytes mean, completed by the folder of the path.
+/// The manifest that the bytes mean, completed over the folder in which the file at `path` stands. The file itself is
+/// not read.
 fn from_bytes<P: Metadata, R: Files + AllocGlobal + Clone + Drop>(
     rt: &R,
     path: Path<'_>,

@@ -115,12 +115,13 @@ impl<P, W> Manifest<P, W> {
         ensures { (f : P → Data) (g : W → Data)
             → IsOfTable (manifest_rows kept kept) (manifest_content f g) no_members result }
     {
+        // the struct and the allocator; no row is required
         manifest!(empty_of(Manifest, alloc, ()))
     }
 }
 
-/// The rows of `manifest!`. [`Rowed`] says what each method does, and `manifest_value::row_macros` what the macro makes
-/// of the rows.
+/// [`Rowed`] says what each method does. The body `manifest!(read_row_of(..))` is made of the rows of `manifest!`, as a
+/// `match` on the row's index `i`, and so are the others (`manifest_value::row_macros`).
 impl<P: Metadata, W: Metadata> Rowed for Manifest<P, W> {
     ghost Content = { Contents.Manifest };
 
@@ -149,7 +150,8 @@ impl<P: Metadata, W: Metadata> Rowed for Manifest<P, W> {
     }
 }
 
-/// A form: each field is a row, so it is read and written by its list alone, and `Schema` comes with it.
+/// A form: each field is a row, so it is read and written by its list alone, and `Schema` comes with it. `covers` is a
+/// law, with an empty body.
 impl<P: Metadata, W: Metadata> Form for Manifest<P, W> {
     fn covers() {}
 

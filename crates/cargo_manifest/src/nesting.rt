@@ -6,7 +6,7 @@ ghost use Rattle.toml.specs.View.{view, array_view, table_view};
 
 use toml::{Table, Value};
 
-/// How deep arrays and tables nest in a value, counted up to a limit.
+/// How deep arrays and tables nest in a value, counted up to `limit`: 0 of any other value, 1 of an array of those.
 #[cycle(depth)]
 fn value_depth(value: &Value, limit: usize) -> usize
     ensures { result ≡ min limit (spec.depth (view value.now)) }

@@ -167,12 +167,13 @@ impl<M> Package<M> {
     }
 }
 
-/// A package of this name, in which no other field is given.
+/// What the table `{ name = NAME }` is read as: a package of this name, in which every other field is `None`.
 fn package_with_name<M>(name: String) -> Package<M>
     ensures { (f : M → Data)
         → IsOfTable (package_rows kept) (package_content f)
         (member (codes "name") (string (string_bytes name)) no_members) result }
 {
+    // the struct, nothing in place of the allocator, and what `name`, the required row, holds
     package!(empty_of(Package, (), name))
 }
 
@@ -194,8 +195,8 @@ pub fn package_from<M: Metadata>(alloc: Global, table: &Table) -> Result<Package
     read_form(alloc, TableSource::Lent(table))
 }
 
-/// The rows of `package!`. [`Rowed`] says what each method does, and `manifest_value::row_macros` what the macro makes
-/// of the rows.
+/// [`Rowed`] says what each method does. The body `package!(read_row_of(..))` is made of the rows of `package!`, as a
+/// `match` on the row's index `i`, and so are the others (`manifest_value::row_macros`).
 impl<M: Metadata> Rowed for Package<M> {
     ghost Content = { Contents.Package };
 
@@ -224,7 +225,8 @@ impl<M: Metadata> Rowed for Package<M> {
     }
 }
 
-/// A form: each field is a row, so it is read and written by its list alone, and `Schema` comes with it.
+/// A form: each field is a row, so it is read and written by its list alone, and `Schema` comes with it. `covers` is a
+/// law, with an empty body.
 impl<M: Metadata> Form for Package<M> {
     fn covers() {}
 

@@ -44,7 +44,8 @@ fn key_size(key: &str) -> Option<usize>
     }
 }
 
-/// How many bytes a value takes on the right of `=`; `None` above `usize::MAX`.
+/// How many bytes a value takes on the right of `=`: the length of a text that `toml` writes of it there; `None` above
+/// `usize::MAX`.
 fn shown_size(value: &Value) -> Option<usize>
     ensures { IfSome result (λ n.
         (text : List ℕ) × IsValueText false (view value.now) text × (n ≡ length text)) }

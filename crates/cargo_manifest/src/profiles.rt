@@ -82,8 +82,8 @@ macro_rules! profiles {
 
 static PROFILES: &[Spellings] = profiles!(names_of_rows());
 
-/// The rows of `profiles!`. [`Rowed`] says what each method does, and `manifest_value::row_macros` what the macro makes
-/// of the rows.
+/// [`Rowed`] says what each method does. The body `profiles!(read_row_of(..))` is made of the rows of `profiles!`, as a
+/// `match` on the row's index `i`, and so are the others (`manifest_value::row_macros`).
 impl Rowed for Profiles {
     ghost Content = { Contents.Profiles };
 

@@ -49,8 +49,8 @@ fn read_old_package<P: Metadata>(alloc: Global, table: &Table) -> Result<Package
     }
 }
 
-/// Reads into a manifest what a table without a header means: its package is that of `project`, or else of the whole
-/// table.
+/// Sets `manifest` to what a table without a header means: its package is that of `project`, or else of the whole
+/// table; its other fields are read from the table.
 fn read_headless<P: Metadata, W: Metadata>(
     manifest: &mut Manifest<P, W>,
     alloc: Global,
@@ -72,7 +72,8 @@ fn read_headless<P: Metadata, W: Metadata>(
     }
 }
 
-/// Reads into a manifest what a table means, with or without a header.
+/// Sets `manifest` to what a table means, with or without a header: nothing stays of what it was. After a refusal it is
+/// of no use.
 fn read_table<P: Metadata, W: Metadata>(
     manifest: &mut Manifest<P, W>,
     alloc: Global,
@@ -90,7 +91,7 @@ fn read_table<P: Metadata, W: Metadata>(
     }
 }
 
-/// Reads into a manifest what the table of a document means: [`read_table`], with its fault as an [`Error`].
+/// Sets `manifest` to what the table of a document means: [`read_table`], with its fault as an [`Error`].
 fn read_document<P: Metadata, W: Metadata>(
     manifest: &mut Manifest<P, W>,
     alloc: Global,
@@ -107,7 +108,8 @@ fn read_document<P: Metadata, W: Metadata>(
     }
 }
 
-/// Parses a text as TOML, and reads into a manifest what its table means.
+/// Parses a text as TOML, and sets `manifest` to what its table means, as [`read_document`] does. Refuses text that is
+/// no TOML with `Error::Parse(ParseFault::Toml(..))`.
 fn read_text<P: Metadata, W: Metadata>(
     manifest: &mut Manifest<P, W>,
     alloc: Global,
@@ -130,7 +132,7 @@ fn read_text<P: Metadata, W: Metadata>(
     }
 }
 
-/// Reads into a manifest what bytes mean, if they are UTF-8, as [`read_text`] does.
+/// Sets `manifest` to what bytes mean, as [`read_text`] does. Refuses bytes that are not UTF-8 with `Error::Utf8`.
 fn read_bytes<P: Metadata, W: Metadata>(
     manifest: &mut Manifest<P, W>,
     alloc: Global,

@@ -114,18 +114,20 @@ impl Rowed for WorkspacePackage {
     }
 }
 
-/// A form: each field is a row, so it is read and written by its list alone, and `Schema` comes with it.
+/// A form: each field is a row, so it is read and written by its list alone, and `Schema` comes with it. `covers` is a
+/// law, with an empty body.
 impl Form for WorkspacePackage {
     fn covers() {}
 
     ghost lawful = { workspace_package_form.lawful };
 }
 
-/// No field at all.
+/// What the empty table is read as: each field is `None`.
 impl Default for WorkspacePackage {
     ghost is_default = { IsOfTable workspace_package_rows workspace_package_content no_members };
 
     fn default() -> WorkspacePackage {
+        // the struct; no row needs the allocator, and none is required
         workspace_package!(empty_of(WorkspacePackage, (), ()))
     }
 }
@@ -182,12 +184,13 @@ impl<M> Workspace<M> {
         ensures { (f : M → Data)
             → IsOfTable (workspace_rows kept) (workspace_content f) no_members result }
     {
+        // the struct and the allocator; no row is required
         workspace!(empty_of(Workspace, alloc, ()))
     }
 }
 
-/// The rows of `workspace!`. [`Rowed`] says what each method does, and `manifest_value::row_macros` what the macro
-/// makes of the rows.
+/// [`Rowed`] says what each method does. The body `workspace!(read_row_of(..))` is made of the rows of `workspace!`, as
+/// a `match` on the row's index `i`, and so are the others (`manifest_value::row_macros`).
 impl<M: Metadata> Rowed for Workspace<M> {
     ghost Content = { Contents.Workspace };
 
@@ -216,7 +219,8 @@ impl<M: Metadata> Rowed for Workspace<M> {
     }
 }
 
-/// A form: each field is a row, so it is read and written by its list alone, and `Schema` comes with it.
+/// A form: each field is a row, so it is read and written by its list alone, and `Schema` comes with it. `covers` is a
+/// law, with an empty body.
 impl<M: Metadata> Form for Workspace<M> {
     fn covers() {}
 

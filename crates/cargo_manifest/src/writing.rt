@@ -70,9 +70,10 @@ impl<P: Metadata, W: Metadata> Manifest<P, W> {
         }
     }
 
-    /// The text of [`Manifest::to_toml_string`], where it takes at most `most` bytes; `None` where it could take more,
-    /// by [`printed_bound`](crate::printed_bound) of its table, which is counted before anything is printed. So a small
-    /// manifest that prints as a large text is refused without the text.
+    /// The text of [`Manifest::to_toml_string`], where it takes at most `most` bytes; `None` where it could take more:
+    /// where [`printed_bound`](crate::printed_bound) of its table is more than `most`, or the text is longer. The bound
+    /// is counted before the text is made (which no contract says), so a small manifest that prints as a large text is
+    /// refused without it.
     ///
     /// Refuses as [`Manifest::to_toml_string`] does.
     ///

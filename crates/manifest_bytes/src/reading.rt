@@ -20,7 +20,7 @@ pub(crate) struct Reader<'a> {
 }
 
 impl<'a> Reader<'a> {
-    /// The next byte; `None` at the end.
+    /// The next byte, which is then passed; `None` at the end.
     fn byte(&mut self) -> Option<u8> {
         let (first, left) = self.left.split_first()?;
         self.left = left;
@@ -61,7 +61,8 @@ impl<'a> Reader<'a> {
         }
     }
 
-    /// A date: the month, the day, and the year as a number.
+    /// Reads a date: a byte for the month, a byte for the day, and the year as a number (LEB128); `None` where the
+    /// bytes are no date.
     fn date(&mut self) -> Option<Date> {
         let month = self.byte()?;
         let day = self.byte()?;
@@ -69,7 +70,8 @@ impl<'a> Reader<'a> {
         Some(Date { year, month, day })
     }
 
-    /// The seconds of a time, which may be absent (the inner `None`).
+    /// Reads the seconds of a time, which may be absent: `Some(None)` of the byte 0, `Some(Some(s))` of the byte 1 and
+    /// the byte `s`, and `None` where the bytes are neither.
     fn second(&mut self) -> Option<Option<u8>> {
         if self.has_part()? {
             Some(Some(self.byte()?))
@@ -78,7 +80,8 @@ impl<'a> Reader<'a> {
         }
     }
 
-    /// The nanoseconds of a time, which may be absent (the inner `None`).
+    /// Reads the nanoseconds of a time, which may be absent: `Some(None)` of the byte 0, `Some(Some(n))` of the byte 1
+    /// and the number `n` (LEB128), and `None` where the bytes are neither.
     fn nanosecond(&mut self) -> Option<Option<u32>> {
         if self.has_part()? {
             Some(Some(u32::try_from(self.number()?).ok()?))
@@ -87,7 +90,8 @@ impl<'a> Reader<'a> {
         }
     }
 
-    /// A time: hour, minute, seconds and nanoseconds.
+    /// Reads a time: a byte for the hour, a byte for the minute, then the seconds and the nanoseconds, each of which
+    /// may be absent; `None` where the bytes are no time.
     fn time(&mut self) -> Option<Time> {
         let hour = self.byte()?;
         let minute = self.byte()?;
@@ -151,7 +155,7 @@ impl<'a> Reader<'a> {
     }
 }
 
-/// Reads a string without its tag, into memory of its own.
+/// Reads a string without its tag, as [`Reader::text`] does, and copies it; `Ok(None)` where there is none.
 fn read_text(alloc: Global, reader: &mut Reader<'_>) -> Read<String> {
     match reader.text() {
         Some(text) => Ok(Some(String::from_str(alloc, text)?)),
@@ -171,7 +175,8 @@ fn inside(deepest: usize) -> Result<usize, DecodeError>
     }
 }
 
-/// Reads a value with its tag. Its arrays and tables may nest `deepest` deep.
+/// Reads a value with its tag. `Ok(None)` where the bytes do not begin with one; refuses with `TooDeep` where its
+/// arrays and tables nest deeper than `deepest`, and when out of memory.
 #[cycle(reading)]
 pub(crate) fn read_value(alloc: Global, deepest: usize, reader: &mut Reader<'_>) -> Read<Value> {
     match reader.byte() {
@@ -192,7 +197,8 @@ pub(crate) fn read_value(alloc: Global, deepest: usize, reader: &mut Reader<'_>)
     }
 }
 
-/// Reads an array without its tag: how many items there are, and the items.
+/// Reads an array without its tag: how many items there are, as a number, and the items, whose arrays and tables may
+/// nest `deepest` deep.
 #[cycle(reading)]
 fn read_items(alloc: Global, deepest: usize, reader: &mut Reader<'_>) -> Read<Vec<Value>> {
     let mut items = Vec::new(alloc);

@@ -13,6 +13,7 @@ use toml::{Table, Value};
 use toml_datetime::{Date, Datetime, Offset, Time};
 
 /// Appends a number as unsigned LEB128: groups of seven bits, the lowest first, with 128 added to each but the last.
+/// After an error `out` may hold a part of it, as after an error of any function here.
 #[tactic(auto, using(crate::proofs::NumberLemmas::number_more, crate::proofs::NumberLemmas::number_last))]
 fn push_number(out: &mut Vec<u8>, number: u64) -> Result<(), AllocError>
     ensures { OnOk result (out.new.items ≡ out.old.items ++ number_bytes number) }
@@ -34,7 +35,8 @@ fn push_text(out: &mut Vec<u8>, text: &str) -> Result<(), AllocError>
     out.extend_from_slice(text.as_bytes())
 }
 
-/// Appends an integer with its tag: 2 and the number, or 3 and -1 minus the number, where it is below 0.
+/// Appends an integer with its tag: the byte 2 and the number, or the byte 3 and -1 minus the number, where it is below
+/// 0; both as LEB128. After an error `out` may hold a part of it.
 fn push_integer(out: &mut Vec<u8>, number: i64) -> Result<(), AllocError>
     ensures { OnOk result (out.new.items ≡ out.old.items ++ integer_bytes number) }
 {
@@ -47,7 +49,8 @@ fn push_integer(out: &mut Vec<u8>, number: i64) -> Result<(), AllocError>
     }
 }
 
-/// Appends a date: the month, the day, and the year as a number.
+/// Appends a date: a byte for the month, a byte for the day, and the year as a number (LEB128). After an error `out`
+/// may hold a part of it.
 fn push_date(out: &mut Vec<u8>, date: Date) -> Result<(), AllocError>
     ensures { OnOk result (out.new.items ≡ out.old.items ++ date_bytes date) }
 {
@@ -56,7 +59,8 @@ fn push_date(out: &mut Vec<u8>, date: Date) -> Result<(), AllocError>
     push_number(out, u64::from(date.year))
 }
 
-/// Appends the seconds of a time: 0 for none, or 1 and a byte.
+/// Appends the seconds of a time: the byte 0 where they are absent, or 1 and a byte with the seconds. After an error
+/// `out` may hold a part of it.
 fn push_second(out: &mut Vec<u8>, second: Option<u8>) -> Result<(), AllocError>
     ensures { OnOk result (out.new.items ≡ out.old.items ++ part_bytes second_bytes second) }
 {
@@ -70,7 +74,8 @@ fn push_second(out: &mut Vec<u8>, second: Option<u8>) -> Result<(), AllocError>
     Ok(())
 }
 
-/// Appends the nanoseconds of a time: 0 for none, or 1 and a number.
+/// Appends the nanoseconds of a time: the byte 0 where they are absent, or 1 and a number (LEB128). After an error
+/// `out` may hold a part of it.
 fn push_nanosecond(out: &mut Vec<u8>, nanosecond: Option<u32>) -> Result<(), AllocError>
     ensures { OnOk result (out.new.items ≡ out.old.items ++ part_bytes number_bytes nanosecond) }
 {
@@ -86,7 +91,8 @@ fn push_nanosecond(out: &mut Vec<u8>, nanosecond: Option<u32>) -> Result<(), All
     }
 }
 
-/// Appends a time: hour, minute, seconds and nanoseconds.
+/// Appends a time: a byte for the hour, a byte for the minute, and the seconds and nanoseconds, each of which may be
+/// absent. After an error `out` may hold a part of it.
 fn push_time(out: &mut Vec<u8>, time: Time) -> Result<(), AllocError>
     ensures { OnOk result (out.new.items ≡ out.old.items ++ time_bytes time) }
 {
@@ -182,7 +188,8 @@ fn push_value(out: &mut Vec<u8>, value: &Value) -> Result<(), AllocError>
     }
 }
 
-/// Appends an array without its tag: how many items there are, and the items.
+/// Appends an array without its tag: how many items there are, as a number (LEB128), and each item with its tag. After
+/// an error `out` may hold a part of it.
 #[cycle(bytes)]
 fn push_items(out: &mut Vec<u8>, items: &Vec<Value>) -> Result<(), AllocError>
     ensures { let ds = array_view items.now in
@@ -196,7 +203,8 @@ fn push_items(out: &mut Vec<u8>, items: &Vec<Value>) -> Result<(), AllocError>
     Ok(())
 }
 
-/// Appends a table without its tag: how many entries there are, and each key with its value.
+/// Appends a table without its tag: how many entries there are, as a number (LEB128), and of each entry the key without
+/// a tag and the value with one. After an error `out` may hold a part of it.
 #[cycle(bytes)]
 fn push_members(out: &mut Vec<u8>, members: &Table) -> Result<(), AllocError>
     ensures { let ms = table_view members.now in

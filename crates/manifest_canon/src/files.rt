@@ -66,7 +66,8 @@ fn finish_at<H: Files + AllocGlobal + Clone + Drop>(
     }
 }
 
-/// Reads the manifest of FILE and finishes it.
+/// The manifest of FILE, finished: with what it inherits from the workspace of `root`, where there is one, and
+/// completed over the folder that FILE stands in.
 fn finished_manifest<H: Files + AllocGlobal + Clone + Drop>(
     rt: &H,
     file: &str,
@@ -87,7 +88,8 @@ fn finished_manifest<H: Files + AllocGlobal + Clone + Drop>(
     }
 }
 
-/// Prints the canonical text of the manifest that a file holds.
+/// Reads the manifest of a file, and writes its canonical text to `output`. After a refusal `output` has at most a
+/// beginning of the text.
 pub fn canon_at<H: Files + AllocGlobal, W: Write>(
     rt: &H,
     file: &str,

@@ -47,7 +47,8 @@ fn print<W: Write>(output: &mut W, text: &str) -> io::Result<()>
     output.flush()
 }
 
-/// Makes the canonical text of a manifest, drops the manifest, and prints the text.
+/// Makes the canonical text of a manifest, drops the manifest, and writes the text to `output`. After a refusal
+/// `output` has at most a beginning of the text.
 #[tactic(auto, using(crate::proofs::Printed::fails_unwritten))]
 pub fn print_manifest<W: Write>(
     alloc: Global,

@@ -8,7 +8,8 @@ use manifest_inherit::{FinishError, ResolveError};
 use std::alloc::{AllocError, Global};
 use std::io::Write;
 
-/// The line on standard error for an error of a manifest.
+/// The line that the program prints to standard error for an error of a manifest, with its line feed. It is `error:
+/// toml` also where memory ran out while the text was parsed.
 fn error_line(alloc: Global, error: &Error) -> Result<String, AllocError> {
     match error {
         Error::Parse(ParseFault::Toml(_)) => String::from_str(alloc, "error: toml\n"),
@@ -29,7 +30,8 @@ fn key_text(alloc: Global, name: &str) -> Result<String, AllocError>
     KeyPath { steps }.to_text(alloc)
 }
 
-/// The line on standard error for a member that is not resolved.
+/// The line that the program prints to standard error where a member is not resolved, with its line feed. A key or a
+/// name in it is written as in a key path.
 fn resolve_line(alloc: Global, refused: &ResolveError) -> Result<String, AllocError> {
     match refused {
         ResolveError::NotInWorkspace(name) => {
@@ -48,7 +50,7 @@ fn resolve_line(alloc: Global, refused: &ResolveError) -> Result<String, AllocEr
     }
 }
 
-/// The line on standard error for a refusal.
+/// The line that the program prints to standard error for a refusal, with its line feed. Fails only when out of memory.
 fn line_of(alloc: Global, refusal: &FinishError) -> Result<String, AllocError> {
     match refusal {
         FinishError::Manifest(error) => error_line(alloc, error),

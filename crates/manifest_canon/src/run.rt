@@ -40,7 +40,8 @@ fn read_all<R: Read>(alloc: Global, input: &mut R) -> io::Result<Vec<u8>>
     Err(io::Error::other("the input has not ended"))
 }
 
-/// Prints the canonical text of the manifest that the bytes are.
+/// Reads the manifest that the bytes mean, and writes its canonical text to `output`. After a refusal `output` has at
+/// most a beginning of the text.
 #[tactic(auto, using(crate::proofs::Printed::refused_by_bytes, crate::proofs::Printed::refused_as_printed))]
 fn print_canonical<W: Write>(alloc: Global, bytes: &[u8], output: &mut W) -> Result<(), Error>
     ensures ok { OnOk result (IsPrinted bytes.now (W.contents output.old) (W.contents output.new)) }
@@ -54,7 +55,7 @@ fn print_canonical<W: Write>(alloc: Global, bytes: &[u8], output: &mut W) -> Res
     print_manifest(alloc, manifest, output)
 }
 
-/// Prints the canonical text of the manifest that the input holds.
+/// Reads the input to its end, and writes the canonical text of its manifest to `output`, as [`print_canonical`] does.
 fn canon<R: Read, W: Write>(alloc: Global, input: &mut R, output: &mut W) -> Result<(), Error>
     ensures ok { OnOk result (IfSome (R.remaining input.old)
         (λ bytes. IsPrinted bytes (W.contents output.old) (W.contents output.new))) }

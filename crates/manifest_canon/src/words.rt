@@ -50,7 +50,8 @@ fn member_request<'a>(verb: &str, file: &'a str, option: &str, root: &'a str) ->
     }
 }
 
-/// What the arguments ask for, or `None` where they are wrong.
+/// What the arguments of the program ask for, as `complete FILE`; `None` where they are wrong, which the usage line is
+/// printed for.
 pub fn request_from_words(words: &[String]) -> Option<Request<'_>>
     ensures { IsRequestOf words.now result }
 {

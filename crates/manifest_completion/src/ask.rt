@@ -12,7 +12,7 @@ use std::collections::BTreeSet;
 use std::io;
 use std::io::ErrorKind;
 
-/// The path text of an entry: `folder/name`.
+/// The path text of an entry, as a new string: the folder, a slash and the name. Fails only when out of memory.
 pub fn join(alloc: Global, folder: &str, name: &str) -> Result<String, AllocError>
     ensures { IfOk result (λ s. string_bytes s ≡ joined folder.now name.now) }
 {
@@ -41,7 +41,7 @@ pub struct Answers {
     pub root: io::Result<BTreeSet<String>>,
 }
 
-/// Whether the filesystem ran out of memory for an answer.
+/// Whether an answer of the filesystem is a fault of the kind `OutOfMemory`.
 fn is_memory_fault(answer: &io::Result<BTreeSet<String>>) -> bool
     ensures { result ≡ is_memory_fault (answer_of answer.now) }
 {
@@ -59,7 +59,8 @@ pub fn names_ascend(names: &BTreeSet<String>)
     let _ascending = names.len();
 }
 
-/// Asks the filesystem for the names in the folder at a path.
+/// Asks the filesystem for the names in the folder at a path, and returns its answer unchanged: names, or a fault. The
+/// contract says that the filesystem may answer so, and that the names ascend.
 #[tactic(auto, using(crate::proofs::AskLemmas::none_ascend))]
 pub fn ask<FS: AbstractFilesystem>(
     alloc: Global,
@@ -101,7 +102,8 @@ fn ask_entries<FS: AbstractFilesystem>(
     Ok(entries)
 }
 
-/// Asks at a folder of targets, as `examples`, and at each of its entries.
+/// Asks at a folder of targets, as `examples`, and if that lists names, at the path of each of them, as [`ask_entries`]
+/// does. Returns the answers, faults among them; fails only when out of memory for the list of them.
 fn ask_folder<FS: AbstractFilesystem>(
     alloc: Global,
     fs: &FS,
@@ -118,7 +120,7 @@ fn ask_folder<FS: AbstractFilesystem>(
 }
 
 impl FolderAnswers {
-    /// The answers of a folder that is not asked: not found, and no entries.
+    /// What stands for the answers of a folder that is not asked: not found, and no entries.
     fn of_unasked_folder(alloc: Global) -> FolderAnswers
         ensures own { answer_of result.own ≡ fault NotFound }
         ensures entries { result.entries.items ≡ [] }
@@ -129,7 +131,7 @@ impl FolderAnswers {
         }
     }
 
-    /// Whether the listing of the folder or of one of its entries ran out of memory.
+    /// Whether the answer of the folder or of one of its entries is a fault of the kind `OutOfMemory`.
     fn ran_out_of_memory(&self) -> bool
         ensures { result ≡ ran_out_of_memory self.now }
     {
@@ -138,7 +140,8 @@ impl FolderAnswers {
 }
 
 impl Answers {
-    /// Whether a folder of targets or an entry of one ran out of memory.
+    /// Whether a folder of targets or an entry of one was answered with a fault of the kind `OutOfMemory`; `src` and
+    /// the folder of the manifest do not count.
     pub fn ran_out_of_memory(&self) -> bool
         ensures { result ≡ some_ran_out_of_memory self.now }
     {
@@ -148,7 +151,8 @@ impl Answers {
     }
 }
 
-/// Asks at a folder of targets, unless an answer before it ran out of memory.
+/// Asks at a folder of targets, as [`ask_folder`] does; where `stopped` is true (an answer before it ran out of
+/// memory), asks nothing and returns `of_unasked_folder`.
 fn ask_folder_unless<FS: AbstractFilesystem>(
     stopped: bool,
     alloc: Global,

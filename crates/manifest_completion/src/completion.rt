@@ -159,7 +159,7 @@ fn check_source(source: io::Result<BTreeSet<String>>) -> Result<io::Result<BTree
     }
 }
 
-/// Refuses where the folder of the manifest was asked and is a fault.
+/// Refuses with `Io` where `asks` is true (the folder of the manifest was asked) and its answer `root` is a fault.
 fn check_root(asks: bool, root: &io::Result<BTreeSet<String>>) -> Result<(), Error>
     ensures { let fault = root_fault_if asks (answer_of root.now) in
         MatchResult result (λ u. fault ≡ None) (IsFault fault) }
@@ -170,7 +170,8 @@ fn check_root(asks: bool, root: &io::Result<BTreeSet<String>>) -> Result<(), Err
     }
 }
 
-/// The build script: `build.rs` where it is asked for and listed, else as it was.
+/// The package's `build` after completion: `build.rs` where `build` is absent or true and the answer `root` lists it,
+/// else a copy of `build`.
 fn completed_build(
     alloc: Global,
     build: &Option<StringOrBool>,
@@ -237,7 +238,8 @@ fn bin_defaults(
     }
 }
 
-/// A completed list of the targets of one folder.
+/// The completed list of one folder of targets, as `tests`: the declared targets of `list`, and where `discovers` is
+/// true those that the answers of the folder show; each with its defaults.
 fn completed_folder(
     alloc: Global,
     folder: &str,
@@ -255,7 +257,8 @@ fn completed_folder(
     completed_list(alloc, list, finds.as_slice(), discovers, defaults)
 }
 
-/// The completed binaries: those of `src/bin`, and `src/main.rs`.
+/// The completed list of binaries: the declared ones, and where binaries are discovered those that `src/bin` and
+/// `src/main.rs` are; each with its defaults.
 fn completed_bins(
     alloc: Global,
     declared: &DeclaredTargets<'_>,
@@ -282,7 +285,8 @@ fn completed_bins(
     )
 }
 
-/// Completes the four lists: binaries, examples, tests and benches.
+/// The four completed lists, as new ones, by what was answered: binaries, examples, tests and benches. Fails only when
+/// out of memory.
 fn completed_lists(
     alloc: Global,
     declared: &DeclaredTargets<'_>,
@@ -324,7 +328,9 @@ fn completed_lists(
     })
 }
 
-/// The targets completed with this library, by what was answered.
+/// The completed targets, by what was answered: the library `lib` as it was passed in, the four lists, and the build
+/// script. Refuses with `Io` where memory ran out for a listing of targets, and then where the folder of the manifest
+/// was asked and is a fault; and with `Memory`.
 fn complete_by_answers(
     alloc: Global,
     declared: &DeclaredTargets<'_>,

@@ -15,7 +15,7 @@ pub fn copy_optional_text(alloc: Global, text: Option<&str>) -> Result<Option<St
     }
 }
 
-/// A list of one text.
+/// A list whose only item is a copy of the text.
 pub fn one_text(alloc: Global, text: &str) -> Result<Vec<String>, AllocError>
     ensures { IfOk result (λ v. map string_bytes v.items ≡ text.now ∷ []) }
 {

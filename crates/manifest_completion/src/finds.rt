@@ -19,7 +19,7 @@ pub struct FoundTarget {
     pub path: String,
 }
 
-/// A name without its ending `.rs`; `None` where it has another ending.
+/// A name without its ending `.rs`; `None` where it does not end so.
 #[tactic(auto, using(crate::proofs::FindLemmas::stem_is))]
 fn stem(name: &str) -> Option<&str>
     ensures { option_copied result ≡ stem name.now }
@@ -27,7 +27,7 @@ fn stem(name: &str) -> Option<&str>
     name.strip_suffix(".rs")
 }
 
-/// Whether an answer lists a name. A fault lists none.
+/// Whether an answer lists a name: false of a fault.
 pub fn lists(answer: &io::Result<BTreeSet<String>>, name: &str) -> bool
     ensures { result ≡ lists (answer_of answer.now) name.now }
 {
@@ -66,7 +66,8 @@ fn push_entry_finds(
     Ok(())
 }
 
-/// The finds of a folder of targets, in the order of its names.
+/// The finds of a folder of targets, as [`push_entry_finds`] makes them of each of its names and the answer at it, in
+/// the order of the names; none where the folder itself was answered with a fault.
 #[tactic(auto, using(crate::proofs::FindLemmas::paired_none))]
 pub fn folder_finds(
     alloc: Global,
@@ -91,7 +92,7 @@ pub fn folder_finds(
     Ok(finds)
 }
 
-/// Appends the binary of `src/main.rs`, under the package's name, where `src` lists it.
+/// Appends the find of `src/main.rs`, under the package's name, if `source`, the answer at `src`, lists it.
 pub fn push_main_find(
     finds: &mut Vec<FoundTarget>,
     alloc: Global,

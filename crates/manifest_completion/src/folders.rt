@@ -38,7 +38,7 @@ impl<'a, R> Filesystem<'a, R> {
     }
 }
 
-/// The names in a folder, but for those that are not UTF-8 and those that cannot be read.
+/// The names of all entries of a folder of the disk, without those that are not UTF-8 and those that cannot be read.
 fn names_in<R: Files + AllocGlobal + Clone + Drop>(
     rt: &R,
     alloc: Global,

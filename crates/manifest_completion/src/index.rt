@@ -48,7 +48,7 @@ impl<'a> IndexedFinds<'a> {
     }
 }
 
-/// Adds a path to those that are taken; true where it was not taken before.
+/// Adds a path to the set of those that are taken. Returns whether it was not in it before.
 pub fn take_path<'a>(taken: &mut BTreeSet<&'a str>, path: &'a str) -> Result<bool, AllocError>
     ensures new { IfOk result (λ is_new. is_new ≡ not (has_path (paths_in taken.old) path.now)) }
     ensures taken { let more = paths_in taken.old ++ path.now ∷ [] in

@@ -22,7 +22,7 @@ use std::io;
 /// The text of the refusal of a library without a file.
 const NO_LIBRARY: &str = "can't find library, rename file to `src/lib.rs` or specify lib.path";
 
-/// The name of the package, with `_` in place of each `-`.
+/// The name that a library has by default: the package's `name`, with `_` in place of each `-`.
 fn library_name(alloc: Global, name: &str) -> Result<String, AllocError>
     ensures { IfOk result (λ s. string_bytes s ≡ underscored name.now) }
 {
@@ -73,7 +73,8 @@ fn library_path(
     library_file(alloc, is_legacy(declared.edition), source, name)
 }
 
-/// A declared library with this path, and with what it takes where it has none.
+/// The declared library `lib` with this path; where it has no name, edition or crate type, it gets that of the package,
+/// or the type `lib`. It has no required features.
 fn declared_library(
     alloc: Global,
     declared: &DeclaredTargets<'_>,
@@ -132,7 +133,8 @@ fn inferred_library(
     }))
 }
 
-/// The library that the completed package has. Refuses a declared one that has no file with `Other` and its text.
+/// The library that the completed package has, as a new value: the declared one, filled in; or that of `src/lib.rs`, by
+/// [`inferred_library`]; or none. Refuses a declared one that has no file with `Other` of `NO_LIBRARY`.
 pub fn completed_library(
     alloc: Global,
     declared: &DeclaredTargets<'_>,

@@ -23,7 +23,8 @@ pub struct TargetDefaults {
     pub path: Option<&'static str>,
 }
 
-/// A target's own path, or that of the first find of its name.
+/// A target's own path; where it has none, that of the first find of its name; `None` where there is no such find, or
+/// the target has no name.
 fn path_of<'a>(target: &'a Product, finds: &IndexedFinds<'a>) -> Option<&'a str>
     ensures { option_copied result ≡ (pathed finds.now (product_content target.now)).path }
 {
@@ -36,7 +37,7 @@ fn path_of<'a>(target: &'a Product, finds: &IndexedFinds<'a>) -> Option<&'a str>
     }
 }
 
-/// The paths that the declared targets have, once filled in from the finds.
+/// The set of the paths that the declared targets have, each its own or that of the first find of its name.
 fn taken_paths<'a>(
     alloc: Global,
     targets: &'a [Product],
@@ -74,7 +75,8 @@ pub fn crate_type_of(
     }
 }
 
-/// A declared target, filled in from the finds and given its defaults.
+/// A copy of a declared target in which a path that is absent is that of the first find of its name, and in which path,
+/// edition and crate type, where still absent, are the defaults.
 fn filled_target<'a>(
     alloc: Global,
     target: &'a Product,
@@ -104,7 +106,8 @@ fn filled_target<'a>(
     })
 }
 
-/// A target that was found, with its defaults.
+/// A new target of the name and the path of a find, with the edition and the crate type of `defaults`; all else is as
+/// [`Product::default`] has it.
 #[tactic(auto, unfolding(manifest_schema::specs::PartForms::product_rows))]
 fn found_target(
     alloc: Global,
@@ -127,7 +130,7 @@ fn found_target(
     })
 }
 
-/// Appends a target for each find whose path is not taken yet, and takes it.
+/// Appends to `list` a target for each find whose path is not in `taken`, nor that of a find before it.
 fn push_found<'a>(
     list: &mut Vec<Product>,
     alloc: Global,
@@ -148,7 +151,7 @@ fn push_found<'a>(
     Ok(())
 }
 
-/// The declared targets, filled in from the finds and given their defaults.
+/// Copies of the declared targets, in their order, each as [`filled_target`] makes it.
 fn filled_targets<'a>(
     alloc: Global,
     declared: &'a [Product],

@@ -43,7 +43,8 @@ fn copy_to_front(text: &[u8], out: &mut [u8]) -> usize
     length
 }
 
-/// The report (numbers and text) of what was made: status 0 and the text, or the refusal.
+/// The report (numbers and text) of what was made: status 0 and the text that was made, or the numbers and the text of
+/// the refusal.
 pub(crate) fn outcome(alloc: Global, made: Result<Vec<u8>, Refusal>) -> Told
     ensures { Outcome made result }
 {
@@ -53,7 +54,8 @@ pub(crate) fn outcome(alloc: Global, made: Result<Vec<u8>, Refusal>) -> Told
     }
 }
 
-/// Writes the text of a report into `out`, and returns its numbers.
+/// Copies the text of a report to the beginning of `out`, if there is room for all of it, and returns its numbers and
+/// the length of the text.
 pub(crate) fn write_answer(told: &Told, out: &mut [u8]) -> Answer
     ensures { Hands told.now out.old out.new result }
 {
@@ -76,7 +78,9 @@ pub(crate) struct Asked {
     pub most: usize,
 }
 
-/// The answer of a call: what is asked for of the manifest that is made of the bytes, the root and the folders.
+/// Answers a call: makes a manifest of the bytes, the root and the folders, and writes what is asked for of it, or the
+/// text of the refusal, to the beginning of `out`, if there is room for all of it. Returns the numbers of the answer.
+/// Clause `dates`: for the input `Toml` the status is never 7 (a date-time that `toml` counts as invalid).
 pub(crate) fn respond(
     alloc: Global,
     asked: Asked,

@@ -42,7 +42,8 @@ pub struct GivenFolders<'a> {
     by_path: BTreeMap<&'a str, Listed>,
 }
 
-/// The kind of I/O error that stands for the number of a folder's fault.
+/// The kind of I/O error that stands for the number of a folder's fault: 1 is `NotFound`, 2 is `OutOfMemory`, and any
+/// other number is `Other`.
 fn fault_kind(number: u8) -> ErrorKind
     ensures { result ≡ fault_kind number }
 {
@@ -55,7 +56,7 @@ fn fault_kind(number: u8) -> ErrorKind
     }
 }
 
-/// Whether a name goes before the least of some others, where there are any.
+/// Whether a name is less, by bytes, than `least`, the least of some others; true where there are no others.
 fn goes_before(name: &str, least: Option<&str>) -> bool
     ensures { result ≡ goes_before name.now least.entry }
 {

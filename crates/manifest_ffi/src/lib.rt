@@ -2,8 +2,8 @@
 //! `bindings/python` wrap them. `docs/LIBRARY.md` says how they are used.
 //!
 //! Each call makes a manifest of bytes, and writes what is asked for of it, or the text of the refusal, to the
-//! beginning of `out`. What would take more than `most` bytes is refused. No call keeps anything between calls, and
-//! none keeps what it is given.
+//! beginning of `out`. What would take more than `most` bytes is refused. No answer depends on an
+//! earlier call, and no call keeps what it is given.
 #![tactic(auto)]
 
 mod answer;

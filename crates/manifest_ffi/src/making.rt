@@ -76,7 +76,8 @@ fn finish_by_bytes(
     }
 }
 
-/// Reads a manifest from the bytes, and finishes it as [`finish_by_bytes`] does.
+/// Reads a manifest from the bytes, and finishes it as [`finish_by_bytes`] does, by the bytes of the root and over the
+/// folders, where they are passed in. Refuses as the reading or the finishing does.
 fn make_over(
     alloc: Global,
     input: Input,
@@ -176,7 +177,8 @@ fn output_of(
     }
 }
 
-/// What is asked for of the manifest that was made, or the refusal with which none was.
+/// The text or the tagged bytes of the manifest that was made, as [`output_of`] makes them; or the refusal with which
+/// none was made, unchanged.
 pub(crate) fn output_or_refusal(
     alloc: Global,
     output: Output,

@@ -29,7 +29,7 @@ const START: Nesting = Nesting {
     most_dots: 0,
 };
 
-/// The count plus one; at `MOST_NESTING` it stays as it is.
+/// One more than the count, up to `MOST_NESTING`: so the count never overflows.
 #[inline(always)]
 fn count_up(count: u16) -> u16
     ensures { result ≡ count_up count }
@@ -83,7 +83,8 @@ fn after_dot(nesting: Nesting) -> Nesting
     }
 }
 
-/// The counts after the end of a key: `dots` is 0, and the most of both stay.
+/// The counts after a character that ends a run of dots (`,` `=` or a line feed), or a comment: `dots` is 0, and all
+/// else stays as it is.
 #[inline(always)]
 fn after_key(nesting: Nesting) -> Nesting
     ensures { result ≡ after_key nesting }
@@ -150,7 +151,9 @@ fn is_dense(nesting: Nesting) -> bool
         > u64::from(MOST_NESTING)
 }
 
-/// Whether the brackets and dotted keys of a text could nest tables and arrays deeper than is parsed.
+/// Whether the brackets and dotted keys of a text could nest tables and arrays deeper than is parsed: counts both to
+/// the end of the text, or to the first place that no TOML text has, and then asks `is_dense`. Fails only when out of
+/// memory.
 pub(crate) fn nests_densely(alloc: Global, text: &str) -> Result<bool, AllocError>
     ensures { IfOk result (λ dense. dense ≡ nests_densely text.now) }
 {

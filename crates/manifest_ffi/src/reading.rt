@@ -68,7 +68,8 @@ pub(crate) fn document(alloc: Global, bytes: &[u8]) -> Result<Table, InputError>
     Ok(table)
 }
 
-/// The manifest that the bytes of a text mean.
+/// The manifest that the bytes of a `Cargo.toml` mean. Refuses bytes that are not UTF-8, text that nests too deep or is
+/// no TOML, a table that means no manifest, and when out of memory.
 pub(crate) fn from_text<P: Metadata, W: Metadata>(
     alloc: Global,
     bytes: &[u8],
@@ -87,7 +88,9 @@ pub(crate) fn from_text<P: Metadata, W: Metadata>(
     }
 }
 
-/// The manifest of a table, from its tagged bytes.
+/// The manifest that the form of a manifest reads of a value, of which these are the tagged bytes. Refuses bytes of no
+/// value with `Untagged`, and ones that nest too deep with `TooDeep`; else with the refusal of `from_value`, as of a
+/// value that is no table.
 fn from_tagged(alloc: Global, bytes: &[u8]) -> Result<Manifest, InputError>
     ensures ok { IfOk result (λ m. Are Tagged bytes.now (manifest_content view view m)) }
     ensures refused { IfErr result (RefusesToRead Tagged bytes.now) }

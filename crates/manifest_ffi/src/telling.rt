@@ -40,7 +40,7 @@ pub(crate) fn with_text(status: u8, cause: u8, text: Vec<u8>) -> Told
     }
 }
 
-/// The report of a status, a cause and a string.
+/// The report of a status, a cause and a string as its text; `start` and `end` are 0.
 fn with_string(status: u8, cause: u8, text: String) -> Told
     ensures told { IsTold result status cause (string_bytes text) }
     ensures utf8 { IsUtf8 result.text.items }
@@ -72,7 +72,8 @@ fn cause_number(cause: Cause) -> u8
     }
 }
 
-/// The number by which an answer reports the kind of a folder's fault.
+/// The number by which an answer reports the kind of a listing's fault: 1 for not found, 2 for out of memory, 3 for any
+/// other.
 fn kind_number(fault: io::Error) -> u8
     ensures { result ≡ kind_number (error_kind fault) }
 {
@@ -83,7 +84,8 @@ fn kind_number(fault: io::Error) -> u8
     }
 }
 
-/// The status, plus 16 where it is the root that is refused.
+/// The status by which a refusal of the root is reported, if `is_root`: 16 more than that of the member; else the
+/// status itself.
 fn at_root(is_root: bool, status: u8) -> u8
     requires { status ≤ 15 }
     ensures { result ≡ at_root is_root status }
@@ -125,7 +127,8 @@ fn tell_schema(alloc: Global, fault: &SchemaFault, is_root: bool) -> Told
     }
 }
 
-/// The report of an error of a manifest.
+/// The report of an [`Error`]: status 1 to 6, and for a text that is no TOML, a fault of the schema and bytes that are
+/// not UTF-8 16 more, if it is the root's. Instead it may be that of out of memory, where there is none for its text.
 fn tell_error(alloc: Global, error: Error, is_root: bool) -> Told
     ensures told { TellsMemory result ⊎ TellsError is_root error result }
     ensures utf8 { IsUtf8 result.text.items }
@@ -140,7 +143,8 @@ fn tell_error(alloc: Global, error: Error, is_root: bool) -> Told
     }
 }
 
-/// The report of why bytes are no manifest.
+/// The report of why bytes are no manifest: that of the error, or status 14 or 15, of the root 16 more. Instead it may
+/// be that of out of memory.
 fn tell_input(alloc: Global, error: InputError, is_root: bool) -> Told
     ensures told { TellsMemory result ⊎ TellsInput is_root error result }
     ensures utf8 { IsUtf8 result.text.items }
@@ -152,7 +156,8 @@ fn tell_input(alloc: Global, error: InputError, is_root: bool) -> Told
     }
 }
 
-/// The report of why a manifest is not resolved.
+/// The report of why a manifest is not resolved: status 10 to 13, or 6 for out of memory; the text is the key or the
+/// name, where the refusal has one.
 fn tell_resolving(alloc: Global, error: ResolveError) -> Told
     ensures told { TellsMemory result ⊎ TellsResolving error result }
     ensures utf8 { IsUtf8 result.text.items }
@@ -166,7 +171,8 @@ fn tell_resolving(alloc: Global, error: ResolveError) -> Told
     }
 }
 
-/// The report of why a manifest is not resolved or not completed.
+/// The report of why a manifest is not resolved or not completed: status 9 for a root without a workspace, else that of
+/// the error. Instead it may be that of out of memory.
 fn tell_finishing(alloc: Global, error: FinishError) -> Told
     ensures told { TellsMemory result ⊎ TellsFinishing error result }
     ensures utf8 { IsUtf8 result.text.items }
@@ -178,7 +184,8 @@ fn tell_finishing(alloc: Global, error: FinishError) -> Told
     }
 }
 
-/// The report of why a manifest's table is not printed.
+/// The report of why a manifest's table is not printed: status 7 and the text of [`Error::Other`], or that of any other
+/// error.
 fn tell_printing(alloc: Global, error: Error) -> Told
     ensures told { TellsMemory result ⊎ TellsPrinting error result }
     ensures utf8 { IsUtf8 result.text.items }
@@ -189,7 +196,8 @@ fn tell_printing(alloc: Global, error: Error) -> Told
     }
 }
 
-/// The report of a refusal.
+/// The report of a refusal, by its kind: status, cause, positions and text. Instead it may be that of out of memory,
+/// where there is none for its text.
 pub(crate) fn tell(alloc: Global, refusal: Refusal) -> Told
     ensures told { TellsMemory result ⊎ Tells refusal result }
     ensures utf8 { IsUtf8 result.text.items }

@@ -31,7 +31,8 @@ fn table_of_unread(
     tagged_bytes(alloc, &value, most)
 }
 
-/// The tagged bytes of the table of the manifest that the bytes mean.
+/// The tagged bytes of the table of the manifest that the bytes of a `Cargo.toml` mean, whose metadata is not read.
+/// Refuses as the manifest is refused, bytes that are more than `most`, and when out of memory.
 pub(crate) fn unread_table(alloc: Global, bytes: &[u8], most: usize) -> Result<Vec<u8>, Refusal>
     ensures { IsMade (GivesUnread most bytes.now) (RefusesUnread most bytes.now) result }
 {
@@ -44,7 +45,8 @@ pub(crate) fn unread_table(alloc: Global, bytes: &[u8], most: usize) -> Result<V
     table
 }
 
-/// The tagged bytes of the document that the bytes are.
+/// The tagged bytes of the table of a TOML document, whether it means a manifest or not. Refuses bytes that are no
+/// document, tagged bytes that are more than `most`, and when out of memory.
 pub(crate) fn document_table(alloc: Global, bytes: &[u8], most: usize) -> Result<Vec<u8>, Refusal>
     ensures { IsMade (GivesDocument most bytes.now) (RefusesDocument most bytes.now) result }
 {

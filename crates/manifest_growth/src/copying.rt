@@ -29,7 +29,7 @@ fn fault(alloc: Global) -> Result<Error, Error> {
 }
 
 impl Original {
-    /// Makes the error that is copied.
+    /// The error that is copied; at `Err` a refusal on the way there.
     fn error(self, alloc: Global) -> Result<Error, Error> {
         match self {
             Original::Fault => fault(alloc),
@@ -37,14 +37,14 @@ impl Original {
         }
     }
 
-    /// Copies the error and prints what came of it.
+    /// Makes the error, copies it, and prints to `output` the text of the copy, or that the copy was refused.
     pub fn copy<W: Write>(self, alloc: Global, output: &mut W) -> Result<(), Error> {
         let error = self.error(alloc)?;
         print_copy(alloc, &error, output)
     }
 }
 
-/// Prints the text of a copy.
+/// Prints to `output` the text of a copy of an error.
 fn print_copied<W: Write>(alloc: Global, copy: &Error, output: &mut W) -> Result<(), Error> {
     let text = format!(in alloc; "copied\n{copy}\n")?;
     output.write_all(text.as_bytes())?;

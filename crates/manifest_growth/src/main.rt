@@ -36,7 +36,7 @@ enum Trial {
     Copy(Original),
 }
 
-/// The trial that a name asks for.
+/// The trial of this name, an argument of the program; `None` where there is no such trial.
 fn trial_of_name(name: &str) -> Option<Trial> {
     match name {
         "badges" => Some(Trial::Reading(Document::Badges)),
@@ -81,7 +81,7 @@ fn cause(refusal: &Error) -> &'static str {
     }
 }
 
-/// Prints the text of a manifest that is completed.
+/// Prints to `output` the canonical text of a manifest that was completed.
 fn print_completed<W: Write>(
     alloc: Global,
     manifest: &Manifest<Value, Value>,
@@ -109,7 +109,8 @@ fn print_refused<W: Write>(
     print_completed(alloc, manifest, output)
 }
 
-/// Completes a manifest and prints what came of it.
+/// Completes a manifest over the listings, and prints to `output` its text, or as [`print_refused`] does why it was
+/// refused.
 fn complete<W: Write>(
     alloc: Global,
     manifest: &mut Manifest<Value, Value>,
@@ -136,7 +137,7 @@ fn complete_scenario<W: Write>(
     printed
 }
 
-/// Tries what is asked for and prints what came of it.
+/// Runs a trial: makes its inputs, makes the one call that is tried, and prints its outcome to `output`.
 fn run<W: Write>(alloc: Global, trial: Trial, output: &mut W) -> Result<(), Error> {
     match trial {
         Trial::Reading(document) => document.read(alloc, output),

@@ -35,7 +35,7 @@ pub enum Document {
 type Answer = Result<Manifest<Value, Value>, Error>;
 
 impl Document {
-    /// The bytes of the manifest.
+    /// The bytes of the manifest that is read.
     fn bytes(self) -> &'static [u8] {
         match self {
             Document::Badges => {

@@ -20,7 +20,7 @@ fn cause(refusal: &ResolveError) -> &'static str {
     }
 }
 
-/// Prints the text of a manifest that is resolved.
+/// Prints to `output` the canonical text of a manifest that was resolved.
 fn print_resolved<W: Write>(
     alloc: Global,
     manifest: &Manifest<Value, Value>,
@@ -53,7 +53,8 @@ fn print_refused<W: Write>(
     }
 }
 
-/// Resolves a manifest and prints what came of it.
+/// Resolves a manifest by the workspace `lender`, and prints to `output` its text, or as [`print_refused`] does why it
+/// was refused.
 fn resolve_over<W: Write>(
     alloc: Global,
     manifest: &mut Manifest<Value, Value>,
@@ -67,7 +68,7 @@ fn resolve_over<W: Write>(
     }
 }
 
-/// Resolves a small member over a workspace and prints what came of it.
+/// Reads a small member, resolves it by the workspace `lender`, and prints to `output` as [`resolve_over`] does.
 fn resolve_member<W: Write>(
     alloc: Global,
     lender: &Workspace<Value>,
@@ -79,7 +80,7 @@ fn resolve_member<W: Write>(
     printed
 }
 
-/// Resolves the small member over its workspace and prints what came of it.
+/// Reads the small workspace, and does what [`resolve_member`] does with it.
 pub fn resolve_small<W: Write>(alloc: Global, output: &mut W) -> Result<(), Error> {
     let root = Manifest::from_str(alloc, ROOT)?;
     let printed = match &root.workspace {

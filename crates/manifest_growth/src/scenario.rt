@@ -15,7 +15,7 @@ pub enum Scenario {
     Example,
 }
 
-/// A listing of these names.
+/// A listing of these names, as a folder of [`Listings`] has one.
 fn names(alloc: Global, names: &[&str]) -> Result<Listing, AllocError> {
     let mut set = BTreeSet::new(alloc);
     for name in names {
@@ -37,7 +37,7 @@ fn put_all(
 }
 
 impl Scenario {
-    /// The text of the manifest.
+    /// The text of the manifest that the scenario completes.
     pub fn manifest(self) -> &'static str {
         match self {
             Scenario::Library => "[package]\nname = \"foo-bar\"\nedition = \"2021\"\n",
@@ -69,7 +69,7 @@ impl Scenario {
         }
     }
 
-    /// The listings of the scenario.
+    /// New listings, with the folders of the scenario.
     pub fn listings(self, alloc: Global) -> Result<Listings, AllocError> {
         let mut listings = Listings::new(alloc);
         self.put(alloc, &mut listings).and(Ok(listings))

@@ -37,7 +37,7 @@ fn version_alone(version: &String) -> Result<DependencyDetail, AllocError>
     Ok(detail)
 }
 
-/// What the member says, or else what the workspace says.
+/// What the member says (`own`); where that is `None`, what the workspace says (`lent`).
 fn own_or_workspace(own: Option<bool>, lent: Option<bool>) -> Option<bool>
     ensures { option_map (λ b. b) result
         ≡ option_or (option_map (λ b. b) own) (option_map (λ b. b) lent) }
@@ -48,8 +48,8 @@ fn own_or_workspace(own: Option<bool>, lent: Option<bool>) -> Option<bool>
     }
 }
 
-/// The workspace's dependency, with the features of both, `optional` of the member, and the default features as the
-/// member says or else the workspace; simplified.
+/// What an inherited dependency becomes: the workspace's (`lent`), with the features of both, `optional` of the member
+/// (`own`), and the default features as the member says or else the workspace; simplified.
 fn join_dependency(
     alloc: Global,
     own: &InheritedDependencyDetail,

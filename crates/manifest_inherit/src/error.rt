@@ -78,7 +78,7 @@ impl<T: Drop> From<AllocFailed<T>> for ResolveError {
     }
 }
 
-/// The refusal of a name that the workspace does not have.
+/// `NotInWorkspace` of a copy of the name; `Memory` where there is none for the copy.
 pub(crate) fn not_in_workspace(alloc: Global, name: &str) -> ResolveError
     ensures { ResolveRefusedIn (λ r. r ≡ not_in_workspace name.now) result }
 {
@@ -88,7 +88,7 @@ pub(crate) fn not_in_workspace(alloc: Global, name: &str) -> ResolveError
     }
 }
 
-/// The refusal of a dependency that the workspace itself inherits.
+/// `InheritedInWorkspace` of a copy of the dependency's name; `Memory` where there is none for the copy.
 pub(crate) fn inherited_in_workspace(alloc: Global, name: &str) -> ResolveError
     ensures { ResolveRefusedIn (λ r. r ≡ inherited_in_workspace name.now) result }
 {

@@ -5,7 +5,8 @@ ghost use Rattle.manifest_inherit.specs.Resolved.{new_features, joined_features}
 
 use std::alloc::{AllocError, Global};
 
-/// Appends those of the member's features that the list does not have yet, in their order.
+/// Appends to the workspace's `features` a copy of each of the member's (`own`) that the list does not have yet, in
+/// their order. After an error it may have some of them.
 fn add_new(alloc: Global, features: &mut Vec<String>, own: &[String]) -> Result<(), AllocError>
     ensures { let had = map string_bytes features.old.items in
         OnOk result (map string_bytes features.new.items
@@ -19,7 +20,8 @@ fn add_new(alloc: Global, features: &mut Vec<String>, own: &[String]) -> Result<
     Ok(())
 }
 
-/// Adds what the member says to what the workspace says, where one of them says any.
+/// Adds to the workspace's features (`features`) those of the member (`own`) that are not among them, in their order;
+/// `None` of both stays `None`.
 pub(crate) fn join_features(
     alloc: Global,
     features: &mut Option<Vec<String>>,

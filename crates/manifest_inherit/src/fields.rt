@@ -15,7 +15,8 @@ use manifest_parts::MaybeInherited;
 use manifest_value::{Metadata, Schema, at_place};
 use std::alloc::Global;
 
-/// Refuses a field that is inherited and that the workspace does not have.
+/// Refuses with `NotInWorkspace` of `key` a field that the package inherits (`own`) and the workspace does not have
+/// (`lent`).
 fn check_field<T: Schema>(
     alloc: Global,
     key: &str,
@@ -80,7 +81,8 @@ macro_rules! put_of {
 
 static KEYS: &[&str] = lendable!(keys_of());
 
-/// The keys of the fields. Their number is all that the contract says.
+/// The keys of the fields that a package can inherit. The contract says only how many there are, by which they are
+/// counted through.
 #[tactic(auto, unfolding(crate::specs::Fields::lendable))]
 fn keys() -> &'static [&'static str]
     ensures { length result.now ≡ how_many lendable }
@@ -88,7 +90,8 @@ fn keys() -> &'static [&'static str]
     KEYS
 }
 
-/// Refuses field `i` of the list, if the package inherits it and the workspace does not have it.
+/// Refuses as [`check_field`] does of field `i` of the list: if the package inherits it and the workspace does not have
+/// it. The macro makes a `match` on `i`, with a call of `check_field` for each field.
 #[tactic(auto, unfolding(crate::specs::Fields::lendable))]
 fn check_at<M: Metadata>(
     alloc: Global,
@@ -126,7 +129,8 @@ pub(crate) fn check_fields<M: Metadata>(
     Ok(())
 }
 
-/// Puts the workspace's value in the place of the mark that a field is inherited. Nothing is allocated.
+/// Sets `place`, a field of the package, to the workspace's value, if the field is inherited and the workspace has one
+/// (`lent`); else the field stays as it is.
 fn put_field<T: Schema>(place: &mut Option<MaybeInherited<T>>, lent: Option<T>)
     ensures { option_map (inh_content T.content) place.new
         ≡ resolved_field (option_map (inh_content T.content) place.old)
@@ -143,7 +147,8 @@ fn put_field<T: Schema>(place: &mut Option<MaybeInherited<T>>, lent: Option<T>)
     }
 }
 
-/// Puts the workspace's fields in the places of those that a package inherits. Nothing is allocated.
+/// Sets each field that the package inherits to that of the workspace, as [`put_field`] does; all else of the package
+/// stays as it is. The macro makes one call of `put_field` for each field.
 #[tactic(auto, unfolding(crate::specs::Resolved::resolved_package, crate::specs::Fields::lendable))]
 pub(crate) fn put_fields<M: Metadata>(own: &mut Package<M>, lent: WorkspacePackage)
     ensures { package_of M.kind M.content own.new

@@ -13,7 +13,9 @@ use manifest_value::well_formed::none_is_named;
 use manifest_value::{copy_of, spelled};
 use std::alloc::Global;
 
-/// Puts a copy of the workspace's lints, where the manifest's are inherited, into its place.
+/// Puts a copy of the workspace's lints (`lent`) into `place`, if the manifest's lints (`own`) are inherited; else
+/// `place` stays as it is. Refuses with `MixedLints`, `NotInWorkspace`, `ToolNamedWorkspace`, as
+/// [`resolve`](crate::resolve) says, and with `Memory`.
 pub(crate) fn make_lints(
     alloc: Global,
     own: &Option<MaybeInheritedLintsSet>,
@@ -50,7 +52,8 @@ pub(crate) fn make_lints(
     }
 }
 
-/// Puts the workspace's lints in the place of the mark that they are inherited. Nothing is allocated.
+/// Sets the manifest's lints (`own`) to those of the workspace, if they are inherited and the workspace has some
+/// (`lent`); else they stay as they are.
 pub(crate) fn put_lints(own: &mut Option<MaybeInheritedLintsSet>, lent: Option<LintsSet>)
     ensures { option_map lints_content own.new
         ≡ option_map (resolved_lints (option_map tools_content lent))

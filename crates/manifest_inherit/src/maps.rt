@@ -28,8 +28,8 @@ pub(crate) trait Heir: Sized + Drop {
 
     ghost refuses: { Entries Contents.Dependency → List ℕ → Content → Refusal → Type 0 };
 
-    /// What the value becomes under this name, as a new value. `lent` has the workspace's dependencies. Refuses where
-    /// the workspace does not have what is inherited.
+    /// A copy of the value, which stands under the key `name`, with what it inherits from the workspace's dependencies
+    /// (`lent`). Refuses where the workspace does not have what is inherited, or itself inherits it.
     fn resolve_under_name(
         &self,
         alloc: Global,
@@ -90,7 +90,8 @@ impl Heir for Target {
     }
 }
 
-/// What the entries of a map become, in their order; the first refusal ends it.
+/// Copies of the entries of a map (`own`), in their order, each value as [`Heir::resolve_under_name`] makes it by the
+/// workspace's dependencies (`lent`). The first refusal is returned.
 fn resolved_list<T: Heir>(
     alloc: Global,
     lent: &Option<DepsSet>,
@@ -115,7 +116,8 @@ fn resolved_list<T: Heir>(
     Ok(list)
 }
 
-/// A new map with what each value of a map becomes, under the same keys.
+/// A new map with the keys of `own`, each value as [`Heir::resolve_under_name`] makes it by the workspace's
+/// dependencies (`lent`). The first refusal is returned.
 fn resolved_map<T: Heir>(
     alloc: Global,
     lent: &Option<DepsSet>,
@@ -135,7 +137,7 @@ fn resolved_map<T: Heir>(
     Ok(map_of_list(alloc, list)?)
 }
 
-/// Puts what the map becomes into `place`, where there is a map.
+/// Sets `place` to what [`resolved_map`] makes of the map `own`, or to `None` where there is no map.
 pub(crate) fn make_map<T: Heir>(
     alloc: Global,
     lent: &Option<DepsSet>,

@@ -11,7 +11,8 @@ use crate::resolution::resolve;
 use cargo_manifest::{AbstractFilesystem, Manifest};
 use std::alloc::Global;
 
-/// Puts in what the manifest inherits from the workspace of the root, where there is one.
+/// Resolves the manifest by the workspace of `root`, as [`resolve`](crate::resolve) does; without a root nothing is
+/// changed. Refuses a root that has no `workspace` with `NoWorkspace`.
 fn inherit(
     alloc: Global,
     root: Option<&Manifest>,
@@ -34,7 +35,8 @@ fn inherit(
     }
 }
 
-/// Completes the manifest over the filesystem, where there is one.
+/// Completes the manifest over the filesystem `folders`, as [`Manifest::complete_from_abstract_filesystem`] does;
+/// without one nothing is changed.
 fn complete<F: AbstractFilesystem>(
     alloc: Global,
     folders: Option<&F>,

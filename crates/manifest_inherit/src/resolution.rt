@@ -33,7 +33,7 @@ pub(crate) struct Made {
 }
 
 impl Made {
-    /// One in which nothing is made yet.
+    /// One in which nothing is made yet: each field and each map is `None`.
     fn new() -> Made {
         Made {
             fields: WorkspacePackage::default(),
@@ -46,7 +46,9 @@ impl Made {
     }
 }
 
-/// Copies what the package inherits, where there is a package, into the fields of what is made.
+/// Sets `made` to a copy of the workspace's fields (`lent`), or to one without fields where the workspace has none, of
+/// which [`put_fields`] takes those that the package `own` inherits. Without a package `made` stays as it is. Refuses a
+/// field that the package inherits and the workspace does not have.
 fn make_package<M: Metadata>(
     alloc: Global,
     own: &Option<Package<M>>,
@@ -80,7 +82,8 @@ fn make_package<M: Metadata>(
     }
 }
 
-/// Makes everything that the manifest inherits, as it becomes, in the fields of `made`. The manifest stays as it is.
+/// Fills the fields of `made`, each of which is empty before, with what [`put_made`] is to put into the manifest.
+/// Refuses as [`resolve`] does.
 #[tactic(auto, unfolding(crate::specs::Refused::refuses))]
 fn make_all<P: Metadata, W: Metadata, V: Metadata>(
     alloc: Global,
@@ -119,7 +122,8 @@ fn make_all<P: Metadata, W: Metadata, V: Metadata>(
     Ok(())
 }
 
-/// Makes everything that the manifest inherits, apart from the manifest.
+/// Makes everything that the manifest inherits, as new values, from copies of what the workspace has. Refuses as
+/// [`resolve`] does.
 fn make<P: Metadata, W: Metadata, V: Metadata>(
     alloc: Global,
     manifest: &Manifest<P, W>,
@@ -141,7 +145,8 @@ fn make<P: Metadata, W: Metadata, V: Metadata>(
     }
 }
 
-/// Puts what is made into the manifest. Nothing is allocated.
+/// Puts what is made into the manifest: the fields and lints that it inherits, and its maps of dependencies; all else
+/// stays as it is.
 fn put_made<P: Metadata, W: Metadata>(manifest: &mut Manifest<P, W>, made: Made)
     ensures { manifest_of P.kind W.kind P.content W.content manifest.new
         ≡ with_made made (manifest_of P.kind W.kind P.content W.content manifest.old) }

@@ -20,7 +20,8 @@ use toml::{Table, Value};
 #[derive(Clone, Debug, PartialEq, Eq, Drop)]
 pub struct True;
 
-/// Read from the boolean true. False is refused with `NotTrue`, another value with `WrongKind`.
+/// Read from the boolean true. False is refused with `NotTrue`, another value with `WrongKind`. A refusal is never out
+/// of memory (`takes_no_memory`).
 impl Schema for True {
     ghost Content = { Unit {0} };
 

@@ -50,7 +50,8 @@ impl StripSetting {
     }
 }
 
-/// The setting that a text says; any other text is refused as [`StripSetting::try_from`] does.
+/// The setting that `none`, `symbols` or `debuginfo` says; any other text is refused with `Error::Other` of a text that
+/// names it.
 fn setting_of(alloc: Global, text: &str) -> Result<StripSetting, Error>
     ensures ok { IfOk result (λ x. strip_meaning (string text.now) ≡ Some (strip_content x)) }
     ensures refused { IfErr result (RefusesStrip (string text.now)) }
@@ -67,7 +68,7 @@ fn setting_of(alloc: Global, text: &str) -> Result<StripSetting, Error>
 }
 
 /// Read from a boolean or from one of its texts. Another text is refused with `NotAChoice`, another kind with
-/// `WrongKind`.
+/// `WrongKind`. A refusal is never out of memory (`takes_no_memory`).
 impl Schema for StripSetting {
     ghost Content = { Contents.StripSetting };
 

@@ -176,7 +176,7 @@ pub fn unfit_badge()
     ensures faultless { NoFault ((form badges_rows).faulty bad_gitlab) }
 {}
 
-/// An edition is one of its texts.
+/// The text `2020` is no edition, by the cause `not_a_choice`; the number 2021 is of the wrong kind.
 pub fn unknown_edition()
     ensures text { edition.faulty (string (codes "2020")) [] not_a_choice }
     ensures number { edition.faulty (integer (pos 2021)) [] wrong_kind }

@@ -35,7 +35,7 @@ pub extern "C" fn manifest_speed_rewrite(alloc: Global, bytes: &[u8]) -> usize {
     }
 }
 
-/// Names, which stand in a text one a line.
+/// The set of the names that stand in a text, one on each line.
 fn names_in(alloc: Global, text: &str) -> Result<BTreeSet<String>, AllocError> {
     let mut names = BTreeSet::new(alloc);
     for name in text.lines() {
@@ -44,7 +44,7 @@ fn names_in(alloc: Global, text: &str) -> Result<BTreeSet<String>, AllocError> {
     Ok(names)
 }
 
-/// Listings of a package whose `src/bin` has these names.
+/// New listings of a package whose `src/bin` has the names `binaries`.
 fn listings(alloc: Global, binaries: BTreeSet<String>) -> Result<Listings, AllocError> {
     let mut listings = Listings::new(alloc);
     listings.put(alloc, "src/bin", Listing::Names(binaries))?;

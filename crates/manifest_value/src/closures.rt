@@ -22,7 +22,7 @@ pub(crate) fn call_at<X, R, F: Fn(&X) -> R>(f: &F, x: &X) -> R
     f(x)
 }
 
-/// The reader's answer at a value, or the fault with which it refuses the value.
+/// Calls `read` with a value, and returns what it returns: an answer, or the fault with which it refuses the value.
 fn read_at<T, F: Fn(&Value) -> Result<T, ReadFault>>(
     read: &F,
     value: &Value,
@@ -34,7 +34,7 @@ fn read_at<T, F: Fn(&Value) -> Result<T, ReadFault>>(
     call_at(read, value)
 }
 
-/// The reader's answer at an item, with the index before the path of a fault.
+/// Calls `read` with item `i` of a list: returns its answer, or its fault with the index before the path.
 #[tactic(auto, using(crate::proofs::Behind::fault_behind))]
 fn item_at<T: Drop, F: Fn(&Value) -> Result<T, ReadFault>>(
     read: &F,
@@ -95,7 +95,8 @@ pub fn list_of<T: Drop, F: Fn(&Value) -> Result<T, ReadFault> + Drop>(
     }
 }
 
-/// The reader's answer at the value of an entry, with the key before the path of a fault.
+/// Calls `read` with the value of the entry under the key `word`: returns its answer, or its fault with the key before
+/// the path.
 #[tactic(auto, using(crate::proofs::Behind::fault_behind))]
 fn entry_at<T: Drop, F: Fn(&Value) -> Result<T, ReadFault>>(
     alloc: Global,

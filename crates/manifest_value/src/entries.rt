@@ -20,7 +20,7 @@ pub enum Key<'t> {
 }
 
 impl Key<'_> {
-    /// The text of the key.
+    /// The text of the key, whether it is borrowed or owned.
     #[inline(always)]
     pub fn as_str(&self) -> &str
         ensures { result.now ≡ key_view self.now }

@@ -48,7 +48,7 @@ pub struct SchemaFault {
 }
 
 impl Step {
-    /// A step of the same key or index.
+    /// A copy of the step: of its key a new string.
     fn clone(&self, alloc: Global) -> Result<Step, AllocError>
         ensures { IfOk result (λ s. step_of s ≡ step_of self.now) }
     {
@@ -60,7 +60,7 @@ impl Step {
 }
 
 impl KeyPath {
-    /// A path of the same steps.
+    /// A copy of the path, with a copy of each step.
     fn clone(&self, alloc: Global) -> Result<KeyPath, AllocError>
         ensures { IfOk result (λ p. path_of p ≡ path_of self.now) }
     {

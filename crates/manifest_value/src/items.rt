@@ -48,7 +48,7 @@ impl<'t> Iterator for Items<'t> {
     }
 }
 
-/// Reads an item; a fault gets the item's index before its path.
+/// Reads an item of an array as a `T`; a fault gets the item's index `i` before its path.
 #[inline(always)]
 #[tactic(auto, using(crate::proofs::Behind::fault_behind))]
 fn read_item<T: Schema>(alloc: Global, source: Source<'_>, i: usize) -> Result<T, ReadFault>

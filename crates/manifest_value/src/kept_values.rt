@@ -30,7 +30,7 @@ pub fn holds_float(value: &Value) -> bool
     }
 }
 
-/// Whether a float stands in one of the items.
+/// Whether a float is one of the items of an array, or stands anywhere in one.
 #[cycle(floats)]
 fn items_hold_float(items: &Vec<Value>) -> bool
     ensures { result ≡ not (plain_items (array_view items.now)) }
@@ -43,7 +43,7 @@ fn items_hold_float(items: &Vec<Value>) -> bool
     false
 }
 
-/// Whether a float stands in one of the entries.
+/// Whether a float is the value of an entry of a table, or stands anywhere in one.
 #[cycle(floats)]
 fn members_hold_float(members: &Table) -> bool
     ensures { result ≡ not (plain_members (table_view members.now)) }
@@ -71,7 +71,8 @@ fn refuse_float(alloc: Global, value: &Value) -> Result<(), ReadFault>
     }
 }
 
-/// Accepts items without floats, and refuses others with the path of the first float.
+/// Accepts the items of an array, if no float stands in them; else refuses with `HoldsFloat` and the path of the first
+/// one, which begins with the item's index.
 #[cycle(places)]
 fn refuse_float_in_items(alloc: Global, items: &Vec<Value>) -> Result<(), ReadFault>
     ensures ok { OnOk result (IsTrue (plain_items (array_view items.now))) }
@@ -85,7 +86,8 @@ fn refuse_float_in_items(alloc: Global, items: &Vec<Value>) -> Result<(), ReadFa
     Ok(())
 }
 
-/// Accepts entries without floats, and refuses others with the path of the first float.
+/// Accepts the entries of a table, if no float stands in their values; else refuses with `HoldsFloat` and the path of
+/// the first one, which begins with the entry's key.
 #[cycle(places)]
 fn refuse_float_in_members(alloc: Global, members: &Table) -> Result<(), ReadFault>
     ensures ok { OnOk result (IsTrue (plain_members (table_view members.now))) }

@@ -110,7 +110,8 @@ pub fn map_of_entries<T: Schema>(
     read_map(alloc, rest.len(), Entries::Rest(rest.into_iter()))
 }
 
-/// Reads a table as a map: each value as a `T`, under its key.
+/// Reads a table as a map: each value as a `T`, under its key. Refuses with the fault of the first entry that has one,
+/// its key before the path, or `Memory`.
 fn map_from<T: Schema>(
     alloc: Global,
     table: TableSource<'_>,

@@ -47,7 +47,8 @@ pub fn put_tree<M: Metadata>(
     put_optional(alloc, table, first, value)
 }
 
-/// Metadata that may not be there: each value is refused, with `Cause::Metadata`. No value is well-formed.
+/// Metadata that may not be there: each value is refused, with `Cause::Metadata`, and never as out of memory
+/// (`takes_no_memory`). No value is well-formed.
 impl Schema for () {
     ghost Content = { Unit {0} };
 
@@ -95,7 +96,8 @@ impl Metadata for Value {
 #[derive(Debug, Clone, Copy, PartialEq, Eq)]
 pub struct Unread;
 
-/// Each value is read, and the empty table is written.
+/// Each value is read: none is refused, nor is reading ever out of memory (`takes_no_memory`). The empty table is
+/// written.
 impl Schema for Unread {
     ghost Content = { Unit {0} };
 

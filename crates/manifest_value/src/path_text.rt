@@ -86,7 +86,7 @@ impl fmt::Display for SchemaFault {
     }
 }
 
-/// Writes a step that begins a path: no dot before a key.
+/// Writes a step that begins a path, with no dot before a key: the key as `write_key` does, or an index in brackets.
 fn write_step<W: fmt::Write>(f: &mut fmt::Formatter<W>, step: &Step) -> fmt::Result
     ensures { WritesOnOk W.write_str_gives f.old result (step_text (step_of step.now)) f.new }
 {
@@ -96,7 +96,8 @@ fn write_step<W: fmt::Write>(f: &mut fmt::Formatter<W>, step: &Step) -> fmt::Res
     }
 }
 
-/// Writes a step that follows another: a dot before a key.
+/// Writes a step that follows another: a dot before a key, and nothing before an index. If it returns `Ok`, exactly the
+/// text `next_text` of the step was written.
 fn write_next_step<W: fmt::Write>(f: &mut fmt::Formatter<W>, step: &Step) -> fmt::Result
     ensures { WritesOnOk W.write_str_gives f.old result (next_text (step_of step.now)) f.new }
 {
@@ -106,7 +107,7 @@ fn write_next_step<W: fmt::Write>(f: &mut fmt::Formatter<W>, step: &Step) -> fmt
     write_step(f, step)
 }
 
-/// Writes a key, between quotes where it has to be.
+/// Writes a key as it stands in a path: a bare key as it is, and any other one between quotes.
 fn write_key<W: fmt::Write>(f: &mut fmt::Formatter<W>, key: &str) -> fmt::Result
     ensures { WritesOnOk W.write_str_gives f.old result (key_text key.now) f.new }
 {
@@ -139,7 +140,7 @@ fn is_bare(byte: u8) -> bool
     byte.is_ascii_alphanumeric() || byte == b'_' || byte == b'-'
 }
 
-/// Writes a key between quotes.
+/// Writes a key between quotes, each of its characters as `write_quoted_char` does.
 fn write_quoted<W: fmt::Write>(f: &mut fmt::Formatter<W>, key: &str) -> fmt::Result
     ensures { WritesOnOk W.write_str_gives f.old result (quoted key.now) f.new }
 {
@@ -150,7 +151,8 @@ fn write_quoted<W: fmt::Write>(f: &mut fmt::Formatter<W>, key: &str) -> fmt::Res
     f.write_char('"')
 }
 
-/// Writes a character that stands between quotes.
+/// Writes a character of a quoted key: with a backslash before it, if it is a quote or a backslash; as `\u` and four
+/// digits, if it is a control character; else as it is.
 #[tactic(auto, using(crate::proofs::TextLemmas::plain_char))]
 fn write_quoted_char<W: fmt::Write>(f: &mut fmt::Formatter<W>, c: char) -> fmt::Result
     ensures { WritesOnOk W.write_str_gives f.old result (flat_map quoted_byte (encode_utf8 c))

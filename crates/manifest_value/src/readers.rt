@@ -40,7 +40,7 @@ pub fn text(alloc: Global, value: &Value) -> Result<String, ReadFault>
 
 /// Reads a boolean.
 ///
-/// A value that is no boolean is refused at itself with `WrongKind`. It needs no memory.
+/// A value that is no boolean is refused at itself with `WrongKind`. It never fails as out of memory.
 ///
 /// ```ignore
 /// let harness = boolean(alloc, &Value::Boolean(true))?; // true
@@ -60,7 +60,7 @@ pub fn boolean(alloc: Global, value: &Value) -> Result<bool, ReadFault>
 /// Reads a whole number from `low` to `high`, both included.
 ///
 /// A value that is no whole number is refused at itself with `WrongKind`, and one below `low` or above `high` with
-/// `OutOfRange`. So where `low` is above `high` each whole number is out of range. It needs no memory.
+/// `OutOfRange`. So where `low` is above `high` each whole number is out of range. It never fails as out of memory.
 ///
 /// ```ignore
 /// let level = whole(alloc, &Value::Integer(3), 0, 3)?; // 3
@@ -102,7 +102,7 @@ pub fn texts(alloc: Global, value: &Value) -> Result<Vec<String>, ReadFault>
 
 /// Reads a table: the one that stands in the value, not a copy.
 ///
-/// A value that is no table is refused at itself with `WrongKind`. It needs no memory.
+/// A value that is no table is refused at itself with `WrongKind`. It never fails as out of memory.
 ///
 /// ```ignore
 /// let package = table(alloc, &value)?;

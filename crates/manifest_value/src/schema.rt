@@ -35,7 +35,7 @@ pub trait Schema: Sized + Drop {
     /// How values are read and written, as a definition: `kind.reads`, `kind.faulty`, `kind.written` and `kind.good`.
     ghost kind: { Kind Content };
 
-    /// Whether reading takes no memory, so that it never fails as out of memory.
+    /// Whether reading never fails as out of memory: true of a type whose reading copies nothing.
     ghost takes_no_memory: { Type 0 } = { ⊥ };
 
     /// Reads a value: returns the one reading that it has by the kind, or a fault that it has, or `Memory`. What an
@@ -101,7 +101,8 @@ impl Schema for String {
     ghost lawful = { text_lawful };
 }
 
-/// Read from a boolean, and written as one. Any other value is refused with `WrongKind`.
+/// Read from a boolean, and written as one. Any other value is refused with `WrongKind`. A refusal is never out of
+/// memory (`takes_no_memory`).
 impl Schema for bool {
     ghost Content = { Bool };
 

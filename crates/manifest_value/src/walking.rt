@@ -12,7 +12,7 @@ use crate::source::{Source, TableSource};
 use crate::spellings::Spellings;
 use std::alloc::{AllocError, Global};
 
-/// The spelling of the row that equals the key, if there is one.
+/// The spelling of the row that equals the key; `None` where the row has no such spelling.
 #[inline(always)]
 fn spelling_of(row: &Spellings, key: &str) -> Option<&'static str>
     ensures { let words = spell (spellings_view row.now) [] in
@@ -43,7 +43,7 @@ pub(crate) fn row_of(rows: &[Spellings], key: &str) -> Option<(usize, &'static s
     None
 }
 
-/// A slot for each row, in which nothing is found yet.
+/// A new list with an absent slot for each row, in the order of the rows. Fails only when out of memory.
 fn empty_slots<'t>(alloc: Global, rows: &[Spellings]) -> Result<Vec<RowSlot<'t>>, AllocError>
     ensures views { IfOk result
         (λ v. map row_view v.items ≡ slots_at (map spellings_view rows.now) no_members) }

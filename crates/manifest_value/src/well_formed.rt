@@ -44,7 +44,7 @@ pub fn tree_is_well_formed<M: Metadata>(value: &Option<M>) -> bool
     }
 }
 
-/// Whether each item is well-formed.
+/// Whether each item of a list is well-formed, by the kind of `T`; true of the empty list.
 pub(crate) fn items_are_well_formed<T: Schema>(items: &[T]) -> bool
     ensures { IsTrue result ↔ good_items T.kind (map T.content items.now) }
 {

@@ -64,7 +64,8 @@ pub fn write_list<T, F: Fn(&T) -> Result<Value, AllocError> + Drop>(
     Ok(Value::Array(out))
 }
 
-/// The entries of a map, with what a given writer writes of each value.
+/// A new table with the keys of a map, each with what `write` makes of the map's value. Fails only when out of memory,
+/// or as `write` does.
 pub(crate) fn entries_by<T, F: Fn(&T) -> Result<Value, AllocError>>(
     alloc: Global,
     map: &BTreeMap<String, T>,
