@@ -89,7 +89,8 @@ pub fn old_written_is_read<P: Metadata, W: Metadata>()
 
 /// Over a filesystem that has one answer stored for each path text, as [`Listings`](crate::Listings) has, the answer of
 /// [`Manifest::complete_from_abstract_filesystem`](crate::Manifest::complete_from_abstract_filesystem) is the
-/// completion of the map of what is stored, unless memory runs out, for a listing or otherwise.
+/// completion of the map of what is stored, unless memory runs out, for a listing or otherwise. A caller calls this law
+/// after the completion; it does nothing at run time.
 #[tactic(auto, using(crate::proofs::StoredLaws::stored_decides))]
 pub fn stored_decides()
     ensures { StoredDecides }

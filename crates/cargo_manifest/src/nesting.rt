@@ -33,8 +33,8 @@ fn items_depth(items: &Vec<Value>, limit: usize) -> usize
     deepest
 }
 
-/// How deep arrays and tables nest in a table, counted up to a limit. What is deeper is not looked at, so its calls go no
-/// deeper than the limit (which no contract says).
+/// How deep arrays and tables nest in a table, counted up to a limit. What is deeper is not looked at, so its calls go
+/// no deeper than the limit (which no contract says).
 ///
 /// ```ignore
 /// let found = depth(&table, 80); // of `a = [[1], { b = 2 }]` 2, as with the limit 2; with the limit 1 it is 1

@@ -249,7 +249,8 @@ impl Manifest<Value, Value> {
         manifest_by!(read_bytes, alloc, bytes)
     }
 
-    /// Reads the text of a `Cargo.toml`, as [`Manifest::from_slice`] does its bytes.
+    /// Reads the text of a `Cargo.toml`, as [`Manifest::from_slice`] does its bytes. A text is never refused with
+    /// `Utf8`.
     ///
     /// ```ignore
     /// let manifest = Manifest::from_str(alloc, "[workspace]\nmembers = ['a']")?;

@@ -2,8 +2,8 @@
 //! `bindings/python` wrap them. `docs/LIBRARY.md` says how they are used.
 //!
 //! Each call makes a manifest of bytes, and writes what is asked for of it, or the text of the refusal, to the
-//! beginning of `out`. What would take more than `most` bytes is refused. No answer depends on an
-//! earlier call, and no call keeps what it is given.
+//! beginning of `out`. What could take more than `most` bytes is refused. No answer depends on an earlier call, and no
+//! call keeps what it is given. `alloc` takes no place in a C call.
 #![tactic(auto)]
 
 mod answer;
@@ -53,8 +53,8 @@ pub extern "C" fn manifest_canonical(
     respond(alloc, asked, bytes, None, None, out)
 }
 
-/// As [`manifest_canonical`], of the manifest completed over the folders: a path that none of them has is not there,
-/// and folders that are not asked for make no difference.
+/// Reads the bytes of a `Cargo.toml`, completes the manifest over the folders, and writes its canonical text. A path
+/// that none of the folders has is not there, and folders that are not asked for make no difference.
 ///
 /// ```ignore
 /// let answer = manifest_completed(alloc, bytes, &[src, root], usize::MAX, &mut out);
@@ -79,8 +79,8 @@ pub extern "C" fn manifest_completed(
     respond(alloc, asked, bytes, None, Some(folders), out)
 }
 
-/// As [`manifest_canonical`], of the manifest with what it inherits from the workspace of `root`, the bytes of another
-/// `Cargo.toml`.
+/// Reads the bytes of a `Cargo.toml`, puts in what the manifest inherits from the workspace of `root`, the bytes of
+/// another `Cargo.toml`, and writes its canonical text.
 ///
 /// ```ignore
 /// let answer = manifest_resolved(alloc, member, root, usize::MAX, &mut out);
@@ -105,8 +105,8 @@ pub extern "C" fn manifest_resolved(
     respond(alloc, asked, bytes, Some(root), None, out)
 }
 
-/// As [`manifest_canonical`], of the manifest resolved as by [`manifest_resolved`], and then completed as by
-/// [`manifest_completed`].
+/// Reads the bytes of a `Cargo.toml`, puts in what it inherits as [`manifest_resolved`] does, completes it then as
+/// [`manifest_completed`] does, and writes its canonical text.
 ///
 /// ```ignore
 /// let answer = manifest_resolved_completed(alloc, member, root, &[src], usize::MAX, &mut out);
@@ -152,7 +152,8 @@ pub extern "C" fn manifest_table(alloc: Global, bytes: &[u8], most: usize, out: 
     respond(alloc, asked, bytes, None, None, out)
 }
 
-/// As [`manifest_table`], of the manifest completed over the folders, as by [`manifest_completed`].
+/// Reads the bytes of a `Cargo.toml`, completes the manifest as [`manifest_completed`] does, and writes its table as
+/// tagged bytes.
 ///
 /// ```ignore
 /// let answer = manifest_completed_table(alloc, bytes, &[src, root], usize::MAX, &mut out);
@@ -176,7 +177,8 @@ pub extern "C" fn manifest_completed_table(
     respond(alloc, asked, bytes, None, Some(folders), out)
 }
 
-/// As [`manifest_table`], of the manifest with what it inherits, as by [`manifest_resolved`].
+/// Reads the bytes of a `Cargo.toml`, puts in what it inherits as [`manifest_resolved`] does, and writes its table as
+/// tagged bytes.
 ///
 /// ```ignore
 /// let answer = manifest_resolved_table(alloc, member, root, usize::MAX, &mut out);
@@ -200,7 +202,8 @@ pub extern "C" fn manifest_resolved_table(
     respond(alloc, asked, bytes, Some(root), None, out)
 }
 
-/// As [`manifest_table`], of the manifest resolved and then completed, as by [`manifest_resolved_completed`].
+/// Reads the bytes of a `Cargo.toml`, puts in what it inherits and completes it as [`manifest_resolved_completed`]
+/// does, and writes its table as tagged bytes.
 ///
 /// ```ignore
 /// let answer = manifest_resolved_completed_table(alloc, member, root, &[src], usize::MAX, &mut out);
@@ -246,8 +249,8 @@ pub extern "C" fn manifest_table_without_metadata(
     write_answer(&told, out)
 }
 
-/// The tagged bytes of the document that the bytes are, whatever it means. It may have floats, which no table of a
-/// manifest has.
+/// Reads bytes as a TOML document, whatever it means as a manifest, and writes it as tagged bytes. It may have floats,
+/// which no table of a manifest has.
 ///
 /// ```ignore
 /// let answer = manifest_document(alloc, b"x = 0.5", usize::MAX, &mut out);
@@ -267,8 +270,8 @@ pub extern "C" fn manifest_document(
     write_answer(&told, out)
 }
 
-/// The canonical text of the manifest of a table, from its tagged bytes: those that [`manifest_table`] writes, or such
-/// of another table. A table has no old headers.
+/// Reads a table as tagged bytes, those that [`manifest_table`] writes or those of another table, as a manifest, and
+/// writes its canonical text. A table has no old headers.
 ///
 /// ```ignore
 /// let answer = manifest_canonical_of_table(alloc, table, usize::MAX, &mut out);
@@ -291,8 +294,8 @@ pub extern "C" fn manifest_canonical_of_table(
     respond(alloc, asked, bytes, None, None, out)
 }
 
-/// The tagged bytes of the table of the manifest completed over the folders, as by [`manifest_completed`], of the
-/// tagged bytes of its table.
+/// Reads a table as tagged bytes, completes its manifest as [`manifest_completed`] does, and writes the table of that
+/// as tagged bytes.
 ///
 /// ```ignore
 /// let answer = manifest_completed_of_table(alloc, table, &[src, root], usize::MAX, &mut out);
@@ -316,8 +319,8 @@ pub extern "C" fn manifest_completed_of_table(
     respond(alloc, asked, bytes, None, Some(folders), out)
 }
 
-/// The tagged bytes of the table of the manifest with what it inherits, as by [`manifest_resolved`], of the tagged
-/// bytes of its table and of that of the root.
+/// Reads two tables as tagged bytes, that of a member and that of its workspace's root, puts in what the first inherits
+/// from the second as [`manifest_resolved`] does, and writes its table as tagged bytes.
 ///
 /// ```ignore
 /// let answer = manifest_resolved_of_tables(alloc, member, root, usize::MAX, &mut out);

@@ -97,8 +97,8 @@ fn after_key(nesting: Nesting) -> Nesting
     }
 }
 
-/// The counts after a byte outside strings and comments: a bracket, a dot, or `,`, `=` or LF, which end a key. Any
-/// other byte changes nothing.
+/// The counts after a byte outside strings and comments: a bracket, of which an opening one ends a key, a dot, or `,`,
+/// `=` or LF, which end a key. Any other byte changes nothing. Comments and strings are skipped by the caller.
 #[inline(always)]
 fn after_byte(byte: u8, nesting: Nesting) -> Nesting
     ensures { result ≡ after_byte byte nesting }

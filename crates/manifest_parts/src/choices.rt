@@ -44,7 +44,7 @@ impl Edition {
 }
 
 /// Read from one of the texts of `as_str`, and written as it. A value that is no text is refused with `WrongKind`,
-/// another text with `NotAChoice`. A refusal is never out of memory (`takes_no_memory`).
+/// another text with `NotAChoice`. Reading is never out of memory (`takes_no_memory`); writing may be.
 impl Schema for Edition {
     ghost Content = { Contents.Edition };
 
@@ -117,7 +117,7 @@ impl Resolver {
 }
 
 /// Read from one of the texts of `as_str`, and written as it. A value that is no text is refused with `WrongKind`,
-/// another text with `NotAChoice`. A refusal is never out of memory (`takes_no_memory`).
+/// another text with `NotAChoice`. Reading is never out of memory (`takes_no_memory`); writing may be.
 impl Schema for Resolver {
     ghost Content = { Contents.Resolver };
 
@@ -192,7 +192,7 @@ impl LintLevel {
 }
 
 /// Read from one of the texts of `as_str`, and written as it. A value that is no text is refused with `WrongKind`,
-/// another text with `NotAChoice`. A refusal is never out of memory (`takes_no_memory`).
+/// another text with `NotAChoice`. Reading is never out of memory (`takes_no_memory`); writing may be.
 impl Schema for LintLevel {
     ghost Content = { Contents.LintLevel };
 
@@ -280,7 +280,7 @@ fn status_of(text: &str) -> Option<MaintenanceStatus>
 }
 
 /// Read from one of the texts of `as_str`, and written as it. A value that is no text is refused with `WrongKind`,
-/// another text with `NotAChoice`. A refusal is never out of memory (`takes_no_memory`).
+/// another text with `NotAChoice`. Reading is never out of memory (`takes_no_memory`); writing may be.
 impl Schema for MaintenanceStatus {
     ghost Content = { Contents.MaintenanceStatus };
 

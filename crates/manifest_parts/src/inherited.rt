@@ -20,8 +20,8 @@ use toml::{Table, Value};
 #[derive(Clone, Debug, PartialEq, Eq, Drop)]
 pub struct True;
 
-/// Read from the boolean true. False is refused with `NotTrue`, another value with `WrongKind`. A refusal is never out
-/// of memory (`takes_no_memory`).
+/// Read from the boolean true, and written as it. False is refused with `NotTrue`, another value with `WrongKind`.
+/// Reading is never out of memory (`takes_no_memory`).
 impl Schema for True {
     ghost Content = { Unit {0} };
 
@@ -97,7 +97,8 @@ pub fn has_workspace(table: &Table) -> bool
 }
 
 /// A table whose `workspace` is the boolean true is read as `Inherited`, whatever else it has; another table is refused
-/// with `WrongKind`, and any other value is read by the type itself.
+/// with `WrongKind`, and any other value is read by the type itself. Written as `{ workspace = true }`, or as the type
+/// writes its value.
 impl<T: Plain> Schema for MaybeInherited<T> {
     ghost Content = { Inheritable T.Content };
 

@@ -67,8 +67,8 @@ fn setting_of(alloc: Global, text: &str) -> Result<StripSetting, Error>
     }
 }
 
-/// Read from a boolean or from one of its texts. Another text is refused with `NotAChoice`, another kind with
-/// `WrongKind`. A refusal is never out of memory (`takes_no_memory`).
+/// Read from a boolean or from one of its texts, and written as `false`, `"debuginfo"` or `true`. Another text is
+/// refused with `NotAChoice`, another kind with `WrongKind`. Reading is never out of memory (`takes_no_memory`); writing may be.
 impl Schema for StripSetting {
     ghost Content = { Contents.StripSetting };
 

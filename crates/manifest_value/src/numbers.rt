@@ -10,8 +10,8 @@ use crate::source::Source;
 use std::alloc::{AllocError, Global};
 use toml::Value;
 
-/// Read from an integer from 0 to 65535. Another one is refused with `OutOfRange`, any other value with `WrongKind`. A
-/// refusal is never out of memory (`takes_no_memory`).
+/// Read from an integer from 0 to 65535, and written as one. Another one is refused with `OutOfRange`, any other value
+/// with `WrongKind`. Reading is never out of memory (`takes_no_memory`).
 impl Schema for u16 {
     ghost Content = { ℤ };
 
@@ -48,8 +48,8 @@ impl Schema for u16 {
     ghost lawful = { whole_lawful (pos 0) (pos 65535) };
 }
 
-/// Read from an integer from -128 to 127. Another one is refused with `OutOfRange`, any other value with `WrongKind`. A
-/// refusal is never out of memory (`takes_no_memory`).
+/// Read from an integer from -128 to 127, and written as one. Another one is refused with `OutOfRange`, any other value
+/// with `WrongKind`. Reading is never out of memory (`takes_no_memory`).
 impl Schema for i8 {
     ghost Content = { ℤ };
 

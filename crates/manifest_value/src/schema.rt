@@ -101,8 +101,8 @@ impl Schema for String {
     ghost lawful = { text_lawful };
 }
 
-/// Read from a boolean, and written as one. Any other value is refused with `WrongKind`. A refusal is never out of
-/// memory (`takes_no_memory`).
+/// Read from a boolean, and written as one. Any other value is refused with `WrongKind`. Reading is never out of memory
+/// (`takes_no_memory`).
 impl Schema for bool {
     ghost Content = { Bool };
 
