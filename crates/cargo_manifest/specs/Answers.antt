@@ -42,7 +42,8 @@ pub record RefusesTableOf (K W : Kind Data) (bytes : List ℕ) (e : Error) : Typ
 -- a text is refused: as no TOML, at a place in it, where it is no document or memory ran out; for a fault of its table; or
 -- as out of memory
 abbrev pub RefusesText : Kind Data → Kind Data → List ℕ → Error → Type 0
-RefusesText K W text (Parse (Toml e)) = IsWithin text e.value × (¬ IsMemory e.value → parse_document text ≡ None)
+RefusesText K W text (Parse (Toml e)) =
+    IsWithin text e.value × (¬ IsMemory e.value → parse_document text ≡ None)
 RefusesText K W text (Parse (Schema f)) = RefusesTableOf K W text (Parse (Schema f))
 RefusesText K W text (Memory e) = Unit {0}
 RefusesText K W text _ = ⊥
@@ -56,7 +57,8 @@ Refuses K W bytes e = IsUtf8 bytes × RefusesText K W bytes e
 abbrev pub written_of : {P W A B : Type 0}
     → Kind A → Kind B → (P → A) → (W → B) → ManifestOfCode P W → Members
 written_of K W p w m =
-    rewritten (tree_of K) (tree_of W) (manifest_content (λ x. K.written (p x)) (λ x. W.written (w x)) m)
+    rewritten (tree_of K) (tree_of W)
+        (manifest_content (λ x. K.written (p x)) (λ x. W.written (w x)) m)
 
 -- a text is read as the manifest: if well-formed, with a package or a workspace, and a table at most 80 deep
 abbrev pub ReadsAs : Kind Data → Kind Data → Manifest → List ℕ → Type 0
@@ -66,14 +68,17 @@ ReadsAs K W m text =
 
 -- the refusal to print a table: it has a date-time that TOML cannot write, or memory ran out
 abbrev pub RefusesToPrint : Members → Error → Type 0
-RefusesToPrint t (Other s) = (members_have_valid_dates t ≡ false) × (string_bytes s ≡ codes "a date-time of a kept value is not a valid date")
+RefusesToPrint t (Other s) =
+    (members_have_valid_dates t ≡ false)
+    × (string_bytes s ≡ codes "a date-time of a kept value is not a valid date")
 RefusesToPrint t (Memory e) = Unit {0}
 RefusesToPrint t _ = ⊥
 
 -- the text of the table could take more bytes than this: the bound of it does, or such a text
 abbrev pub IsOver : ℕ → Members → Type 0
 IsOver most t =
-    (most < printed_bound t) ⊎ ((text : List ℕ) × IsDocumentText false t text × (most < length text))
+    (most < printed_bound t)
+        ⊎ ((text : List ℕ) × IsDocumentText false t text × (most < length text))
 
 -- the text is that of the table, and takes at most a given number of bytes
 pub record IsTextWithin (most : ℕ) (t : Members) (text : List ℕ) : Type 0 where

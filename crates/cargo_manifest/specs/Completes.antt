@@ -22,7 +22,8 @@ RefusesToComplete allows m (Memory e) = Unit {0}
 RefusesToComplete allows m _ = ⊥
 
 -- what completing a manifest answers, which it leaves as the second one
-abbrev pub Completes : (Text → Answer → Type 0) → Manifest → Manifest → Result (Unit {0}) Error → Type 0
+abbrev pub Completes :
+    (Text → Answer → Type 0) → Manifest → Manifest → Result (Unit {0}) Error → Type 0
 Completes allows old new (Ok u) = ComesTo allows old (completed_to new)
 Completes allows old new (Err e) = RefusesToComplete allows old e
 

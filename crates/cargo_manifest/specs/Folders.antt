@@ -51,11 +51,13 @@ IsRead K W bytes m = IsUtf8 bytes × IsDocumentOf K W bytes m
 
 -- the manifest is what these bytes mean, completed
 abbrev pub IsCompletedOf : Kind Data → Kind Data → Option Text → List ℕ → Manifest → Type 0
-IsCompletedOf K W folder bytes m = (read : Manifest) × IsRead K W bytes read × CompletedIn folder read m
+IsCompletedOf K W folder bytes m =
+    (read : Manifest) × IsRead K W bytes read × CompletedIn folder read m
 
 -- the refusal to complete what these bytes mean
 abbrev pub RefusesCompleted : Kind Data → Kind Data → Option Text → List ℕ → Error → Type 0
-RefusesCompleted K W folder bytes e = (read : Manifest) × IsRead K W bytes read × RefusesIn folder read e
+RefusesCompleted K W folder bytes e =
+    (read : Manifest) × IsRead K W bytes read × RefusesIn folder read e
 
 -- THE MANIFEST OF A PATH is what some bytes mean, completed
 abbrev pub IsOfPath : Kind Data → Kind Data → Option Text → Manifest → Type 0

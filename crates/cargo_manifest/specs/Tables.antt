@@ -89,7 +89,9 @@ workspace_content tree w = record {
   dependencies = option_map dependencies_content w.dependencies;
   «package» = option_map workspace_package_content w.package;
   metadata = option_map tree w.metadata;
-  lints = option_map (λ m. entries_content (λ l. entries_content lint_content l.entries) m.entries) w.lints;
+  lints =
+      option_map (λ m. entries_content (λ l. entries_content lint_content l.entries) m.entries)
+      w.lints;
 }
 
 -- the same, whose metadata has the contents m of this kind

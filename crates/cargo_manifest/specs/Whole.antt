@@ -11,7 +11,8 @@ use Rattle.manifest_parts.specs.Records.{product_content, badges_content, lints_
 use Rattle.cargo_manifest.specs.Tables.{dependencies_content, package_content, workspace_content, profiles_content}
 use Rattle.cargo_manifest.specs.declared.manifest.Manifest.{Manifest}
 
-abbrev pub manifest_content : {P W : Type 0} → (P → Data) → (W → Data) → Manifest P W → Contents.Manifest
+abbrev pub manifest_content :
+    {P W : Type 0} → (P → Data) → (W → Data) → Manifest P W → Contents.Manifest
 manifest_content package_tree workspace_tree m = record {
   «package» = option_map (package_content package_tree) m.package;
   cargo_features = option_map (λ v. map string_bytes v.items) m.cargo_features;
@@ -33,7 +34,8 @@ manifest_content package_tree workspace_tree m = record {
 }
 
 -- the same, whose metadata has the contents p and w of these kinds
-abbrev pub manifest_of : {P W A B : Type 0} → Kind A → Kind B → (P → A) → (W → B) → Manifest P W → Contents.Manifest
+abbrev pub manifest_of :
+    {P W A B : Type 0} → Kind A → Kind B → (P → A) → (W → B) → Manifest P W → Contents.Manifest
 manifest_of K L p w m = manifest_content (written_as K p) (written_as L w) m
 
 -- the same, where the workspace's metadata is kept as it stands

@@ -22,4 +22,5 @@ IsFloatless K = (x : Data) → K.good x → IsTrue (plain (K.written x))
 -- so is the table of each well-formed manifest, where no metadata that is well-formed is written with a float
 abbrev pub TableIsDecoded : Kind Data → Kind Data → Type 0
 TableIsDecoded K W =
-    IsFloatless K → IsFloatless W → (m : Manifest) → well_formed K W m → IsHeld (written_manifest K W m)
+    IsFloatless K → IsFloatless W → (m : Manifest) → well_formed K W m →
+        IsHeld (written_manifest K W m)

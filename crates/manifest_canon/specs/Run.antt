@@ -51,7 +51,8 @@ IsFileOf m = (bytes : List ℕ) × Means bytes m
 -- a manifest and what it becomes: resolved over the workspace of a root, if any, and completed by some map of listings
 abbrev pub IsFinished : Option Manifest → Manifest → Manifest → Type 0
 IsFinished root m n =
-    (resolved : Manifest) × Inherits root m resolved × ComesTo AnyAscending resolved (completed_to n)
+    (resolved : Manifest) × Inherits root m resolved
+        × ComesTo AnyAscending resolved (completed_to n)
 
 -- the same, where the root's file is named or not
 abbrev pub IsFinishedBy : Option (Bor Text) → Manifest → Manifest → Type 0
@@ -63,7 +64,8 @@ abbrev pub MayPrint : Asked → Manifest → Type 0
 MayPrint canon_file m = IsFileOf m
 MayPrint complete_file m = (read : Manifest) × IsFileOf read × IsFinished None read m
 MayPrint complete_member m =
-    (read : Manifest) × IsFileOf read × (root : Manifest) × IsFileOf root × IsFinished (Some root) read m
+    (read : Manifest) × IsFileOf read × (root : Manifest) × IsFileOf root
+        × IsFinished (Some root) read m
 
 -- OUTPUT: known bytes grow by a beginning of the text
 pub record Begins (old new : Option (List ℕ)) (text : List ℕ) : Type 0 where

@@ -18,10 +18,13 @@ abbrev pub AreAllowedAnswers : (Text → Answer → Type 0) → Text → List Te
 AreAllowedAnswers allows d [] [] = Unit {0}
 AreAllowedAnswers allows d [] (a ∷ given) = ⊥
 AreAllowedAnswers allows d (n ∷ ns) [] = ⊥
-AreAllowedAnswers allows d (n ∷ ns) (a ∷ given) = IsAllowedAnswer allows (joined d n) a × MatchBool (is_memory_fault a) (given ≡ []) (AreAllowedAnswers allows d ns given)
+AreAllowedAnswers allows d (n ∷ ns) (a ∷ given) =
+    IsAllowedAnswer allows (joined d n) a
+    × MatchBool (is_memory_fault a) (given ≡ []) (AreAllowedAnswers allows d ns given)
 
 -- what was answered at a folder and at its entries
-pub record FolderIsAnswered (allows : Text → Answer → Type 0) (d : Text) (a : FolderAnswers) : Type 0 where
+pub record FolderIsAnswered (allows : Text → Answer → Type 0) (d : Text) (a : FolderAnswers)
+    : Type 0 where
   pub own : IsAllowedAnswer allows d (answer_of a.own)
   pub entries : AreAllowedAnswers allows d (names_of (answer_of a.own)) (answers_of a.entries)
 
@@ -31,7 +34,10 @@ IsAnsweredInTurn d a = FolderIsAnswered (λ path answer. Unit {0}) (folder_text 
 
 -- the map of what was answered
 abbrev pub folder_listing : FolderAnswers → FolderListing
-folder_listing a = record { own = answer_of a.own; entries = zip (names_of (answer_of a.own)) (answers_of a.entries) }
+folder_listing a = record {
+  own = answer_of a.own;
+  entries = zip (names_of (answer_of a.own)) (answers_of a.entries);
+}
 
 abbrev pub listing_map : Answers → ListingMap
 listing_map a = record {
@@ -48,7 +54,8 @@ abbrev pub all_places : Bool → ListingMap → List Place
 all_places asks l = source ∷ up_to_memory_fault (at l) (target_places l ++ root_places asks)
 
 -- what was answered at `src`, all target folders and their entries, and the manifest's folder where that was asked
-pub record AllIsAnswered (allows : Text → Answer → Type 0) (asks : Bool) (a : Answers) : Type 0 where
+pub record AllIsAnswered (allows : Text → Answer → Type 0) (asks : Bool) (a : Answers)
+    : Type 0 where
   pub bins : IsAnsweredInTurn bins a.bins
   pub examples : IsAnsweredInTurn examples a.examples
   pub tests : IsAnsweredInTurn tests a.tests
@@ -57,8 +64,12 @@ pub record AllIsAnswered (allows : Text → Answer → Type 0) (asks : Bool) (a 
 
 -- the folder's answer or one of its entries' ran out of memory
 abbrev pub ran_out_of_memory : FolderAnswers → Bool
-ran_out_of_memory a = is_memory_fault (answer_of a.own) || list_any (λ x. is_memory_fault (answer_of x)) a.entries.items
+ran_out_of_memory a =
+    is_memory_fault (answer_of a.own)
+    || list_any (λ x. is_memory_fault (answer_of x)) a.entries.items
 
 -- some answer ran out of memory
 abbrev pub some_ran_out_of_memory : Answers → Bool
-some_ran_out_of_memory a = ran_out_of_memory a.bins || (ran_out_of_memory a.examples || (ran_out_of_memory a.tests || ran_out_of_memory a.benches))
+some_ran_out_of_memory a =
+    ran_out_of_memory a.bins
+    || (ran_out_of_memory a.examples || (ran_out_of_memory a.tests || ran_out_of_memory a.benches))

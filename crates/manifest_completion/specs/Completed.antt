@@ -61,7 +61,9 @@ library_file legacy src file =
 
 -- the path of a declared library; its file has its own name, or else that of the package
 abbrev pub library_path : PackageTargets → Answer → Product → Option Text
-library_path t src lib = option_or lib.path (library_file (is_legacy t.edition) src (unwrap_or lib.name t.name ++ codes ".rs"))
+library_path t src lib =
+    option_or lib.path
+    (library_file (is_legacy t.edition) src (unwrap_or lib.name t.name ++ codes ".rs"))
 
 -- a library, none, or one that is declared and has no file
 pub data Library : Type 0 where
@@ -105,17 +107,28 @@ asks_root (Some (a_flag b)) = b
 
 -- `build.rs`, where it is asked for and listed
 abbrev pub found_build : Bool → Answer → Option StringOrBool
-found_build asks a = if asks && lists a (codes "build.rs") then Some (a_text (codes "build.rs")) else None
+found_build asks a =
+    if asks && lists a (codes "build.rs") then Some (a_text (codes "build.rs")) else None
 
 abbrev pub build_of : Option StringOrBool → Answer → Option StringOrBool
 build_of b a = option_or (found_build (asks_root b) a) b
 
 -- DEFAULTS of the three sorts of lists
 abbrev pub bin_defaults : PackageTargets → Answer → Defaults
-bin_defaults t src = record { edition = own_edition t.edition; crate_type = None; path = if is_legacy t.edition && lists src (codes "main.rs") then Some (codes "src/main.rs") else None }
+bin_defaults t src = record {
+  edition = own_edition t.edition;
+  crate_type = None;
+  path = if is_legacy t.edition && lists src (codes "main.rs")
+    then Some (codes "src/main.rs")
+    else None;
+}
 
 abbrev pub example_defaults : PackageTargets → Defaults
-example_defaults t = record { edition = own_edition t.edition; crate_type = Some (codes "bin" ∷ []); path = None }
+example_defaults t = record {
+  edition = own_edition t.edition;
+  crate_type = Some (codes "bin" ∷ []);
+  path = None;
+}
 
 abbrev pub test_defaults : PackageTargets → Defaults
 test_defaults t = record { edition = own_edition t.edition; crate_type = None; path = None }
@@ -125,10 +138,18 @@ unfoldable pub filled : PackageTargets → Option Product → ListingMap → Pac
 filled t lib l = record t {
   build = build_of t.build l.root;
   lib = lib;
-  bin = targets (bin_defaults t l.source) (discovers t.autobins (is_legacy t.edition) t.bin) (bin_finds l t.name) t.bin;
-  example = targets (example_defaults t) (discovers t.autoexamples (is_legacy t.edition) t.example) (finds l examples) t.example;
-  test = targets (test_defaults t) (discovers t.autotests (is_legacy t.edition) t.test) (finds l tests) t.test;
-  bench = targets (test_defaults t) (discovers t.autobenches (is_legacy t.edition) t.bench) (finds l benches) t.bench;
+  bin =
+      targets (bin_defaults t l.source) (discovers t.autobins (is_legacy t.edition) t.bin)
+      (bin_finds l t.name) t.bin;
+  example =
+      targets (example_defaults t) (discovers t.autoexamples (is_legacy t.edition) t.example)
+      (finds l examples) t.example;
+  test =
+      targets (test_defaults t) (discovers t.autotests (is_legacy t.edition) t.test) (finds l tests)
+      t.test;
+  bench =
+      targets (test_defaults t) (discovers t.autobenches (is_legacy t.edition) t.bench)
+      (finds l benches) t.bench;
 }
 
 -- THE OUTCOME OF COMPLETION: what it makes, a refusal for a listing's fault of this kind, or for a missing library file
@@ -142,7 +163,9 @@ abbrev pub folder_places : ListingMap → TargetFolder → List Place
 folder_places l d = folder d ∷ map (entry d) (names_of (at l (folder d)))
 
 abbrev pub target_places : ListingMap → List Place
-target_places l = folder_places l bins ++ (folder_places l examples ++ (folder_places l tests ++ folder_places l benches))
+target_places l =
+    folder_places l bins
+    ++ (folder_places l examples ++ (folder_places l tests ++ folder_places l benches))
 
 -- the filesystem ran out of memory at one of these places
 abbrev pub has_memory_fault : (Place → Answer) → List Place → Bool
@@ -164,13 +187,17 @@ root_fault b a = root_fault_if (asks_root b) a
 
 -- refused for the first of these: a fault of `src`, a library without a file, memory that ran out for a folder of targets,
 -- a fault of the manifest's folder; else the targets, filled in
-abbrev pub after_root : PackageTargets → Option Product → ListingMap → Option ErrorKind → Completion PackageTargets
+abbrev pub after_root :
+    PackageTargets → Option Product → ListingMap → Option ErrorKind → Completion PackageTargets
 after_root t lib l (Some k) = refused k
 after_root t lib l None = completed_to (filled t lib l)
 
 abbrev pub after_library : PackageTargets → ListingMap → Library → Completion PackageTargets
 after_library t l no_file = no_library
-after_library t l (known lib) = if has_memory_fault (at l) (target_places l) then refused OutOfMemory else after_root t lib l (root_fault t.build l.root)
+after_library t l (known lib) =
+    if has_memory_fault (at l) (target_places l)
+    then refused OutOfMemory
+    else after_root t lib l (root_fault t.build l.root)
 
 abbrev pub after_source : PackageTargets → ListingMap → Option ErrorKind → Completion PackageTargets
 after_source t l (Some k) = refused k
@@ -277,11 +304,13 @@ abbrev pub AllAllowed : (Text → Answer → Type 0) → ListingMap → List Pla
 AllAllowed allows l ps = AllByRecursion (λ p. allows (path_text p) (at l p)) ps
 
 -- THE MAP EXPLAINS the answers: each folder's names ascend, and at each place that is asked the map's answer is allowed
-pub record Explains (allows : Text → Answer → Type 0) (l : ListingMap) (places : List Place) : Type 0 where
+pub record Explains (allows : Text → Answer → Type 0) (l : ListingMap) (places : List Place)
+    : Type 0 where
   pub ascending : NamesAscend l
   pub allowed : AllAllowed allows l places
 
 -- BY ONE MAP of listings, which explains what the filesystem answered at the places that it asks, this is the outcome
 abbrev pub ByOneMap :
-    {C : Type 0} → (Text → Answer → Type 0) → (ListingMap → List Place) → (ListingMap → C) → C → Type 0
+    {C : Type 0} → (Text → Answer → Type 0) → (ListingMap → List Place) → (ListingMap → C) → C →
+        Type 0
 ByOneMap allows asked outcome c = (l : ListingMap) × Explains allows l (asked l) × (outcome l ≡ c)

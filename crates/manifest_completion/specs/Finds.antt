@@ -23,18 +23,25 @@ file_find d n = file_find_of d n (stem n)
 
 -- the entry n of the folder d, where its own listing has `main.rs`
 abbrev pub folder_find : Text → Text → Answer → List Find
-folder_find d n a = if lists a (codes "main.rs") then record { name = n; path = joined (joined d n) (codes "main.rs") } ∷ [] else []
+folder_find d n a =
+    if lists a (codes "main.rs")
+    then record { name = n; path = joined (joined d n) (codes "main.rs") } ∷ []
+    else []
 
 abbrev pub entry_finds : Text → Text → Answer → List Find
 entry_finds d n a = file_find d n ++ folder_find d n a
 
 -- THE FINDS of a folder of targets: those of its names, in the order of bytes
 abbrev pub finds : ListingMap → TargetFolder → List Find
-finds l d = flat_map (λ n. entry_finds (folder_text d) n (at l (entry d n))) (names_of (at l (folder d)))
+finds l d =
+    flat_map (λ n. entry_finds (folder_text d) n (at l (entry d n))) (names_of (at l (folder d)))
 
 -- `src/main.rs`, which has the name of the package
 abbrev pub main_find : Text → Answer → List Find
-main_find own src = if lists src (codes "main.rs") then record { name = own; path = codes "src/main.rs" } ∷ [] else []
+main_find own src =
+    if lists src (codes "main.rs")
+    then record { name = own; path = codes "src/main.rs" } ∷ []
+    else []
 
 -- THE FINDS OF THE BINARIES: those of `src/bin`, then `src/main.rs`
 abbrev pub bin_finds : ListingMap → Text → List Find

@@ -11,7 +11,8 @@ use Rattle.manifest_completion.specs.Targets.{first_path, has_path}
 
 -- the path that a map has for a name
 abbrev pub path_at : BTreeMap (Bor Text) (Bor Text) → Text → Option Text
-path_at m n = option_map (λ (p : Bor Text). p.now) (get_by (λ (k : Bor Text). slice_cmp nat_cmp n k.now) m)
+path_at m n =
+    option_map (λ (p : Bor Text). p.now) (get_by (λ (k : Bor Text). slice_cmp nat_cmp n k.now) m)
 
 -- for each name the map has the path of the first of these finds that has it
 abbrev pub Indexes : BTreeMap (Bor Text) (Bor Text) → List Find → Type 0

@@ -16,7 +16,9 @@ use Rattle.manifest_completion.specs.Outcome.{TargetsCompleted, CompletedAsStore
 
 -- all path texts that are asked differ, whatever names are listed
 abbrev pub AskedDiffer : Type 0
-AskedDiffer = (m : Manifest) (l : ListingMap) → HasNoNameTwice l → IsDistinct bytes_eq (map path_text (asked m l))
+AskedDiffer =
+    (m : Manifest) (l : ListingMap) → HasNoNameTwice l →
+    IsDistinct bytes_eq (map path_text (asked m l))
 
 -- names that ascend are in no folder twice
 abbrev pub AscendingDiffer : Type 0
@@ -52,4 +54,6 @@ pub record IsFixed (K W : Kind Data) (m n : Manifest) (l : ListingMap) : Type 0 
 
 -- completing a well-formed manifest, writing it, reading it and completing it again changes nothing
 abbrev pub CompletedIsFixed : Kind Data → Kind Data → Type 0
-CompletedIsFixed K W = (m n : Manifest) (l : ListingMap) → well_formed K W m → completed m l ≡ completed_to n → IsFixed K W m n l
+CompletedIsFixed K W =
+    (m n : Manifest) (l : ListingMap) → well_formed K W m → completed m l ≡ completed_to n →
+    IsFixed K W m n l

@@ -46,16 +46,19 @@ abbrev pub library_text : Text
 library_text = codes "can't find library, rename file to `src/lib.rs` or specify lib.path"
 
 -- WHAT COMPLETING ANSWERS is the completion by one map of answers that the filesystem allows; or memory ran out
-abbrev pub TargetsComeTo : (Text → Answer → Type 0) → PackageTargets → Completion PackageTargets → Type 0
+abbrev pub TargetsComeTo :
+    (Text → Answer → Type 0) → PackageTargets → Completion PackageTargets → Type 0
 TargetsComeTo allows t c = ByOneMap allows (asked_targets t) (completed_targets t) c
 
 abbrev pub TargetsRefused : (Text → Answer → Type 0) → PackageTargets → Error → Type 0
 TargetsRefused allows t (Io e) = TargetsComeTo allows t (refused (error_kind e))
-TargetsRefused allows t (Other s) = TargetsComeTo allows t no_library × (string_bytes s ≡ library_text)
+TargetsRefused allows t (Other s) =
+    TargetsComeTo allows t no_library × (string_bytes s ≡ library_text)
 TargetsRefused allows t (Memory e) = Unit {0}
 TargetsRefused allows t _ = ⊥
 
-abbrev pub TargetsCompleted : (Text → Answer → Type 0) → PackageTargets → Result CompletedTargets Error → Type 0
+abbrev pub TargetsCompleted :
+    (Text → Answer → Type 0) → PackageTargets → Result CompletedTargets Error → Type 0
 TargetsCompleted allows t (Ok c) = TargetsComeTo allows t (completed_to (completed_content t c))
 TargetsCompleted allows t (Err e) = TargetsRefused allows t e
 

@@ -60,20 +60,37 @@ folder_paired d a = paired_finds d (names_of (answer_of a.own)) (answers_of a.en
 
 -- the four lists are completed, by what was answered
 pub record ListsCompleted (t : PackageTargets) (a : Answers) (lists : CompletedLists) : Type 0 where
-  pub bin : map product_content lists.bin.items ≡ targets (bin_defaults t (answer_of a.source)) (discovers t.autobins (is_legacy t.edition) t.bin) (folder_paired (folder_text bins) a.bins ++ main_find t.name (answer_of a.source)) t.bin
-  pub example : map product_content lists.example.items ≡ targets (example_defaults t) (discovers t.autoexamples (is_legacy t.edition) t.example) (folder_paired (folder_text examples) a.examples) t.example
-  pub test : map product_content lists.test.items ≡ targets (test_defaults t) (discovers t.autotests (is_legacy t.edition) t.test) (folder_paired (folder_text tests) a.tests) t.test
-  pub bench : map product_content lists.bench.items ≡ targets (test_defaults t) (discovers t.autobenches (is_legacy t.edition) t.bench) (folder_paired (folder_text benches) a.benches) t.bench
+  pub bin :
+      map product_content lists.bin.items
+      ≡ targets (bin_defaults t (answer_of a.source))
+      (discovers t.autobins (is_legacy t.edition) t.bin)
+      (folder_paired (folder_text bins) a.bins ++ main_find t.name (answer_of a.source)) t.bin
+  pub example :
+      map product_content lists.example.items
+      ≡ targets (example_defaults t) (discovers t.autoexamples (is_legacy t.edition) t.example)
+      (folder_paired (folder_text examples) a.examples) t.example
+  pub test :
+      map product_content lists.test.items
+      ≡ targets (test_defaults t) (discovers t.autotests (is_legacy t.edition) t.test)
+      (folder_paired (folder_text tests) a.tests) t.test
+  pub bench :
+      map product_content lists.bench.items
+      ≡ targets (test_defaults t) (discovers t.autobenches (is_legacy t.edition) t.bench)
+      (folder_paired (folder_text benches) a.benches) t.bench
 
 -- the targets are completed with this library, by what was answered
-pub record TargetsMade (t : PackageTargets) (lib : Option Product) (a : Answers) (c : CompletedTargets) : Type 0 where
+pub record TargetsMade (t : PackageTargets) (lib : Option Product) (a : Answers)
+    (c : CompletedTargets) : Type 0 where
   pub build : option_map text_or_flag_content c.build ≡ build_of t.build (answer_of a.root)
   pub library : option_map product_content c.lib ≡ lib
-  pub lists : ListsCompleted t a (record { bin = c.bin; example = c.example; test = c.test; bench = c.bench })
+  pub lists :
+      ListsCompleted t a
+      (record { bin = c.bin; example = c.example; test = c.test; bench = c.bench })
 
 -- the fault that refuses after all answers: out of memory at a target folder or an entry, or that of the root folder
 abbrev pub fault_of_answers : PackageTargets → Answers → Option ErrorKind
-fault_of_answers t a = if some_ran_out_of_memory a then Some OutOfMemory else root_fault t.build (answer_of a.root)
+fault_of_answers t a =
+    if some_ran_out_of_memory a then Some OutOfMemory else root_fault t.build (answer_of a.root)
 
 abbrev pub RefusesByAnswers : PackageTargets → Answers → Error → Type 0
 RefusesByAnswers t a (Io e) = fault_of_answers t a ≡ Some (error_kind e)
@@ -81,6 +98,7 @@ RefusesByAnswers t a (Memory e) = Unit {0}
 RefusesByAnswers t a _ = ⊥
 
 -- what is answered, by what was answered
-abbrev pub CompletesByAnswers : PackageTargets → Option Product → Answers → Result CompletedTargets Error → Type 0
+abbrev pub CompletesByAnswers :
+    PackageTargets → Option Product → Answers → Result CompletedTargets Error → Type 0
 CompletesByAnswers t lib a (Ok c) = (fault_of_answers t a ≡ None) × TargetsMade t lib a c
 CompletesByAnswers t lib a (Err e) = RefusesByAnswers t a e

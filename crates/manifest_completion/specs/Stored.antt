@@ -28,7 +28,8 @@ AnswersAsStored stored path a = (a ≡ stored path) ⊎ (a ≡ fault OutOfMemory
 abbrev pub stored_folder : (Text → Answer) → TargetFolder → FolderListing
 stored_folder stored d = record {
   own = stored (path_text (folder d));
-  entries = map (λ n. (n, stored (path_text (entry d n)))) (names_of (stored (path_text (folder d))));
+  entries =
+      map (λ n. (n, stored (path_text (entry d n)))) (names_of (stored (path_text (folder d))));
 }
 
 -- THE MAP OF WHAT IS STORED: at each folder, and at each name in a folder of targets, the answer for its path text

@@ -52,7 +52,8 @@ found f = record {
 -- the finds whose path is not among these, and that no earlier find has
 abbrev pub added : List Text → List Find → List Product
 added had [] = []
-added had (f ∷ fs) = (if has_path had f.path then [] else found f ∷ []) ++ added (had ++ f.path ∷ []) fs
+added had (f ∷ fs) =
+    (if has_path had f.path then [] else found f ∷ []) ++ added (had ++ f.path ∷ []) fs
 
 -- DEFAULTS: what a target takes where it has none
 pub record Defaults : Type 0 where

@@ -50,7 +50,8 @@ pub record DeclaredAreKept (old new : Manifest) : Type 0 where
 
 -- what is declared stays in every completion
 abbrev pub DeclaredStays : Type 0
-DeclaredStays = (m n : Manifest) (l : ListingMap) → completed m l ≡ completed_to n → DeclaredAreKept m n
+DeclaredStays =
+    (m n : Manifest) (l : ListingMap) → completed m l ≡ completed_to n → DeclaredAreKept m n
 
 -- AN ENTRY of a folder of targets is one where it is a file of Rust, or a folder with `main.rs`
 abbrev pub is_target : Text → Answer → Bool

@@ -30,7 +30,8 @@ Outcome (Ok v) t = IsTold t 0 0 v.items
 Outcome (Err r) t = (TellsMemory t ⊎ Tells r t) × IsUtf8 t.text.items
 
 -- THE ANSWER of a call that gives one of these texts, or has one of these refusals
-pub record IsAnswered (gives : Text → Type 0) (refuses : Refusals) (old new : List ℕ) (a : Answer) : Type 0 where
+pub record IsAnswered (gives : Text → Type 0) (refuses : Refusals) (old new : List ℕ) (a : Answer)
+    : Type 0 where
   pub made : Result (Vec ℕ Global) Refusal
   pub told : Told
   pub is_made : IsMade gives refuses made

@@ -32,7 +32,8 @@ folder_answer f = if f.fault == 0 then names (texts f.names.now) else fault (fau
 -- the answer of the folder that has the path
 abbrev pub folder_at : List Folder → Text → Option Answer
 folder_at [] path = None
-folder_at (f ∷ fs) path = if bytes_eq path f.path.now then Some (folder_answer f) else folder_at fs path
+folder_at (f ∷ fs) path =
+    if bytes_eq path f.path.now then Some (folder_answer f) else folder_at fs path
 
 -- what has no folder is not there
 abbrev pub or_not_found : Option Answer → Answer

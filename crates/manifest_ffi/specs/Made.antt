@@ -47,7 +47,8 @@ CompletesStored None m n = n ≡ m
 CompletesStored (Some stored) m n = completed m (stored_map stored) ≡ completed_to n
 
 abbrev pub RefusesToCompleteStored : Option (Text → Answer) → Manifest → FinishError → Type 0
-RefusesToCompleteStored (Some stored) m (Incomplete e) = IsRefusalOf (completed m (stored_map stored)) e
+RefusesToCompleteStored (Some stored) m (Incomplete e) =
+    IsRefusalOf (completed m (stored_map stored)) e
 RefusesToCompleteStored _ m _ = ⊥
 
 -- BOTH STEPS: with what is inherited from the root's workspace, where there is a root, and then completed
@@ -70,8 +71,10 @@ abbrev pub RefusesRoot : Input → Option (List ℕ) → Refusals
 RefusesRoot input (Some bytes) (Root e) = RefusesToRead input bytes e
 RefusesRoot input _ _ = ⊥
 
-abbrev pub FinishesByBytes : Input → Option (List ℕ) → Option (Text → Answer) → Manifest → Manifest → Type 0
-FinishesByBytes input root stored m n = (r : Option Manifest) × IsRoot input root r × FinishesStored r stored m n
+abbrev pub FinishesByBytes :
+    Input → Option (List ℕ) → Option (Text → Answer) → Manifest → Manifest → Type 0
+FinishesByBytes input root stored m n =
+    (r : Option Manifest) × IsRoot input root r × FinishesStored r stored m n
 
 abbrev pub RefusesByBytes : Input → Option (List ℕ) → Option (Text → Answer) → Manifest → Refusals
 RefusesByBytes input root stored m e =
@@ -140,7 +143,8 @@ IsMade gives refuses (Err e) = refuses e
 
 -- the text is what is asked for of one of these manifests
 abbrev pub Gives : Output → ℕ → (Manifest → Type 0) → Text → Type 0
-Gives output most makes text = (m : Manifest) × makes m × Writes output most m text × Holds output m text
+Gives output most makes text =
+    (m : Manifest) × makes m × Writes output most m text × Holds output m text
 
 -- a refusal of the steps that make the manifests, or of what is asked for of one of them
 abbrev pub OrOutput : Output → ℕ → (Manifest → Type 0) → Refusals → Refusals

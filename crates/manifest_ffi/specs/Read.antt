@@ -74,7 +74,8 @@ pub record IsTaggedOf (bytes : Text) (m : Manifest) : Type 0 where
 -- the bytes are those of a value that has this fault
 abbrev pub HoldFault : Text → Error → Type 0
 HoldFault bytes e =
-    (value : Data) × (bytes ≡ encoded value) × RefusedIn (faulty_manifest kept_metadata kept_metadata value) e
+    (value : Data) × (bytes ≡ encoded value)
+        × RefusedIn (faulty_manifest kept_metadata kept_metadata value) e
 
 -- they are not: they are the bytes of a value with this fault, or memory ran out; the other refusals promise nothing
 abbrev pub RefusesTaggedInput : Text → InputError → Type 0

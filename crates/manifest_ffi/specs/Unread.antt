@@ -34,7 +34,8 @@ RefusesUnread most bytes e =
 -- THE DOCUMENT: the text is the tagged bytes of the table that the bytes are
 abbrev pub GivesDocument : ℕ → List ℕ → Text → Type 0
 GivesDocument most bytes text =
-    (document : Members) × IsDocument bytes document × AreWithin most (encoded (table document)) text
+    (document : Members) × IsDocument bytes document
+        × AreWithin most (encoded (table document)) text
 
 -- the bytes are refused as they are read, or the tagged bytes as they are made
 abbrev pub RefusesDocument : ℕ → List ℕ → Refusals

@@ -14,7 +14,8 @@ pub record ResolvesTo (m : Manifest) (w : Workspace) (n : Manifest) : Type 0 whe
 -- the error is one of these refusals, or out of memory
 abbrev pub ResolveRefusedIn : Refusals → ResolveError → Type 0
 ResolveRefusedIn refuses (NotInWorkspace s) = refuses (not_in_workspace (string_bytes s))
-ResolveRefusedIn refuses (InheritedInWorkspace s) = refuses (inherited_in_workspace (string_bytes s))
+ResolveRefusedIn refuses (InheritedInWorkspace s) =
+    refuses (inherited_in_workspace (string_bytes s))
 ResolveRefusedIn refuses MixedLints = refuses mixed_lints
 ResolveRefusedIn refuses ToolNamedWorkspace = refuses tool_named_workspace
 ResolveRefusedIn refuses (Memory e) = Unit {0}

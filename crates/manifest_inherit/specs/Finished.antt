@@ -39,7 +39,8 @@ module _ {F : Type 0} (allows : F → Text → Answer → Type 0) where
 
   -- the refusal to complete it; the manifest stays as it is
   abbrev pub RefusesToCompleteOver : Option (Bor F) → Manifest → Manifest → FinishError → Type 0
-  RefusesToCompleteOver (Some folders) m n (Incomplete e) = RefusesToComplete (allows folders.now) m e × (n ≡ m)
+  RefusesToCompleteOver (Some folders) m n (Incomplete e) = RefusesToComplete (allows folders.now) m
+      e × (n ≡ m)
   RefusesToCompleteOver _ m n _ = ⊥
 
   -- THE MANIFEST IS FINISHED: with what it inherits, and then completed
@@ -48,7 +49,8 @@ module _ {F : Type 0} (allows : F → Text → Answer → Type 0) where
       (m : Manifest) × Inherits root old m × CompletedOver folders m new
 
   -- the refusal of one of the two steps, with the manifest as it is left
-  abbrev pub RefusesToFinish : Option Manifest → Option (Bor F) → Manifest → Manifest → FinishError → Type 0
+  abbrev pub RefusesToFinish : Option Manifest → Option (Bor F) → Manifest → Manifest →
+      FinishError → Type 0
   RefusesToFinish root folders old new e =
       RefusesToInherit root old new e
       ⊎ ((m : Manifest) × Inherits root old m × RefusesToCompleteOver folders m new e)

@@ -23,7 +23,8 @@ abbrev pub lent_by_map : Option (BTreeMap (String Global) DependencyOfCode) → 
 lent_by_map lent = unwrap_or (option_map dependencies_content lent) []
 
 -- the lints of all tools
-abbrev pub tools_content : BTreeMap (String Global) (BTreeMap (String Global) LintOfCode) → Entries (Entries Lint)
+abbrev pub tools_content :
+    BTreeMap (String Global) (BTreeMap (String Global) LintOfCode) → Entries (Entries Lint)
 tools_content m = entries_content (λ l. entries_content lint_content l.entries) m.entries
 
 -- how many fields there are
@@ -51,7 +52,8 @@ lent_at _ _ w p = Unit {0}
 -- a manifest with what is made in the place of what it inherits
 abbrev pub with_made : Made → Manifest → Manifest
 with_made made m = record m {
-  «package» = option_map (resolved_package (Some (workspace_package_content made.fields))) m.«package»;
+  «package» =
+      option_map (resolved_package (Some (workspace_package_content made.fields))) m.«package»;
   dependencies = option_map dependencies_content made.dependencies;
   dev_dependencies = option_map dependencies_content made.dev_dependencies;
   build_dependencies = option_map dependencies_content made.build_dependencies;

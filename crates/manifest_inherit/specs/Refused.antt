@@ -41,7 +41,8 @@ refuses_lender name (Some (by_workspace d)) r = r ≡ inherited_in_workspace nam
 refuses_lender name (Some d) r = ⊥
 
 abbrev pub refuses_dependency : Entries Dependency → Text → Dependency → Refusals
-refuses_dependency lent name (by_workspace own) r = refuses_lender name (workspace_dependency lent name) r
+refuses_dependency lent name (by_workspace own) r =
+    refuses_lender name (workspace_dependency lent name) r
 refuses_dependency lent name d r = ⊥
 
 -- A MAP: one of its entries
@@ -72,7 +73,8 @@ refuses_lent_lints None r = r ≡ not_in_workspace (codes "lints")
 refuses_lent_lints (Some tools) r =
     (none_named (codes "workspace" ∷ []) tools ≡ false) × (r ≡ tool_named_workspace)
 
-abbrev pub refuses_lints_by : Option (Unit {0}) → Option (Entries (Entries Lint)) → MaybeInheritedLintsSet → Refusals
+abbrev pub refuses_lints_by :
+    Option (Unit {0}) → Option (Entries (Entries Lint)) → MaybeInheritedLintsSet → Refusals
 refuses_lints_by None lent own r = ⊥
 refuses_lints_by (Some u) lent own r = refuses_tools own.lints r ⊎ refuses_lent_lints lent r
 

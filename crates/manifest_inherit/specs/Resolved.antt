@@ -11,13 +11,15 @@ use Rattle.manifest_parts.specs.Queries.{simplify}
 use Rattle.manifest_inherit.specs.Fields.{Fields, no_more, ◌⨾◌, lendable}
 
 -- A FIELD of a package: where it is inherited, it becomes the package's own, with the content of the workspace's
-abbrev pub resolved_field : {A : Type 0} → Option (Inheritable A) → Option A → Option (Inheritable A)
+abbrev pub resolved_field :
+    {A : Type 0} → Option (Inheritable A) → Option A → Option (Inheritable A)
 resolved_field (Some inherited) (Some x) = Some (local x)
 resolved_field own lent = own
 
 abbrev pub resolved_fields : Fields → Option WorkspacePackage → Package → Package
 resolved_fields no_more w p = p
-resolved_fields (f ⨾ fs) w p = f.with_content (resolved_fields fs w p) (resolved_field (f.own p) (f.lent w))
+resolved_fields (f ⨾ fs) w p =
+    f.with_content (resolved_fields fs w p) (resolved_field (f.own p) (f.lent w))
 
 -- A PACKAGE: its sixteen fields, and nothing else
 unfoldable pub resolved_package : Option WorkspacePackage → Package → Package
@@ -62,7 +64,8 @@ new_features had (f ∷ fs) =
 -- the workspace's features, then those that the member adds; none are said where neither says any
 abbrev pub joined_features : Option (List Text) → Option (List Text) → Option (List Text)
 joined_features None None = None
-joined_features lent own = Some (unwrap_or lent [] ++ new_features (unwrap_or lent []) (unwrap_or own []))
+joined_features lent own =
+    Some (unwrap_or lent [] ++ new_features (unwrap_or lent []) (unwrap_or own []))
 
 -- the workspace's detail, with the features of both; `optional` and, where it says them, default features of the member
 abbrev pub joined : InheritedDependencyDetail → DependencyDetail → DependencyDetail
@@ -78,7 +81,8 @@ with_lent own (Some d) = simplify (detailed (joined own d))
 
 -- the dependency of this name: if inherited, what the workspace's dependency of the name makes of it, simplified
 abbrev pub resolved_dependency : Entries Dependency → Text → Dependency → Dependency
-resolved_dependency lent name (by_workspace own) = with_lent own (lent_by (workspace_dependency lent name))
+resolved_dependency lent name (by_workspace own) =
+    with_lent own (lent_by (workspace_dependency lent name))
 resolved_dependency lent name d = d
 
 -- A MAP: each entry by its name, in its place
@@ -100,11 +104,14 @@ abbrev pub resolved_platforms : Entries Dependency → Entries Target → Entrie
 resolved_platforms lent = resolved_entries (λ name. resolved_platform lent)
 
 -- LINTS: where they are inherited, they become the workspace's
-abbrev pub resolved_lints_by : Option (Unit {0}) → Option (Entries (Entries Lint)) → MaybeInheritedLintsSet → MaybeInheritedLintsSet
+abbrev pub resolved_lints_by :
+    Option (Unit {0}) → Option (Entries (Entries Lint)) → MaybeInheritedLintsSet →
+    MaybeInheritedLintsSet
 resolved_lints_by (Some u) (Some tools) own = record { workspace = None; lints = tools }
 resolved_lints_by inherits lent own = own
 
-abbrev pub resolved_lints : Option (Entries (Entries Lint)) → MaybeInheritedLintsSet → MaybeInheritedLintsSet
+abbrev pub resolved_lints :
+    Option (Entries (Entries Lint)) → MaybeInheritedLintsSet → MaybeInheritedLintsSet
 resolved_lints lent own = resolved_lints_by own.workspace lent own
 
 -- the dependencies inherited from a workspace
@@ -117,7 +124,8 @@ resolved m w = record m {
   «package» = option_map (resolved_package w.«package») m.«package»;
   dependencies = option_map (resolved_dependencies (lent_dependencies w)) m.dependencies;
   dev_dependencies = option_map (resolved_dependencies (lent_dependencies w)) m.dev_dependencies;
-  build_dependencies = option_map (resolved_dependencies (lent_dependencies w)) m.build_dependencies;
+  build_dependencies =
+      option_map (resolved_dependencies (lent_dependencies w)) m.build_dependencies;
   target = option_map (resolved_platforms (lent_dependencies w)) m.target;
   lints = option_map (resolved_lints w.lints) m.lints;
 }

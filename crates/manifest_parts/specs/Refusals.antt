@@ -7,7 +7,10 @@ use Rattle.manifest_value.specs.declared.error.Error.TheVariants.{Other, Memory}
 
 -- the value is no strip setting, and the text says so
 abbrev pub RefusesStrip : Data → Error → Type 0
-RefusesStrip (string s) (Other t) = (strip_meaning (string s) ≡ None) × (string_bytes t ≡ codes "'" ++ s ++ codes "' is not a valid value for 'strip'")
-RefusesStrip d (Other t) = (strip_meaning d ≡ None) × (string_bytes t ≡ codes "wrong data type for strip setting")
+RefusesStrip (string s) (Other t) =
+    (strip_meaning (string s) ≡ None)
+    × (string_bytes t ≡ codes "'" ++ s ++ codes "' is not a valid value for 'strip'")
+RefusesStrip d (Other t) =
+    (strip_meaning d ≡ None) × (string_bytes t ≡ codes "wrong data type for strip setting")
 RefusesStrip d (Memory e) = Unit {0}
 RefusesStrip d _ = ⊥

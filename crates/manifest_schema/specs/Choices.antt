@@ -23,7 +23,11 @@ edition_text e2021 = codes "2021"
 edition_text e2024 = codes "2024"
 
 abbrev pub edition_words : List (Text × Edition)
-edition_words = (codes "2015", e2015) ∷ (codes "2018", e2018) ∷ (codes "2021", e2021) ∷ (codes "2024", e2024) ∷ []
+edition_words =
+    (codes "2015", e2015)
+    ∷ (codes "2018", e2018)
+    ∷ (codes "2021", e2021)
+    ∷ (codes "2024", e2024) ∷ []
 
 abbrev pub edition : Kind Edition
 edition = choice (word_meaning edition_words) (λ e. string (edition_text e))
@@ -48,7 +52,11 @@ level_text warn = codes "warn"
 level_text allow = codes "allow"
 
 abbrev pub level_words : List (Text × LintLevel)
-level_words = (codes "forbid", forbid) ∷ (codes "deny", deny) ∷ (codes "warn", warn) ∷ (codes "allow", allow) ∷ []
+level_words =
+    (codes "forbid", forbid)
+    ∷ (codes "deny", deny)
+    ∷ (codes "warn", warn)
+    ∷ (codes "allow", allow) ∷ []
 
 abbrev pub level : Kind LintLevel
 level = choice (word_meaning level_words) (λ e. string (level_text e))
@@ -78,7 +86,10 @@ status = choice (word_meaning status_words) (λ e. string (status_text e))
 
 -- STRIP, of texts and booleans
 abbrev pub strip_words : List (Text × StripSetting)
-strip_words = (codes "none", strip_none) ∷ (codes "symbols", strip_symbols) ∷ (codes "debuginfo", strip_debuginfo) ∷ []
+strip_words =
+    (codes "none", strip_none)
+    ∷ (codes "symbols", strip_symbols)
+    ∷ (codes "debuginfo", strip_debuginfo) ∷ []
 
 -- false is `none`, true is `symbols`
 abbrev pub strip_meaning : Data → Option StripSetting

@@ -28,10 +28,12 @@ kept_metadata = tree_of kept
 -- what is meant by a table whose date-times are valid keeps valid ones
 abbrev pub MeantDatesAreValid : Type 0
 MeantDatesAreValid =
-    (ms : Members) (m : Manifest) → means kept_metadata kept_metadata ms m → MembersHaveValidDates ms
+    (ms : Members) (m : Manifest) → means kept_metadata kept_metadata ms m →
+        MembersHaveValidDates ms
     → KeepsValidDates m
 
 -- so has what is written of it
 abbrev pub WrittenDatesAreValid : Type 0
 WrittenDatesAreValid =
-    (m : Manifest) → KeepsValidDates m → MembersHaveValidDates (rewritten kept_metadata kept_metadata m)
+    (m : Manifest) → KeepsValidDates m →
+        MembersHaveValidDates (rewritten kept_metadata kept_metadata m)

@@ -21,11 +21,21 @@ first_fit _ _ ms x = Unit {0}
 
 -- THE KIND THAT READS NOTHING satisfies the laws: each value has its fault
 pub nothing_laws : IsLawful nothing
-nothing_laws = record { single = λ d x y a b. absurd a; apart = λ d p c x f a. a; well = λ d x a. a; back = λ x g. absurd g }
+nothing_laws = record {
+  single = λ d x y a b. absurd a;
+  apart = λ d p c x f a. a;
+  well = λ d x a. a;
+  back = λ x g. absurd g;
+}
 
 pub nothing_told : IsTotal nothing
 nothing_told = record { total = λ d. inr ([], metadata_fault, (refl, refl)) }
 
 -- THE KIND THAT LOOKS AT NO VALUE satisfies them too: no value has a fault
 pub unread_laws : IsLawful unread
-unread_laws = record { single = λ d x y a b. refl; apart = λ d p c x f a. f; well = λ d x a. tt; back = λ x g. tt }
+unread_laws = record {
+  single = λ d x y a b. refl;
+  apart = λ d p c x f a. f;
+  well = λ d x a. tt;
+  back = λ x g. tt;
+}

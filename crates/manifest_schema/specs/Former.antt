@@ -24,7 +24,8 @@ leave_out k rows = rows
 
 -- the rows, with this one in place of the one of the same first spelling
 abbrev pub put_instead : {A : Type 0} → Row A → Rows A → Rows A
-put_instead s (r ⨾ rs) = rows_if (same_key (first s.spellings) (first r.spellings)) (s ⨾ rs) (r ⨾ put_instead s rs)
+put_instead s (r ⨾ rs) =
+    rows_if (same_key (first s.spellings) (first r.spellings)) (s ⨾ rs) (r ⨾ put_instead s rs)
 put_instead s rows = rows
 
 -- the rows, with each of the first ones in place of the one of the same first spelling
@@ -37,14 +38,19 @@ abbrev pub former_inherited_rows : Rows InheritedDependencyDetail
 former_inherited_rows = leave_out (codes "default-features") inherited_rows
 
 abbrev pub former_dependency : Kind Dependency
-former_dependency = split is_text text (split inherits (form former_inherited_rows) (form detailed_rows) (λ x. x)) dependency_side
+former_dependency =
+    split is_text text (split inherits (form former_inherited_rows) (form detailed_rows) (λ x. x))
+    dependency_side
 
 -- and each form with dependencies in it had these
 abbrev pub former_platform_rows : Rows Target
 former_platform_rows = amended (
-    row (λ p. p.dependencies) (only (codes "dependencies")) (default (map_of former_dependency) [] never)
-    ⨾ row (λ p. p.dev_dependencies) (also_underscored (codes "dev-dependencies")) (default (map_of former_dependency) [] never)
-    ⨾ row (λ p. p.build_dependencies) (also_underscored (codes "build-dependencies")) (default (map_of former_dependency) [] never)
+    row (λ p. p.dependencies) (only (codes "dependencies"))
+        (default (map_of former_dependency) [] never)
+    ⨾ row (λ p. p.dev_dependencies) (also_underscored (codes "dev-dependencies"))
+        (default (map_of former_dependency) [] never)
+    ⨾ row (λ p. p.build_dependencies) (also_underscored (codes "build-dependencies"))
+        (default (map_of former_dependency) [] never)
     ⨾ no_more) platform_rows
 
 abbrev pub former_workspace_rows : Kind Data → Rows Workspace
@@ -54,10 +60,13 @@ former_workspace_rows metadata = amended (
 
 abbrev pub former_manifest_rows : Kind Data → Kind Data → Rows Manifest
 former_manifest_rows package_metadata workspace_metadata = amended (
-    row (λ m. m.workspace) (only (codes "workspace")) (optional (form (former_workspace_rows workspace_metadata)))
+    row (λ m. m.workspace) (only (codes "workspace"))
+        (optional (form (former_workspace_rows workspace_metadata)))
     ⨾ row (λ m. m.dependencies) (only (codes "dependencies")) (optional (map_of former_dependency))
-    ⨾ row (λ m. m.dev_dependencies) (also_underscored (codes "dev-dependencies")) (optional (map_of former_dependency))
-    ⨾ row (λ m. m.build_dependencies) (also_underscored (codes "build-dependencies")) (optional (map_of former_dependency))
+    ⨾ row (λ m. m.dev_dependencies) (also_underscored (codes "dev-dependencies"))
+        (optional (map_of former_dependency))
+    ⨾ row (λ m. m.build_dependencies) (also_underscored (codes "build-dependencies"))
+        (optional (map_of former_dependency))
     ⨾ row (λ m. m.target) (only (codes "target")) (optional (map_of (form former_platform_rows)))
     ⨾ row (λ m. m.patch) (only (codes "patch")) (optional (map_of (map_of former_dependency)))
     ⨾ no_more) (manifest_rows package_metadata workspace_metadata)

@@ -65,7 +65,8 @@ fits rows ms x = fits_beside (spelled rows) rows ms (gets rows x)
 
 -- a fault of the table: a fault of some row, or of one of the other keys
 abbrev pub unfit_beside : {A : Type 0} → List Text → Rows A → Members → Faults
-unfit_beside named (r ⨾ rs) ms p c = r.need.faulty r.spellings (at r.spellings ms) p c ⊎ unfit_beside named rs ms p c
+unfit_beside named (r ⨾ rs) ms p c =
+    r.need.faulty r.spellings (at r.spellings ms) p c ⊎ unfit_beside named rs ms p c
 unfit_beside named (others get K) ms p c = faulty_entry K (without named ms) p c
 unfit_beside named no_more ms p c = ⊥
 
@@ -101,4 +102,9 @@ faulty_form rows (table ms) p c = unfit rows ms p c
 faulty_form rows _ p c = itself wrong_kind p c
 
 abbrev pub form : {A : Type 0} → Rows A → Kind A
-form rows = record { reads = reads_form rows; faulty = faulty_form rows; written = λ x. table (written_rows rows (gets rows x)); good = good_rows rows }
+form rows = record {
+  reads = reads_form rows;
+  faulty = faulty_form rows;
+  written = λ x. table (written_rows rows (gets rows x));
+  good = good_rows rows;
+}

@@ -56,7 +56,12 @@ not_whole low high (integer z) p c = IsFalse (within low high z) × itself out_o
 not_whole low high _ p c = itself wrong_kind p c
 
 abbrev pub whole : ℤ → ℤ → Kind ℤ
-whole low high = record { reads = reads_whole low high; faulty = not_whole low high; written = integer; good = λ x. IsTrue (within low high x) }
+whole low high = record {
+  reads = reads_whole low high;
+  faulty = not_whole low high;
+  written = integer;
+  good = λ x. IsTrue (within low high x);
+}
 
 -- THE BOOLEAN TRUE
 abbrev pub reads_truth : Data → Unit {0} → Type 0
@@ -69,7 +74,12 @@ not_truth (boolean false) p c = itself not_true p c
 not_truth _ p c = itself wrong_kind p c
 
 abbrev pub truth : Kind (Unit {0})
-truth = record { reads = reads_truth; faulty = not_truth; written = λ x. boolean true; good = any_good }
+truth = record {
+  reads = reads_truth;
+  faulty = not_truth;
+  written = λ x. boolean true;
+  good = any_good;
+}
 
 -- A CHOICE of texts, or of texts and booleans: each word has one meaning, and each meaning one written word
 abbrev pub reads_choice : {A : Type 0} → (Data → Option A) → Data → A → Type 0
@@ -80,7 +90,12 @@ not_choice meaning (string s) p c = (meaning (string s) ≡ None) × itself not_
 not_choice meaning d p c = (meaning d ≡ None) × itself wrong_kind p c
 
 abbrev pub choice : {A : Type 0} → (Data → Option A) → (A → Data) → Kind A
-choice meaning written = record { reads = reads_choice meaning; faulty = not_choice meaning; written = written; good = any_good }
+choice meaning written = record {
+  reads = reads_choice meaning;
+  faulty = not_choice meaning;
+  written = written;
+  good = any_good;
+}
 
 -- A LIST of values of one kind
 abbrev pub reads_items : {A : Type 0} → Kind A → Items → List A → Type 0
@@ -94,7 +109,8 @@ reads_list K _ xs = ⊥
 
 -- a fault of an item, with its index before the path
 abbrev pub faulty_item : {A : Type 0} → Kind A → Items → Faults
-faulty_item K ds p c = (i : ℕ) × (d : Data) × (get_item i ds ≡ Some d) × behind (index i) (K.faulty d) p c
+faulty_item K ds p c =
+    (i : ℕ) × (d : Data) × (get_item i ds ≡ Some d) × behind (index i) (K.faulty d) p c
 
 abbrev pub faulty_list : {A : Type 0} → Kind A → Data → Faults
 faulty_list K (array ds) p c = faulty_item K ds p c
@@ -109,7 +125,12 @@ good_items K [] = Unit {0}
 good_items K (x ∷ xs) = K.good x × good_items K xs
 
 abbrev pub list_of : {A : Type 0} → Kind A → Kind (List A)
-list_of K = record { reads = reads_list K; faulty = faulty_list K; written = λ xs. array (written_items K xs); good = good_items K }
+list_of K = record {
+  reads = reads_list K;
+  faulty = faulty_list K;
+  written = λ xs. array (written_items K xs);
+  good = good_items K;
+}
 
 -- A MAP: a table whose values are of one kind, by its entries in the order of their keys
 abbrev pub Entries : Type 0 → Type 0
@@ -146,7 +167,12 @@ good_entries K [] = Unit {0}
 good_entries K (e ∷ es) = K.good e.1 × good_entries K es
 
 abbrev pub map_of : {A : Type 0} → Kind A → Kind (Entries A)
-map_of K = record { reads = reads_map K; faulty = faulty_map K; written = λ es. table (written_entries K es); good = good_entries K }
+map_of K = record {
+  reads = reads_map K;
+  faulty = faulty_map K;
+  written = λ es. table (written_entries K es);
+  good = good_entries K;
+}
 
 -- KEPT: any value without a float, as it is
 abbrev mutual
@@ -178,7 +204,12 @@ abbrev pub float_in : Data → Faults
 float_in d p c = float_at p d × (c ≡ holds_float)
 
 abbrev pub kept : Kind Data
-kept = record { reads = reads_kept; faulty = float_in; written = λ x. x; good = λ x. IsTrue (plain x) }
+kept = record {
+  reads = reads_kept;
+  faulty = float_in;
+  written = λ x. x;
+  good = λ x. IsTrue (plain x);
+}
 
 -- WHAT MAY BE INHERITED from the workspace: a table whose `workspace` is the boolean true, or a value of its own
 pub data Inheritable (A : Type 0) : Type 0 where
@@ -210,7 +241,12 @@ good_inh K inherited = Unit {0}
 good_inh K (local x) = K.good x
 
 abbrev pub inh : {A : Type 0} → Kind A → Kind (Inheritable A)
-inh K = record { reads = reads_inh K; faulty = faulty_inh K; written = written_inh K; good = good_inh K }
+inh K = record {
+  reads = reads_inh K;
+  faulty = faulty_inh K;
+  written = written_inh K;
+  good = good_inh K;
+}
 
 -- ONE OF TWO KINDS: K where the test of the value holds, else L; `side` says of which of the two a C is
 abbrev pub reads_split : {A B : Type 0} → Kind A → Kind B → Bool → Data → A ⊎ B → Type 0
@@ -248,7 +284,8 @@ is_flag (boolean b) = true
 is_flag _ = false
 
 -- METADATA: what a metadata type names, each of its values by its written tree
-abbrev pub metadata : {M : Type 0} → (Data → M → Type 0) → (Data → Faults) → (M → Data) → (M → Type 0) → Kind Data
+abbrev pub metadata :
+    {M : Type 0} → (Data → M → Type 0) → (Data → Faults) → (M → Data) → (M → Type 0) → Kind Data
 metadata {M} reads faulty written good = record {
   reads = λ d x. (m : M) × reads d m × (written m ≡ x);
   faulty = faulty;
@@ -262,8 +299,18 @@ tree_of K = metadata K.reads K.faulty K.written K.good
 
 -- no metadata at all: every value is refused, and nothing is well-formed
 abbrev pub nothing : Kind (Unit {0})
-nothing = record { reads = λ d x. ⊥; faulty = λ d. itself metadata_fault; written = λ x. table no_members; good = λ x. ⊥ }
+nothing = record {
+  reads = λ d x. ⊥;
+  faulty = λ d. itself metadata_fault;
+  written = λ x. table no_members;
+  good = λ x. ⊥;
+}
 
 -- metadata that is not looked at: every value is read, as the same, and the empty table is written
 abbrev pub unread : Kind (Unit {0})
-unread = record { reads = λ d x. Unit {0}; faulty = λ d p c. ⊥; written = λ x. table no_members; good = any_good }
+unread = record {
+  reads = λ d x. Unit {0};
+  faulty = λ d p c. ⊥;
+  written = λ x. table no_members;
+  good = any_good;
+}

@@ -21,7 +21,9 @@ pub record IsLawful {A : Type 0} (K : Kind A) : Type 0 where
 -- the same for a need
 pub record IsLawfulNeed {C : Type 0} (n : Need C) : Type 0 where
   pub single : (s : Slot) (x y : C) → n.meets s x → n.meets s y → x ≡ y
-  pub apart : (names : Spellings) (s : Slot) (p : Path) (c : Cause) (x : C) → n.faulty names s p c → n.meets s x → ⊥
+  pub apart :
+      (names : Spellings) (s : Slot) (p : Path) (c : Cause) (x : C) → n.faulty names s p c →
+      n.meets s x → ⊥
   pub well : (s : Slot) (x : C) → n.meets s x → n.good x
   pub back : (k : Text) (x : C) → n.good x → n.meets (slot k (n.written x)) x
 

@@ -43,7 +43,8 @@ abbrev pub means_by : Kind Data → Kind Data → Bool → Members → Manifest 
 means_by K W true ms m = reads_manifest K W (table ms) m
 means_by K W false ms m =
     (n : Manifest) × (p : Package) × reads_manifest K W (table ms) n
-    × (form (package_rows K)).reads (old_package ms (get_member (codes "project") ms)) p × (m ≡ record n { «package» = Some p })
+    × (form (package_rows K)).reads (old_package ms (get_member (codes "project") ms)) p
+        × (m ≡ record n { «package» = Some p })
 
 -- THE TABLE MEANS THE MANIFEST
 abbrev pub means : Kind Data → Kind Data → Members → Manifest → Type 0
@@ -56,7 +57,8 @@ faulty_old K ms None = (form (package_rows K)).faulty (table ms)
 
 abbrev pub unmeant_by : Kind Data → Kind Data → Bool → Members → Faults
 unmeant_by K W true ms p c = faulty_manifest K W (table ms) p c
-unmeant_by K W false ms p c = faulty_manifest K W (table ms) p c ⊎ faulty_old K ms (get_member (codes "project") ms) p c
+unmeant_by K W false ms p c =
+    faulty_manifest K W (table ms) p c ⊎ faulty_old K ms (get_member (codes "project") ms) p c
 
 -- THE TABLE HAS THE FAULT
 abbrev pub unmeant : Kind Data → Kind Data → Members → Faults
@@ -69,7 +71,8 @@ MeansOne K W = (ms : Members) (m n : Manifest) → means K W ms m → means K W 
 
 -- what is written of a well-formed manifest is read as that manifest
 abbrev pub WrittenIsRead : Kind Data → Kind Data → Type 0
-WrittenIsRead K W = (m : Manifest) → well_formed K W m → reads_manifest K W (written_manifest K W m) m
+WrittenIsRead K W =
+    (m : Manifest) → well_formed K W m → reads_manifest K W (written_manifest K W m) m
 
 -- a manifest that a table means has a package or a workspace
 abbrev pub is_headed : Manifest → Bool
@@ -77,7 +80,8 @@ is_headed m = is_some m.package || is_some m.workspace
 
 -- what a table means is well-formed, and has a package or a workspace
 abbrev pub AcceptedIsWellFormed : Kind Data → Kind Data → Type 0
-AcceptedIsWellFormed K W = (ms : Members) (m : Manifest) → means K W ms m → well_formed K W m × (is_headed m ≡ true)
+AcceptedIsWellFormed K W =
+    (ms : Members) (m : Manifest) → means K W ms m → well_formed K W m × (is_headed m ≡ true)
 
 -- what is written of a well-formed manifest with a package or a workspace means that manifest
 abbrev pub WrittenMeansTheSame : Kind Data → Kind Data → Type 0
@@ -98,15 +102,19 @@ RewrittenTwiceIsOnce K W =
 
 -- the rewritten table of an accepted table means the same manifest
 abbrev pub RewrittenMeansTheSame : Kind Data → Kind Data → Type 0
-RewrittenMeansTheSame K W = (ms : Members) (m : Manifest) → means K W ms m → means K W (rewritten K W m) m
+RewrittenMeansTheSame K W =
+    (ms : Members) (m : Manifest) → means K W ms m → means K W (rewritten K W m) m
 
 -- two accepted tables mean one manifest exactly if their rewritten tables are equal
 abbrev pub SameExactly : Kind Data → Kind Data → Type 0
-SameExactly K W = (ms ns : Members) (m n : Manifest) → means K W ms m → means K W ns n → (m ≡ n) ↔ (rewritten K W m ≡ rewritten K W n)
+SameExactly K W =
+    (ms ns : Members) (m n : Manifest) → means K W ms m → means K W ns n →
+    (m ≡ n) ↔ (rewritten K W m ≡ rewritten K W n)
 
 -- a table with a fault means nothing
 abbrev pub FaultyMeansNothing : Kind Data → Kind Data → Type 0
-FaultyMeansNothing K W = (ms : Members) (p : Path) (c : Cause) (m : Manifest) → unmeant K W ms p c → means K W ms m → ⊥
+FaultyMeansNothing K W =
+    (ms : Members) (p : Path) (c : Cause) (m : Manifest) → unmeant K W ms p c → means K W ms m → ⊥
 
 -- a table means a manifest or has a fault
 abbrev pub AcceptedOrFaulty : Kind Data → Kind Data → Type 0

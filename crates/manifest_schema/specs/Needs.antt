@@ -41,7 +41,12 @@ faulty_required names K clash = clash_at names
 faulty_required names K (one k d) = behind (key k) (K.faulty d)
 
 abbrev pub required : {B : Type 0} → Kind B → Need B
-required K = record { meets = meets_required K; faulty = λ names. faulty_required names K; written = λ x. Some (K.written x); good = K.good }
+required K = record {
+  meets = meets_required K;
+  faulty = λ names. faulty_required names K;
+  written = λ x. Some (K.written x);
+  good = K.good;
+}
 
 -- OPTIONAL: None where it is absent, and None is not written
 abbrev pub meets_optional : {B : Type 0} → Kind B → Slot → Option B → Type 0
@@ -58,7 +63,12 @@ good_some K None = Unit {0}
 good_some K (Some x) = K.good x
 
 abbrev pub optional : {B : Type 0} → Kind B → Need (Option B)
-optional K = record { meets = meets_optional K; faulty = λ names. faulty_free names K; written = written_some K; good = good_some K }
+optional K = record {
+  meets = meets_optional K;
+  faulty = λ names. faulty_free names K;
+  written = written_some K;
+  good = good_some K;
+}
 
 -- DEFAULT: e where it is absent; not written where the test holds of its content
 abbrev pub meets_default : {B : Type 0} → B → Kind B → Slot → B → Type 0
@@ -71,7 +81,12 @@ written_unless K true x = None
 written_unless K false x = Some (K.written x)
 
 abbrev pub default : {B : Type 0} → Kind B → B → (B → Bool) → Need B
-default K e skipped = record { meets = meets_default e K; faulty = λ names. faulty_free names K; written = λ x. written_unless K (skipped x) x; good = K.good }
+default K e skipped = record {
+  meets = meets_default e K;
+  faulty = λ names. faulty_free names K;
+  written = λ x. written_unless K (skipped x) x;
+  good = K.good;
+}
 
 -- when a default is not written: never, where it is true, where it is false, where it is the empty list
 abbrev pub never : {B : Type 0} → B → Bool
@@ -89,13 +104,24 @@ is_empty _ = false
 
 -- LENIENT: a value that does not fit, and two spellings, count as absent
 abbrev pub meets_lenient : {B C : Type 0} → (B → C) → C → Kind B → Slot → C → Type 0
-meets_lenient {B} wrap e K (one k d) x = ((b : B) × K.reads d b × (x ≡ wrap b)) ⊎ (((b : B) → K.reads d b → ⊥) × (x ≡ e))
+meets_lenient {B} wrap e K (one k d) x =
+    ((b : B) × K.reads d b × (x ≡ wrap b)) ⊎ (((b : B) → K.reads d b → ⊥) × (x ≡ e))
 meets_lenient wrap e K _ x = x ≡ e
 
 -- None where nothing fits, and None is not written
 abbrev pub lenient_optional : {B : Type 0} → Kind B → Need (Option B)
-lenient_optional K = record { meets = meets_lenient Some None K; faulty = λ names s. no_fault; written = written_some K; good = good_some K }
+lenient_optional K = record {
+  meets = meets_lenient Some None K;
+  faulty = λ names s. no_fault;
+  written = written_some K;
+  good = good_some K;
+}
 
 -- e where nothing fits, written always
 abbrev pub lenient_default : {B : Type 0} → Kind B → B → Need B
-lenient_default K e = record { meets = meets_lenient (λ b. b) e K; faulty = λ names s. no_fault; written = λ x. Some (K.written x); good = K.good }
+lenient_default K e = record {
+  meets = meets_lenient (λ b. b) e K;
+  faulty = λ names s. no_fault;
+  written = λ x. Some (K.written x);
+  good = K.good;
+}

@@ -100,7 +100,8 @@ product_rows =
     ⨾ row (λ p. p.proc_macro) (also_underscored (codes "proc-macro")) (default flag false if_false)
     ⨾ row (λ p. p.harness) (only (codes "harness")) (default flag true if_true)
     ⨾ row (λ p. p.edition) (only (codes "edition")) (optional edition)
-    ⨾ row (λ p. p.required_features) (also_underscored (codes "required-features")) (default texts [] never)
+    ⨾ row (λ p. p.required_features) (also_underscored (codes "required-features"))
+        (default texts [] never)
     ⨾ row (λ p. p.crate_type) (also_underscored (codes "crate-type")) (optional texts)
     ⨾ no_more
 
@@ -125,9 +126,12 @@ badges_rows =
     ⨾ row (λ b. b.travis_ci) (only (codes "travis-ci")) (lenient_optional (form badge_rows))
     ⨾ row (λ b. b.codecov) (only (codes "codecov")) (lenient_optional (form badge_rows))
     ⨾ row (λ b. b.coveralls) (only (codes "coveralls")) (lenient_optional (form badge_rows))
-    ⨾ row (λ b. b.is_it_maintained_issue_resolution) (only (codes "is-it-maintained-issue-resolution")) (lenient_optional (form badge_rows))
-    ⨾ row (λ b. b.is_it_maintained_open_issues) (only (codes "is-it-maintained-open-issues")) (lenient_optional (form badge_rows))
-    ⨾ row (λ b. b.maintenance) (only (codes "maintenance")) (lenient_default (form maintenance_rows) (record { status = no_status }))
+    ⨾ row (λ b. b.is_it_maintained_issue_resolution)
+        (only (codes "is-it-maintained-issue-resolution")) (lenient_optional (form badge_rows))
+    ⨾ row (λ b. b.is_it_maintained_open_issues) (only (codes "is-it-maintained-open-issues"))
+        (lenient_optional (form badge_rows))
+    ⨾ row (λ b. b.maintenance) (only (codes "maintenance"))
+        (lenient_default (form maintenance_rows) (record { status = no_status }))
     ⨾ no_more
 
 -- PROFILE
@@ -161,12 +165,16 @@ profiles_rows =
 
 -- LINTS OF A MANIFEST: each other key is a tool
 unfoldable pub lints_rows : Rows MaybeInheritedLintsSet
-lints_rows = row (λ l. l.workspace) (only (codes "workspace")) (optional truth) ⨾ others (λ l. l.lints) (map_of lint)
+lints_rows =
+    row (λ l. l.workspace) (only (codes "workspace")) (optional truth)
+    ⨾ others (λ l. l.lints) (map_of lint)
 
 -- PLATFORM
 unfoldable pub platform_rows : Rows Target
 platform_rows =
     row (λ p. p.dependencies) (only (codes "dependencies")) (default (map_of dependency) [] never)
-    ⨾ row (λ p. p.dev_dependencies) (also_underscored (codes "dev-dependencies")) (default (map_of dependency) [] never)
-    ⨾ row (λ p. p.build_dependencies) (also_underscored (codes "build-dependencies")) (default (map_of dependency) [] never)
+    ⨾ row (λ p. p.dev_dependencies) (also_underscored (codes "dev-dependencies"))
+        (default (map_of dependency) [] never)
+    ⨾ row (λ p. p.build_dependencies) (also_underscored (codes "build-dependencies"))
+        (default (map_of dependency) [] never)
     ⨾ no_more

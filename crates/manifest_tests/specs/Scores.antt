@@ -39,6 +39,8 @@ level_of (table (member k (integer z) ms)) = z
 level_of _ = pos 0
 
 -- whether a score is well-formed is shown by its table
-pub score_by_tree : (x y : ℤ) → (form score_rows).good x → (form score_rows).written x ≡ (form score_rows).written y → (form score_rows).good y
+pub score_by_tree :
+    (x y : ℤ) → (form score_rows).good x →
+    (form score_rows).written x ≡ (form score_rows).written y → (form score_rows).good y
 unfolding score_rows put_some
 score_by_tree x y g e = subst (λ (z : ℤ). (form score_rows).good z) (ap level_of e) g

@@ -19,7 +19,9 @@ abbrev pub ItemsGiven : {X Y E : Type 0} → (X → Result Y E → Type 0) → L
 ItemsGiven R xs ys = AllZip (λ x y. R x (Ok y)) xs ys
 
 -- the same for the values of some entries, with their keys
-abbrev pub EntriesGiven : {X Y E : Type 0} → (X → Result Y E → Type 0) → List (String Global × X) → List (String Global × Y) → Type 0
+abbrev pub EntriesGiven :
+    {X Y E : Type 0} → (X → Result Y E → Type 0) → List (String Global × X) →
+    List (String Global × Y) → Type 0
 EntriesGiven R es gs = AllZip (λ e g. (string_bytes g.0 ≡ string_bytes e.0) × R e.1 (Ok g.1)) es gs
 
 -- READERS
@@ -28,7 +30,8 @@ abbrev pub ReaderAnswers : Type 0 → Type 1
 ReaderAnswers T = Value → Result T ReadFault → Type 0
 
 -- the reader refuses v, for this cause at this path
-pub record Refused {T : Type 0} (R : ReaderAnswers T) (v : Value) (p : Path) (c : Cause) : Type 0 where
+pub record Refused {T : Type 0} (R : ReaderAnswers T) (v : Value) (p : Path) (c : Cause)
+    : Type 0 where
   pub fault : SchemaFault
   pub answer : R v (Err (Schema fault))
   pub path : path_of fault.path ≡ p
@@ -46,7 +49,8 @@ pub record ListGiven {T : Type 0} (R : ReaderAnswers T) (v : Value) (xs : List T
   pub given : ItemsGiven R list.items xs
 
 -- the reader refuses an item, and reads those before it: the fault has the item's index before its path
-pub record ItemRefused {T : Type 0} (R : ReaderAnswers T) (vs : List Value) (p : Path) (c : Cause) : Type 0 where
+pub record ItemRefused {T : Type 0} (R : ReaderAnswers T) (vs : List Value) (p : Path) (c : Cause)
+    : Type 0 where
   pub before : List Value
   pub item : Value
   pub after : List Value
@@ -57,7 +61,8 @@ pub record ItemRefused {T : Type 0} (R : ReaderAnswers T) (vs : List Value) (p :
 
 -- v is no list, or one of its items is refused
 abbrev pub ListRefused : {T : Type 0} → ReaderAnswers T → Value → Faults
-ListRefused R v p c = no_list (view v) p c ⊎ ((vs : Vec Value Global) × (v ≡ Array vs) × ItemRefused R vs.items p c)
+ListRefused R v p c =
+    no_list (view v) p c ⊎ ((vs : Vec Value Global) × (v ≡ Array vs) × ItemRefused R vs.items p c)
 
 -- MAPS
 -- v is a table, and x the value of one of its entries
@@ -65,13 +70,15 @@ abbrev pub IsValueOf : Value → Value → Type 0
 IsValueOf v x = (m : BTreeMap (String Global) Value) × (v ≡ Table m) × Contains (values m) x
 
 -- v is a table, and the reader gives these entries at its own
-pub record MapGiven {T : Type 0} (R : ReaderAnswers T) (v : Value) (gs : List (String Global × T)) : Type 0 where
+pub record MapGiven {T : Type 0} (R : ReaderAnswers T) (v : Value) (gs : List (String Global × T))
+    : Type 0 where
   pub table : BTreeMap (String Global) Value
   pub is : v ≡ Table table
   pub given : EntriesGiven R table.entries gs
 
 -- the reader refuses the value of an entry, and reads those before it: the fault has the key before its path
-pub record EntryRefused {T : Type 0} (R : ReaderAnswers T) (es : List (String Global × Value)) (p : Path) (c : Cause) : Type 0 where
+pub record EntryRefused {T : Type 0} (R : ReaderAnswers T) (es : List (String Global × Value))
+    (p : Path) (c : Cause) : Type 0 where
   pub before : List (String Global × Value)
   pub entry : String Global × Value
   pub after : List (String Global × Value)
@@ -82,7 +89,9 @@ pub record EntryRefused {T : Type 0} (R : ReaderAnswers T) (es : List (String Gl
 
 -- v is no table, or the value of one of its entries is refused
 abbrev pub MapRefused : {T : Type 0} → ReaderAnswers T → Value → Faults
-MapRefused R v p c = no_table (view v) p c ⊎ ((m : BTreeMap (String Global) Value) × (v ≡ Table m) × EntryRefused R m.entries p c)
+MapRefused R v p c =
+    no_table (view v) p c
+    ⊎ ((m : BTreeMap (String Global) Value) × (v ≡ Table m) × EntryRefused R m.entries p c)
 
 -- WRITERS
 -- the results that a writer may give at a value of its type
@@ -96,7 +105,8 @@ pub record ListWritten {X : Type 0} (W : WriterAnswers X) (xs : List X) (v : Val
   pub given : ItemsGiven W xs items
 
 -- v is the table of what the writer gives at the entries
-pub record MapWritten {X : Type 0} (W : WriterAnswers X) (es : List (String Global × X)) (v : Value) : Type 0 where
+pub record MapWritten {X : Type 0} (W : WriterAnswers X) (es : List (String Global × X)) (v : Value)
+    : Type 0 where
   pub entries : List (String Global × Value)
   pub is : view v ≡ table (members_view entries)
   pub given : EntriesGiven W es entries

@@ -33,7 +33,8 @@ IsRefusal (read.Memory m) e = e ≡ Memory m
 -- two errors say the same: one answer with the same fault of `toml`, path and cause, I/O kind, fault of UTF-8, or text
 abbrev pub SameError : Error → Error → Type 0
 SameError (Parse (Toml e)) (Parse (Toml f)) = e.value ≡ f.value
-SameError (Parse (Schema e)) (Parse (Schema f)) = (path_of e.path ≡ path_of f.path) × (e.cause ≡ f.cause)
+SameError (Parse (Schema e)) (Parse (Schema f)) =
+    (path_of e.path ≡ path_of f.path) × (e.cause ≡ f.cause)
 SameError (Io e) (Io f) = error_kind e ≡ error_kind f
 SameError (Utf8 e) (Utf8 f) = e ≡ f
 SameError (Other s) (Other t) = string_bytes s ≡ string_bytes t

@@ -61,7 +61,9 @@ how_many (member k d ms) = suc (how_many ms)
 
 -- the first of the entries is given, and the others are left; or there is none
 abbrev pub gives_entry : Entries → Option (Key × Source) → Entries → Type 0
-gives_entry s r t = MatchOption r (entries_view s ≡ no_members) (λ e. entries_view s ≡ member (key_view e.0) (source_view e.1) (entries_view t))
+gives_entry s r t =
+    MatchOption r (entries_view s ≡ no_members)
+    (λ e. entries_view s ≡ member (key_view e.0) (source_view e.1) (entries_view t))
 
 -- ITEMS
 -- the items that are still to come
