@@ -1,8 +1,6 @@
 -- What completion makes of a manifest keeps what the manifest kept.
+use Rattle.manifest_schema.specs.Prelude.{IfSome, Package, Manifest, HasValidDates, KeepsValidDates}
 use Rattle.std.proofs.Common.{◌≡◌, refl, Option, Some, None, subst}
-use Rattle.std.specs.Option.{IfSome}
-use Rattle.manifest_schema.specs.Contents.{Package, Manifest}
-use Rattle.manifest_schema.specs.Dates.{HasValidDates, KeepsValidDates}
 use Rattle.manifest_completion.specs.Listings.{ListingMap}
 use Rattle.manifest_completion.specs.Completed.{PackageTargets, Completion, completed_to, refused, no_library, completed_targets, targets_of, with_targets, completion_with, completed_by}
 use Rattle.cargo_manifest.specs.Dates.{CompletedDatesAreValid}

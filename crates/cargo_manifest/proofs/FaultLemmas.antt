@@ -1,10 +1,7 @@
 -- A fault that stands in a document, reported as an error.
+use Rattle.manifest_schema.specs.Prelude.{Data, Members, Kind, IsLawful, unmeant}
 use Rattle.std.proofs.Common.{◌≡◌, ℕ, List, Some}
-use Rattle.toml.specs.Data.{Data, Members}
 use Rattle.toml.specs.Parse.{parse_document}
-use Rattle.manifest_schema.specs.Kinds.{Kind}
-use Rattle.manifest_schema.specs.Lawful.{IsLawful}
-use Rattle.manifest_schema.specs.Meaning.{unmeant}
 use Rattle.manifest_schema.proofs.MeaningLaws.{faulty_means_nothing}
 use Rattle.manifest_value.specs.Faults.{FaultIn, path_of, cause_of}
 use Rattle.manifest_value.specs.declared.fault.ReadFault.{ReadFault}

@@ -1,10 +1,6 @@
 -- What `toml` reads has no date-time that TOML cannot write.
+use Rattle.manifest_schema.specs.Prelude.{IfSome, match_ordering, slice_cmp, both_true, and_parts, Data, table, Items, no_items, item, Members, no_members, same_key, has_valid_dates, items_have_valid_dates, members_have_valid_dates, key_value, std_table, array_table, Expression}
 use Rattle.std.proofs.Common.{◌≡◌, ℕ, zero, suc, ◌∷◌, [], ◌==◌, Ordering, Less, Equal, Greater, nat_cmp, Bool, true, false, ◌&&◌, if◌then◌else◌, List, Option, Some, None, option_map, option_and_then, refl, rules, drop, slice_index}
-use Rattle.std.specs.Option.{IfSome}
-use Rattle.std.specs.Ordering.{match_ordering}
-use Rattle.std.specs.Cmp.Lexicographic.{slice_cmp}
-use Rattle.std.specs.Cmp.Derive.{both_true}
-use Rattle.std.proofs.lemmas.Bool.{and_parts}
 use Rattle.toml_datetime.specs.Valid.{is_valid}
 use Rattle.toml_datetime.specs.Parse.{parse_datetime}
 use Rattle.toml_datetime.proofs.DatetimeLemmas.{is_valid-parse_datetime}
@@ -13,8 +9,8 @@ use Rattle.toml_parser.specs.Strings.{Key, recursion_limit}
 use Rattle.toml_parser.specs.Numbers.{number, plain_number, decimal_number, integer_of, prefixed_integer, word_value, unquoted}
 use Rattle.toml_parser.specs.declared.scalar.Scalar.{Scalar}
 use Rattle.toml_parser.specs.declared.scalar.Scalar.TheVariants.{Datetime}
-use Rattle.toml.specs.Data.{Data, table, Items, no_items, item, push_item, Members, no_members, same_key, has_valid_dates, items_have_valid_dates, members_have_valid_dates}
-use Rattle.toml.specs.Tables.{Node, value, open_table, open_array, Nodes, no_nodes, node, get_node, insert, replace, close, close_node, Edit, header_node, dot_node, by_header, by_dot, along_header, along_dots, Definition, key_value, std_table, array_table, new_node, redefine, at_found, at_key, put, Document, define_as, define, Expression, implicit, dotted, header}
+use Rattle.toml.specs.Data.{push_item}
+use Rattle.toml.specs.Tables.{Node, value, open_table, open_array, Nodes, no_nodes, node, get_node, insert, replace, close, close_node, Edit, header_node, dot_node, by_header, by_dot, along_header, along_dots, Definition, new_node, redefine, at_found, at_key, put, Document, define_as, define, implicit, dotted, header}
 use Rattle.toml.specs.Parse.{read_map, after_byte, key_equals, keyval, items, members, scalar_data, atom, val, header_key, expression, line, lines, parse_document}
 use Rattle.manifest_schema.proofs.DateLaws.{meant_dates_are_valid}
 use Rattle.cargo_manifest.specs.Dates.{ParsedDatesAreValid, ReadDatesAreValid}

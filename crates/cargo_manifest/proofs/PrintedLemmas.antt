@@ -1,11 +1,8 @@
 -- The document of a table is no longer than its bound.
+use Rattle.manifest_schema.specs.Prelude.{and_parts, Data, string, integer, float, boolean, datetime, array, table, Items, no_items, item, Members, no_members, member, key_value, std_table, array_table, Expression, IsValueText, plain, plain_items, plain_members}
 use Rattle.std.proofs.Common.{◌≡◌, ℕ, ◌+◌, ◌≤◌, Bool, true, false, List, [], ◌∷◌, ◌++◌, length, length-append, refl, sym, ap, ◌∙◌, append_assoc, arith, codes, if◌then◌else◌}
-use Rattle.std.proofs.lemmas.Bool.{and_parts}
-use Rattle.toml.specs.Data.{Data, string, integer, float, boolean, datetime, array, table, Items, no_items, item, Members, no_members, member}
-use Rattle.toml.specs.Tables.{key_value, std_table, array_table, Expression}
-use Rattle.toml.specs.Text.{breaks_lines, before_item, after_item, before_member, IsValueText, IsItemsText, IsMembersText, is_section, are_tables, pairs, sections, section, elements, header_of, needs_header, IsLinesText}
+use Rattle.toml.specs.Text.{breaks_lines, before_item, after_item, before_member, IsItemsText, IsMembersText, is_section, are_tables, pairs, sections, section, elements, header_of, needs_header, IsLinesText}
 use Rattle.toml_writer.specs.Text.{key_text, path_text}
-use Rattle.manifest_schema.specs.Kinds.{plain, plain_items, plain_members}
 use Rattle.cargo_manifest.specs.Printed.{key_size, printed_size, printed_items, printed_members, PrintedIsBounded}
 
 -- an array stands on one line

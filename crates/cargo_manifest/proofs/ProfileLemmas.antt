@@ -1,10 +1,6 @@
 -- A fault of a custom profile is a fault of the profiles.
+use Rattle.manifest_schema.specs.Prelude.{Members, table, without, faulty_entry, form, spelled, profile_rows, profiles_rows}
 use Rattle.std.proofs.Common.{◌≡◌, inr, subst}
-use Rattle.toml.specs.Data.{Members, table}
-use Rattle.manifest_schema.specs.Slots.{without}
-use Rattle.manifest_schema.specs.Kinds.{faulty_entry}
-use Rattle.manifest_schema.specs.Forms.{form, spelled}
-use Rattle.manifest_schema.specs.PartForms.{profile_rows, profiles_rows}
 use Rattle.manifest_value.specs.Faults.{FaultIn}
 use Rattle.manifest_value.specs.declared.fault.ReadFault.{ReadFault}
 use Rattle.manifest_value.proofs.Behind.{fault_weaker}

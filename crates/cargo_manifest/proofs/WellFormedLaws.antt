@@ -1,11 +1,5 @@
 -- What it comes down to that a package, a workspace or a manifest is well-formed.
-use Rattle.toml.specs.Data.{Data}
-use Rattle.manifest_schema.specs.Kinds.{Kind, map_of}
-use Rattle.manifest_schema.specs.Needs.{good_some}
-use Rattle.manifest_schema.specs.Forms.{form}
-use Rattle.manifest_schema.specs.Contents.{Workspace}
-use Rattle.manifest_schema.specs.PartForms.{lint}
-use Rattle.manifest_schema.specs.ManifestForms.{workspace_rows}
+use Rattle.manifest_schema.specs.Prelude.{Data, Kind, map_of, good_some, form, Workspace, lint, workspace_rows}
 use Rattle.manifest_schema.proofs.GoodLaws.{package_good, package_metadata_good, workspace_good, workspace_metadata_good, manifest_good, manifest_parts_good}
 use Rattle.cargo_manifest.specs.WellFormed.{PackageByMetadata, WorkspaceByParts, ManifestByParts}
 

@@ -1,12 +1,7 @@
 -- What each answer says of the bytes that were read. K and W are the kinds of metadata of package and workspace.
+use Rattle.manifest_schema.specs.Prelude.{Data, Members, members_depth, members_have_valid_dates, IsDocumentText, IsMemory, IsWithin, Kind, tree_of, Manifest, means, unmeant, rewritten, well_formed, is_headed}
 use Rattle.std.specs.Prelude.{◌≡◌, ◌<◌, ◌≤◌, ◌⊎◌, ℕ, List, length, true, false, Some, None, IsUtf8, codes, string_bytes}
-use Rattle.toml.specs.Data.{Data, Members, members_depth, members_have_valid_dates}
 use Rattle.toml.specs.Parse.{parse_document}
-use Rattle.toml.specs.Text.{IsDocumentText}
-use Rattle.toml.specs.Errors.{IsMemory, IsWithin}
-use Rattle.manifest_schema.specs.Kinds.{Kind, tree_of}
-use Rattle.manifest_schema.specs.Contents.{Manifest}
-use Rattle.manifest_schema.specs.Meaning.{means, unmeant, rewritten, well_formed, is_headed}
 use Rattle.manifest_value.specs.declared.fault.SchemaFault.{SchemaFault}
 use Rattle.manifest_value.specs.Faults.{IsOneOf}
 use Rattle.manifest_value.specs.declared.error.Error.{Error}
@@ -58,7 +53,7 @@ abbrev pub written_of : {P W A B : Type 0}
     → Kind A → Kind B → (P → A) → (W → B) → ManifestOfCode P W → Members
 written_of K W p w m =
     rewritten (tree_of K) (tree_of W)
-        (manifest_content (λ x. K.written (p x)) (λ x. W.written (w x)) m)
+    (manifest_content (λ x. K.written (p x)) (λ x. W.written (w x)) m)
 
 -- a text is read as the manifest: if well-formed, with a package or a workspace, and a table at most 80 deep
 abbrev pub ReadsAs : Kind Data → Kind Data → Manifest → List ℕ → Type 0
@@ -78,7 +73,7 @@ RefusesToPrint t _ = ⊥
 abbrev pub IsOver : ℕ → Members → Type 0
 IsOver most t =
     (most < printed_bound t)
-        ⊎ ((text : List ℕ) × IsDocumentText false t text × (most < length text))
+    ⊎ ((text : List ℕ) × IsDocumentText false t text × (most < length text))
 
 -- the text is that of the table, and takes at most a given number of bytes
 pub record IsTextWithin (most : ℕ) (t : Members) (text : List ℕ) : Type 0 where

@@ -1,11 +1,7 @@
 -- What a canonical text is of, where metadata is kept as it is.
+use Rattle.manifest_schema.specs.Prelude.{Members, members_depth, IsDocumentText, Manifest, rewritten as rewritten_by, kept_metadata}
 use Rattle.std.specs.Prelude.{◌≡◌, ℕ, ◌≤◌, List, false, Some}
-use Rattle.toml.specs.Data.{Members, members_depth}
 use Rattle.toml.specs.Parse.{parse_document}
-use Rattle.toml.specs.Text.{IsDocumentText}
-use Rattle.manifest_schema.specs.Contents.{Manifest}
-use Rattle.manifest_schema.specs.Meaning.{rewritten as rewritten_by}
-use Rattle.manifest_schema.specs.Dates.{kept_metadata}
 use Rattle.cargo_manifest.specs.Folders.{IsRead}
 
 -- the one table of a manifest: the rewritten table of what means it

@@ -1,8 +1,6 @@
 -- What completing a manifest answers.
+use Rattle.manifest_schema.specs.Prelude.{error_kind, Text, Manifest}
 use Rattle.std.specs.Prelude.{◌≡◌, Result, Ok, Err, string_bytes}
-use Rattle.std.specs.IoError.{error_kind}
-use Rattle.manifest_schema.specs.Paths.{Text}
-use Rattle.manifest_schema.specs.Contents.{Manifest}
 use Rattle.manifest_value.specs.declared.error.Error.{Error}
 use Rattle.manifest_value.specs.declared.error.Error.TheVariants.{Io, Other, Memory}
 use Rattle.manifest_completion.specs.Listings.{Answer}

@@ -1,10 +1,8 @@
 -- What is promised of date-times: where a document is read, and where a manifest is completed.
+use Rattle.manifest_schema.specs.Prelude.{Members, kept, tree_of, Manifest, KeepsValidDates}
 use Rattle.std.specs.Prelude.{◌≡◌, ℕ, List, Some}
-use Rattle.toml.specs.Data.{Members}
 use Rattle.toml.specs.Parse.{parse_document}
-use Rattle.manifest_schema.specs.Kinds.{kept, tree_of}
-use Rattle.manifest_schema.specs.Contents.{Manifest}
-use Rattle.manifest_schema.specs.Dates.{MembersHaveValidDates, KeepsValidDates}
+use Rattle.manifest_schema.specs.Dates.{MembersHaveValidDates}
 use Rattle.manifest_completion.specs.Listings.{ListingMap}
 use Rattle.manifest_completion.specs.Completed.{completed_to, completed}
 use Rattle.cargo_manifest.specs.Answers.{IsDocumentOf}

@@ -1,13 +1,8 @@
 -- What is answered where a manifest is completed by the folder of a path, and where it is read from the file of one.
+use Rattle.manifest_schema.specs.Prelude.{error_kind, ErrorKind, path_bytes, Data, Text, Kind, Manifest}
 use Rattle.std.specs.Prelude.{◌≡◌, ◌⊎◌, ℕ, List, Option, Some, None, Result, Ok, Err, IsUtf8}
-use Rattle.std.specs.IoError.{error_kind}
-use Rattle.std.specs.declared.io.ErrorKind.{ErrorKind}
 use Rattle.std.specs.declared.path.Path.{Path}
-use Rattle.std.specs.Path.{path_bytes, path_parent}
-use Rattle.toml.specs.Data.{Data}
-use Rattle.manifest_schema.specs.Paths.{Text}
-use Rattle.manifest_schema.specs.Kinds.{Kind}
-use Rattle.manifest_schema.specs.Contents.{Manifest}
+use Rattle.std.specs.Path.{path_parent}
 use Rattle.manifest_value.specs.declared.error.Error.{Error}
 use Rattle.manifest_value.specs.declared.error.Error.TheVariants.{Io}
 use Rattle.manifest_completion.specs.Listings.{AnyAscending}

@@ -1,11 +1,9 @@
 -- How long the document of a table is at most: a bound that can be counted without making the text.
+use Rattle.manifest_schema.specs.Prelude.{Data, string, integer, float, boolean, datetime, array, table, Items, no_items, item, Members, no_members, member, IsDocumentText, plain_members}
 use Rattle.std.specs.Prelude.{◌≡◌, ℕ, ◌+◌, ◌≤◌, List, true, false, length}
 use Rattle.std.specs.Fmt.{signed_decimal}
-use Rattle.toml.specs.Data.{Data, string, integer, float, boolean, datetime, array, table, Items, no_items, item, Members, no_members, member}
-use Rattle.toml.specs.Text.{IsDocumentText}
 use Rattle.toml_datetime.specs.Text.{datetime_text}
 use Rattle.toml_writer.specs.Text.{key_text, string_text}
-use Rattle.manifest_schema.specs.Kinds.{plain_members}
 
 -- a key, and a dot or a blank
 abbrev pub key_size : List ℕ → ℕ

@@ -1,11 +1,6 @@
 -- What a package, a workspace and profiles of the code hold; metadata is seen by a function to its tree.
+use Rattle.manifest_schema.specs.Prelude.{Global, BTreeMap, Data, Kind, Entries, tree_of, form, package_rows}
 use Rattle.std.specs.Prelude.{map, option_map, String, string_bytes}
-use Rattle.std.specs.declared.alloc.Global.{Global}
-use Rattle.std.specs.BTreeMap.{BTreeMap}
-use Rattle.toml.specs.Data.{Data}
-use Rattle.manifest_schema.specs.Kinds.{Kind, Entries, tree_of}
-use Rattle.manifest_schema.specs.Forms.{form}
-use Rattle.manifest_schema.specs.ManifestForms.{package_rows}
 use Rattle.manifest_schema.specs.Contents
 use Rattle.manifest_value.specs.Entries.{entries_content}
 use Rattle.manifest_value.specs.Reading.{written_as}

@@ -1,13 +1,6 @@
 -- What it comes down to that a package, a workspace or a manifest is well-formed: all else in them always is.
+use Rattle.manifest_schema.specs.Prelude.{Data, Kind, map_of, good_some, form, Package, Workspace, Manifest, lint, profiles_rows, lints_rows, package_rows, workspace_rows, well_formed}
 use Rattle.std.specs.Prelude.{◌↔◌}
-use Rattle.toml.specs.Data.{Data}
-use Rattle.manifest_schema.specs.Kinds.{Kind, map_of}
-use Rattle.manifest_schema.specs.Needs.{good_some}
-use Rattle.manifest_schema.specs.Forms.{form}
-use Rattle.manifest_schema.specs.Contents.{Package, Workspace, Manifest}
-use Rattle.manifest_schema.specs.PartForms.{lint, profiles_rows, lints_rows}
-use Rattle.manifest_schema.specs.ManifestForms.{package_rows, workspace_rows}
-use Rattle.manifest_schema.specs.Meaning.{well_formed}
 
 -- a package is well-formed exactly where its metadata is; K is the metadata's kind
 abbrev pub PackageByMetadata : Kind Data → Type 0

@@ -1,9 +1,6 @@
 -- What a manifest of the code holds; metadata is seen by a function to its tree.
+use Rattle.manifest_schema.specs.Prelude.{Data, view, Value, Kind}
 use Rattle.std.specs.Prelude.{map, option_map, string_bytes}
-use Rattle.toml.specs.Data.{Data}
-use Rattle.toml.specs.View.{view}
-use Rattle.toml.specs.declared.value.Value.{Value}
-use Rattle.manifest_schema.specs.Kinds.{Kind}
 use Rattle.manifest_schema.specs.Contents
 use Rattle.manifest_value.specs.Entries.{entries_content}
 use Rattle.manifest_value.specs.Reading.{written_as}

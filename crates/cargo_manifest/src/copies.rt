@@ -1,12 +1,9 @@
 //! Copies of manifests: each holds what it is copied from, whatever tree is made of its metadata.
 
+ghost use Rattle.manifest_schema.specs.Prelude.{fun_ext, Data, kept, package_rows, workspace_rows};
 ghost use Rattle.std.specs.Prelude.{◌≡◌, map, option_map, string_bytes};
 ghost use Rattle.std.proofs.Common.{ap, rules};
-ghost use Rattle.std.proofs.Math.Path.{fun_ext};
-ghost use Rattle.toml.specs.Data.{Data};
 ghost use Rattle.manifest_schema.specs.Contents;
-ghost use Rattle.manifest_schema.specs.Kinds.{kept};
-ghost use Rattle.manifest_schema.specs.ManifestForms.{package_rows, workspace_rows};
 ghost use Rattle.manifest_schema.proofs.ManifestLaws.{package_built, workspace_built};
 ghost use Rattle.manifest_schema.proofs.CopyLaws.{copy_laws, items_copied, some_copied, entries_copied};
 ghost use Rattle.manifest_value.specs.Entries.{entries_content};

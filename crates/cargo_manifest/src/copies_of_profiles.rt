@@ -1,11 +1,10 @@
 //! Copies of the wide tables: they hold what they are copied from.
 
+ghost use Rattle.manifest_schema.specs.Prelude.{profiles_rows, workspace_package_rows};
 ghost use Rattle.std.specs.Prelude.{◌≡◌, map, option_map, string_bytes};
 ghost use Rattle.std.proofs.Common.{rules};
 ghost use Rattle.manifest_schema.proofs.CopyLaws.{copy_laws};
 ghost use Rattle.manifest_schema.specs.Contents;
-ghost use Rattle.manifest_schema.specs.PartForms.{profiles_rows};
-ghost use Rattle.manifest_schema.specs.ManifestForms.{workspace_package_rows};
 ghost use Rattle.manifest_schema.proofs.PartLaws.{profiles_form};
 ghost use Rattle.manifest_schema.proofs.ManifestLaws.{workspace_package_form};
 ghost use Rattle.manifest_value.proofs.FormLemmas.{by_rows};

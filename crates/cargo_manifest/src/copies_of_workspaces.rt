@@ -1,13 +1,10 @@
 //! Copies of workspaces: each holds what it is copied from, whatever tree is made of
 //! its metadata.
 
+ghost use Rattle.manifest_schema.specs.Prelude.{fun_ext, Data, kept, workspace_rows};
 ghost use Rattle.std.specs.Prelude.{◌≡◌, map, option_map, String, string_bytes};
 ghost use Rattle.std.proofs.Common.{ap, rules};
-ghost use Rattle.std.proofs.Math.Path.{fun_ext};
-ghost use Rattle.toml.specs.Data.{Data};
 ghost use Rattle.manifest_schema.specs.Contents;
-ghost use Rattle.manifest_schema.specs.Kinds.{kept};
-ghost use Rattle.manifest_schema.specs.ManifestForms.{workspace_rows};
 ghost use Rattle.manifest_schema.proofs.ManifestLaws.{workspace_built};
 ghost use Rattle.manifest_value.proofs.FormLemmas.{by_rows};
 ghost use Rattle.manifest_schema.proofs.CopyLaws.{copy_laws, some_copied, entries_copied};

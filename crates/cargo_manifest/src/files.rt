@@ -1,8 +1,7 @@
 //! A manifest from a file, completed by the folder that the file stands in.
 
+ghost use Rattle.manifest_schema.specs.Prelude.{view, kept, tree_of};
 ghost use Rattle.std.specs.Prelude.{◌≡◌, ◌⊎◌, Ok, None, IfOk, IfErr, OnErr, IsSome};
-ghost use Rattle.toml.specs.View.{view};
-ghost use Rattle.manifest_schema.specs.Kinds.{kept, tree_of};
 ghost use Rattle.cargo_manifest.specs.Whole.{manifest_content, manifest_kept};
 ghost use Rattle.cargo_manifest.specs.Answers.{Refuses};
 ghost use Rattle.cargo_manifest.specs.Folders.{folder_of, CompletesIn, IsCompletedOf, RefusesCompleted, IsOfPath, RefusesPath};

@@ -3,10 +3,7 @@
 //!
 //! Each function returns at once: it is there for its contract, a law of the definitions.
 
-ghost use Rattle.manifest_schema.specs.Kinds.{kept, tree_of};
-ghost use Rattle.manifest_schema.specs.Meaning.{MeansOne, WrittenIsRead, AcceptedIsWellFormed, WrittenMeansTheSame, RewrittenMeansTheSame, RewrittenTwiceIsOnce, SameExactly, SameWrittenIsSame, FaultyMeansNothing, AcceptedOrFaulty};
-ghost use Rattle.manifest_schema.specs.Former.{OldWrittenIsRead};
-ghost use Rattle.manifest_schema.specs.Dates.{MeantDatesAreValid, WrittenDatesAreValid};
+ghost use Rattle.manifest_schema.specs.Prelude.{kept, tree_of, MeansOne, WrittenIsRead, AcceptedIsWellFormed, WrittenMeansTheSame, RewrittenMeansTheSame, RewrittenTwiceIsOnce, SameExactly, SameWrittenIsSame, FaultyMeansNothing, AcceptedOrFaulty, OldWrittenIsRead, MeantDatesAreValid, WrittenDatesAreValid};
 ghost use Rattle.manifest_completion.specs.Laws.{CompletedIsFixed};
 ghost use Rattle.cargo_manifest.specs.Completes.{StoredDecides};
 ghost use Rattle.cargo_manifest.specs.Dates.{ParsedDatesAreValid, ReadDatesAreValid, CompletedDatesAreValid};

@@ -1,14 +1,9 @@
 //! A manifest.
 #![tactic(auto, unfolding(manifest_schema::specs::ManifestForms::manifest_rows))]
 
+ghost use Rattle.manifest_schema.specs.Prelude.{Data, no_members, table_view, form, tree_of, kept, manifest_rows, rewritten};
 ghost use Rattle.std.specs.Prelude.{◌≡◌, IfOk};
-ghost use Rattle.toml.specs.Data.{Data, no_members};
-ghost use Rattle.toml.specs.View.{table_view};
-ghost use Rattle.manifest_schema.specs.Forms.{form};
-ghost use Rattle.manifest_schema.specs.Kinds.{tree_of, kept};
 ghost use Rattle.manifest_schema.specs.Contents;
-ghost use Rattle.manifest_schema.specs.ManifestForms.{manifest_rows};
-ghost use Rattle.manifest_schema.specs.Meaning.{rewritten};
 ghost use Rattle.manifest_schema.proofs.KindLaws.{tree_lawful};
 ghost use Rattle.manifest_schema.proofs.ManifestLaws.{manifest_lawful};
 ghost use Rattle.cargo_manifest.specs.Whole.{manifest_content, manifest_of};

@@ -1,12 +1,9 @@
 //! The package of a manifest.
 #![tactic(auto, unfolding(manifest_schema::specs::ManifestForms::package_rows))]
 
+ghost use Rattle.manifest_schema.specs.Prelude.{Data, string, no_members, member, tree_of, kept, form, package_rows};
 ghost use Rattle.std.specs.Prelude.{◌≡◌, IfOk, IfErr, Some, string_bytes, codes};
-ghost use Rattle.toml.specs.Data.{Data, string, no_members, member};
-ghost use Rattle.manifest_schema.specs.Kinds.{tree_of, kept};
-ghost use Rattle.manifest_schema.specs.Forms.{form};
 ghost use Rattle.manifest_schema.specs.Contents;
-ghost use Rattle.manifest_schema.specs.ManifestForms.{package_rows};
 ghost use Rattle.manifest_schema.proofs.KindLaws.{tree_lawful};
 ghost use Rattle.manifest_schema.proofs.ManifestLaws.{package_lawful};
 ghost use Rattle.manifest_value.specs.Faults.{FaultIn};

@@ -1,8 +1,7 @@
 //! How long the document of a table is at most, counted before it is made.
 
+ghost use Rattle.manifest_schema.specs.Prelude.{IsValueText, view, array_view, table_view};
 ghost use Rattle.std.specs.Prelude.{◌≡◌, ◌+◌, List, ℕ, length, false, IfSome};
-ghost use Rattle.toml.specs.Text.{IsValueText};
-ghost use Rattle.toml.specs.View.{view, array_view, table_view};
 ghost use Rattle.cargo_manifest.specs.Printed as spec;
 
 use std::fmt;

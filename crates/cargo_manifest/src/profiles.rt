@@ -1,16 +1,14 @@
 //! The profiles of a manifest.
 #![tactic(auto, unfolding(manifest_schema::specs::PartForms::profiles_rows), using(manifest_value::proofs::Behind::form_refuses))]
 
+ghost use Rattle.manifest_schema.specs.Prelude.{no_members, form, profiles_rows};
 ghost use Rattle.std.specs.Prelude.{IfOk, IfErr};
-ghost use Rattle.manifest_schema.specs.Forms.{form};
 ghost use Rattle.manifest_schema.specs.Contents;
-ghost use Rattle.manifest_schema.specs.PartForms.{profiles_rows};
 ghost use Rattle.manifest_schema.proofs.PartLaws.{profiles_form};
 ghost use Rattle.manifest_value.specs.Faults.{FaultIn};
 ghost use Rattle.manifest_value.specs.Reading.{Reads, IsOfTable};
 ghost use Rattle.manifest_value.specs.Sources.{table_source};
 ghost use Rattle.cargo_manifest.specs.Tables.{profiles_content};
-ghost use Rattle.toml.specs.Data.{no_members};
 
 use manifest_parts::Profile;
 use manifest_value::form::{

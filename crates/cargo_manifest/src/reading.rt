@@ -1,10 +1,8 @@
 //! A manifest from bytes or from a text.
 
+ghost use Rattle.manifest_schema.specs.Prelude.{get_member, view, table_view, kept, tree_of, has_header, old_package, faulty_old, means, means_by, unmeant, unmeant_by};
 ghost use Rattle.std.specs.Prelude.{◌≡◌, false, codes, IfOk, IfErr, OnOk, IsUtf8};
-ghost use Rattle.toml.specs.Data.{get_member};
-ghost use Rattle.toml.specs.View.{view, table_view};
-ghost use Rattle.manifest_schema.specs.Kinds.{kept, tree_of};
-ghost use Rattle.manifest_schema.specs.Meaning.{has, has_header, old_package, faulty_old, means, means_by, unmeant, unmeant_by};
+ghost use Rattle.manifest_schema.specs.Meaning.{has};
 ghost use Rattle.manifest_value.specs.Faults.{FaultIn};
 ghost use Rattle.cargo_manifest.specs.Tables.{package_of, package_form};
 ghost use Rattle.cargo_manifest.specs.Whole.{manifest_content, manifest_of, manifest_kept};

@@ -1,11 +1,8 @@
 //! The workspace of a manifest, and the package fields that members can inherit from it.
 #![tactic(auto, unfolding(manifest_schema::specs::ManifestForms::workspace_package_rows, manifest_schema::specs::ManifestForms::workspace_rows))]
 
-ghost use Rattle.toml.specs.Data.{Data, no_members};
-ghost use Rattle.manifest_schema.specs.Forms.{form};
-ghost use Rattle.manifest_schema.specs.Kinds.{tree_of, kept};
+ghost use Rattle.manifest_schema.specs.Prelude.{Data, no_members, form, tree_of, kept, workspace_package_rows, workspace_rows};
 ghost use Rattle.manifest_schema.specs.Contents;
-ghost use Rattle.manifest_schema.specs.ManifestForms.{workspace_package_rows, workspace_rows};
 ghost use Rattle.manifest_schema.proofs.KindLaws.{tree_lawful};
 ghost use Rattle.manifest_schema.proofs.ManifestLaws.{workspace_package_form, workspace_lawful};
 ghost use Rattle.cargo_manifest.specs.Tables.{workspace_package_content, workspace_content, workspace_of};

@@ -1,11 +1,8 @@
 //! The text of a manifest.
 
+ghost use Rattle.manifest_schema.specs.Prelude.{members_depth, members_have_valid_dates, IsDocumentText, table_view, tree_of};
 ghost use Rattle.std.specs.Prelude.{◌≡◌, ◌≤◌, true, false, Some, IfOk, IfErr, IfSome, IfNone, string_bytes};
-ghost use Rattle.toml.specs.Data.{members_depth, members_have_valid_dates};
 ghost use Rattle.toml.specs.Parse.{parse_document};
-ghost use Rattle.toml.specs.Text.{IsDocumentText};
-ghost use Rattle.toml.specs.View.{table_view};
-ghost use Rattle.manifest_schema.specs.Kinds.{tree_of};
 ghost use Rattle.cargo_manifest.specs.Answers.{IsOver, IsTextWithin, ReadsAs, RefusesToPrint, written_of};
 ghost use Rattle.cargo_manifest.specs.Whole.{manifest_of};
 

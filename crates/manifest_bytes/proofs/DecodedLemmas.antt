@@ -1,16 +1,14 @@
 -- A value without floats is what its bytes hold.
+use Rattle.manifest_schema.specs.Prelude.{and_parts, nat_tests, append-nil, Data, string, integer, float, boolean, datetime, array, table, Items, no_items, item, Members, no_members, member, items_depth, members_depth, plain, plain_items, plain_members}
 use Rattle.std.proofs.Common.{◌≡◌, ℕ, zero, suc, ◌≤◌, ◌<◌, List, [], ◌++◌, length, length-append, true, false, pos, negsuc, Option, Some, None, refl, ap, append_assoc, arith}
-use Rattle.std.proofs.lemmas.Bool.{and_parts}
-use Rattle.std.proofs.lemmas.Bool.Decides.{nat_tests}
-use Rattle.std.proofs.lemmas.List.{append-nil, take_at, drop_at}
+use Rattle.std.proofs.lemmas.List.{take_at, drop_at}
 use Rattle.std.specs.Prelude.{nat_lt}
 use Rattle.toml_datetime.specs.declared.datetime.Date.{Date}
 use Rattle.toml_datetime.specs.declared.datetime.Time.{Time}
 use Rattle.toml_datetime.specs.declared.datetime.Offset.{Offset}
 use Rattle.toml_datetime.specs.declared.datetime.Offset.TheVariants.{Z, Custom}
 use Rattle.toml_datetime.specs.declared.datetime.Datetime.{Datetime}
-use Rattle.toml.specs.Data.{Data, string, integer, float, boolean, datetime, array, table, Items, no_items, item, Members, no_members, member, depth, items_depth, members_depth}
-use Rattle.manifest_schema.specs.Kinds.{plain, plain_items, plain_members}
+use Rattle.toml.specs.Data.{depth}
 use Rattle.manifest_bytes.specs.Numbers.{number_bytes, take_number}
 use Rattle.manifest_bytes.specs.Encoded.{text_bytes, part_bytes, date_bytes, second_bytes, time_bytes, offset_bytes, datetime_bytes, item_count, member_count, encoded, items_bytes, members_bytes}
 use Rattle.manifest_bytes.specs.Decoded.{take_byte, take_front, take_text, take_part, take_date, take_time, take_offset, take_datetime, take_items, take_members, take_value, whole}

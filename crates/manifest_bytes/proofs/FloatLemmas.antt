@@ -1,14 +1,7 @@
 -- No table that is written of a well-formed manifest has a float, where none is written of metadata.
+use Rattle.manifest_schema.specs.Prelude.{IfSome, Data, array, table, Items, no_items, item, Members, no_members, member, Kind, plain, kept, tree_of, good_some, form, profiles_rows, package_rows, workspace_rows, written_manifest}
 use Rattle.std.proofs.Common.{◌≡◌, true, ◌&&◌, Option, Some, None, refl, sym, ap, ◌∙◌}
-use Rattle.std.specs.Option.{IfSome}
-use Rattle.toml.specs.Data.{Data, array, table, Items, no_items, item, Members, no_members, member}
-use Rattle.manifest_schema.specs.Kinds.{Kind, plain, kept, tree_of}
-use Rattle.manifest_schema.specs.Needs.{good_some}
-use Rattle.manifest_schema.specs.Forms.{form}
 use Rattle.manifest_schema.specs.Contents.{Profiles}
-use Rattle.manifest_schema.specs.PartForms.{profiles_rows}
-use Rattle.manifest_schema.specs.ManifestForms.{package_rows, workspace_rows}
-use Rattle.manifest_schema.specs.Meaning.{written_manifest}
 use Rattle.manifest_schema.proofs.PartLaws.{profiles_form}
 use Rattle.manifest_schema.proofs.GoodLaws.{package_metadata_good, workspace_metadata_good, manifest_parts_good}
 use Rattle.manifest_schema.proofs.ScalarLaws.{every, every_item, every_member, every_plain, Passes, manifest_passes}

@@ -1,9 +1,6 @@
 -- What is promised of the bytes of a value.
+use Rattle.manifest_schema.specs.Prelude.{Data, Kind, plain, Manifest, well_formed, written_manifest}
 use Rattle.std.specs.Prelude.{◌≡◌, IsTrue, Some}
-use Rattle.toml.specs.Data.{Data}
-use Rattle.manifest_schema.specs.Kinds.{Kind, plain}
-use Rattle.manifest_schema.specs.Contents.{Manifest}
-use Rattle.manifest_schema.specs.Meaning.{well_formed, written_manifest}
 use Rattle.manifest_bytes.specs.Encoded.{encoded}
 use Rattle.manifest_bytes.specs.Decoded.{decoded}
 
@@ -23,4 +20,4 @@ IsFloatless K = (x : Data) → K.good x → IsTrue (plain (K.written x))
 abbrev pub TableIsDecoded : Kind Data → Kind Data → Type 0
 TableIsDecoded K W =
     IsFloatless K → IsFloatless W → (m : Manifest) → well_formed K W m →
-        IsHeld (written_manifest K W m)
+    IsHeld (written_manifest K W m)

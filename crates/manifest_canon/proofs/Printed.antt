@@ -1,11 +1,9 @@
 -- What was printed, or begun.
+use Rattle.manifest_schema.specs.Prelude.{Appends, Keeps, Manifest, kept_metadata}
 use Rattle.std.proofs.Common.{◌≡◌, ℕ, inl, inr, List, [], Option, Some, None, IfSome, ◌∙◌, sym, subst, append-nil}
-use Rattle.std.specs.Io.KnownBytes.{Appends, Keeps}
 use Rattle.std.proofs.KnownBytes.{Keeps-refl}
-use Rattle.manifest_schema.specs.Contents.{Manifest}
 use Rattle.manifest_value.specs.declared.error.Error.{Error}
 use Rattle.manifest_value.specs.declared.error.Error.TheVariants.{Parse, Io, Utf8, Other, Memory}
-use Rattle.manifest_schema.specs.Dates.{kept_metadata}
 use Rattle.cargo_manifest.specs.Answers.{Refuses, RefusesToPrint}
 use Rattle.cargo_manifest.specs.Canonical.{rewritten, Means}
 use Rattle.manifest_canon.specs.Run.{Begins, FailsToPrint, IsRefused}

@@ -1,8 +1,7 @@
 -- What the words are taken for is what they ask for, and nothing else.
+use Rattle.manifest_schema.specs.Prelude.{Global, Text}
 use Rattle.std.proofs.Common.{◌≡◌, ℕ, List, [], ◌∷◌, Option, Some, None, ◌∙◌, sym, ap, subst, refl, length, get_or, arith}
 use Rattle.std.specs.Prelude.{String, string_bytes, codes}
-use Rattle.std.specs.declared.alloc.Global.{Global}
-use Rattle.manifest_schema.specs.Paths.{Text}
 use Rattle.manifest_canon.specs.declared.words.Request.{Request}
 use Rattle.manifest_canon.specs.declared.words.Request.TheVariants.{CanonInput, CanonFile, CompleteFile, CompleteMember}
 use Rattle.manifest_canon.specs.Run.{IsCanonInput, Asked, canon_file, complete_file, complete_member, Asks, AreWrong, MayPrint, PrintsOne, BeginsOne}

@@ -1,13 +1,8 @@
 -- What a run of the program leaves.
+use Rattle.manifest_schema.specs.Prelude.{Global, Bor, Appends, Keeps, Text, Manifest, kept_metadata}
 use Rattle.std.specs.Prelude.{◌≡◌, ◌≢◌, ℕ, ◌⊎◌, List, [], ◌∷◌, ◌++◌, map, Option, Some, None, String, string_bytes, codes}
-use Rattle.std.specs.declared.alloc.Global.{Global}
-use Rattle.std.specs.Borrow.{Bor}
-use Rattle.std.specs.Io.KnownBytes.{Appends, Keeps}
-use Rattle.manifest_schema.specs.Paths.{Text}
-use Rattle.manifest_schema.specs.Contents.{Manifest}
 use Rattle.manifest_value.specs.declared.error.Error.{Error}
 use Rattle.manifest_value.specs.declared.error.Error.TheVariants.{Io}
-use Rattle.manifest_schema.specs.Dates.{kept_metadata}
 use Rattle.cargo_manifest.specs.Answers.{Refuses, RefusesToPrint}
 use Rattle.cargo_manifest.specs.Canonical.{rewritten, Means, IsTextOf}
 use Rattle.cargo_manifest.specs.Completes.{ComesTo}
@@ -52,7 +47,7 @@ IsFileOf m = (bytes : List ℕ) × Means bytes m
 abbrev pub IsFinished : Option Manifest → Manifest → Manifest → Type 0
 IsFinished root m n =
     (resolved : Manifest) × Inherits root m resolved
-        × ComesTo AnyAscending resolved (completed_to n)
+    × ComesTo AnyAscending resolved (completed_to n)
 
 -- the same, where the root's file is named or not
 abbrev pub IsFinishedBy : Option (Bor Text) → Manifest → Manifest → Type 0
@@ -65,7 +60,7 @@ MayPrint canon_file m = IsFileOf m
 MayPrint complete_file m = (read : Manifest) × IsFileOf read × IsFinished None read m
 MayPrint complete_member m =
     (read : Manifest) × IsFileOf read × (root : Manifest) × IsFileOf root
-        × IsFinished (Some root) read m
+    × IsFinished (Some root) read m
 
 -- OUTPUT: known bytes grow by a beginning of the text
 pub record Begins (old new : Option (List ℕ)) (text : List ℕ) : Type 0 where

@@ -1,7 +1,6 @@
 -- What the code takes the words for, and what it does then.
+use Rattle.manifest_schema.specs.Prelude.{Bor, Global}
 use Rattle.std.specs.Prelude.{◌≡◌, ℕ, List, Option, Some, None, IfSome, String, codes}
-use Rattle.std.specs.Borrow.{Bor}
-use Rattle.std.specs.declared.alloc.Global.{Global}
 use Rattle.manifest_canon.specs.declared.words.Request.{Request}
 use Rattle.manifest_canon.specs.declared.words.Request.TheVariants.{CanonInput, CanonFile, CompleteFile, CompleteMember}
 use Rattle.manifest_canon.specs.Run.{IsCanonInput, Asked, canon_file, complete_file, complete_member, IsFile, Asks, AreWrong, MayPrint, PrintsOne, BeginsOne, IsPrinted, IsBegun}

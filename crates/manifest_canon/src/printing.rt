@@ -1,8 +1,7 @@
 //! Printing the canonical text of a manifest.
 
+ghost use Rattle.manifest_schema.specs.Prelude.{Appends, view};
 ghost use Rattle.std.specs.Prelude.{OnOk, OnErr, IfErr};
-ghost use Rattle.std.specs.Io.KnownBytes.{Appends};
-ghost use Rattle.toml.specs.View.{view};
 ghost use Rattle.cargo_manifest.specs.Whole.{manifest_content};
 ghost use Rattle.manifest_canon.specs.Run.{Begins, Prints, FailsToPrint};
 

@@ -1,15 +1,8 @@
 -- Lemmas on what is answered at a folder and at its entries.
+use Rattle.manifest_schema.specs.Prelude.{Global, Less, AllZip, AllByRecursion, nat_cmp, is_eq, slice_cmp, bytes_eq, string_cmp, is_eq-slice_cmp, Text}
 use Rattle.std.proofs.Common.{◌≡◌, List, [], ◌∷◌, ◌++◌, true, false, refl, ap, sym, ◌∙◌, String, map, string_bytes}
-use Rattle.std.specs.declared.alloc.Global.{Global}
-use Rattle.std.specs.declared.cmp.Ordering.TheVariants.{Less}
-use Rattle.std.specs.List.{AllZip, AllByRecursion, IsDistinct}
+use Rattle.std.specs.List.{IsDistinct}
 use Rattle.std.specs.List.Sorted.{IsStrictlySortedBy}
-use Rattle.std.specs.Ordering.{nat_cmp, is_eq}
-use Rattle.std.specs.Cmp.Lexicographic.{slice_cmp}
-use Rattle.std.specs.Str.{bytes_eq}
-use Rattle.std.specs.String.{string_cmp}
-use Rattle.std.proofs.lemmas.Map.Text.{is_eq-slice_cmp}
-use Rattle.manifest_schema.specs.Paths.{Text}
 use Rattle.manifest_completion.specs.Listings.{Answer, joined, is_memory_fault, IsAscending}
 use Rattle.manifest_completion.specs.Asking.{IsAllowedAnswer, AreAllowedAnswers}
 

@@ -1,10 +1,7 @@
 -- All path texts that are asked differ.
+use Rattle.manifest_schema.specs.Prelude.{append_assoc, AllByRecursion, bytes_eq, Text, Package}
 use Rattle.std.proofs.Common.{◌≡◌, ℕ, List, [], ◌∷◌, ◌++◌, Bool, true, false, refl, ap, sym, ◌∙◌, map, Option, Some, None, if◌then◌else◌, nat_eq, subst}
-use Rattle.std.proofs.lemmas.List.{append_assoc}
-use Rattle.std.specs.List.{AllByRecursion, IsDistinct}
-use Rattle.std.specs.Str.{bytes_eq}
-use Rattle.manifest_schema.specs.Paths.{Text}
-use Rattle.manifest_schema.specs.Contents.{Package}
+use Rattle.std.specs.List.{IsDistinct}
 use Rattle.manifest_completion.specs.Listings.{Answer, is_memory_fault, TargetFolder, bins, examples, tests, benches, Place, source, folder, entry, root, names_of, path_text, ListingMap, at, HasNoNameTwice}
 use Rattle.manifest_completion.specs.Completed.{PackageTargets, folder_places, target_places, root_places, up_to_memory_fault, stops_at_source, asks_root, asked_targets, asked_by, targets_of}
 use Rattle.manifest_completion.specs.Laws.{AskedDiffer, AscendingDiffer}

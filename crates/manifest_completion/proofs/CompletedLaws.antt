@@ -1,18 +1,6 @@
 -- A completed manifest is completed, and is well-formed where the manifest was.
+use Rattle.manifest_schema.specs.Prelude.{option_or, AllByRecursion, ErrorKind, Data, Text, Kind, good_some, form, IsLawful, underscored, StringOrBool, a_text, a_flag, Product, Package, Manifest, package_rows, well_formed}
 use Rattle.std.proofs.Common.{◌≡◌, inl, inr, List, [], ◌∷◌, ◌++◌, Bool, true, false, refl, ap, sym, ◌∙◌, ◌&&◌, Option, Some, None, if◌then◌else◌, subst, codes, unwrap_or}
-use Rattle.std.specs.Option.{option_or}
-use Rattle.std.specs.List.{AllByRecursion}
-use Rattle.std.specs.declared.io.ErrorKind.{ErrorKind}
-use Rattle.toml.specs.Data.{Data}
-use Rattle.manifest_schema.specs.Paths.{Text}
-use Rattle.manifest_schema.specs.Kinds.{Kind}
-use Rattle.manifest_schema.specs.Needs.{good_some}
-use Rattle.manifest_schema.specs.Forms.{form}
-use Rattle.manifest_schema.specs.Lawful.{IsLawful}
-use Rattle.manifest_schema.specs.Slots.{underscored}
-use Rattle.manifest_schema.specs.Contents.{StringOrBool, a_text, a_flag, Product, Package, Manifest}
-use Rattle.manifest_schema.specs.ManifestForms.{package_rows}
-use Rattle.manifest_schema.specs.Meaning.{well_formed}
 use Rattle.manifest_schema.proofs.GoodLaws.{package_good, package_metadata_good, manifest_good, manifest_parts_good}
 use Rattle.manifest_schema.proofs.ManifestLaws.{manifest_lawful}
 use Rattle.manifest_completion.specs.Listings.{Answer, names, fault, lists, is_memory_fault, examples, tests, benches, Place, source, ListingMap, at}

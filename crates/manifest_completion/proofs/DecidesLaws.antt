@@ -1,12 +1,6 @@
 -- The answers at the places that are asked decide what is asked and what a manifest becomes.
+use Rattle.manifest_schema.specs.Prelude.{or_parts, append-nil, AllByRecursion, flat_map, ErrorKind, OutOfMemory, Text, StringOrBool, a_text, a_flag, Product, Package}
 use Rattle.std.proofs.Common.{◌≡◌, List, [], ◌∷◌, ◌++◌, Bool, true, false, refl, ap, sym, ◌∙◌, map, Option, Some, None, if◌then◌else◌, ◌||◌, subst}
-use Rattle.std.proofs.lemmas.Bool.{or_parts}
-use Rattle.std.proofs.lemmas.List.{append-nil}
-use Rattle.std.specs.List.{AllByRecursion, flat_map}
-use Rattle.std.specs.declared.io.ErrorKind.{ErrorKind}
-use Rattle.std.specs.declared.io.ErrorKind.TheVariants.{OutOfMemory}
-use Rattle.manifest_schema.specs.Paths.{Text}
-use Rattle.manifest_schema.specs.Contents.{StringOrBool, a_text, a_flag, Product, Package}
 use Rattle.manifest_completion.specs.Listings.{Answer, names, fault, names_of, is_memory_fault, TargetFolder, bins, examples, tests, benches, Place, source, folder, entry, root, folder_text, ListingMap, at}
 use Rattle.manifest_completion.specs.Finds.{Find, entry_finds, finds}
 use Rattle.manifest_completion.specs.Completed.{PackageTargets, folder_places, target_places, root_places, up_to_memory_fault, has_memory_fault, asks_root, root_fault_if, root_fault, build_of, Library, no_file, known, library, source_fault, after_root, filled, completed_to, refused, completed_targets, asked_targets, completed_by, asked_by, completion_with, targets_of}

@@ -1,16 +1,9 @@
 -- Lemmas on names, and on the finds of a folder.
+use Rattle.manifest_schema.specs.Prelude.{Global, option_copied, Bor, AllZip, list_any, ends_with, nat_cmp, is_eq, slice_cmp, bytes_eq, is_eq-slice_cmp, Text}
 use Rattle.std.proofs.Common.{◌≡◌, List, [], ◌∷◌, true, false, refl, ap, map, String, string_bytes, ◌||◌, codes, Option, Some, None, length, ◌≤◌, arith, nat_eq}
-use Rattle.std.specs.declared.alloc.Global.{Global}
-use Rattle.std.specs.Option.{MatchOption, option_copied}
-use Rattle.std.specs.Borrow.{Bor}
+use Rattle.std.specs.Option.{MatchOption}
 use Rattle.std.specs.Str.Pattern.{FindsTextSuffix, StripsSuffix}
 use Rattle.std.proofs.lemmas.Str.Pattern.{ends_text}
-use Rattle.std.specs.List.{AllZip, list_any, ends_with}
-use Rattle.std.specs.Ordering.{nat_cmp, is_eq}
-use Rattle.std.specs.Cmp.Lexicographic.{slice_cmp}
-use Rattle.std.specs.Str.{bytes_eq}
-use Rattle.std.proofs.lemmas.Map.Text.{is_eq-slice_cmp}
-use Rattle.manifest_schema.specs.Paths.{Text}
 use Rattle.manifest_schema.proofs.CopyLaws.{items_copied}
 use Rattle.manifest_completion.specs.Finds.{stem}
 use Rattle.manifest_completion.specs.Steps.{paired_finds}

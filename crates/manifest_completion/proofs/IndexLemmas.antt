@@ -1,19 +1,10 @@
 -- Lemmas on what is looked up: the paths of names, and taken paths.
+use Rattle.manifest_schema.specs.Prelude.{Bor, bytes_eq, nat_cmp, slice_cmp, BTreeMap, get_by, BTreeSet, list_any-append, is_eq-slice_cmp, btree_map_updates_str, bytes_eq-Decides, Text, Product}
 use Rattle.std.proofs.Common.{◌≡◌, List, [], ◌∷◌, ◌++◌, Bool, true, false, cond, refl, ap, sym, ◌∙◌, ◌||◌, not, option_map, Option, Some, if◌then◌else◌}
-use Rattle.std.specs.Borrow.{Bor}
-use Rattle.std.specs.Str.{bytes_eq}
-use Rattle.std.specs.Ordering.{nat_cmp}
-use Rattle.std.specs.Cmp.Lexicographic.{slice_cmp}
-use Rattle.std.specs.BTreeMap.{BTreeMap, get_by}
 use Rattle.std.specs.BTreeMap as tree
-use Rattle.std.specs.BTreeSet.{BTreeSet, contains}
+use Rattle.std.specs.BTreeSet.{contains}
 use Rattle.std.specs.BTreeSet as sorted
 use Rattle.std.proofs.lemmas.Bool.Decides.{same_from_decides, Decides-like}
-use Rattle.std.proofs.lemmas.List.Folds.{list_any-append}
-use Rattle.std.proofs.lemmas.Map.Text.{is_eq-slice_cmp, btree_map_updates_str}
-use Rattle.std.proofs.lemmas.Slice.Eq.{bytes_eq-Decides}
-use Rattle.manifest_schema.specs.Paths.{Text}
-use Rattle.manifest_schema.specs.Contents.{Product}
 use Rattle.manifest_completion.specs.Finds.{Find}
 use Rattle.manifest_completion.specs.Targets.{first_path, has_path, found, added}
 use Rattle.manifest_completion.specs.Index.{Indexes, paths_in, SamePaths}

@@ -1,12 +1,10 @@
 -- `-` replaced by `_`.
+use Rattle.manifest_schema.specs.Prelude.{take-append-drop, nat_tests, underscored}
 use Rattle.std.proofs.Common.{◌≡◌, ℕ, zero, suc, ◌+◌, ◌<◌, List, [], ◌∷◌, ◌++◌, false, refl, ap, sym, ◌∙◌, take, drop, length, get_or, arith, nat_eq, if◌then◌else◌, ◌≢◌, ⊎_elim}
 use Rattle.std.specs.Str.{NoCharPasses}
 use Rattle.std.specs.Str.Pattern.{FindsChar}
 use Rattle.std.specs.Str.Replace.{ReplacesMatches}
 use Rattle.std.proofs.lemmas.Str.Pattern.{NoCharPasses-char, drop_at_char}
-use Rattle.std.proofs.lemmas.List.{take-append-drop}
-use Rattle.std.proofs.lemmas.Bool.Decides.{nat_tests}
-use Rattle.manifest_schema.specs.Slots.{underscored}
 
 -- no `-`, no change
 same : (xs : List ℕ) → ((i : ℕ) → i < length xs → get_or xs i 0 ≢ 45) → underscored xs ≡ xs

@@ -1,15 +1,6 @@
 -- Where one answer is stored for each path text, the map of what is stored decides what completion gives.
+use Rattle.manifest_schema.specs.Prelude.{or-false, error_kind, AllByRecursion, bytes_eq, bytes_eq-Decides, list_any-append, ErrorKind, OutOfMemory, Text, StringOrBool, a_text, a_flag, Product, Package, Manifest}
 use Rattle.std.proofs.Common.{◌≡◌, ◌⊎◌, inl, inr, ⊎_elim, List, [], ◌∷◌, ◌++◌, Bool, true, false, refl, ap, sym, ◌∙◌, map, Option, Some, None, if◌then◌else◌, ◌||◌, subst, Ok, Err}
-use Rattle.std.proofs.Math.Bool.{or-false}
-use Rattle.std.specs.IoError.{error_kind}
-use Rattle.std.specs.List.{AllByRecursion}
-use Rattle.std.specs.Str.{bytes_eq}
-use Rattle.std.proofs.lemmas.Slice.Eq.{bytes_eq-Decides}
-use Rattle.std.proofs.lemmas.List.Folds.{list_any-append}
-use Rattle.std.specs.declared.io.ErrorKind.{ErrorKind}
-use Rattle.std.specs.declared.io.ErrorKind.TheVariants.{OutOfMemory}
-use Rattle.manifest_schema.specs.Paths.{Text}
-use Rattle.manifest_schema.specs.Contents.{StringOrBool, a_text, a_flag, Product, Package, Manifest}
 use Rattle.manifest_value.specs.declared.error.Error.TheVariants.{Io, Other, Memory}
 use Rattle.manifest_completion.specs.Listings.{Answer, names, fault, names_of, is_memory_kind, is_memory_fault, TargetFolder, bins, examples, tests, benches, Place, source, folder, entry, root, path_text, entry_answer, FolderListing, ListingMap, folder_of, at}
 use Rattle.manifest_completion.specs.Completed.{PackageTargets, folder_places, target_places, root_places, up_to_memory_fault, has_memory_fault, asks_root, root_fault, after_root, Library, no_file, known, library, source_fault, Completion, completed_to, refused, no_library, completed_targets, asked_targets, completed, asked, completed_by, asked_by, completion_with, targets_of, AllAllowed}

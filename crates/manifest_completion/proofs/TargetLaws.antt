@@ -1,15 +1,7 @@
 -- A completed list of targets is completed.
+use Rattle.manifest_schema.specs.Prelude.{option_or, AllByRecursion, bytes_eq, or-false, or_cases, or_right, append-nil, append_assoc, list_any-append, bytes_eq-Decides, Text, Product}
 use Rattle.std.proofs.Common.{◌≡◌, List, [], ◌∷◌, ◌++◌, Bool, true, false, refl, ap, sym, ◌∙◌, map, ◌||◌, Option, Some, None, if◌then◌else◌, subst, ⊎_elim}
-use Rattle.std.specs.Option.{option_or}
-use Rattle.std.specs.List.{AllByRecursion}
-use Rattle.std.specs.Str.{bytes_eq}
-use Rattle.std.proofs.Math.Bool.{or-false}
-use Rattle.std.proofs.lemmas.Bool.{or_cases, or_left, or_right}
-use Rattle.std.proofs.lemmas.List.{append-nil, append_assoc}
-use Rattle.std.proofs.lemmas.List.Folds.{list_any-append}
-use Rattle.std.proofs.lemmas.Slice.Eq.{bytes_eq-Decides}
-use Rattle.manifest_schema.specs.Paths.{Text}
-use Rattle.manifest_schema.specs.Contents.{Product}
+use Rattle.std.proofs.lemmas.Bool.{or_left}
 use Rattle.manifest_completion.specs.Finds.{Find}
 use Rattle.manifest_completion.specs.Targets.{path_by_name, pathed, paths_with, paths_of, found, has_path, added, Defaults, with_defaults, targets}
 use Rattle.manifest_completion.specs.Completed.{discovers}

@@ -1,13 +1,6 @@
 -- What is declared stays, and entries that are no targets change nothing.
+use Rattle.manifest_schema.specs.Prelude.{option_or, filter, flat_map, append-nil, ErrorKind, OutOfMemory, Text, underscored, Product, Package, Manifest}
 use Rattle.std.proofs.Common.{◌≡◌, List, [], ◌∷◌, ◌++◌, Bool, true, false, refl, ap, ap₂, sym, ◌∙◌, map, Option, Some, None, if◌then◌else◌, ◌||◌, subst, codes, is_some}
-use Rattle.std.specs.Option.{option_or}
-use Rattle.std.specs.List.{filter, flat_map}
-use Rattle.std.proofs.lemmas.List.{append-nil}
-use Rattle.std.specs.declared.io.ErrorKind.{ErrorKind}
-use Rattle.std.specs.declared.io.ErrorKind.TheVariants.{OutOfMemory}
-use Rattle.manifest_schema.specs.Paths.{Text}
-use Rattle.manifest_schema.specs.Slots.{underscored}
-use Rattle.manifest_schema.specs.Contents.{Product, Package, Manifest}
 use Rattle.manifest_completion.specs.Listings.{Answer, lists, names_of, TargetFolder, bins, examples, tests, benches, folder, entry, folder_text, ListingMap, at}
 use Rattle.manifest_completion.specs.Finds.{Find, stem, file_find_of, entry_finds, finds}
 use Rattle.manifest_completion.specs.Targets.{path_by_name, pathed, Defaults, with_defaults, targets}

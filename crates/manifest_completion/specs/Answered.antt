@@ -1,10 +1,7 @@
 -- What the code was answered, as the definitions see it.
+use Rattle.manifest_schema.specs.Prelude.{BTreeSet, Global, error_kind, Text}
 use Rattle.std.specs.Prelude.{List, map, String, string_bytes, Vec, Result, Ok, Err}
-use Rattle.std.specs.BTreeSet.{BTreeSet}
-use Rattle.std.specs.declared.alloc.Global.{Global}
 use Rattle.std.specs.declared.io.Error.{Error}
-use Rattle.std.specs.IoError.{error_kind}
-use Rattle.manifest_schema.specs.Paths.{Text}
 use Rattle.manifest_completion.specs.Listings.{Answer, names, fault}
 
 -- the names of a set

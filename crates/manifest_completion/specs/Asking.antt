@@ -1,8 +1,7 @@
 -- What the functions that ask a filesystem say of what it answered.
+use Rattle.manifest_schema.specs.Prelude.{list_any, zip, Text}
 use Rattle.std.specs.Prelude.{◌≡◌, List, [], ◌∷◌, ◌++◌, Bool, ◌||◌}
-use Rattle.std.specs.List.{list_any, zip}
 use Rattle.std.specs.Bool.{MatchBool}
-use Rattle.manifest_schema.specs.Paths.{Text}
 use Rattle.manifest_completion.specs.declared.ask.FolderAnswers.{FolderAnswers}
 use Rattle.manifest_completion.specs.declared.ask.Answers.{Answers}
 use Rattle.manifest_completion.specs.Listings.{Answer, TargetFolder, bins, examples, tests, benches, Place, source, folder_text, joined, names_of, is_memory_fault, FolderListing, ListingMap, at, IsAscending}

@@ -1,14 +1,6 @@
 -- What completion makes of a manifest, as a function of the listings; and which places are asked for it.
+use Rattle.manifest_schema.specs.Prelude.{option_or, list_any, AllByRecursion, ErrorKind, NotFound, OutOfMemory, Text, underscored, Inheritable, inherited, local, Edition, e2015, StringOrBool, a_text, a_flag, Product, Package, Manifest, is_empty}
 use Rattle.std.specs.Prelude.{◌≡◌, List, [], ◌∷◌, ◌++◌, map, codes, if◌then◌else◌, Option, Some, None, Bool, true, false, is_some, unwrap_or, ◌&&◌, ◌||◌, not}
-use Rattle.std.specs.Option.{option_or}
-use Rattle.std.specs.List.{list_any, AllByRecursion}
-use Rattle.std.specs.declared.io.ErrorKind.{ErrorKind}
-use Rattle.std.specs.declared.io.ErrorKind.TheVariants.{NotFound, OutOfMemory}
-use Rattle.manifest_schema.specs.Paths.{Text}
-use Rattle.manifest_schema.specs.Slots.{underscored}
-use Rattle.manifest_schema.specs.Kinds.{Inheritable, inherited, local}
-use Rattle.manifest_schema.specs.Contents.{Edition, e2015, StringOrBool, a_text, a_flag, Product, Package, Manifest}
-use Rattle.manifest_schema.specs.Needs.{is_empty}
 use Rattle.manifest_completion.specs.Listings.{Answer, names, fault, lists, is_memory_fault, TargetFolder, bins, examples, tests, benches, Place, source, folder, entry, root, names_of, path_text, ListingMap, at, NamesAscend}
 use Rattle.manifest_completion.specs.Finds.{finds, bin_finds}
 use Rattle.manifest_completion.specs.Targets.{found, targets, Defaults}
@@ -119,8 +111,8 @@ bin_defaults t src = record {
   edition = own_edition t.edition;
   crate_type = None;
   path = if is_legacy t.edition && lists src (codes "main.rs")
-    then Some (codes "src/main.rs")
-    else None;
+      then Some (codes "src/main.rs")
+      else None;
 }
 
 abbrev pub example_defaults : PackageTargets → Defaults
@@ -312,5 +304,5 @@ pub record Explains (allows : Text → Answer → Type 0) (l : ListingMap) (plac
 -- BY ONE MAP of listings, which explains what the filesystem answered at the places that it asks, this is the outcome
 abbrev pub ByOneMap :
     {C : Type 0} → (Text → Answer → Type 0) → (ListingMap → List Place) → (ListingMap → C) → C →
-        Type 0
+    Type 0
 ByOneMap allows asked outcome c = (l : ListingMap) × Explains allows l (asked l) × (outcome l ≡ c)

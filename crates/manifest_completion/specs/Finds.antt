@@ -1,7 +1,6 @@
 -- The targets that the listings of a folder hold, each with its name and its path.
+use Rattle.manifest_schema.specs.Prelude.{flat_map, ends_with, Text}
 use Rattle.std.specs.Prelude.{◌-◌, List, [], ◌∷◌, ◌++◌, codes, if◌then◌else◌, Option, Some, None, length, take, nat_eq}
-use Rattle.std.specs.List.{flat_map, ends_with}
-use Rattle.manifest_schema.specs.Paths.{Text}
 use Rattle.manifest_completion.specs.Listings.{Answer, TargetFolder, bins, folder, entry, folder_text, joined, ListingMap, at, names_of, lists}
 
 -- a target that was found

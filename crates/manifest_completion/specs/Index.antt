@@ -1,11 +1,6 @@
 -- What is looked up while a list of targets is completed: the path of a name, and whether a path is taken.
+use Rattle.manifest_schema.specs.Prelude.{Bor, nat_cmp, slice_cmp, BTreeMap, get_by, BTreeSet, Text}
 use Rattle.std.specs.Prelude.{◌≡◌, List, map, option_map, Option}
-use Rattle.std.specs.Borrow.{Bor}
-use Rattle.std.specs.Ordering.{nat_cmp}
-use Rattle.std.specs.Cmp.Lexicographic.{slice_cmp}
-use Rattle.std.specs.BTreeMap.{BTreeMap, get_by}
-use Rattle.std.specs.BTreeSet.{BTreeSet}
-use Rattle.manifest_schema.specs.Paths.{Text}
 use Rattle.manifest_completion.specs.Finds.{Find}
 use Rattle.manifest_completion.specs.Targets.{first_path, has_path}
 

@@ -1,12 +1,7 @@
 -- What is promised of completion.
+use Rattle.manifest_schema.specs.Prelude.{AllByRecursion, bytes_eq, Data, Text, Kind, Manifest, well_formed, reads_manifest, written_manifest}
 use Rattle.std.specs.Prelude.{◌≡◌, List, [], ◌∷◌, map, ◌⊎◌, Result}
-use Rattle.std.specs.List.{IsDistinct, AllByRecursion}
-use Rattle.std.specs.Str.{bytes_eq}
-use Rattle.toml.specs.Data.{Data}
-use Rattle.manifest_schema.specs.Paths.{Text}
-use Rattle.manifest_schema.specs.Kinds.{Kind}
-use Rattle.manifest_schema.specs.Contents.{Manifest}
-use Rattle.manifest_schema.specs.Meaning.{well_formed, reads_manifest, written_manifest}
+use Rattle.std.specs.List.{IsDistinct}
 use Rattle.manifest_value.specs.declared.error.Error.{Error}
 use Rattle.manifest_completion.specs.declared.completion.CompletedTargets.{CompletedTargets}
 use Rattle.manifest_completion.specs.Listings.{Answer, Place, path_text, ListingMap, at, NamesAscend, HasNoNameTwice}

@@ -1,13 +1,8 @@
 -- What a filesystem answers for a folder, the places that completion asks for, and a map of listings.
+use Rattle.manifest_schema.specs.Prelude.{list_any, nat_cmp, slice_cmp, bytes_eq, ErrorKind, NotFound, OutOfMemory, Text}
 use Rattle.std.specs.Prelude.{Bool, true, false, if◌then◌else◌, List, [], ◌∷◌, ◌++◌, codes}
-use Rattle.std.specs.List.{list_any, IsDistinct}
+use Rattle.std.specs.List.{IsDistinct}
 use Rattle.std.specs.List.Sorted.{IsStrictlySortedBy}
-use Rattle.std.specs.Ordering.{nat_cmp}
-use Rattle.std.specs.Cmp.Lexicographic.{slice_cmp}
-use Rattle.std.specs.Str.{bytes_eq}
-use Rattle.std.specs.declared.io.ErrorKind.{ErrorKind}
-use Rattle.std.specs.declared.io.ErrorKind.TheVariants.{NotFound, OutOfMemory}
-use Rattle.manifest_schema.specs.Paths.{Text}
 
 -- AN ANSWER for a folder: the names in it, in the order of bytes, or the kind of a fault
 pub data Answer : Type 0 where

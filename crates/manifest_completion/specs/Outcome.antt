@@ -1,8 +1,6 @@
 -- What completion answers, by the definitions: the completed targets, or a refusal.
+use Rattle.manifest_schema.specs.Prelude.{error_kind, OutOfMemory, Text}
 use Rattle.std.specs.Prelude.{◌≡◌, ◌⊎◌, map, codes, option_map, string_bytes, Result, Ok, Err}
-use Rattle.std.specs.IoError.{error_kind}
-use Rattle.std.specs.declared.io.ErrorKind.TheVariants.{OutOfMemory}
-use Rattle.manifest_schema.specs.Paths.{Text}
 use Rattle.manifest_parts.specs.Parts.{edition_content, text_or_flag_content, inh_content}
 use Rattle.manifest_parts.specs.Records.{product_content}
 use Rattle.manifest_value.specs.declared.error.Error.{Error}

@@ -1,11 +1,6 @@
 -- What the contracts of single steps of a completion cite; it is not needed to read what completion makes.
+use Rattle.manifest_schema.specs.Prelude.{Bor, error_kind, ErrorKind, OutOfMemory, Text, Product}
 use Rattle.std.specs.Prelude.{◌≡◌, if◌then◌else◌, List, [], ◌∷◌, ◌++◌, map, option_map, Option, Some, None, string_bytes, Result, Ok, Err}
-use Rattle.std.specs.Borrow.{Bor}
-use Rattle.std.specs.IoError.{error_kind}
-use Rattle.std.specs.declared.io.ErrorKind.{ErrorKind}
-use Rattle.std.specs.declared.io.ErrorKind.TheVariants.{OutOfMemory}
-use Rattle.manifest_schema.specs.Paths.{Text}
-use Rattle.manifest_schema.specs.Contents.{Product}
 use Rattle.manifest_parts.specs.Parts.{edition_content, text_or_flag_content}
 use Rattle.manifest_parts.specs.Records.{product_content}
 use Rattle.manifest_value.specs.declared.error.Error.{Error}

@@ -1,9 +1,6 @@
 -- What is stored at path texts, by `Listings` or another filesystem, and the map of listings of it.
+use Rattle.manifest_schema.specs.Prelude.{BTreeMap, get_by_text, Global, NotFound, OutOfMemory, Other, Text}
 use Rattle.std.specs.Prelude.{◌≡◌, String, Option, Some, None, ◌⊎◌, map}
-use Rattle.std.specs.BTreeMap.{BTreeMap, get_by_text}
-use Rattle.std.specs.declared.alloc.Global.{Global}
-use Rattle.std.specs.declared.io.ErrorKind.TheVariants.{NotFound, OutOfMemory, Other}
-use Rattle.manifest_schema.specs.Paths.{Text}
 use Rattle.manifest_completion.specs.declared.listings.Listing.{Listing}
 use Rattle.manifest_completion.specs.declared.listings.Listing.TheVariants.{Names, Fault}
 use Rattle.manifest_completion.specs.Listings.{Answer, names, fault, names_of, TargetFolder, bins, examples, tests, benches, source, folder, entry, root, path_text, FolderListing, ListingMap}

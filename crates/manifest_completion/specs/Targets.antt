@@ -1,10 +1,6 @@
 -- A list of targets: filled in from the finds, added to, and given its defaults.
+use Rattle.manifest_schema.specs.Prelude.{option_or, list_any, bytes_eq, Text, Edition, Product}
 use Rattle.std.specs.Prelude.{List, [], ◌∷◌, ◌++◌, map, if◌then◌else◌, Option, Some, None, Bool, true, false}
-use Rattle.std.specs.Option.{option_or}
-use Rattle.std.specs.List.{list_any}
-use Rattle.std.specs.Str.{bytes_eq}
-use Rattle.manifest_schema.specs.Paths.{Text}
-use Rattle.manifest_schema.specs.Contents.{Edition, Product}
 use Rattle.manifest_completion.specs.Finds.{Find}
 
 -- FILL: a target with a name and no path takes the path of the first find of its name

@@ -1,8 +1,6 @@
 -- What completion leaves as it is: the targets that are declared; and what makes no difference to it.
+use Rattle.manifest_schema.specs.Prelude.{filter, Text, Product, Manifest}
 use Rattle.std.specs.Prelude.{◌≡◌, List, [], ◌∷◌, Option, Some, None, Bool, ◌||◌, is_some, codes}
-use Rattle.std.specs.List.{filter}
-use Rattle.manifest_schema.specs.Paths.{Text}
-use Rattle.manifest_schema.specs.Contents.{Product, Manifest}
 use Rattle.manifest_completion.specs.Listings.{Answer, lists, names_of, TargetFolder, folder, entry, ListingMap, at}
 use Rattle.manifest_completion.specs.Finds.{stem}
 use Rattle.manifest_completion.specs.Completed.{completed_to, completed, target_places, has_memory_fault}

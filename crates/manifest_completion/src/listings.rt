@@ -1,8 +1,7 @@
 //! A filesystem in memory.
 
+ghost use Rattle.manifest_schema.specs.Prelude.{bytes_eq, NotFound};
 ghost use Rattle.std.specs.Prelude.{◌≡◌, ℕ, List, Some, OnOk, OnErr, if◌then◌else◌};
-ghost use Rattle.std.specs.Str.{bytes_eq};
-ghost use Rattle.std.specs.declared.io.ErrorKind.TheVariants.{NotFound};
 ghost use Rattle.manifest_completion.specs.Listings.{fault};
 ghost use Rattle.manifest_completion.specs.Stored.{stored_at, stored_answer, AnswersAsStored};
 

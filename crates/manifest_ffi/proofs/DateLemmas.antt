@@ -1,8 +1,6 @@
 -- Of texts no date-time comes that cannot be written, so that status 7 is never told of them.
+use Rattle.manifest_schema.specs.Prelude.{Text, Manifest, KeepsValidDates}
 use Rattle.std.proofs.Common.{◌≡◌, ℕ, List, Option, Some, None, Vec, Global, Result, Ok, Err, Bool, true, false, ◌==◌, inl, inr, refl, sym, ap, subst, ◌∙◌}
-use Rattle.manifest_schema.specs.Paths.{Text}
-use Rattle.manifest_schema.specs.Contents.{Manifest}
-use Rattle.manifest_schema.specs.Dates.{KeepsValidDates}
 use Rattle.manifest_schema.proofs.DateLaws.{written_dates_are_valid}
 use Rattle.manifest_value.specs.declared.error.Error.{Error}
 use Rattle.manifest_value.specs.declared.error.Error.TheVariants as error

@@ -1,17 +1,9 @@
 -- Lemmas on folders that a caller passes in.
+use Rattle.manifest_schema.specs.Prelude.{Bor, BTreeMap, get_by, slice_cmp, is_lt, bytes_eq, string_cmp, Ordering, Less, btree_map_updates_str, Text}
 use Rattle.std.proofs.Common.{◌≡◌, List, [], ◌∷◌, ◌++◌, map, Option, Some, None, Bool, true, false, cond, String, Global, string_bytes, nat_cmp, refl, sym, ap, get_or, option_map, is_some, if◌then◌else◌}
-use Rattle.std.specs.Borrow.{Bor}
-use Rattle.std.specs.BTreeMap.{BTreeMap, get_by}
 use Rattle.std.specs.BTreeMap as tree
 use Rattle.std.specs.BTreeSet.{insert_key}
-use Rattle.std.specs.Cmp.Lexicographic.{slice_cmp}
-use Rattle.std.specs.Ordering.{is_lt}
-use Rattle.std.specs.Str.{bytes_eq}
-use Rattle.std.specs.String.{string_cmp}
-use Rattle.std.specs.declared.cmp.Ordering.{Ordering}
-use Rattle.std.specs.declared.cmp.Ordering.TheVariants.{Less, Equal, Greater}
-use Rattle.std.proofs.lemmas.Map.Text.{btree_map_updates_str}
-use Rattle.manifest_schema.specs.Paths.{Text}
+use Rattle.std.specs.declared.cmp.Ordering.TheVariants.{Equal, Greater}
 use Rattle.manifest_completion.specs.Listings.{Answer}
 use Rattle.manifest_completion.proofs.IndexLemmas.{bytes_eq-sym}
 use Rattle.manifest_ffi.specs.declared.folders.Folder.{Folder}

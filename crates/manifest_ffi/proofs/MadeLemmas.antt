@@ -1,24 +1,17 @@
 -- Each manifest that is made is well-formed, so the tagged bytes of its table hold it. Each call ends by writing it.
+use Rattle.manifest_schema.specs.Prelude.{Text, Manifest, good_some, form, workspace_rows, well_formed, kept, kept_metadata}
 use Rattle.std.proofs.Common.{◌≡◌, ℕ, List, Option, Some, None, Vec, Global, Result, Ok, Err, IfOk, inl, inr, ap, sym, subst, ◌∙◌}
 use Rattle.std.specs.Prelude.{IfErr}
 use Rattle.manifest_bytes.specs.Decoded.{decoded}
 use Rattle.manifest_bytes.specs.Laws.{IsFloatless}
 use Rattle.manifest_bytes.proofs.FloatLemmas.{tree_floatless, table_is_decoded}
-use Rattle.manifest_schema.specs.Paths.{Text}
-use Rattle.manifest_schema.specs.Contents.{Manifest}
-use Rattle.manifest_schema.specs.Needs.{good_some}
-use Rattle.manifest_schema.specs.Forms.{form}
-use Rattle.manifest_schema.specs.ManifestForms.{workspace_rows}
-use Rattle.manifest_schema.specs.Meaning.{well_formed}
 use Rattle.manifest_schema.proofs.KindLaws.{tree_lawful}
-use Rattle.manifest_schema.specs.Kinds.{kept}
 use Rattle.manifest_schema.proofs.KeptLaws.{kept_lawful}
 use Rattle.manifest_schema.proofs.ManifestLaws.{manifest_lawful}
 use Rattle.manifest_schema.proofs.MeaningLaws.{accepted_is_well_formed}
 use Rattle.manifest_completion.specs.Listings.{Answer as Listed}
 use Rattle.manifest_completion.specs.Stored.{stored_map}
 use Rattle.manifest_completion.proofs.CompletedLaws.{completed_fixed}
-use Rattle.manifest_schema.specs.Dates.{kept_metadata}
 use Rattle.cargo_manifest.proofs.WellFormedLaws.{package_by_metadata, workspace_by_parts, manifest_by_parts}
 use Rattle.manifest_inherit.specs.Finished.{Inherits}
 use Rattle.manifest_inherit.proofs.FormedLaws.{stays_well_formed}

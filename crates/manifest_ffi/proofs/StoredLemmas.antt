@@ -1,8 +1,6 @@
 -- Over folders that are given, what is stored decides what a completion gives.
+use Rattle.manifest_schema.specs.Prelude.{Bor, Text, Manifest}
 use Rattle.std.proofs.Common.{inl, inr, Option, Some, None, Ok, Err}
-use Rattle.std.specs.Borrow.{Bor}
-use Rattle.manifest_schema.specs.Paths.{Text}
-use Rattle.manifest_schema.specs.Contents.{Manifest}
 use Rattle.manifest_completion.specs.Listings.{Answer}
 use Rattle.manifest_completion.specs.Stored.{AnswersAsStored}
 use Rattle.cargo_manifest.specs.Completes.{StoredDecides}

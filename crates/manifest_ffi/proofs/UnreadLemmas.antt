@@ -1,8 +1,6 @@
 -- The table of a manifest whose metadata is not looked at is what its tagged bytes hold.
+use Rattle.manifest_schema.specs.Prelude.{Manifest, unread, unread_laws}
 use Rattle.std.proofs.Common.{◌≡◌, ℕ, List, Vec, Global, Some, Result, Ok, Err, inr, refl, ap, ◌∙◌}
-use Rattle.manifest_schema.specs.Contents.{Manifest}
-use Rattle.manifest_schema.specs.Kinds.{unread}
-use Rattle.manifest_schema.specs.ForProofs.{unread_laws}
 use Rattle.manifest_schema.proofs.KindLaws.{tree_lawful}
 use Rattle.manifest_schema.proofs.MeaningLaws.{accepted_is_well_formed}
 use Rattle.manifest_bytes.specs.Encoded.{encoded}

@@ -1,8 +1,6 @@
 -- What a call leaves: an answer, and a text in the caller's memory.
+use Rattle.manifest_schema.specs.Prelude.{Global, Text, Manifest}
 use Rattle.std.specs.Prelude.{◌≡◌, ◌⊎◌, ℕ, ◌<◌, ◌≤◌, ◌++◌, List, length, drop, Vec, Result, Ok, Err, IsUtf8}
-use Rattle.std.specs.declared.alloc.Global.{Global}
-use Rattle.manifest_schema.specs.Paths.{Text}
-use Rattle.manifest_schema.specs.Contents.{Manifest}
 use Rattle.manifest_ffi.specs.declared.making.Output.{Output}
 use Rattle.manifest_ffi.specs.declared.refusal.Refusal.{Refusal}
 use Rattle.manifest_ffi.specs.declared.telling.Told.{Told}

@@ -1,15 +1,6 @@
 -- The listings that a caller passes in.
+use Rattle.manifest_schema.specs.Prelude.{Bor, nat_cmp, is_lt, Less, slice_cmp, bytes_eq, AllByRecursion, BTreeMap, get_by, ErrorKind, NotFound, OutOfMemory, Other, Text}
 use Rattle.std.specs.Prelude.{◌≡◌, ℕ, ◌==◌, Bool, true, List, [], ◌∷◌, map, if◌then◌else◌, Option, Some, None, option_map, unwrap_or, IsUtf8}
-use Rattle.std.specs.Borrow.{Bor}
-use Rattle.std.specs.Ordering.{nat_cmp, is_lt}
-use Rattle.std.specs.declared.cmp.Ordering.TheVariants.{Less}
-use Rattle.std.specs.Cmp.Lexicographic.{slice_cmp}
-use Rattle.std.specs.Str.{bytes_eq}
-use Rattle.std.specs.List.{AllByRecursion}
-use Rattle.std.specs.BTreeMap.{BTreeMap, get_by}
-use Rattle.std.specs.declared.io.ErrorKind.{ErrorKind}
-use Rattle.std.specs.declared.io.ErrorKind.TheVariants.{NotFound, OutOfMemory, Other}
-use Rattle.manifest_schema.specs.Paths.{Text}
 use Rattle.manifest_completion.specs.Listings.{Answer, names, fault}
 use Rattle.manifest_completion.specs.Answered.{set_names}
 use Rattle.manifest_ffi.specs.declared.folders.Folder.{Folder}

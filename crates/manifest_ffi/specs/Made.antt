@@ -1,9 +1,6 @@
 -- What a call makes of bytes, what it writes of that, and why it does not.
+use Rattle.manifest_schema.specs.Prelude.{Bor, Global, table, Text, Manifest}
 use Rattle.std.specs.Prelude.{◌≡◌, ◌⊎◌, ℕ, ◌<◌, ◌≤◌, List, length, Option, Some, None, option_map, Vec, Result, Ok, Err, IsUtf8}
-use Rattle.std.specs.Borrow.{Bor}
-use Rattle.std.specs.declared.alloc.Global.{Global}
-use Rattle.manifest_schema.specs.Paths.{Text}
-use Rattle.manifest_schema.specs.Contents.{Manifest}
 use Rattle.manifest_completion.specs.Listings.{Answer}
 use Rattle.manifest_completion.specs.Completed.{completed, completed_to}
 use Rattle.manifest_completion.specs.Stored.{stored_map}
@@ -13,7 +10,6 @@ use Rattle.cargo_manifest.specs.Canonical.{rewritten, IsTextOf}
 use Rattle.manifest_inherit.specs.Finished.{Inherits, RefusesToInherit}
 use Rattle.manifest_inherit.specs.declared.error.FinishError.{FinishError}
 use Rattle.manifest_inherit.specs.declared.error.FinishError.TheVariants.{Manifest as Incomplete}
-use Rattle.toml.specs.Data.{table}
 use Rattle.manifest_bytes.specs.Encoded.{encoded}
 use Rattle.manifest_bytes.specs.Decoded.{decoded}
 use Rattle.manifest_ffi.specs.declared.folders.Folder.{Folder}

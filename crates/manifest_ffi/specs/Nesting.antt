@@ -1,9 +1,8 @@
 -- How deep a text may nest what it says, counted before it is parsed.
+use Rattle.manifest_schema.specs.Prelude.{Bor, Text}
 use Rattle.std.specs.Prelude.{◌≡◌, ℕ, zero, suc, ◌+◌, ◌-◌, ◌*◌, max, Bool, ◌||◌, ◌==◌, nat_lt, if◌then◌else◌, length, drop, Option, Some, None, option_map, unwrap_or}
-use Rattle.std.specs.Borrow.{Bor}
 use Rattle.toml_parser.specs.Lexical.{line_feed, hash, comma, dot, equals, left_bracket, right_bracket, left_brace, right_brace, first, skip_blank}
 use Rattle.toml_parser.specs.Strings.{starts_string, quoted}
-use Rattle.manifest_schema.specs.Paths.{Text}
 use Rattle.manifest_ffi.specs.declared.nesting.Nesting.{Nesting}
 
 -- COUNTED are, up to 384, the brackets that are open and the dots since a key began, and the most of both so far

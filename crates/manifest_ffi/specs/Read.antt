@@ -1,18 +1,12 @@
 -- What the bytes of a call are, and why they are refused.
+use Rattle.manifest_schema.specs.Prelude.{AllocError, Data, Members, members_depth, IsMemory, IsWithin, Text, Kind, Manifest, means, reads_manifest, kept_metadata}
 use Rattle.std.specs.Prelude.{◌≡◌, ◌⊎◌, ◌<◌, ◌≤◌, Some, None, true, false, IsUtf8}
-use Rattle.std.specs.declared.alloc.AllocError.{AllocError}
-use Rattle.toml.specs.Data.{Data, Members, members_depth}
 use Rattle.toml.specs.Parse.{parse_document}
-use Rattle.toml.specs.Errors.{IsMemory, IsWithin}
-use Rattle.manifest_schema.specs.Paths.{Text}
-use Rattle.manifest_schema.specs.Kinds.{Kind}
-use Rattle.manifest_schema.specs.Contents.{Manifest}
-use Rattle.manifest_schema.specs.Meaning.{means, reads_manifest, faulty_manifest}
+use Rattle.manifest_schema.specs.Meaning.{faulty_manifest}
 use Rattle.manifest_value.specs.Refusals.{RefusedIn, IsOutOfMemory}
 use Rattle.manifest_value.specs.declared.error.Error.{Error}
 use Rattle.manifest_value.specs.declared.error.Error.TheVariants.{Parse, Utf8, Memory}
 use Rattle.manifest_value.specs.declared.error.ParseFault.TheVariants.{Toml as NoToml, Schema}
-use Rattle.manifest_schema.specs.Dates.{kept_metadata}
 use Rattle.cargo_manifest.specs.Answers.{IsFaulty}
 use Rattle.manifest_bytes.specs.Encoded.{encoded}
 use Rattle.manifest_ffi.specs.declared.reading.Input.{Input}
@@ -75,7 +69,7 @@ pub record IsTaggedOf (bytes : Text) (m : Manifest) : Type 0 where
 abbrev pub HoldFault : Text → Error → Type 0
 HoldFault bytes e =
     (value : Data) × (bytes ≡ encoded value)
-        × RefusedIn (faulty_manifest kept_metadata kept_metadata value) e
+    × RefusedIn (faulty_manifest kept_metadata kept_metadata value) e
 
 -- they are not: they are the bytes of a value with this fault, or memory ran out; the other refusals promise nothing
 abbrev pub RefusesTaggedInput : Text → InputError → Type 0

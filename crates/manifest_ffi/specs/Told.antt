@@ -1,12 +1,8 @@
 -- The numbers and the text by which an answer reports a refusal.
+use Rattle.manifest_schema.specs.Prelude.{error_kind, ErrorKind, NotFound, OutOfMemory, IsMemory, Text, Cause, wrong_kind, missing, two_spellings, not_a_choice, out_of_range, not_true, holds_float, metadata_fault, path_text}
 use Rattle.std.specs.Prelude.{◌≡◌, ℕ, ◌+◌, [], Bool, true, false, if◌then◌else◌, string_bytes}
-use Rattle.std.specs.IoError.{error_kind}
-use Rattle.std.specs.declared.io.ErrorKind.{ErrorKind}
-use Rattle.std.specs.declared.io.ErrorKind.TheVariants.{NotFound, OutOfMemory}
-use Rattle.toml.specs.Errors.{IsMemory, span_start, span_end}
+use Rattle.toml.specs.Errors.{span_start, span_end}
 use Rattle.toml.specs.declared.de.error.Error.{Error as TomlError}
-use Rattle.manifest_schema.specs.Paths.{Text, Cause, wrong_kind, missing, two_spellings, not_a_choice, out_of_range, not_true, holds_float, metadata_fault}
-use Rattle.manifest_schema.specs.PathTexts.{path_text}
 use Rattle.manifest_value.specs.Faults.{path_of, cause_of}
 use Rattle.manifest_value.specs.declared.fault.SchemaFault.{SchemaFault}
 use Rattle.manifest_value.specs.declared.error.Error.{Error}

@@ -1,10 +1,6 @@
 -- The table of a manifest whose metadata is not looked at, and the document that the bytes are, whatever it means.
+use Rattle.manifest_schema.specs.Prelude.{Data, Members, table, Text, Kind, tree_of, unread, Manifest, written_manifest}
 use Rattle.std.specs.Prelude.{◌≡◌, ◌⊎◌, ℕ, List, Some}
-use Rattle.toml.specs.Data.{Data, Members, table}
-use Rattle.manifest_schema.specs.Paths.{Text}
-use Rattle.manifest_schema.specs.Kinds.{Kind, tree_of, unread}
-use Rattle.manifest_schema.specs.Contents.{Manifest}
-use Rattle.manifest_schema.specs.Meaning.{written_manifest}
 use Rattle.manifest_bytes.specs.Encoded.{encoded}
 use Rattle.manifest_bytes.specs.Decoded.{decoded}
 use Rattle.manifest_ffi.specs.Read.{IsDocument, IsNoDocument, IsSourceOf, RefusesSource}
@@ -35,7 +31,7 @@ RefusesUnread most bytes e =
 abbrev pub GivesDocument : ℕ → List ℕ → Text → Type 0
 GivesDocument most bytes text =
     (document : Members) × IsDocument bytes document
-        × AreWithin most (encoded (table document)) text
+    × AreWithin most (encoded (table document)) text
 
 -- the bytes are refused as they are read, or the tagged bytes as they are made
 abbrev pub RefusesDocument : ℕ → List ℕ → Refusals

@@ -1,8 +1,7 @@
 //! The manifest that a call makes, and what is written of it.
 
+ghost use Rattle.manifest_schema.specs.Prelude.{table, view};
 ghost use Rattle.std.specs.Prelude.{◌≡◌, Err, IfOk, IfErr, OnOk, option_copied, option_map};
-ghost use Rattle.toml.specs.Data.{table};
-ghost use Rattle.toml.specs.View.{view};
 ghost use Rattle.manifest_bytes.specs.Encoded.{encoded};
 ghost use Rattle.cargo_manifest.specs.Whole.{manifest_content};
 ghost use Rattle.cargo_manifest.specs.Canonical.{rewritten};

@@ -1,10 +1,9 @@
 //! What the bytes of a call are: a document, or the tagged bytes of a table, that nests no deeper than the limit; and
 //! the manifest that it means.
 
+ghost use Rattle.manifest_schema.specs.Prelude.{view, table_view, tree_of};
 ghost use Rattle.std.specs.Prelude.{◌≡◌, Some, false, IfOk, IfErr};
 ghost use Rattle.toml.specs.Parse.{parse_document};
-ghost use Rattle.toml.specs.View.{view, table_view};
-ghost use Rattle.manifest_schema.specs.Kinds.{tree_of};
 ghost use Rattle.cargo_manifest.specs.Whole.{manifest_content, manifest_of};
 ghost use Rattle.manifest_ffi.specs.declared.reading.Input.TheVariants.{Tagged};
 ghost use Rattle.manifest_ffi.specs.Nesting.{nests_densely};

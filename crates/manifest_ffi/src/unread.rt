@@ -1,11 +1,8 @@
 //! Manifests whose metadata is not looked at, and documents whatever they mean: what a caller reads who takes metadata
 //! as it stands in the text, floats and all.
 
+ghost use Rattle.manifest_schema.specs.Prelude.{table, view, unread, written_manifest};
 ghost use Rattle.std.specs.Prelude.{◌≡◌};
-ghost use Rattle.toml.specs.Data.{table};
-ghost use Rattle.toml.specs.View.{view};
-ghost use Rattle.manifest_schema.specs.Kinds.{unread};
-ghost use Rattle.manifest_schema.specs.Meaning.{written_manifest};
 ghost use Rattle.manifest_bytes.specs.Encoded.{encoded};
 ghost use Rattle.cargo_manifest.specs.Whole.{manifest_of};
 ghost use Rattle.manifest_ffi.specs.Made.{AreWithin, RefusesTagged, IsMade};

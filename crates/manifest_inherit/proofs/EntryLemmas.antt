@@ -1,12 +1,7 @@
 -- A map that is resolved entry by entry.
+use Rattle.manifest_schema.specs.Prelude.{slice_cmp, AllByRecursion, keys_of, string_cmp, Text, Entries}
 use Rattle.std.proofs.Common.{◌≡◌, inl, inr, List, [], ◌∷◌, ◌++◌, String, Global, string_bytes, refl, ap, get_or, Less, nat_cmp}
-use Rattle.std.specs.Cmp.Lexicographic.{slice_cmp}
-use Rattle.std.specs.List.{AllByRecursion}
 use Rattle.std.specs.List.Sorted.{IsStrictlySortedBy}
-use Rattle.std.specs.Map.{keys_of}
-use Rattle.std.specs.String.{string_cmp}
-use Rattle.manifest_schema.specs.Paths.{Text}
-use Rattle.manifest_schema.specs.Kinds.{Entries}
 use Rattle.manifest_value.specs.Entries.{entries_content}
 use Rattle.manifest_inherit.specs.Resolved.{resolved_entries}
 use Rattle.manifest_inherit.specs.Refused.{Refusal, Refusals, NoneHolds, refuses_entries}

@@ -1,8 +1,6 @@
 -- Features that are added one after the other.
+use Rattle.manifest_schema.specs.Prelude.{list_any, bytes_eq, Text}
 use Rattle.std.proofs.Common.{◌≡◌, ℕ, ◌+◌, ◌<◌, true, false, List, [], ◌∷◌, ◌++◌, map, drop, get_or, length, String, Global, string_bytes, refl, sym, append_assoc, drop-cons, add-one}
-use Rattle.std.specs.List.{list_any}
-use Rattle.std.specs.Str.{bytes_eq}
-use Rattle.manifest_schema.specs.Paths.{Text}
 use Rattle.manifest_completion.proofs.AnswerLemmas.{any_map}
 use Rattle.manifest_inherit.specs.Resolved.{new_features}
 

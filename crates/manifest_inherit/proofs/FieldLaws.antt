@@ -1,11 +1,6 @@
 -- The fields of a package that may be inherited from a workspace, by their table.
+use Rattle.manifest_schema.specs.Prelude.{table, no_members, Text, form, workspace_package_rows, Inheritable, inherited, local, Package, WorkspacePackage}
 use Rattle.std.proofs.Common.{rules, ◌≡◌, ℕ, zero, suc, inl, inr, refl, sym, subst, Option, Some, None}
-use Rattle.toml.specs.Data.{table, no_members}
-use Rattle.manifest_schema.specs.Paths.{Text}
-use Rattle.manifest_schema.specs.Forms.{form}
-use Rattle.manifest_schema.specs.ManifestForms.{workspace_package_rows}
-use Rattle.manifest_schema.specs.Kinds.{Inheritable, inherited, local}
-use Rattle.manifest_schema.specs.Contents.{Package, WorkspacePackage}
 use Rattle.manifest_inherit.specs.Fields.{Fields, no_more, ◌⨾◌, lendable}
 use Rattle.manifest_inherit.specs.Resolved.{resolved_field, resolved_fields, resolved_package}
 use Rattle.manifest_inherit.specs.Refused.{Refusal, NoneHolds, not_in_workspace, refuses_field, refuses_fields}

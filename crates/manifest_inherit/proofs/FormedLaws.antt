@@ -1,14 +1,6 @@
 -- What is resolved stays well-formed, and resolved when it is completed. Its premises are laws of `cargo_manifest`.
+use Rattle.manifest_schema.specs.Prelude.{IfSome, Data, Kind, Entries, map_of, good_some, form, none_named, Lint, MaybeInheritedLintsSet, Package, WorkspacePackage, Manifest, lint, lints_rows, package_rows, well_formed}
 use Rattle.std.proofs.Common.{◌≡◌, inr, [], ◌∷◌, Bool, true, false, refl, sym, Option, Some, None, option_map, codes, subst, IsTrue}
-use Rattle.std.specs.Option.{IfSome}
-use Rattle.toml.specs.Data.{Data}
-use Rattle.manifest_schema.specs.Kinds.{Kind, Entries, map_of}
-use Rattle.manifest_schema.specs.Needs.{good_some}
-use Rattle.manifest_schema.specs.Forms.{form, none_named}
-use Rattle.manifest_schema.specs.Contents.{Lint, MaybeInheritedLintsSet, Package, WorkspacePackage, Manifest}
-use Rattle.manifest_schema.specs.PartForms.{lint, lints_rows}
-use Rattle.manifest_schema.specs.ManifestForms.{package_rows}
-use Rattle.manifest_schema.specs.Meaning.{well_formed}
 use Rattle.manifest_completion.specs.Listings.{ListingMap}
 use Rattle.manifest_completion.specs.Completed.{PackageTargets, Completion, completed_to, refused, no_library, completed_targets, targets_of, with_targets, completion_with, completed_by, completed}
 use Rattle.manifest_completion.specs.Laws.{CompletedIsFixed}

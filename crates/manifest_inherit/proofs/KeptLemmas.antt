@@ -1,8 +1,6 @@
 -- What is resolved keeps what the manifest kept.
+use Rattle.manifest_schema.specs.Prelude.{IfSome, Package, WorkspacePackage, Workspace, Manifest, HasValidDates, KeepsValidDates}
 use Rattle.std.proofs.Common.{sym, Option, Some, None, option_map, subst}
-use Rattle.std.specs.Option.{IfSome}
-use Rattle.manifest_schema.specs.Contents.{Package, WorkspacePackage, Workspace, Manifest}
-use Rattle.manifest_schema.specs.Dates.{HasValidDates, KeepsValidDates}
 use Rattle.manifest_inherit.specs.Fields.{lendable}
 use Rattle.manifest_inherit.specs.Resolved.{resolved_package, resolved}
 use Rattle.manifest_inherit.specs.Laws.{ResolvedDatesAreValid}

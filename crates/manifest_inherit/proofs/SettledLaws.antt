@@ -1,14 +1,10 @@
 -- What is resolved inherits nothing, and what inherits nothing is resolved to itself.
+use Rattle.manifest_schema.specs.Prelude.{IfSome, Text, Entries, InheritedDependencyDetail, DependencyDetail, Dependency, simple, by_workspace, detailed, Lint, MaybeInheritedLintsSet, Target, Workspace, Manifest, AllValues}
 use Rattle.std.proofs.Common.{◌≡◌, inl, inr, [], ◌∷◌, Bool, true, false, refl, ap, sym, Option, Some, None, option_map, codes, subst}
-use Rattle.std.specs.Option.{IfSome}
-use Rattle.manifest_schema.specs.Paths.{Text}
-use Rattle.manifest_schema.specs.Kinds.{Entries}
-use Rattle.manifest_schema.specs.Contents.{InheritedDependencyDetail, DependencyDetail, Dependency, simple, by_workspace, detailed, Lint, MaybeInheritedLintsSet, Target, Workspace, Manifest}
 use Rattle.manifest_parts.specs.Queries.{says_more, simplify}
 use Rattle.manifest_inherit.specs.Fields.{lendable}
 use Rattle.manifest_inherit.specs.Resolved.{resolved_package, workspace_dependency, version_alone, lent_by, joined, with_lent, resolved_dependency, resolved_entries, resolved_dependencies, resolved_platform, resolved_platforms, resolved_lints_by, resolved_lints, lent_dependencies, resolved}
 use Rattle.manifest_inherit.specs.Refused.{Refusals, NoneHolds, not_in_workspace, inherited_in_workspace, refuses_fields, refuses_lender, refuses_dependency, refuses_entries, refuses_dependencies, refuses_platform, refuses_platforms, refuses_lints_by, refuses_lints, refuses_some, refuses}
-use Rattle.manifest_schema.specs.Former.{AllValues}
 use Rattle.manifest_inherit.specs.Own.{AreOwn, IsOwnDependency, AreOwnDependencies, IsOwnPlatform, AreOwnPlatforms, AreOwnLints, InheritsNothing}
 use Rattle.manifest_inherit.specs.Laws.{ResolvedIsSettled, OwnIsSettled}
 use Rattle.manifest_inherit.proofs.FieldLaws.{package_own, package_same, package_accepted}

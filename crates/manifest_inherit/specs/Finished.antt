@@ -1,10 +1,6 @@
 -- What is made of a manifest: resolved over a root's workspace, if any, and completed over a filesystem, if any.
+use Rattle.manifest_schema.specs.Prelude.{Bor, view, Value, Text, Workspace, Manifest}
 use Rattle.std.specs.Prelude.{◌≡◌, ◌⊎◌, Option, Some, None, option_map}
-use Rattle.std.specs.Borrow.{Bor}
-use Rattle.toml.specs.View.{view}
-use Rattle.toml.specs.declared.value.Value.{Value}
-use Rattle.manifest_schema.specs.Paths.{Text}
-use Rattle.manifest_schema.specs.Contents.{Workspace, Manifest}
 use Rattle.manifest_completion.specs.Listings.{Answer}
 use Rattle.manifest_completion.specs.Completed.{completed_to}
 use Rattle.cargo_manifest.specs.Completes.{ComesTo, RefusesToComplete}

@@ -1,9 +1,6 @@
 -- What the contracts of single steps cite. It is not needed to read what a manifest becomes.
+use Rattle.manifest_schema.specs.Prelude.{Global, BTreeMap, Entries, Inheritable, inherited, Dependency, Lint, Package, WorkspacePackage, Manifest}
 use Rattle.std.specs.Prelude.{◌≡◌, ℕ, zero, suc, [], Option, Some, None, option_map, unwrap_or, String}
-use Rattle.std.specs.declared.alloc.Global.{Global}
-use Rattle.std.specs.BTreeMap.{BTreeMap}
-use Rattle.manifest_schema.specs.Kinds.{Entries, Inheritable, inherited}
-use Rattle.manifest_schema.specs.Contents.{Dependency, Lint, Package, WorkspacePackage, Manifest}
 use Rattle.manifest_value.specs.Entries.{entries_content}
 use Rattle.manifest_parts.specs.Records.{platform_content, lint_content}
 use Rattle.manifest_parts.specs.declared.dependency.Dependency.{Dependency as DependencyOfCode}

@@ -1,12 +1,6 @@
 -- What is promised of resolving.
+use Rattle.manifest_schema.specs.Prelude.{Data, Kind, form, Workspace, Manifest, workspace_rows, well_formed, KeepsValidDates}
 use Rattle.std.specs.Prelude.{◌≡◌}
-use Rattle.toml.specs.Data.{Data}
-use Rattle.manifest_schema.specs.Kinds.{Kind}
-use Rattle.manifest_schema.specs.Forms.{form}
-use Rattle.manifest_schema.specs.Contents.{Workspace, Manifest}
-use Rattle.manifest_schema.specs.ManifestForms.{workspace_rows}
-use Rattle.manifest_schema.specs.Meaning.{well_formed}
-use Rattle.manifest_schema.specs.Dates.{KeepsValidDates}
 use Rattle.manifest_completion.specs.Listings.{ListingMap}
 use Rattle.manifest_completion.specs.Completed.{completed_to, completed}
 use Rattle.manifest_inherit.specs.Own.{InheritsNothing}

@@ -1,9 +1,6 @@
 -- What inherits nothing.
+use Rattle.manifest_schema.specs.Prelude.{IfSome, Inheritable, inherited, Entries, Dependency, by_workspace, MaybeInheritedLintsSet, Target, Package, Manifest, AllValues}
 use Rattle.std.specs.Prelude.{◌≡◌, Option, Some, None}
-use Rattle.std.specs.Option.{IfSome}
-use Rattle.manifest_schema.specs.Kinds.{Inheritable, inherited, Entries}
-use Rattle.manifest_schema.specs.Contents.{Dependency, by_workspace, MaybeInheritedLintsSet, Target, Package, Manifest}
-use Rattle.manifest_schema.specs.Former.{AllValues}
 use Rattle.manifest_inherit.specs.Fields.{Fields, no_more, ◌⨾◌, lendable}
 
 -- a field is not inherited

@@ -1,9 +1,6 @@
 -- Why a manifest is not resolved over a workspace. Several refusals may hold at once.
+use Rattle.manifest_schema.specs.Prelude.{Text, Inheritable, inherited, Entries, none_named, Dependency, by_workspace, Lint, MaybeInheritedLintsSet, Target, Package, WorkspacePackage, Workspace, Manifest}
 use Rattle.std.specs.Prelude.{◌≡◌, ◌⊎◌, false, [], ◌∷◌, codes, Option, Some, None}
-use Rattle.manifest_schema.specs.Paths.{Text}
-use Rattle.manifest_schema.specs.Kinds.{Inheritable, inherited, Entries}
-use Rattle.manifest_schema.specs.Forms.{none_named}
-use Rattle.manifest_schema.specs.Contents.{Dependency, by_workspace, Lint, MaybeInheritedLintsSet, Target, Package, WorkspacePackage, Workspace, Manifest}
 use Rattle.manifest_inherit.specs.Fields.{Fields, no_more, ◌⨾◌, lendable}
 use Rattle.manifest_inherit.specs.Resolved.{workspace_dependency, lent_dependencies}
 

@@ -1,12 +1,6 @@
 -- What a manifest becomes over a workspace. What that does not have stays as it is; `Refused` says that it is refused.
+use Rattle.manifest_schema.specs.Prelude.{option_or, list_any, lookup, bytes_eq, Text, Inheritable, inherited, local, Entries, InheritedDependencyDetail, DependencyDetail, Dependency, simple, by_workspace, detailed, Lint, MaybeInheritedLintsSet, Target, Package, WorkspacePackage, Workspace, Manifest}
 use Rattle.std.specs.Prelude.{List, [], ◌∷◌, ◌++◌, map, if◌then◌else◌, Option, Some, None, option_map, unwrap_or}
-use Rattle.std.specs.Option.{option_or}
-use Rattle.std.specs.List.{list_any}
-use Rattle.std.specs.Map.{lookup}
-use Rattle.std.specs.Str.{bytes_eq}
-use Rattle.manifest_schema.specs.Paths.{Text}
-use Rattle.manifest_schema.specs.Kinds.{Inheritable, inherited, local, Entries}
-use Rattle.manifest_schema.specs.Contents.{InheritedDependencyDetail, DependencyDetail, Dependency, simple, by_workspace, detailed, Lint, MaybeInheritedLintsSet, Target, Package, WorkspacePackage, Workspace, Manifest}
 use Rattle.manifest_parts.specs.Queries.{simplify}
 use Rattle.manifest_inherit.specs.Fields.{Fields, no_more, ◌⨾◌, lendable}
 

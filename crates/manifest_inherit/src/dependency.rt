@@ -1,8 +1,7 @@
 //! What an inherited dependency becomes.
 
+ghost use Rattle.manifest_schema.specs.Prelude.{option_or, detailed};
 ghost use Rattle.std.specs.Prelude.{◌≡◌, IfOk, IfErr, option_map, string_bytes};
-ghost use Rattle.std.specs.Option.{option_or};
-ghost use Rattle.manifest_schema.specs.Contents.{detailed};
 ghost use Rattle.manifest_parts.specs.Records.{inherited_content, detail_content, dependency_content};
 ghost use Rattle.manifest_parts.specs.Queries.{simplify};
 ghost use Rattle.manifest_inherit.specs.Resolved.{workspace_dependency, version_alone, joined, resolved_dependency};

@@ -1,14 +1,9 @@
 -- What each query answers of a content; and which part of a value it is, where a query returns one.
+use Rattle.manifest_schema.specs.Prelude.{nat_cmp, Ordering, Global, Text, Inheritable, inherited, local, simple, by_workspace, detailed, lint_level, lint_config, publish_flag, registries, strip_none, strip_debuginfo, strip_symbols}
 use Rattle.std.specs.Prelude.{ℕ, ℤ, pos, Bool, true, false, not, ◌||◌, if◌then◌else◌, List, [], ◌∷◌, Option, Some, None, is_some, unwrap_or, String, Vec, codes}
 use Rattle.std.specs.Bool.{beq}
 use Rattle.std.specs.Option.{option_map_or}
-use Rattle.std.specs.Ordering.{nat_cmp}
-use Rattle.std.specs.declared.cmp.Ordering.{Ordering}
-use Rattle.std.specs.declared.alloc.Global.{Global}
-use Rattle.manifest_schema.specs.Paths.{Text}
-use Rattle.manifest_schema.specs.Kinds.{Inheritable, inherited, local}
 use Rattle.manifest_schema.specs.Contents
-use Rattle.manifest_schema.specs.Contents.{simple, by_workspace, detailed, lint_level, lint_config, publish_flag, registries, strip_none, strip_debuginfo, strip_symbols}
 use Rattle.manifest_parts.specs.Parts.{inh_content}
 use Rattle.manifest_parts.specs.declared.inherited.MaybeInherited.{MaybeInherited}
 use Rattle.manifest_parts.specs.declared.dependency.DependencyDetail.{DependencyDetail}

@@ -1,7 +1,6 @@
 -- What an error says of a value that is no strip setting.
+use Rattle.manifest_schema.specs.Prelude.{Data, string, strip_meaning}
 use Rattle.std.specs.Prelude.{◌≡◌, ◌++◌, None, codes, string_bytes}
-use Rattle.toml.specs.Data.{Data, string}
-use Rattle.manifest_schema.specs.Choices.{strip_meaning}
 use Rattle.manifest_value.specs.declared.error.Error.{Error}
 use Rattle.manifest_value.specs.declared.error.Error.TheVariants.{Other, Memory}
 

@@ -1,10 +1,9 @@
 //! Copies of the small types: each holds what it is copied from.
 
+ghost use Rattle.manifest_schema.specs.Prelude.{view, Inheritable, detailed_rows, profile_rows, badges_rows};
 ghost use Rattle.std.specs.Prelude.{◌≡◌, map, option_map, pos, string_bytes};
 ghost use Rattle.std.proofs.Common.{rules};
-ghost use Rattle.toml.specs.View.{view};
 ghost use Rattle.manifest_schema.specs.Contents;
-ghost use Rattle.manifest_schema.specs.Kinds.{Inheritable};
 ghost use Rattle.manifest_schema.proofs.CopyLaws.{copy_laws};
 ghost use Rattle.manifest_value.specs.Entries.{entries_content};
 ghost use Rattle.manifest_parts.specs.Parts.{
@@ -29,7 +28,6 @@ ghost use Rattle.manifest_parts.specs.Records.{
   lints_content,
   profile_content,
 };
-ghost use Rattle.manifest_schema.specs.PartForms.{detailed_rows, profile_rows, badges_rows};
 ghost use Rattle.manifest_schema.proofs.PartLaws.{detailed_form, profile_form, badges_form};
 ghost use Rattle.manifest_value.proofs.FormLemmas.{by_rows};
 

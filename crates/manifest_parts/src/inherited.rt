@@ -1,10 +1,7 @@
 //! What may be inherited from the workspace.
 
+ghost use Rattle.manifest_schema.specs.Prelude.{view, Data, Path, Cause as FaultCause, Inheritable, inh, inherits, truth};
 ghost use Rattle.std.specs.Prelude.{◌≡◌, true};
-ghost use Rattle.toml.specs.View.{view};
-ghost use Rattle.toml.specs.Data.{Data};
-ghost use Rattle.manifest_schema.specs.Paths.{Path, Cause as FaultCause};
-ghost use Rattle.manifest_schema.specs.Kinds.{Inheritable, inh, inherits, truth};
 ghost use Rattle.manifest_schema.proofs.KindLaws.{inh_lawful, truth_lawful};
 ghost use Rattle.manifest_parts.specs.Parts.{inh_content};
 ghost use Rattle.manifest_value.specs.Reading.{data_of};

@@ -2,10 +2,9 @@
 //!
 //! Each function returns at once: it is there for its contract, a law of the definitions.
 
+ghost use Rattle.manifest_schema.specs.Prelude.{string, edition, edition_text, level, level_text};
 ghost use Rattle.std.specs.Prelude.{◌≡◌};
-ghost use Rattle.toml.specs.Data.{string};
 ghost use Rattle.manifest_schema.specs.Contents;
-ghost use Rattle.manifest_schema.specs.Choices.{edition, edition_text, level, level_text};
 ghost use Rattle.manifest_parts.specs.Queries.{simplify, req, req_features, is_optional, package_of, git_of, is_crates_io};
 
 /// Simplifying a dependency that was simplified changes nothing.

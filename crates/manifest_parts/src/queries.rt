@@ -1,9 +1,7 @@
 //! What is asked of a dependency, of lints and of where a package may be published, once they are read.
 
+ghost use Rattle.manifest_schema.specs.Prelude.{option_copied, detailed, inherited};
 ghost use Rattle.std.specs.Prelude.{◌≡◌, false, is_some, map, option_map, string_bytes, unwrap_or};
-ghost use Rattle.std.specs.Option.{option_copied};
-ghost use Rattle.manifest_schema.specs.Contents.{detailed};
-ghost use Rattle.manifest_schema.specs.Kinds.{inherited};
 ghost use Rattle.manifest_parts.specs.Parts.{inh_content, level_content, publish_content};
 ghost use Rattle.manifest_parts.specs.Records.{detail_content, dependency_content, lint_content, lints_content};
 ghost use Rattle.manifest_parts.specs.Queries.{is_elsewhere, says_more, simplify, req, req_features, is_optional, package_of, git_of, is_crates_io, detail_part, items_part, features_part, as_inheritable, local_part, level_of, priority_of, is_inherited, eq_bool};

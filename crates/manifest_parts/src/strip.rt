@@ -1,10 +1,8 @@
 //! What is stripped from a binary.
 
+ghost use Rattle.manifest_schema.specs.Prelude.{string, view, strip, strip_meaning};
 ghost use Rattle.std.specs.Prelude.{◌≡◌, Some, IfOk, IfErr};
-ghost use Rattle.toml.specs.Data.{string};
-ghost use Rattle.toml.specs.View.{view};
 ghost use Rattle.manifest_schema.specs.Contents;
-ghost use Rattle.manifest_schema.specs.Choices.{strip, strip_meaning};
 ghost use Rattle.manifest_schema.proofs.ChoiceLaws.{strip_lawful};
 ghost use Rattle.manifest_parts.specs.Parts.{strip_content};
 ghost use Rattle.manifest_value.specs.Reading.{Reads};

@@ -1,9 +1,7 @@
 -- The choices satisfy the laws: each word that is written is read back.
+use Rattle.manifest_schema.specs.Prelude.{none-some, e2015, e2021, forbid, deny, warn, allow, no_status, strip_none, strip_debuginfo, strip_symbols, edition, resolver, level, status, strip, IsLawful, IsPlain}
 use Rattle.std.proofs.Common.{refl}
-use Rattle.std.proofs.lemmas.Option.{none-some}
-use Rattle.manifest_schema.specs.Contents.{e2015, e2018, e2021, e2024, v1, v2, v3, forbid, deny, warn, allow, no_status, actively_developed, passively_maintained, as_is, experimental, looking_for_maintainer, deprecated, strip_none, strip_debuginfo, strip_symbols}
-use Rattle.manifest_schema.specs.Choices.{edition, resolver, level, status, strip}
-use Rattle.manifest_schema.specs.Lawful.{IsLawful, IsPlain}
+use Rattle.manifest_schema.specs.Contents.{e2018, e2024, v1, v2, v3, actively_developed, passively_maintained, as_is, experimental, looking_for_maintainer, deprecated}
 use Rattle.manifest_schema.proofs.KindLaws.{choice_lawful, plain_from}
 
 pub edition_lawful : IsLawful edition

@@ -1,13 +1,8 @@
 -- A form satisfies the laws, where its rows do and all its spellings differ.
+use Rattle.manifest_schema.specs.Prelude.{and_parts, not-true, Data, table, Members, no_members, member, get_member, same_key, Text, Path, Cause, Spellings, only, both, first, slot, at, put_some, is_among, without, Entries, reads_entries, written_entries, Fields, gets, Rows, no_more, others, ◌⨾◌, spell, spelled, fits_beside, unfit_beside, written_rows, none_named, good_beside, good_rows, faulty_form, form, differ, distinct, IsLawful, AreLawful, IsBuilt}
 use Rattle.std.proofs.Common.{◌≡◌, Bool, true, false, not, ◌||◌, if◌then◌else◌, inl, inr, List, [], ◌∷◌, Option, Some, None, IsTrue, refl, sym, ap, ◌∙◌, true≢false}
-use Rattle.std.proofs.lemmas.Bool.{and_parts, not-true}
-use Rattle.toml.specs.Data.{Data, table, Members, no_members, member, get_member, same_key}
-use Rattle.manifest_schema.specs.Paths.{Text, Path, Cause}
-use Rattle.manifest_schema.specs.Slots.{Spellings, only, both, first, slot, at, put_some, is_among, without}
 use Rattle.manifest_schema.specs.Kinds
-use Rattle.manifest_schema.specs.Kinds.{Entries, reads_entries, written_entries}
-use Rattle.manifest_schema.specs.Forms.{Fields, gets, Rows, no_more, others, ◌⨾◌, spell, spelled, fits_beside, unfit_beside, written_rows, none_named, good_beside, good_rows, reads_form, faulty_form, form, differ, distinct}
-use Rattle.manifest_schema.specs.Lawful.{IsLawful, AreLawful, IsBuilt}
+use Rattle.manifest_schema.specs.Forms.{reads_form}
 use Rattle.manifest_schema.proofs.KindLaws.{entries_single, entry_apart, entries_well, entries_back}
 use Rattle.manifest_schema.proofs.TableLaws.{same_key-self, same_key-false, not_among_head, not_among_tail, turned, get-member_other, get-put_same, get-put_other, get-put_some_other, without-put_some}
 

@@ -1,17 +1,7 @@
 -- Where no inherited dependency chooses its default features, what is written is what the former schema wrote.
+use Rattle.manifest_schema.specs.Prelude.{IfSome, Data, table, member, put_some, Kind, Entries, written_entries, map_of, written_some, form, IsLawful, InheritedDependencyDetail, Dependency, simple, by_workspace, detailed, inherited_rows, dependency, platform_rows, workspace_rows, manifest_rows, reads_manifest, written_manifest, former_written, AllValues, ManifestLeavesDefaults, OldWrittenIsRead}
 use Rattle.std.proofs.Common.{◌≡◌, [], ◌∷◌, Option, Some, None, refl, ap, ap₂, subst}
-use Rattle.std.specs.Option.{IfSome}
-use Rattle.toml.specs.Data.{Data, table, member}
-use Rattle.manifest_schema.specs.Slots.{put_some}
-use Rattle.manifest_schema.specs.Kinds.{Kind, Entries, written_entries, map_of}
-use Rattle.manifest_schema.specs.Needs.{written_some}
-use Rattle.manifest_schema.specs.Forms.{form}
-use Rattle.manifest_schema.specs.Lawful.{IsLawful}
-use Rattle.manifest_schema.specs.Contents.{InheritedDependencyDetail, Dependency, simple, by_workspace, detailed}
-use Rattle.manifest_schema.specs.PartForms.{inherited_rows, dependency, platform_rows}
-use Rattle.manifest_schema.specs.ManifestForms.{workspace_rows, manifest_rows}
-use Rattle.manifest_schema.specs.Meaning.{reads_manifest, written_manifest}
-use Rattle.manifest_schema.specs.Former.{former_inherited_rows, former_dependency, former_platform_rows, former_workspace_rows, former_manifest_rows, former_written, LeavesDefaults, AllValues, PlatformLeavesDefaults, WorkspaceLeavesDefaults, ManifestLeavesDefaults, OldWrittenIsRead}
+use Rattle.manifest_schema.specs.Former.{former_inherited_rows, former_dependency, former_platform_rows, former_workspace_rows, former_manifest_rows, LeavesDefaults, PlatformLeavesDefaults, WorkspaceLeavesDefaults}
 use Rattle.manifest_schema.proofs.MeaningLaws.{written_is_read}
 
 -- WHERE P HOLDS of a content, K writes of it what L writes

@@ -1,11 +1,6 @@
 -- The laws of kept values.
+use Rattle.manifest_schema.specs.Prelude.{and_parts, false≢true, none-some, same_Some, Data, float, array, table, Items, no_items, item, Members, no_members, member, get_item, Text, Path, Cause, key, index, has_entry, plain, plain_items, plain_members, float_at, reads_kept, float_in, kept, IsLawful}
 use Rattle.std.proofs.Common.{◌≡◌, ℕ, zero, suc, true, [], ◌∷◌, Some, refl, sym, ap, ◌∙◌, inl, inr}
-use Rattle.std.proofs.lemmas.Bool.{and_parts, false≢true}
-use Rattle.std.proofs.lemmas.Option.{none-some, same_Some}
-use Rattle.toml.specs.Data.{Data, float, array, table, Items, no_items, item, Members, no_members, member, get_item}
-use Rattle.manifest_schema.specs.Paths.{Text, Path, Cause, key, index}
-use Rattle.manifest_schema.specs.Kinds.{has_entry, plain, plain_items, plain_members, float_at, reads_kept, float_in, kept}
-use Rattle.manifest_schema.specs.Lawful.{IsLawful}
 
 -- what stands in a value without floats has none
 plain_item : (ds : Items) (i : ℕ) (d : Data) → plain_items ds ≡ true → get_item i ds ≡ Some d → plain d ≡ true

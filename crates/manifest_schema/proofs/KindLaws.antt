@@ -1,12 +1,8 @@
 -- Each kind satisfies the laws, where the kinds that it is made of do.
+use Rattle.manifest_schema.specs.Prelude.{false≢true, none-some, same_Some, Data, string, integer, boolean, array, table, Items, no_items, item, Members, no_members, member, get_item, Text, Path, Cause, Faults, text, flag, within, whole, truth, reads_choice, not_choice, choice, reads_items, faulty_item, written_items, good_items, list_of, Entries, reads_entries, has_entry, faulty_entry, faulty_map, written_entries, good_entries, map_of, Inheritable, inherited, local, inherits, reads_inh, faulty_inh, good_inh, inh, reads_split, faulty_split, written_split, good_split, split, tree_of, IsLawful, IsPlain}
 use Rattle.std.proofs.Common.{◌≡◌, ℕ, zero, suc, ℤ, Bool, true, false, ◌⊎◌, inl, inr, List, [], ◌∷◌, Option, Some, IsTrue, refl, sym, ap, ◌∙◌, true≢false}
-use Rattle.std.proofs.lemmas.Bool.{false≢true}
-use Rattle.std.proofs.lemmas.Option.{none-some, same_Some}
-use Rattle.toml.specs.Data.{Data, string, integer, boolean, array, table, Items, no_items, item, Members, no_members, member, get_item}
-use Rattle.manifest_schema.specs.Paths.{Text, Path, Cause, Faults}
 use Rattle.manifest_schema.specs.Kinds
-use Rattle.manifest_schema.specs.Kinds.{reads_text, not_text, text, reads_flag, not_flag, flag, within, reads_whole, not_whole, whole, reads_truth, not_truth, truth, reads_choice, not_choice, choice, reads_items, reads_list, faulty_item, faulty_list, written_items, good_items, list_of, Entries, reads_entries, reads_map, has_entry, faulty_entry, faulty_map, written_entries, good_entries, map_of, Inheritable, inherited, local, inherits, reads_inh, faulty_inh, written_inh, good_inh, inh, reads_split, faulty_split, written_split, good_split, split, metadata, tree_of}
-use Rattle.manifest_schema.specs.Lawful.{IsLawful, IsPlain}
+use Rattle.manifest_schema.specs.Kinds.{reads_text, not_text, reads_flag, not_flag, reads_whole, not_whole, reads_truth, not_truth, reads_list, faulty_list, reads_map, written_inh, metadata}
 
 -- TEXT
 text_single : (d : Data) (x y : List ℕ) → reads_text d x → reads_text d y → x ≡ y

@@ -1,10 +1,6 @@
 -- The forms of a package, a workspace and a manifest satisfy the laws.
+use Rattle.manifest_schema.specs.Prelude.{Data, Kind, form, IsLawful, IsBuilt, IsTotal, package_rows, workspace_package_rows, workspace_rows, manifest_rows}
 use Rattle.std.proofs.Common.{refl}
-use Rattle.toml.specs.Data.{Data}
-use Rattle.manifest_schema.specs.Kinds.{Kind}
-use Rattle.manifest_schema.specs.Forms.{form}
-use Rattle.manifest_schema.specs.Lawful.{IsLawful, IsBuilt, IsTotal}
-use Rattle.manifest_schema.specs.ManifestForms.{package_rows, workspace_package_rows, workspace_rows, manifest_rows}
 use Rattle.manifest_schema.proofs.Built.{turned, built}
 use Rattle.manifest_schema.proofs.FormLaws.{form_lawful}
 use Rattle.manifest_schema.proofs.Totals.{form_total, IsSoundForm, sound_form}

@@ -1,15 +1,6 @@
 -- What a table means: the laws of the forms, with old headers.
+use Rattle.manifest_schema.specs.Prelude.{Data, table, Members, get_member, Text, Path, Cause, key, slot, Kind, meets_optional, form, fits, IsLawful, IsTotal, ReadOrFaulty, Package, Manifest, package_rows, workspace_rows, manifest_rows, well_formed, reads_manifest, rewritten, has_header, old_package, means_by, faulty_old, unmeant_by, is_headed, MeansOne, WrittenIsRead, AcceptedIsWellFormed, WrittenMeansTheSame, SameWrittenIsSame, RewrittenTwiceIsOnce, RewrittenMeansTheSame, SameExactly, FaultyMeansNothing, AcceptedOrFaulty}
 use Rattle.std.proofs.Common.{◌≡◌, Bool, true, false, inl, inr, ◌∷◌, Option, Some, None, codes, refl, sym, ap, ap₂, ◌∙◌, ◌||◌, is_some}
-use Rattle.toml.specs.Data.{Data, table, Members, get_member}
-use Rattle.manifest_schema.specs.Paths.{Text, Path, Cause, key}
-use Rattle.manifest_schema.specs.Slots.{slot}
-use Rattle.manifest_schema.specs.Kinds.{Kind}
-use Rattle.manifest_schema.specs.Needs.{meets_optional}
-use Rattle.manifest_schema.specs.Forms.{form, fits}
-use Rattle.manifest_schema.specs.Lawful.{IsLawful, IsTotal, ReadOrFaulty}
-use Rattle.manifest_schema.specs.Contents.{Package, Manifest}
-use Rattle.manifest_schema.specs.ManifestForms.{package_rows, workspace_rows, manifest_rows}
-use Rattle.manifest_schema.specs.Meaning.{well_formed, reads_manifest, rewritten, has_header, old_package, means_by, faulty_old, unmeant_by, is_headed, MeansOne, WrittenIsRead, AcceptedIsWellFormed, WrittenMeansTheSame, SameWrittenIsSame, RewrittenTwiceIsOnce, RewrittenMeansTheSame, SameExactly, FaultyMeansNothing, AcceptedOrFaulty}
 use Rattle.manifest_schema.proofs.ManifestLaws.{package_lawful, package_total, manifest_lawful, manifest_total}
 
 -- the value that old headers take the package from

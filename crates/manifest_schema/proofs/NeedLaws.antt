@@ -1,11 +1,7 @@
 -- Each need satisfies the laws, where its kind does.
+use Rattle.manifest_schema.specs.Prelude.{Data, Text, Path, Cause, Spellings, Slot, absent, one, clash, slot, meets_required, faulty_required, faulty_free, meets_optional, meets_default, meets_lenient, written_some, written_unless, good_some, required, optional, default, lenient_optional, lenient_default, IsLawful, IsLawfulNeed, IsDefault}
 use Rattle.std.proofs.Common.{◌≡◌, Bool, true, false, ◌⊎◌, inl, inr, Option, Some, None, refl, sym, ap, ◌∙◌}
-use Rattle.toml.specs.Data.{Data}
-use Rattle.manifest_schema.specs.Paths.{Text, Path, Cause}
-use Rattle.manifest_schema.specs.Slots.{Spellings, Slot, absent, one, clash, slot}
 use Rattle.manifest_schema.specs.Kinds
-use Rattle.manifest_schema.specs.Needs.{meets_required, faulty_required, faulty_free, meets_optional, meets_default, meets_lenient, written_some, written_unless, good_some, required, optional, default, lenient_optional, lenient_default}
-use Rattle.manifest_schema.specs.Lawful.{IsLawful, IsLawfulNeed, IsDefault}
 
 -- ROWS
 module _ {B : Type 0} {K : Kinds.Kind B} (L : IsLawful K) where

@@ -1,14 +1,8 @@
 -- The forms of the parts of a manifest satisfy the laws.
+use Rattle.manifest_schema.specs.Prelude.{boolean, get_member, Text, put_some, text, is_text, inherits, form, gets, good_rows, written_rows, IsLawful, IsTotal, InheritedDependencyDetail, DependencyDetail, Dependency, simple, by_workspace, detailed, forbid, deny, warn, allow, lint_level, lint_config, no_status, level, inherited_rows, detailed_rows, dependency_table, dependency, lint_rows, lint, product_rows, badge_rows, maintenance_rows, badges_rows, profile_rows, profiles_rows, lints_rows, platform_rows}
 use Rattle.std.proofs.Common.{◌≡◌, true, ◌⊎◌, inl, inr, [], ◌∷◌, Some, None, codes, refl, ap}
-use Rattle.toml.specs.Data.{boolean, get_member}
-use Rattle.manifest_schema.specs.Paths.{Text}
-use Rattle.manifest_schema.specs.Slots.{put_some}
-use Rattle.manifest_schema.specs.Kinds.{text, is_text, is_truth, inherits}
-use Rattle.manifest_schema.specs.Forms.{form, gets, good_rows, written_rows}
-use Rattle.manifest_schema.specs.Lawful.{IsLawful, IsTotal}
-use Rattle.manifest_schema.specs.Contents.{InheritedDependencyDetail, DependencyDetail, Dependency, simple, by_workspace, detailed, forbid, deny, warn, allow, lint_level, lint_config, no_status}
-use Rattle.manifest_schema.specs.Choices.{level}
-use Rattle.manifest_schema.specs.PartForms.{inherited_rows, detailed_rows, dependency_table, dependency_side, dependency, lint_rows, lint_side, lint, product_rows, badge_rows, maintenance_rows, badges_rows, profile_rows, profiles_rows, lints_rows, platform_rows}
+use Rattle.manifest_schema.specs.Kinds.{is_truth}
+use Rattle.manifest_schema.specs.PartForms.{dependency_side, lint_side}
 use Rattle.manifest_schema.proofs.KindLaws.{text_lawful, IsSplit, split_lawful}
 use Rattle.manifest_schema.proofs.TableLaws.{get-put_same}
 use Rattle.manifest_schema.proofs.Built.{turned, built}

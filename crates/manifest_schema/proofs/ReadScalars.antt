@@ -1,17 +1,6 @@
 -- What is read of a value that passes a test of floats and date-times: what is written of it passes a test.
+use Rattle.manifest_schema.specs.Prelude.{match_ordering, IfSome, both_true, slice_cmp, and_parts, Data, table, Members, no_members, member, get_member, Text, Spellings, only, both, Slot, absent, one, slot, slot_of_two, at, is_among, without, Kind, Entries, reads_entries, written_entries, map_of, kept, Need, meets_optional, meets_default, optional, default, never, Rows, no_more, others, ◌⨾◌, Fields, gets, spelled, fits, fits_beside, form, profile_rows, profiles_rows}
 use Rattle.std.proofs.Common.{◌≡◌, Ordering, Less, Equal, Greater, nat_cmp, Bool, true, false, cond, List, [], ◌∷◌, Option, Some, None, refl, sym, subst}
-use Rattle.std.specs.Ordering.{match_ordering}
-use Rattle.std.specs.Option.{IfSome}
-use Rattle.std.specs.Cmp.Derive.{both_true}
-use Rattle.std.specs.Cmp.Lexicographic.{slice_cmp}
-use Rattle.std.proofs.lemmas.Bool.{and_parts}
-use Rattle.toml.specs.Data.{Data, table, Members, no_members, member, get_member}
-use Rattle.manifest_schema.specs.Paths.{Text}
-use Rattle.manifest_schema.specs.Slots.{Spellings, only, both, Slot, absent, one, slot, slot_of_two, at, is_among, without}
-use Rattle.manifest_schema.specs.Kinds.{Kind, Entries, reads_entries, written_entries, map_of, kept}
-use Rattle.manifest_schema.specs.Needs.{Need, meets_optional, meets_default, optional, default, never}
-use Rattle.manifest_schema.specs.Forms.{Rows, no_more, others, ◌⨾◌, Fields, gets, spelled, fits, fits_beside, form}
-use Rattle.manifest_schema.specs.PartForms.{profile_rows, profiles_rows}
 use Rattle.manifest_schema.proofs.ScalarLaws.{every, every_member, Passes, PassesNeed, scalar_laws, RowsPass, form_passes, some_passes, default_passes}
 
 module _ (test : Data → Bool) where

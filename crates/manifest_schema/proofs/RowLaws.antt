@@ -1,13 +1,10 @@
 -- The laws that the rows of the forms are found from.
+use Rattle.manifest_schema.specs.Prelude.{false≢true, not-true, Text, text, flag, list_of, never, is_empty, IsLawful, IsTotal, IsDefault, IsPlain, a_text, a_flag, publish_flag, registries, texts, text_or_flag, publish}
 use Rattle.std.proofs.Common.{◌≡◌, true, false, inl, inr, List, [], ◌∷◌, refl}
-use Rattle.std.proofs.lemmas.Bool.{false≢true, not-true}
-use Rattle.manifest_schema.specs.Paths.{Text}
 use Rattle.manifest_schema.specs.Kinds
-use Rattle.manifest_schema.specs.Kinds.{text, flag, is_flag, list_of}
-use Rattle.manifest_schema.specs.Needs.{never, if_true, if_false, is_empty}
-use Rattle.manifest_schema.specs.Lawful.{IsLawful, IsTotal, IsDefault, IsPlain}
-use Rattle.manifest_schema.specs.Contents.{a_text, a_flag, publish_flag, registries}
-use Rattle.manifest_schema.specs.PartForms.{texts, text_or_flag, text_or_flag_side, publish, publish_side}
+use Rattle.manifest_schema.specs.Kinds.{is_flag}
+use Rattle.manifest_schema.specs.Needs.{if_true, if_false}
+use Rattle.manifest_schema.specs.PartForms.{text_or_flag_side, publish_side}
 use Rattle.manifest_schema.proofs.KeptLaws.{kept_lawful}
 use Rattle.manifest_schema.proofs.KindLaws.{text_lawful, flag_lawful, whole_lawful, truth_lawful, list_lawful, map_lawful, inh_lawful, IsSplit, split_lawful, plain_from}
 use Rattle.manifest_schema.proofs.NeedLaws.{required_lawful, optional_lawful, default_lawful, lenient_optional_lawful, lenient_default_lawful}

@@ -1,20 +1,8 @@
 -- A test of floats and date-times, asked of all that stands in what is written: only kept values can fail it.
+use Rattle.manifest_schema.specs.Prelude.{match_ordering, IfSome, slice_cmp, and_parts, both_true, Data, float, datetime, array, table, Items, no_items, item, Members, no_members, member, has_valid_dates, items_have_valid_dates, members_have_valid_dates, Text, first, put, put_some, Kind, written_items, list_of, Entries, written_entries, map_of, plain, plain_items, plain_members, Inheritable, inherited, local, inh, written_split, split, Need, written_unless, required, optional, default, lenient_optional, lenient_default, Rows, no_more, others, ◌⨾◌, Fields, gets, written_rows, form, strip_none, strip_debuginfo, strip_symbols, Package, Workspace, Manifest, inherited_rows, detailed_rows, dependency, lint_rows, product_rows, badge_rows, maintenance_rows, badges_rows, profiles_rows, lints_rows, platform_rows, package_rows, workspace_package_rows, workspace_rows, manifest_rows}
 use Rattle.std.proofs.Common.{◌≡◌, Ordering, Less, Equal, Greater, nat_cmp, Bool, true, false, ◌&&◌, ◌⊎◌, inl, inr, List, [], ◌∷◌, Option, Some, None, refl}
-use Rattle.std.specs.Ordering.{match_ordering}
-use Rattle.std.specs.Option.{IfSome}
-use Rattle.std.specs.Cmp.Lexicographic.{slice_cmp}
-use Rattle.std.proofs.lemmas.Bool.{and_parts}
-use Rattle.std.specs.Cmp.Derive.{both_true}
-use Rattle.toml.specs.Data.{Data, float, datetime, array, table, Items, no_items, item, Members, no_members, member, has_valid_dates, items_have_valid_dates, members_have_valid_dates}
-use Rattle.manifest_schema.specs.Paths.{Text}
-use Rattle.manifest_schema.specs.Slots.{first, put, put_some}
-use Rattle.manifest_schema.specs.Kinds.{Kind, written_items, list_of, Entries, written_entries, map_of, plain, plain_items, plain_members, Inheritable, inherited, local, inh, written_split, split}
-use Rattle.manifest_schema.specs.Needs.{Need, written_unless, required, optional, default, lenient_optional, lenient_default}
-use Rattle.manifest_schema.specs.Forms.{Rows, no_more, others, ◌⨾◌, Fields, gets, written_rows, form}
-use Rattle.manifest_schema.specs.Contents.{StripSetting, strip_none, strip_debuginfo, strip_symbols, Package, Workspace, Manifest}
+use Rattle.manifest_schema.specs.Contents.{StripSetting}
 use Rattle.manifest_schema.specs.Choices.{strip_value}
-use Rattle.manifest_schema.specs.PartForms.{inherited_rows, detailed_rows, dependency, lint_rows, product_rows, badge_rows, maintenance_rows, badges_rows, profiles_rows, lints_rows, platform_rows}
-use Rattle.manifest_schema.specs.ManifestForms.{package_rows, workspace_package_rows, workspace_rows, manifest_rows}
 
 -- each float and each date-time in a value passes the test
 abbrev mutual

@@ -1,15 +1,8 @@
 -- Each value has a reading or a fault.
+use Rattle.manifest_schema.specs.Prelude.{cases_Bool, Data, string, integer, float, boolean, array, get_item, table, Items, no_items, item, Members, no_members, member, Text, Path, wrong_kind, out_of_range, not_true, not_a_choice, missing, two_spellings, holds_float, key, index, Spellings, Slot, absent, one, clash, at, without, text, flag, within, whole, truth, reads_choice, not_choice, choice, reads_items, plain, plain_items, plain_members, float_at, reads_kept, float_in, kept, tree_of, faulty_item, list_of, Entries, reads_entries, has_entry, faulty_entry, map_of, Inheritable, inherited, local, inherits, reads_inh, faulty_inh, inh, reads_split, faulty_split, split, meets_lenient, required, optional, default, lenient_optional, lenient_default, Rows, no_more, others, ◌⨾◌, Fields, gets, spelled, fits_beside, unfit_beside, form, distinct, IsLawful, AreLawful, IsBuilt, ReadOrFaulty, IsTotal, IsTotalNeed, AreTotal}
 use Rattle.std.proofs.Common.{◌≡◌, ℕ, zero, suc, ℤ, Bool, true, false, ◌⊎◌, inl, inr, List, [], ◌∷◌, Option, Some, None, IsTrue, refl, true≢false}
-use Rattle.std.proofs.lemmas.Bool.{cases_Bool}
-use Rattle.toml.specs.Data.{Data, string, integer, float, boolean, array, get_item, table, Items, no_items, item, Members, no_members, member}
-use Rattle.manifest_schema.specs.Paths.{Text, Path, wrong_kind, out_of_range, not_true, not_a_choice, missing, two_spellings, holds_float, key, index}
-use Rattle.manifest_schema.specs.Slots.{Spellings, Slot, absent, one, clash, at, without}
 use Rattle.manifest_schema.specs.Kinds
-use Rattle.manifest_schema.specs.Kinds.{text, flag, within, whole, truth, reads_choice, not_choice, choice, reads_items, plain, plain_items, plain_members, float_at, reads_kept, float_in, kept, tree_of, faulty_item, list_of, Entries, reads_entries, has_entry, faulty_entry, map_of, Inheritable, inherited, local, inherits, reads_inh, faulty_inh, inh, reads_split, faulty_split, split}
-use Rattle.manifest_schema.specs.Needs.{meets_lenient, required, optional, default, lenient_optional, lenient_default}
 use Rattle.manifest_schema.specs.Forms
-use Rattle.manifest_schema.specs.Forms.{Rows, no_more, others, ◌⨾◌, Fields, gets, spelled, fits_beside, unfit_beside, form, distinct}
-use Rattle.manifest_schema.specs.Lawful.{IsLawful, AreLawful, IsBuilt, ReadOrFaulty, IsTotal, IsTotalNeed, AreTotal}
 use Rattle.manifest_schema.proofs.KindLaws.{IsSplit}
 use Rattle.manifest_schema.proofs.FormLaws.{form_lawful}
 

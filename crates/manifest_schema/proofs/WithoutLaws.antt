@@ -1,11 +1,6 @@
 -- A table from which some keys are taken out: what is left of it, and which rows it fits.
+use Rattle.manifest_schema.specs.Prelude.{and_parts, not-true, is_some, Data, Members, no_members, member, get_member, Text, Path, Cause, Spellings, only, both, at, is_among, without, Rows, no_more, others, ◌⨾◌, Fields, fits_beside, unfit_beside}
 use Rattle.std.proofs.Common.{◌≡◌, Bool, true, false, not, ◌&&◌, if◌then◌else◌, inl, inr, List, None, refl, sym, ap, ◌∙◌, subst, true≢false}
-use Rattle.std.proofs.lemmas.Bool.{and_parts, not-true}
-use Rattle.std.specs.Option.{is_some}
-use Rattle.toml.specs.Data.{Data, Members, no_members, member, get_member}
-use Rattle.manifest_schema.specs.Paths.{Text, Path, Cause}
-use Rattle.manifest_schema.specs.Slots.{Spellings, only, both, at, is_among, without}
-use Rattle.manifest_schema.specs.Forms.{Rows, no_more, others, ◌⨾◌, Fields, fits_beside, unfit_beside}
 use Rattle.manifest_schema.proofs.TableLaws.{same_key-false, get-member_other, get-member_same}
 
 -- KEYS

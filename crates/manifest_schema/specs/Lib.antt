@@ -15,3 +15,4 @@ pub mod Meaning
 pub mod Former
 pub mod Dates
 pub mod Examples
+pub mod Prelude

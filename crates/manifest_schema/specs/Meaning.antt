@@ -44,7 +44,7 @@ means_by K W true ms m = reads_manifest K W (table ms) m
 means_by K W false ms m =
     (n : Manifest) × (p : Package) × reads_manifest K W (table ms) n
     × (form (package_rows K)).reads (old_package ms (get_member (codes "project") ms)) p
-        × (m ≡ record n { «package» = Some p })
+    × (m ≡ record n { «package» = Some p })
 
 -- THE TABLE MEANS THE MANIFEST
 abbrev pub means : Kind Data → Kind Data → Members → Manifest → Type 0

@@ -2,18 +2,10 @@
 //! some of them; whether Cargo says the same, they do not show. The functions do nothing; their contracts are the
 //! examples.
 
+ghost use Rattle.manifest_schema.specs.Prelude.{string, integer, boolean, array, table, no_members, member, two_spellings, missing, not_a_choice, wrong_kind, out_of_range, key, index, kept, inherited, local, form, by_workspace, detailed, simple, e2021, edition, package_rows, texts, codegen, dependency, badges_rows, means, unmeant, written_manifest, rewritten, former_written, ManifestLeavesDefaults, named, empty_manifest};
 ghost use Rattle.std.specs.Prelude.{◌≡◌, pos, negsuc, true, false, [], ◌∷◌, Some, None, codes};
-ghost use Rattle.toml.specs.Data.{string, integer, boolean, array, table, no_members, member};
-ghost use Rattle.manifest_schema.specs.Paths.{two_spellings, missing, not_a_choice, wrong_kind, out_of_range, key, index};
-ghost use Rattle.manifest_schema.specs.Kinds.{kept, inherited, local};
-ghost use Rattle.manifest_schema.specs.Forms.{form};
-ghost use Rattle.manifest_schema.specs.Contents.{by_workspace, detailed, simple, e2021};
-ghost use Rattle.manifest_schema.specs.Choices.{edition};
-ghost use Rattle.manifest_schema.specs.ManifestForms.{package_rows};
-ghost use Rattle.manifest_schema.specs.PartForms.{texts, codegen, priority, dependency, badges_rows};
-ghost use Rattle.manifest_schema.specs.Meaning.{means, unmeant, written_manifest, rewritten};
-ghost use Rattle.manifest_schema.specs.Former.{former_written, ManifestLeavesDefaults};
-ghost use Rattle.manifest_schema.specs.Defaults.{lent, no_badges, named, empty_workspace, empty_manifest};
+ghost use Rattle.manifest_schema.specs.PartForms.{priority};
+ghost use Rattle.manifest_schema.specs.Defaults.{lent, no_badges, empty_workspace};
 ghost use Rattle.manifest_schema.specs.Examples.{one_entry, two_entries, bare, bare_by, everywhere, of_version, only_package, spelled_rows, lenient_rows, default_rows, rest_rows, at_key, two_items, bad_gitlab, OnlyFault, NoFault};
 
 /// A key that no row has is ignored, and is not written.

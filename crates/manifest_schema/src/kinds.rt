@@ -1,12 +1,8 @@
 //! Kinds and forms that satisfy the laws, and the laws of what is made of them.
 
+ghost use Rattle.manifest_schema.specs.Prelude.{Data, Kind, text, flag, whole, truth, choice, kept, list_of, map_of, inh, tree_of, nothing, required, optional, default, lenient_optional, lenient_default, Rows, no_more, form, distinct, IsLawful, IsLawfulNeed, AreLawful, IsBuilt, IsTotal, IsTotalNeed, AreTotal, IsDefault, IsPlain, nothing_laws};
 ghost use Rattle.std.specs.Prelude.{◌≡◌, ℤ, Bool, IsTrue, refl};
-ghost use Rattle.toml.specs.Data.{Data};
-ghost use Rattle.manifest_schema.specs.Kinds.{Kind, text, flag, whole, truth, choice, kept, list_of, map_of, inh, tree_of, nothing};
-ghost use Rattle.manifest_schema.specs.Needs.{required, optional, default, lenient_optional, lenient_default};
-ghost use Rattle.manifest_schema.specs.Forms.{Rows, no_more, form, distinct};
-ghost use Rattle.manifest_schema.specs.Lawful.{IsLawful, IsLawfulNeed, AreLawful, IsBuilt, IsTotal, IsTotalNeed, AreTotal, IsDefault, IsPlain};
-ghost use Rattle.manifest_schema.specs.ForProofs.{nothing_laws, nothing_told};
+ghost use Rattle.manifest_schema.specs.ForProofs.{nothing_told};
 
 use std::marker::Brand;
 

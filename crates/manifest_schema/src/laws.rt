@@ -3,9 +3,7 @@
 //! The parameters `P` and `W` stand for the two kinds of metadata. Each function returns at once: it is there for
 //! its contract, a law of the definitions.
 
-ghost use Rattle.manifest_schema.specs.Kinds.{tree_of};
-ghost use Rattle.manifest_schema.specs.Meaning.{MeansOne, WrittenIsRead, AcceptedIsWellFormed, WrittenMeansTheSame, RewrittenMeansTheSame, RewrittenTwiceIsOnce, SameExactly, SameWrittenIsSame, FaultyMeansNothing, AcceptedOrFaulty};
-ghost use Rattle.manifest_schema.specs.Former.{OldWrittenIsRead};
+ghost use Rattle.manifest_schema.specs.Prelude.{tree_of, MeansOne, WrittenIsRead, AcceptedIsWellFormed, WrittenMeansTheSame, RewrittenMeansTheSame, RewrittenTwiceIsOnce, SameExactly, SameWrittenIsSame, FaultyMeansNothing, AcceptedOrFaulty, OldWrittenIsRead};
 
 use crate::kinds::{LawfulKind, TotalKind};
 

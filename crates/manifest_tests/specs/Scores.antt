@@ -1,12 +1,8 @@
 -- The form of a score, with its laws.
+use Rattle.manifest_schema.specs.Prelude.{Data, integer, table, member, only, put_some, whole, plain, required, Rows, no_more, ◌⨾◌, form, IsLawful, AreLawful, IsBuilt}
 use Rattle.std.specs.Prelude.{◌≡◌, ℤ, pos, codes, IsTrue, refl}
 use Rattle.std.proofs.Common.{subst, ap}
-use Rattle.toml.specs.Data.{Data, integer, table, member}
-use Rattle.manifest_schema.specs.Slots.{only, put_some}
-use Rattle.manifest_schema.specs.Kinds.{whole, plain}
-use Rattle.manifest_schema.specs.Needs.{required}
-use Rattle.manifest_schema.specs.Forms.{Rows, row, no_more, ◌⨾◌, form}
-use Rattle.manifest_schema.specs.Lawful.{IsLawful, AreLawful, IsBuilt}
+use Rattle.manifest_schema.specs.Forms.{row}
 use Rattle.manifest_schema.proofs.KindLaws.{whole_lawful}
 use Rattle.manifest_schema.proofs.NeedLaws.{required_lawful}
 use Rattle.manifest_schema.proofs.FormLaws.{form_lawful}

@@ -1,9 +1,5 @@
 -- Faults one step further out.
-use Rattle.std.specs.declared.alloc.AllocError.{AllocError}
-use Rattle.manifest_schema.specs.Paths.{Path, Step, Cause as SchemaCause, behind}
-use Rattle.toml.specs.Data.{Data, table}
-use Rattle.manifest_schema.specs.Forms.{Rows, faulty_form}
-use Rattle.manifest_schema.specs.Kinds.{Kind, faulty_map}
+use Rattle.manifest_schema.specs.Prelude.{AllocError, Data, table, Path, Step, Cause as SchemaCause, behind, Rows, faulty_form, Kind, faulty_map}
 use Rattle.manifest_value.specs.Faults.{FaultIn, IsBehind, path_of, no_table}
 use Rattle.manifest_value.specs.declared.fault.ReadFault.{ReadFault}
 use Rattle.manifest_value.specs.declared.fault.ReadFault.TheVariants.{Schema, Memory}

@@ -1,14 +1,8 @@
 -- Calls of a reader or a writer at the items of a list and the entries of a map, one after the other.
+use Rattle.manifest_schema.specs.Prelude.{take-append-drop, common_steps, insert_entry, AllZip, keys_of, string_cmp, Value, Path, Cause as SchemaCause, Faults, behind, index, key}
 use Rattle.std.proofs.Common.{◌≡◌, ℕ, Result, IfOk, IfErr, String, Global, string_bytes, List, [], ◌∷◌, ◌++◌, length, take, drop, get_or, ◌<◌, ◌+◌, Ok, Err, refl, sym, ap, ◌∙◌, arith}
-use Rattle.std.proofs.lemmas.List.{take_more, drop_more, take-append-drop}
-use Rattle.std.proofs.lemmas.Grind.{common_steps}
-use Rattle.std.specs.BTreeMap.{insert_entry}
-use Rattle.std.specs.List.{AllZip}
+use Rattle.std.proofs.lemmas.List.{take_more, drop_more}
 use Rattle.std.specs.List.Sorted.{IsStrictlySortedBy}
-use Rattle.std.specs.Map.{keys_of}
-use Rattle.std.specs.String.{string_cmp}
-use Rattle.toml.specs.declared.value.Value.{Value}
-use Rattle.manifest_schema.specs.Paths.{Path, Cause as SchemaCause, Faults, behind, index, key}
 use Rattle.manifest_value.specs.Calls.{ReaderAnswers, Refused, ItemsGiven, EntriesGiven, ItemRefused, EntryRefused}
 use Rattle.manifest_value.specs.Faults.{FaultIn}
 use Rattle.manifest_value.specs.declared.fault.ReadFault.{ReadFault}

@@ -1,21 +1,19 @@
 -- A map that is collected from entries whose keys ascend holds these entries. This is shown on lists: a map is known by
 -- what is found in it, and two lists of entries whose keys ascend, in which the same is found, hold the same.
+use Rattle.manifest_schema.specs.Prelude.{cases_Bool, BTreeMap, IsFromIterResult, keys_of, lookup, is_some, is_eq, ordering_reverse, string_cmp, Text}
 use Rattle.std.proofs.Common.{◌≡◌, true, List, [], ◌∷◌, map, Option, Some, None, Ordering, Less, Equal, Greater, String, Global, string_bytes, refl, sym, ap, ◌∙◌, true≢false}
-use Rattle.std.proofs.lemmas.Bool.{cases_Bool}
 use Rattle.std.proofs.lemmas.Cmp.{tied_itself}
 use Rattle.std.proofs.lemmas.Map.{lookup-none}
 use Rattle.std.proofs.lemmas.Map.Entries.{lookup_head, lookup_tail, none_past_head, none_below_head}
 use Rattle.std.proofs.lemmas.Map.Keys.{IsDistinct-from_sorted, sorted_tail}
 use Rattle.std.proofs.lemmas.Map.Lookups.{exact_bytes}
 use Rattle.std.proofs.lemmas.Map.Made.{update_all_none}
-use Rattle.std.specs.BTreeMap.{BTreeMap, IsFromIterResult, is_at}
+use Rattle.std.specs.BTreeMap.{is_at}
 use Rattle.std.specs.Cmp.{eq_by_cmp_equiv}
 use Rattle.std.specs.List.Sorted.{IsStrictlySortedBy}
-use Rattle.std.specs.Map.{keys_of, lookup}
-use Rattle.std.specs.Option.{is_some, unwrap_or}
-use Rattle.std.specs.Ordering.{eq_by_cmp, is_eq, ordering_reverse}
-use Rattle.std.specs.String.{string_cmp, string_cmp_total}
-use Rattle.manifest_schema.specs.Paths.{Text}
+use Rattle.std.specs.Option.{unwrap_or}
+use Rattle.std.specs.Ordering.{eq_by_cmp}
+use Rattle.std.specs.String.{string_cmp_total}
 use Rattle.manifest_value.specs.Entries.{entries_content}
 use mathlib.Core.Logic.{⊎_elim, ◌≢◌}
 

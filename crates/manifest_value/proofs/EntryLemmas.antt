@@ -1,18 +1,7 @@
 -- A map that is made of another, entry by entry.
+use Rattle.manifest_schema.specs.Prelude.{nat_list_cmp_total, slice_cmp, AllByRecursion, ordering_reverse, insert_entry, keys_of, string_cmp, Data, Members, Value, view, members_view, Kind, has_entry, faulty_entry, behind, key}
 use Rattle.std.proofs.Common.{◌≡◌, ℕ, List, [], ◌∷◌, ◌++◌, map, String, Global, Less, Greater, nat_cmp, string_bytes, refl, ap, ◌∙◌, inl, inr, get_or, drop, length, arith}
-use Rattle.std.proofs.lemmas.Cmp.{nat_list_cmp_total}
-use Rattle.std.specs.Cmp.Lexicographic.{slice_cmp}
-use Rattle.std.specs.List.{AllByRecursion}
-use Rattle.std.specs.Ordering.{ordering_reverse}
-use Rattle.std.specs.BTreeMap.{insert_entry}
 use Rattle.std.specs.List.Sorted.{IsStrictlySortedBy}
-use Rattle.std.specs.Map.{keys_of}
-use Rattle.std.specs.String.{string_cmp}
-use Rattle.toml.specs.Data.{Data, Members}
-use Rattle.toml.specs.declared.value.Value.{Value}
-use Rattle.toml.specs.View.{view, members_view}
-use Rattle.manifest_schema.specs.Kinds.{Kind, has_entry, faulty_entry}
-use Rattle.manifest_schema.specs.Paths.{behind, key}
 use Rattle.manifest_value.specs.Faults.{FaultIn}
 use Rattle.manifest_value.specs.declared.fault.ReadFault.{ReadFault}
 use Rattle.manifest_value.proofs.Behind.{fault_weaker}

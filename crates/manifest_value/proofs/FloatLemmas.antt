@@ -1,11 +1,7 @@
 -- The place of a float, one step further out.
+use Rattle.manifest_schema.specs.Prelude.{array, table, get_item, view, items_view, members_view, Value, float_in, behind, index, key}
 use Rattle.std.proofs.Common.{◌≡◌, ℕ, List, ◌∷◌, ◌++◌, String, Global, Some, string_bytes, sym, ap, ◌∙◌, get_or, length, ◌<◌}
 use Rattle.toml.proofs.Views.{get_item_within}
-use Rattle.toml.specs.Data.{array, table, get_item}
-use Rattle.toml.specs.View.{view, items_view, members_view}
-use Rattle.toml.specs.declared.value.Value.{Value}
-use Rattle.manifest_schema.specs.Kinds.{float_in}
-use Rattle.manifest_schema.specs.Paths.{behind, index, key}
 use Rattle.manifest_value.specs.Faults.{FaultIn, IsBehind}
 use Rattle.manifest_value.specs.declared.fault.ReadFault.{ReadFault}
 use Rattle.manifest_value.proofs.Behind.{fault_weaker, fault_behind}

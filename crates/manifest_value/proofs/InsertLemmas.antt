@@ -1,12 +1,7 @@
 -- An insert into a table, on its members.
+use Rattle.manifest_schema.specs.Prelude.{match_ordering, insert_entry, string_cmp, Value, view, members_view, put}
 use Rattle.std.proofs.Common.{◌≡◌, List, [], ◌∷◌, String, Global, Ordering, Less, Equal, Greater, string_bytes, refl, ◌∙◌}
-use Rattle.std.specs.Ordering.{match_ordering}
-use Rattle.std.specs.BTreeMap.{insert_entry}
-use Rattle.std.specs.String.{string_cmp}
-use Rattle.toml.specs.declared.value.Value.{Value}
-use Rattle.toml.specs.View.{view, members_view}
 use Rattle.toml.proofs.Views.{Entry}
-use Rattle.manifest_schema.specs.Slots.{put}
 
 members_view-match_ordering : (o : Ordering) (a b c : List Entry) → members_view (match_ordering o a b c) ≡ match_ordering o (members_view a) (members_view b) (members_view c)
 members_view-match_ordering Less a b c = refl

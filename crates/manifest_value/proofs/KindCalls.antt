@@ -1,10 +1,6 @@
 -- Calls of a writer of a kind: the list of what it gives is that of the kind, and so are the entries.
+use Rattle.manifest_schema.specs.Prelude.{AllocError, array, view, items_view, members_view, table_view, Value, Kind, written_items, list_of, written_entries}
 use Rattle.std.proofs.Common.{◌≡◌, Result, Ok, Err, IfOk, BTreeMap, String, Global, List, [], ◌∷◌, map, refl, ap, ◌∙◌}
-use Rattle.std.specs.declared.alloc.AllocError.{AllocError}
-use Rattle.toml.specs.Data.{array}
-use Rattle.toml.specs.View.{view, items_view, members_view, table_view}
-use Rattle.toml.specs.declared.value.Value.{Value}
-use Rattle.manifest_schema.specs.Kinds.{Kind, written_items, list_of, written_entries}
 use Rattle.manifest_value.specs.Calls.{WriterAnswers, ItemsGiven, EntriesGiven, ListWritten}
 use Rattle.manifest_value.specs.Entries.{entries_content}
 

@@ -1,16 +1,7 @@
 -- Entries that are read of the first members of a table: their keys ascend as the table's do.
+use Rattle.manifest_schema.specs.Prelude.{slice_cmp, AllByRecursion, keys_of, string_cmp, Data, Items, no_items, item, get_item, Members, no_members, member, Value, members_view, Text, is_among, without, Kind, Entries, has_entry, reads_items, reads_entries}
 use Rattle.std.proofs.Common.{◌≡◌, Bool, true, false, List, [], ◌∷◌, String, Global, Less, nat_cmp, string_bytes, if◌then◌else◌, subst, ◌++◌, map, length, Some, refl, inl, inr}
-use Rattle.std.specs.Cmp.Lexicographic.{slice_cmp}
-use Rattle.std.specs.List.{AllByRecursion}
 use Rattle.std.specs.List.Sorted.{IsStrictlySortedBy}
-use Rattle.std.specs.Map.{keys_of}
-use Rattle.std.specs.String.{string_cmp}
-use Rattle.toml.specs.Data.{Data, Items, no_items, item, get_item, Members, no_members, member}
-use Rattle.toml.specs.declared.value.Value.{Value}
-use Rattle.toml.specs.View.{members_view}
-use Rattle.manifest_schema.specs.Paths.{Text}
-use Rattle.manifest_schema.specs.Slots.{is_among, without}
-use Rattle.manifest_schema.specs.Kinds.{Kind, Entries, has_entry, reads_items, reads_entries}
 use Rattle.manifest_value.specs.Entries.{entries_content, reads_first}
 use Rattle.manifest_value.specs.Walks.{IsBelow, Ascend}
 

@@ -1,11 +1,9 @@
 -- Keys as texts.
+use Rattle.manifest_schema.specs.Prelude.{nat_tests, list_all, is_bare, is_bare_key, quoted_byte}
 use Rattle.std.proofs.Common.{◌≡◌, ℕ, suc, ◌<◌, ◌≤◌, ◌≢◌, ◌==◌, false, List, [], ◌∷◌, length, get_or, flat_map, append-nil, refl, sym, inl, inr, arith}
 use Rattle.std.proofs.lemmas.Bool.{cases_lt}
-use Rattle.std.proofs.lemmas.Bool.Decides.{nat_tests}
 use Rattle.std.proofs.lemmas.Str.{encode_ascii, inside_one}
 use Rattle.std.specs.Char.{encode_utf8}
-use Rattle.std.specs.List.{list_all}
-use Rattle.manifest_schema.specs.PathTexts.{is_bare, is_bare_key, quoted_byte}
 
 -- a key with a byte is bare where each of its bytes is
 pub nonempty_is_bare_key : (k : List ℕ) → (length k == 0) ≡ false → is_bare_key k ≡ list_all is_bare k

@@ -1,13 +1,7 @@
 -- What a reader or a writer that is passed as a closure gives at each item of a list and each entry of a map.
+use Rattle.manifest_schema.specs.Prelude.{BTreeMap, values, AllZip, Contains, AllocError, Global, array, table, view, items_view, members_view, Value, Path, Cause, key, index, Faults, behind}
 use Rattle.std.specs.Prelude.{◌≡◌, ◌⊎◌, List, ◌∷◌, ◌++◌, length, Result, Ok, Err, String, Vec, string_bytes}
-use Rattle.std.specs.BTreeMap.{BTreeMap, values}
-use Rattle.std.specs.List.{AllZip, Contains}
-use Rattle.std.specs.declared.alloc.AllocError.{AllocError}
-use Rattle.std.specs.declared.alloc.Global.{Global}
-use Rattle.toml.specs.Data.{array, table}
-use Rattle.toml.specs.View.{view, items_view, members_view}
-use Rattle.toml.specs.declared.value.Value.{Value, Array, Table}
-use Rattle.manifest_schema.specs.Paths.{Path, Cause, key, index, Faults, behind}
+use Rattle.toml.specs.declared.value.Value.{Array, Table}
 use Rattle.manifest_value.specs.Faults.{path_of, cause_of, no_list, no_table}
 use Rattle.manifest_value.specs.declared.fault.SchemaFault.{SchemaFault}
 use Rattle.manifest_value.specs.declared.fault.ReadFault.{ReadFault}

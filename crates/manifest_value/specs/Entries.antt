@@ -1,8 +1,6 @@
 -- The entries of a map by what they hold, and what is read of the first entries of a table and first items of a list.
+use Rattle.manifest_schema.specs.Prelude.{Global, Members, no_members, member, Kind, Entries}
 use Rattle.std.specs.Prelude.{◌≡◌, List, [], ◌∷◌, map, String, string_bytes}
-use Rattle.std.specs.declared.alloc.Global.{Global}
-use Rattle.toml.specs.Data.{Members, no_members, member}
-use Rattle.manifest_schema.specs.Kinds.{Kind, Entries}
 
 abbrev pub entries_content : {X A : Type 0} → (X → A) → List (String Global × X) → Entries A
 entries_content f es = map (λ e. (string_bytes e.0, f e.1)) es

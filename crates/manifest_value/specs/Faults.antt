@@ -1,7 +1,6 @@
 -- Key paths, causes and faults of the code, as the definitions see them.
+use Rattle.manifest_schema.specs.Prelude.{Data, array, table, Path, Step as PathStep, key, index, Cause as SchemaCause, wrong_kind, missing, two_spellings, not_a_choice, out_of_range, not_true, holds_float, metadata_fault, Faults, no_fault, itself}
 use Rattle.std.specs.Prelude.{◌≡◌, ◌∷◌, map, string_bytes}
-use Rattle.toml.specs.Data.{Data, array, table}
-use Rattle.manifest_schema.specs.Paths.{Path, Step as PathStep, key, index, Cause as SchemaCause, wrong_kind, missing, two_spellings, not_a_choice, out_of_range, not_true, holds_float, metadata_fault, Faults, no_fault, itself}
 use Rattle.manifest_value.specs.declared.fault.Step.{Step}
 use Rattle.manifest_value.specs.declared.fault.Step.TheVariants.{Key, Index}
 use Rattle.manifest_value.specs.declared.fault.KeyPath.{KeyPath}

@@ -1,12 +1,6 @@
 -- Words for what the contracts of readers and writers say again and again.
+use Rattle.manifest_schema.specs.Prelude.{BTreeMap, Global, Data, table, Members, table_view, Value, Kind, Rows, form}
 use Rattle.std.specs.Prelude.{String}
-use Rattle.std.specs.BTreeMap.{BTreeMap}
-use Rattle.std.specs.declared.alloc.Global.{Global}
-use Rattle.toml.specs.Data.{Data, table, Members}
-use Rattle.toml.specs.View.{table_view}
-use Rattle.toml.specs.declared.value.Value.{Value}
-use Rattle.manifest_schema.specs.Kinds.{Kind}
-use Rattle.manifest_schema.specs.Forms.{Rows, form}
 
 -- the data that a table is
 abbrev pub data_of : BTreeMap (String Global) Value → Data

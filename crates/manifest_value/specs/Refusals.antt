@@ -1,7 +1,6 @@
 -- What an error says of a value that was refused.
+use Rattle.manifest_schema.specs.Prelude.{error_kind, Faults}
 use Rattle.std.specs.Prelude.{◌≡◌, string_bytes}
-use Rattle.std.specs.IoError.{error_kind}
-use Rattle.manifest_schema.specs.Paths.{Faults}
 use Rattle.manifest_value.specs.Faults.{IsOneOf, path_of}
 use Rattle.manifest_value.specs.declared.fault.ReadFault.{ReadFault}
 use Rattle.manifest_value.specs.declared.fault.ReadFault.TheVariants as read

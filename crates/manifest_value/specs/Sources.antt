@@ -1,12 +1,7 @@
 -- What is read, and what stands in the rows that are read, as the definitions see it.
+use Rattle.manifest_schema.specs.Prelude.{iter_rest, Data, table, Members, no_members, member, view, table_view, members_view, Value, Text, Slot, absent, one, clash}
 use Rattle.std.specs.Prelude.{◌≡◌, ℕ, zero, suc, List, [], ◌∷◌, Option, MatchOption, string_bytes}
 use Rattle.std.specs.Vec.Iter.{into_iter_items}
-use Rattle.std.specs.Slice.Iter.{iter_rest}
-use Rattle.toml.specs.Data.{Data, table, Members, no_members, member}
-use Rattle.toml.specs.View.{view, table_view, members_view}
-use Rattle.toml.specs.declared.value.Value.{Value}
-use Rattle.manifest_schema.specs.Paths.{Text}
-use Rattle.manifest_schema.specs.Slots.{Slot, absent, one, clash}
 use Rattle.manifest_value.specs.declared.entries.Entries.{Entries}
 use Rattle.manifest_value.specs.declared.entries.Key.{Key}
 use Rattle.manifest_value.specs.declared.items.Items.{Items}

@@ -1,13 +1,6 @@
 -- What a walk over a table finds, as the definitions see it.
+use Rattle.manifest_schema.specs.Prelude.{slice_cmp, nat_cmp, Less, Data, Members, no_members, member, Text, Spellings, Slot, absent, one, clash, at, is_among, Rows, ◌⨾◌, spell, differ, spellings_of}
 use Rattle.std.specs.Prelude.{◌≡◌, ℕ, zero, suc, Bool, true, false, ◌&&◌, List, [], ◌∷◌, Option, Some, None, option_copied}
-use Rattle.std.specs.Cmp.Lexicographic.{slice_cmp}
-use Rattle.std.specs.Ordering.{nat_cmp}
-use Rattle.std.specs.declared.cmp.Ordering.TheVariants.{Less}
-use Rattle.toml.specs.Data.{Data, Members, no_members, member}
-use Rattle.manifest_schema.specs.Paths.{Text}
-use Rattle.manifest_schema.specs.Slots.{Spellings, Slot, absent, one, clash, at, is_among}
-use Rattle.manifest_schema.specs.Forms.{Rows, ◌⨾◌, spell, differ}
-use Rattle.manifest_schema.specs.ForProofs.{spellings_of}
 use Rattle.manifest_value.specs.declared.spellings.Spellings.{Spellings as CodeSpellings}
 
 -- SPELLINGS

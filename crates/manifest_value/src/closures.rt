@@ -1,10 +1,7 @@
 //! Readers of a list and of a table by a given reader of their values.
 
+ghost use Rattle.manifest_schema.specs.Prelude.{values, FnReturnsAt, Contains, behind, index, key};
 ghost use Rattle.std.specs.Prelude.{◌≡◌, IfOk, IfErr, Ok};
-ghost use Rattle.std.specs.BTreeMap.{values};
-ghost use Rattle.std.specs.Fn.{FnReturnsAt};
-ghost use Rattle.std.specs.List.{Contains};
-ghost use Rattle.manifest_schema.specs.Paths.{behind, index, key};
 ghost use Rattle.manifest_value.specs.Calls.{ItemsGiven, EntriesGiven, Refused, IsItemOf, ListGiven, ItemRefused, ListRefused, IsValueOf, MapGiven, EntryRefused, MapRefused};
 ghost use Rattle.manifest_value.specs.Faults.{FaultIn};
 

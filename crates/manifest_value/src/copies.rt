@@ -1,9 +1,7 @@
 //! What is promised of copies: they hold what they are copied from.
+ghost use Rattle.manifest_schema.specs.Prelude.{Data, view, Entries};
 ghost use Rattle.std.specs.Prelude.{◌≡◌, ℕ, Bool, List, Option, IfOk, map, option_map, string_bytes, refl};
 ghost use Rattle.std.proofs.Common.{rules};
-ghost use Rattle.toml.specs.Data.{Data};
-ghost use Rattle.toml.specs.View.{view};
-ghost use Rattle.manifest_schema.specs.Kinds.{Entries};
 ghost use Rattle.manifest_schema.proofs.CopyLaws.{items_copied, some_copied, entries_copied};
 ghost use Rattle.manifest_value.specs.Entries.{entries_content};
 

@@ -1,10 +1,8 @@
 //! The items of a list that is read, one after the other, whether it is borrowed or owned.
 
+ghost use Rattle.manifest_schema.specs.Prelude.{items_view, reads_items, faulty_item, behind, index};
 ghost use Rattle.std.specs.Prelude.{map, IfOk, IfErr};
 ghost use Rattle.std.specs.Iterator.{YieldsFirstBy, item_count};
-ghost use Rattle.toml.specs.View.{items_view};
-ghost use Rattle.manifest_schema.specs.Kinds.{reads_items, faulty_item};
-ghost use Rattle.manifest_schema.specs.Paths.{behind, index};
 ghost use Rattle.manifest_value.specs.Faults.{FaultIn};
 ghost use Rattle.manifest_value.specs.Reading.{Reads};
 ghost use Rattle.manifest_value.specs.Sources.{source_value, source_view, items_left};

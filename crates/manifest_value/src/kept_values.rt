@@ -1,8 +1,6 @@
 //! Values that are kept as they are.
+ghost use Rattle.manifest_schema.specs.Prelude.{Data, array, table, view, array_view, table_view, plain, plain_items, plain_members, float_in, kept as kept_kind};
 ghost use Rattle.std.specs.Prelude.{◌≡◌, not, IsTrue, IfOk, IfErr, OnOk};
-ghost use Rattle.toml.specs.Data.{Data, array, table};
-ghost use Rattle.toml.specs.View.{view, array_view, table_view};
-ghost use Rattle.manifest_schema.specs.Kinds.{plain, plain_items, plain_members, float_in, kept as kept_kind};
 ghost use Rattle.manifest_schema.proofs.KeptLaws.{kept_lawful};
 ghost use Rattle.manifest_value.specs.Faults.{FaultIn};
 

@@ -1,16 +1,11 @@
 //! Maps whose keys are strings: made of entries in order, read from a table, and written as one.
+ghost use Rattle.manifest_schema.specs.Prelude.{keys_of, string_cmp, no_members, table_view, behind, key as key_step, Entries as Contents, map_of, reads_entries, written_entries, faulty_entry};
 ghost use Rattle.std.specs.Prelude.{◌≡◌, IfOk, IfErr, string_bytes};
 ghost use Rattle.std.specs.List.Sorted.{IsStrictlySortedBy};
-ghost use Rattle.std.specs.Map.{keys_of};
-ghost use Rattle.std.specs.String.{string_cmp};
-ghost use Rattle.toml.specs.Data.{no_members};
-ghost use Rattle.toml.specs.View.{table_view};
 ghost use Rattle.manifest_value.specs.Faults.{FaultIn};
 ghost use Rattle.manifest_value.specs.Entries.{entries_content, reads_first};
 ghost use Rattle.manifest_value.specs.Sources.{source_view, members_of, key_view, rest_view, entries_view};
 ghost use Rattle.manifest_value.specs.Walks.{Ascend};
-ghost use Rattle.manifest_schema.specs.Paths.{behind, key as key_step};
-ghost use Rattle.manifest_schema.specs.Kinds.{Entries as Contents, map_of, reads_entries, written_entries, faulty_entry};
 ghost use Rattle.manifest_schema.proofs.KindLaws.{map_lawful};
 
 use crate::entries::{Entries, Entry, Key};

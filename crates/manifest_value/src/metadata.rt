@@ -1,12 +1,8 @@
 //! Metadata of any type.
+ghost use Rattle.manifest_schema.specs.Prelude.{view, table_view, put_some, plain, tree_of, nothing, unread, written_some, nothing_laws, unread_laws};
 ghost use Rattle.std.specs.Prelude.{◌≡◌, ◌↔◌, IsTrue, IfOk, IfErr, OnOk, option_map, refl};
 ghost use Rattle.std.proofs.Common.{subst};
-ghost use Rattle.toml.specs.View.{view, table_view};
 ghost use Rattle.manifest_value.specs.Faults.{FaultIn, IsSchema};
-ghost use Rattle.manifest_schema.specs.Slots.{put_some};
-ghost use Rattle.manifest_schema.specs.Kinds.{plain, tree_of, nothing, unread};
-ghost use Rattle.manifest_schema.specs.Needs.{written_some};
-ghost use Rattle.manifest_schema.specs.ForProofs.{nothing_laws, unread_laws};
 ghost use Rattle.manifest_value.specs.Reading.{written_as};
 
 use crate::fault::{Cause, ReadFault, fault_here};

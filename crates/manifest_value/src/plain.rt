@@ -1,9 +1,7 @@
 //! Types that are never read from a table, nor written as one.
 
+ghost use Rattle.manifest_schema.specs.Prelude.{Data, Members, table, Path, Cause, IsPlain};
 ghost use Rattle.std.specs.Prelude.{◌≡◌};
-ghost use Rattle.toml.specs.Data.{Data, Members, table};
-ghost use Rattle.manifest_schema.specs.Paths.{Path, Cause};
-ghost use Rattle.manifest_schema.specs.Lawful.{IsPlain};
 ghost use Rattle.manifest_schema.proofs.RowLaws.{text_plain, texts_plain};
 
 use crate::schema::Schema;

@@ -1,13 +1,8 @@
 //! Readers of a value of one kind, and of a field of a table.
 
+ghost use Rattle.manifest_schema.specs.Prelude.{table as table_data, view, table_view, get_member, at, clash, text, flag, whole, list_of, spellings_of};
 ghost use Rattle.std.specs.Prelude.{◌≡◌, map, IfOk, IfErr, Some, string_bytes, option_map, option_copied};
-ghost use Rattle.toml.specs.Data.{table as table_data};
-ghost use Rattle.toml.specs.View.{view, table_view};
-ghost use Rattle.manifest_schema.specs.Slots.{at, clash};
-ghost use Rattle.toml.specs.Data.{get_member};
-ghost use Rattle.manifest_schema.specs.Kinds.{text, flag, whole, list_of};
 ghost use Rattle.manifest_schema.specs.Needs.{clash_at};
-ghost use Rattle.manifest_schema.specs.ForProofs.{spellings_of};
 ghost use Rattle.manifest_value.specs.Faults.{FaultIn, IsSchema, no_table};
 ghost use Rattle.manifest_value.specs.Walks.{value_in};
 

@@ -1,11 +1,7 @@
 //! Reading a value under a key, and writing the rows of a form.
+ghost use Rattle.manifest_schema.specs.Prelude.{view, table_view, list_of, itself, behind, key, put_some, written_some, written_unless, is_empty};
 ghost use Rattle.std.specs.Prelude.{◌≡◌, Some, map, IfOk, IfErr, OnOk, option_map};
-ghost use Rattle.manifest_schema.specs.Kinds.{list_of};
-ghost use Rattle.toml.specs.View.{view, table_view};
 ghost use Rattle.manifest_value.specs.Faults.{FaultIn, cause_of};
-ghost use Rattle.manifest_schema.specs.Paths.{itself, behind, key};
-ghost use Rattle.manifest_schema.specs.Slots.{put_some};
-ghost use Rattle.manifest_schema.specs.Needs.{written_some, written_unless, is_empty};
 ghost use Rattle.manifest_value.specs.Reading.{Reads};
 
 use crate::fault::{Cause, ReadFault, fault_here, fault_under_key};

@@ -1,9 +1,7 @@
 //! Types that are read from a value and written as one.
 
+ghost use Rattle.manifest_schema.specs.Prelude.{view, Kind, text, flag, list_of, IsLawful};
 ghost use Rattle.std.specs.Prelude.{◌≡◌, ◌↔◌, ℕ, Bool, List, IsTrue, map, IfOk, IfErr, string_bytes};
-ghost use Rattle.toml.specs.View.{view};
-ghost use Rattle.manifest_schema.specs.Kinds.{Kind, text, flag, list_of};
-ghost use Rattle.manifest_schema.specs.Lawful.{IsLawful};
 ghost use Rattle.manifest_schema.proofs.KindLaws.{text_lawful, flag_lawful, list_lawful};
 ghost use Rattle.manifest_value.specs.Faults.{FaultIn, IsSchema};
 ghost use Rattle.manifest_value.specs.Reading.{Reads};

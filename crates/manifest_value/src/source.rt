@@ -1,8 +1,7 @@
 //! What is read: a value or a table, borrowed or owned.
 
+ghost use Rattle.manifest_schema.specs.Prelude.{view, behind, key};
 ghost use Rattle.std.specs.Prelude.{◌≡◌, IfOk, IfErr};
-ghost use Rattle.toml.specs.View.{view};
-ghost use Rattle.manifest_schema.specs.Paths.{behind, key};
 ghost use Rattle.manifest_value.specs.Faults.{FaultIn, no_table};
 ghost use Rattle.manifest_value.specs.Reading.{Reads, data_of};
 ghost use Rattle.manifest_value.specs.Sources.{source_view, members_of, table_source, entries_view};

@@ -1,9 +1,7 @@
 //! One walk over a table.
 
+ghost use Rattle.manifest_schema.specs.Prelude.{no_members, is_among, without, spell};
 ghost use Rattle.std.specs.Prelude.{◌≡◌, ◌<◌, true, false, [], IsTrue, map, length, IfOk, MatchOption};
-ghost use Rattle.toml.specs.Data.{no_members};
-ghost use Rattle.manifest_schema.specs.Slots.{is_among, without};
-ghost use Rattle.manifest_schema.specs.Forms.{spell};
 ghost use Rattle.manifest_value.specs.Sources.{source_view, members_of, row_view, rest_view};
 ghost use Rattle.manifest_value.specs.Walks.{spellings_view, all_words, distinct_words, is_word_at, slots_at, filled, filled_at, Ascend};
 

@@ -1,10 +1,7 @@
 //! Whether what stands in a row is well-formed.
 
+ghost use Rattle.manifest_schema.specs.Prelude.{tree_of, good_items, good_entries, good_some, is_among, none_named};
 ghost use Rattle.std.specs.Prelude.{◌≡◌, ◌↔◌, IsTrue, map, option_map};
-ghost use Rattle.manifest_schema.specs.Kinds.{tree_of, good_items, good_entries};
-ghost use Rattle.manifest_schema.specs.Needs.{good_some};
-ghost use Rattle.manifest_schema.specs.Slots.{is_among};
-ghost use Rattle.manifest_schema.specs.Forms.{none_named};
 ghost use Rattle.manifest_value.specs.Entries.{entries_content};
 ghost use Rattle.manifest_value.specs.Reading.{written_as};
 ghost use Rattle.manifest_value.specs.Walks.{spellings_view, all_words};

@@ -1,12 +1,7 @@
 //! Writers of texts, and of lists and maps whose values a given writer writes.
 
+ghost use Rattle.manifest_schema.specs.Prelude.{values, FnReturnsAt, Contains, string, view, text, list_of};
 ghost use Rattle.std.specs.Prelude.{◌≡◌, map, IfOk, Ok, string_bytes};
-ghost use Rattle.std.specs.BTreeMap.{values};
-ghost use Rattle.std.specs.Fn.{FnReturnsAt};
-ghost use Rattle.std.specs.List.{Contains};
-ghost use Rattle.toml.specs.Data.{string};
-ghost use Rattle.toml.specs.View.{view};
-ghost use Rattle.manifest_schema.specs.Kinds.{text, list_of};
 ghost use Rattle.manifest_value.specs.Calls.{EntriesGiven, ListWritten, MapWritten};
 
 use crate::closures::call_at;

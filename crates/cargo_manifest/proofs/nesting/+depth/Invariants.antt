@@ -1,6 +1,5 @@
+use Rattle.manifest_schema.specs.Prelude.{items_depth, members_depth, items_view, members_view}
 use Rattle.std.proofs.Common.{◌≡◌, min, max, drop}
-use Rattle.toml.specs.Data.{items_depth, members_depth}
-use Rattle.toml.specs.View.{items_view, members_view}
 use Rattle.cargo_manifest.proofs.nesting.+depth.Given as goal
 
 -- the deepest so far, and what is left

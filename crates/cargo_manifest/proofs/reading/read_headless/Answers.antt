@@ -1,8 +1,5 @@
+use Rattle.manifest_schema.specs.Prelude.{get_member, table_view, tree_of, faulty_old, unmeant_by}
 use Rattle.std.proofs.Common.{false, codes, inr}
-use Rattle.toml.specs.Data.{get_member}
-use Rattle.toml.specs.View.{table_view}
-use Rattle.manifest_schema.specs.Kinds.{tree_of}
-use Rattle.manifest_schema.specs.Meaning.{faulty_old, unmeant_by}
 use Rattle.manifest_value.proofs.Behind.{fault_weaker}
 use Rattle.cargo_manifest.proofs.reading.read_headless.Goals as goal
 

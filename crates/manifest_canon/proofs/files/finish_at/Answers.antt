@@ -1,6 +1,5 @@
-use Rattle.std.proofs.lemmas.Result.{on_ok_weaker}
+use Rattle.manifest_schema.specs.Prelude.{on_ok_weaker, view}
 use Rattle.std.proofs.Common.{Some}
-use Rattle.toml.specs.View.{view}
 use Rattle.cargo_manifest.specs.Whole.{manifest_content}
 use Rattle.manifest_canon.specs.Run.{IsFinished, IsFinishedBy}
 use Rattle.manifest_canon.proofs.files.finish_at.Goals as goal

@@ -1,8 +1,5 @@
+use Rattle.manifest_schema.specs.Prelude.{Bor, view, Text, Manifest}
 use Rattle.std.proofs.Common.{Option, Some, None}
-use Rattle.std.specs.Borrow.{Bor}
-use Rattle.toml.specs.View.{view}
-use Rattle.manifest_schema.specs.Paths.{Text}
-use Rattle.manifest_schema.specs.Contents.{Manifest}
 use Rattle.cargo_manifest.specs.Whole.{manifest_content}
 use Rattle.manifest_canon.specs.Run.{MayPrint, IsFileOf, IsFinishedBy}
 use Rattle.manifest_canon.specs.Words.{completes_by}

@@ -1,10 +1,8 @@
+use Rattle.manifest_schema.specs.Prelude.{Global, Bor, map_push, append-nil, Text}
 use Rattle.std.proofs.Common.{◌≡◌, List, ◌∷◌, ◌++◌, [], map, string_bytes, ap, ◌∙◌, String, subst, true, false, refl}
-use Rattle.std.specs.declared.alloc.Global.{Global}
-use Rattle.std.specs.Borrow.{Bor}
 use Rattle.std.specs.Map.Iter.{deref}
 use Rattle.std.proofs.lemmas.Map.Iter.{rest_so_far, rest_more, rest_all}
-use Rattle.std.proofs.lemmas.List.{map_push, map-append, append-nil}
-use Rattle.manifest_schema.specs.Paths.{Text}
+use Rattle.std.proofs.lemmas.List.{map-append}
 use Rattle.manifest_value.proofs.CallLemmas.{all_zip-push}
 use Rattle.manifest_completion.specs.Listings.{joined, is_memory_fault}
 use Rattle.manifest_completion.specs.Answered.{answer_of}

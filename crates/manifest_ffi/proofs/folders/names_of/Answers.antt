@@ -1,8 +1,5 @@
+use Rattle.manifest_schema.specs.Prelude.{append_assoc, append-nil, Bor, iter_rest, Text}
 use Rattle.std.proofs.Common.{◌≡◌, map, ◌++◌, ◌∷◌, [], List, true, false, ap, sym, ◌∙◌, string_bytes, rules, true≢false}
-use Rattle.std.proofs.lemmas.List.{append_assoc, append-nil}
-use Rattle.std.specs.Borrow.{Bor}
-use Rattle.std.specs.Slice.Iter.{iter_rest}
-use Rattle.manifest_schema.specs.Paths.{Text}
 use Rattle.manifest_ffi.specs.Given.{texts, goes_before, AreInOrder, AreNames}
 use Rattle.manifest_ffi.proofs.GivenLemmas.{names_behind, before_least, in_order_before, insert_first}
 use Rattle.manifest_ffi.proofs.folders.names_of.Goals as goal

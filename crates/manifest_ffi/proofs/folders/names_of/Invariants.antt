@@ -1,7 +1,5 @@
+use Rattle.manifest_schema.specs.Prelude.{Bor, iter_rest, Text}
 use Rattle.std.proofs.Common.{◌≡◌, ◌++◌, List}
-use Rattle.std.specs.Borrow.{Bor}
-use Rattle.std.specs.Slice.Iter.{iter_rest}
-use Rattle.manifest_schema.specs.Paths.{Text}
 use Rattle.manifest_completion.specs.Answered.{set_names}
 use Rattle.manifest_ffi.specs.Given.{texts, AreNames}
 use Rattle.manifest_ffi.proofs.GivenLemmas.{IsLeast}

@@ -1,6 +1,5 @@
+use Rattle.manifest_schema.specs.Prelude.{on_ok_weaker, IfErr-weaker, view}
 use Rattle.std.proofs.Common.{Some, inr}
-use Rattle.std.proofs.lemmas.Result.{on_ok_weaker, IfErr-weaker}
-use Rattle.toml.specs.View.{view}
 use Rattle.cargo_manifest.specs.Whole.{manifest_content}
 use Rattle.manifest_ffi.specs.Made.{stored_by, FinishesStored, FinishesByBytes}
 use Rattle.manifest_ffi.proofs.making.finish_by_bytes.Goals as goal

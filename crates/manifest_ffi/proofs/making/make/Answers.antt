@@ -1,9 +1,7 @@
+use Rattle.manifest_schema.specs.Prelude.{IfOk-weaker, IfErr-weaker, view, Text}
 use Rattle.std.proofs.Common.{Some, inr, subst}
 use Rattle.std.specs.Prelude.{option_copied}
-use Rattle.std.proofs.lemmas.Result.{IfOk-weaker, IfErr-weaker}
-use Rattle.toml.specs.View.{view}
 use Rattle.cargo_manifest.specs.Whole.{manifest_content}
-use Rattle.manifest_schema.specs.Paths.{Text}
 use Rattle.manifest_completion.specs.Listings.{Answer}
 use Rattle.manifest_ffi.specs.Made.{MakesOver, RefusesOver}
 use Rattle.manifest_ffi.proofs.making.make.Goals as goal

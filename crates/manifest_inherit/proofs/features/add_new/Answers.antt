@@ -1,7 +1,5 @@
+use Rattle.manifest_schema.specs.Prelude.{map_push, list_any, bytes_eq}
 use Rattle.std.proofs.Common.{◌≡◌, ◌+◌, ◌++◌, ◌∷◌, [], List, ℕ, map, drop, string_bytes, sym, ap, ◌∙◌}
-use Rattle.std.proofs.lemmas.List.{map_push}
-use Rattle.std.specs.List.{list_any}
-use Rattle.std.specs.Str.{bytes_eq}
 use Rattle.manifest_inherit.specs.Resolved.{new_features}
 use Rattle.manifest_inherit.proofs.FeatureLemmas.{from_feature, feature_had, feature_added}
 use Rattle.manifest_inherit.proofs.features.add_new.Goals as goal

@@ -1,5 +1,4 @@
-use Rattle.toml.specs.Data.{Data}
-use Rattle.manifest_schema.specs.Kinds.{Kind, tree_of}
+use Rattle.manifest_schema.specs.Prelude.{Data, Kind, tree_of}
 use Rattle.manifest_schema.proofs.KindLaws.{tree_lawful}
 use Rattle.manifest_completion.proofs.CompletedLaws.{completed_fixed}
 use Rattle.cargo_manifest.proofs.WellFormedLaws.{package_by_metadata, workspace_by_parts, manifest_by_parts}

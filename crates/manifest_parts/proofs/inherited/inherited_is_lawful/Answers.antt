@@ -1,7 +1,5 @@
+use Rattle.manifest_schema.specs.Prelude.{Data, Kind, Inheritable, inherited, local, inherits, inh, good_inh, IsLawful, IsPlain}
 use Rattle.std.proofs.Common.{◌≡◌, true}
-use Rattle.toml.specs.Data.{Data}
-use Rattle.manifest_schema.specs.Kinds.{Kind, Inheritable, inherited, local, inherits, inh, good_inh}
-use Rattle.manifest_schema.specs.Lawful.{IsLawful, IsPlain}
 use Rattle.manifest_schema.proofs.KindLaws.{inh_lawful}
 use Rattle.manifest_parts.proofs.inherited.inherited_is_lawful.Goals as goal
 

@@ -1,9 +1,6 @@
+use Rattle.manifest_schema.specs.Prelude.{FnReturnsAt, keys_of, string_cmp, Value}
 use Rattle.std.proofs.Common.{◌≡◌, [], ◌∷◌, ◌++◌, String, Global, string_bytes, sym, ap, ◌∙◌, subst, append_assoc, rules}
-use Rattle.std.specs.Fn.{FnReturnsAt}
 use Rattle.std.specs.List.Sorted.{IsStrictlySortedBy}
-use Rattle.std.specs.Map.{keys_of}
-use Rattle.std.specs.String.{string_cmp}
-use Rattle.toml.specs.declared.value.Value.{Value}
 use Rattle.manifest_value.proofs.CallLemmas.{entries_given-last, entry_refused}
 use Rattle.manifest_value.proofs.closures.entries_of.Goals as goal
 

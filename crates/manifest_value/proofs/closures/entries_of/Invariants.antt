@@ -1,6 +1,5 @@
+use Rattle.manifest_schema.specs.Prelude.{FnReturnsAt, Value}
 use Rattle.std.proofs.Common.{◌≡◌, List, ◌++◌, String, Global}
-use Rattle.std.specs.Fn.{FnReturnsAt}
-use Rattle.toml.specs.declared.value.Value.{Value}
 use Rattle.manifest_value.specs.Calls.{EntriesGiven}
 use Rattle.manifest_value.proofs.closures.entries_of.Given as goal
 

@@ -1,6 +1,5 @@
+use Rattle.manifest_schema.specs.Prelude.{IfOk-weaker, FnReturnsAt}
 use Rattle.std.proofs.Common.{inr}
-use Rattle.std.proofs.lemmas.Result.{IfOk-weaker}
-use Rattle.std.specs.Fn.{FnReturnsAt}
 use Rattle.manifest_value.specs.Calls.{ItemRefused, ListRefused}
 use Rattle.manifest_value.proofs.CallLemmas.{refused_weaker}
 use Rattle.manifest_value.proofs.closures.list_of.Goals as goal

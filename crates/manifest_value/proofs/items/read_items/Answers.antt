@@ -1,8 +1,5 @@
+use Rattle.manifest_schema.specs.Prelude.{Data, Items, items_view, faulty_item, behind, index}
 use Rattle.std.proofs.Common.{◌≡◌, length, map, ap, subst, sym, rules}
-use Rattle.toml.specs.Data.{Data, Items}
-use Rattle.toml.specs.View.{items_view}
-use Rattle.manifest_schema.specs.Kinds.{faulty_item}
-use Rattle.manifest_schema.specs.Paths.{behind, index}
 use Rattle.manifest_value.specs.Sources.{source_view, items_left}
 use Rattle.manifest_value.proofs.Behind.{fault_weaker}
 use Rattle.manifest_value.proofs.ReadingLemmas.{reads_first_items, items_more, next_item, no_item_left}

@@ -1,6 +1,5 @@
+use Rattle.manifest_schema.specs.Prelude.{items_view, members_view, plain_items, plain_members}
 use Rattle.std.proofs.Common.{◌≡◌, drop}
-use Rattle.toml.specs.View.{items_view, members_view}
-use Rattle.manifest_schema.specs.Kinds.{plain_items, plain_members}
 use Rattle.manifest_value.proofs.kept_values.+floats.Given as goal
 
 abbrev pub invariant-items_hold_float-loop-item : goal.invariant-items_hold_float-loop-item

@@ -1,8 +1,5 @@
+use Rattle.manifest_schema.specs.Prelude.{members_view, Value, plain_members, key}
 use Rattle.std.proofs.Common.{arith, ◌≡◌, [], ◌∷◌, ◌++◌, String, Global, string_bytes, sym, ap, ◌∙◌, append_assoc}
-use Rattle.toml.specs.View.{members_view}
-use Rattle.toml.specs.declared.value.Value.{Value}
-use Rattle.manifest_schema.specs.Kinds.{plain_members}
-use Rattle.manifest_schema.specs.Paths.{key}
 use Rattle.manifest_value.specs.Faults.{IsBehind}
 use Rattle.manifest_value.proofs.FloatLemmas.{float_in_item, float_in_entry}
 use Rattle.manifest_value.proofs.kept_values.+places.Goals as goal

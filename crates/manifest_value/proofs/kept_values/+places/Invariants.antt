@@ -1,7 +1,5 @@
+use Rattle.manifest_schema.specs.Prelude.{items_view, members_view, Value, plain_items, plain_members}
 use Rattle.std.proofs.Common.{◌≡◌, ◌++◌, List, String, Global, drop}
-use Rattle.toml.specs.View.{items_view, members_view}
-use Rattle.toml.specs.declared.value.Value.{Value}
-use Rattle.manifest_schema.specs.Kinds.{plain_items, plain_members}
 use Rattle.manifest_value.proofs.kept_values.+places.Given as goal
 
 abbrev pub invariant-refuse_float_in_items-loop-i : goal.invariant-refuse_float_in_items-loop-i

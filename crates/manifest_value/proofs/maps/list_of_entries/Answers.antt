@@ -1,6 +1,5 @@
+use Rattle.manifest_schema.specs.Prelude.{Data, Members, member, Text}
 use Rattle.std.proofs.Common.{subst, sym}
-use Rattle.toml.specs.Data.{Data, Members, member}
-use Rattle.manifest_schema.specs.Paths.{Text}
 use Rattle.manifest_value.specs.Entries.{entries_content, reads_first}
 use Rattle.manifest_value.specs.Sources.{source_view, key_view, entries_view}
 use Rattle.manifest_value.proofs.EntryLemmas.{entry_fault}

@@ -1,9 +1,7 @@
+use Rattle.manifest_schema.specs.Prelude.{IfOk-weaker, IsFromIterResult, string_cmp}
 use Rattle.std.proofs.Common.{◌≡◌, map-id, subst, sym, ◌∙◌}
 use Rattle.std.proofs.lemmas.Iterator.{items_from_drains}
 use Rattle.std.proofs.lemmas.Iterator.Adapters.{YieldsList-from_vec}
-use Rattle.std.proofs.lemmas.Result.{IfOk-weaker}
-use Rattle.std.specs.BTreeMap.{IsFromIterResult}
-use Rattle.std.specs.String.{string_cmp}
 use Rattle.manifest_value.proofs.CollectLemmas.{collected}
 use Rattle.manifest_value.proofs.maps.map_of_list.Goals as goal
 

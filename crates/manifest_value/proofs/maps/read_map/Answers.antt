@@ -1,6 +1,5 @@
+use Rattle.manifest_schema.specs.Prelude.{no_members, reads_entries}
 use Rattle.std.proofs.Common.{subst, sym}
-use Rattle.toml.specs.Data.{no_members}
-use Rattle.manifest_schema.specs.Kinds.{reads_entries}
 use Rattle.manifest_value.specs.Entries.{entries_content}
 use Rattle.manifest_value.specs.Sources.{entries_view}
 use Rattle.manifest_value.proofs.ReadingLemmas.{first_ascend, none_left}

@@ -1,7 +1,6 @@
+use Rattle.manifest_schema.specs.Prelude.{HasWritten, IsPlainFormatter, quoted_byte}
 use Rattle.std.proofs.Common.{◌≡◌, ℕ, List, ◌++◌, flat_map}
-use Rattle.std.specs.Fmt.{HasWritten, IsPlainFormatter}
 use Rattle.std.specs.Str.Iter.{chars_rest}
-use Rattle.manifest_schema.specs.PathTexts.{quoted_byte}
 use Rattle.manifest_value.proofs.path_text.write_quoted.Given as goal
 
 abbrev pub invariant-loop-c : goal.invariant-loop-c

@@ -1,6 +1,5 @@
+use Rattle.manifest_schema.specs.Prelude.{view, members_view, put_some}
 use Rattle.std.proofs.Common.{ap, ◌∙◌, string_bytes, ◌≡◌}
-use Rattle.toml.specs.View.{view, members_view}
-use Rattle.manifest_schema.specs.Slots.{put_some}
 use Rattle.manifest_value.proofs.InsertLemmas.{members_view-insert}
 use Rattle.manifest_value.proofs.rows.put_row.Goals as goal
 

@@ -1,9 +1,6 @@
+use Rattle.manifest_schema.specs.Prelude.{member, join, with_last, Text, is_among, without}
 use Rattle.std.proofs.Common.{◌≡◌, map, subst, sym, ap, ◌∙◌, true}
-use Rattle.toml.specs.Data.{member}
-use Rattle.toml.proofs.Blanks.{join, join-none, join-last}
-use Rattle.toml.proofs.Views.{with_last}
-use Rattle.manifest_schema.specs.Paths.{Text}
-use Rattle.manifest_schema.specs.Slots.{is_among, without}
+use Rattle.toml.proofs.Blanks.{join-none, join-last}
 use Rattle.manifest_value.specs.Sources.{members_of, source_view, key_view, row_view, rest_view, entries_view}
 use Rattle.manifest_value.specs.Walks.{Ascend, spellings_view, all_words, slots_at, filled_at, is_word_at}
 use Rattle.manifest_value.proofs.ReadingLemmas.{ascend_without}

@@ -1,7 +1,5 @@
+use Rattle.manifest_schema.specs.Prelude.{Members, join, without}
 use Rattle.std.proofs.Common.{◌≡◌, length, map}
-use Rattle.toml.specs.Data.{Members}
-use Rattle.toml.proofs.Blanks.{join}
-use Rattle.manifest_schema.specs.Slots.{without}
 use Rattle.manifest_value.specs.Sources.{members_of, row_view, rest_view, entries_view}
 use Rattle.manifest_value.specs.Walks.{spellings_view, all_words, slots_at}
 use Rattle.manifest_value.proofs.walking.walk.Given as goal

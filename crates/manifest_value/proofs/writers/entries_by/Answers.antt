@@ -1,8 +1,6 @@
+use Rattle.manifest_schema.specs.Prelude.{FnReturnsAt, keys_of, string_cmp}
 use Rattle.std.proofs.Common.{◌≡◌, [], ◌∷◌, ◌++◌, String, Global, string_bytes, sym, ap, ◌∙◌, subst, append_assoc}
-use Rattle.std.specs.Fn.{FnReturnsAt}
 use Rattle.std.specs.List.Sorted.{IsStrictlySortedBy}
-use Rattle.std.specs.Map.{keys_of}
-use Rattle.std.specs.String.{string_cmp}
 use Rattle.manifest_value.proofs.CallLemmas.{entries_given-last}
 use Rattle.manifest_value.proofs.writers.entries_by.Goals as goal
 

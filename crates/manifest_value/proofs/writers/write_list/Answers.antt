@@ -1,6 +1,5 @@
+use Rattle.manifest_schema.specs.Prelude.{common_steps, FnReturnsAt}
 use Rattle.std.proofs.Common.{arith, ◌≡◌, take}
-use Rattle.std.proofs.lemmas.Grind.{common_steps}
-use Rattle.std.specs.Fn.{FnReturnsAt}
 use Rattle.toml.proofs.Views.{view-Array}
 use Rattle.manifest_value.proofs.CallLemmas.{items_given-more}
 use Rattle.manifest_value.proofs.writers.write_list.Goals as goal

@@ -1,9 +1,6 @@
+use Rattle.manifest_schema.specs.Prelude.{Members, members_depth, table_view, tree_of, rewritten}
 use Rattle.std.proofs.Common.{◌≡◌, ◌≤◌, Some, string_bytes, subst}
-use Rattle.toml.specs.Data.{Members, members_depth}
 use Rattle.toml.specs.Parse.{parse_document}
-use Rattle.toml.specs.View.{table_view}
-use Rattle.manifest_schema.specs.Kinds.{tree_of}
-use Rattle.manifest_schema.specs.Meaning.{rewritten}
 use Rattle.manifest_schema.proofs.KindLaws.{tree_lawful}
 use Rattle.manifest_schema.proofs.MeaningLaws.{written_means_the_same}
 use Rattle.cargo_manifest.specs.Whole.{manifest_of}

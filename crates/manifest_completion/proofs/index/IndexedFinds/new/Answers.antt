@@ -1,6 +1,5 @@
+use Rattle.manifest_schema.specs.Prelude.{append_assoc, iter_rest}
 use Rattle.std.proofs.Common.{◌++◌, ◌∷◌, [], ap, ◌∙◌}
-use Rattle.std.proofs.lemmas.List.{append_assoc}
-use Rattle.std.specs.Slice.Iter.{iter_rest}
 use Rattle.manifest_completion.specs.Steps.{find_content, finds_content}
 use Rattle.manifest_completion.proofs.IndexLemmas.{indexes_more}
 use Rattle.manifest_completion.proofs.index.IndexedFinds.new.Goals as goal

@@ -1,6 +1,5 @@
+use Rattle.manifest_schema.specs.Prelude.{get_by_text, bytes_eq}
 use Rattle.std.proofs.Common.{Some, ap, ◌∙◌, string_bytes}
-use Rattle.std.specs.BTreeMap.{get_by_text}
-use Rattle.std.specs.Str.{bytes_eq}
 use Rattle.std.proofs.lemmas.Map.Text.{btree_map_updates_text}
 use Rattle.manifest_completion.specs.Stored.{stored_answer}
 use Rattle.manifest_completion.proofs.ListingLemmas.{ap_cond}

@@ -1,6 +1,5 @@
+use Rattle.manifest_schema.specs.Prelude.{append_assoc, iter_rest}
 use Rattle.std.proofs.Common.{◌≡◌, ◌++◌, ◌∷◌, [], None, option_map, ap, sym, ◌∙◌}
-use Rattle.std.proofs.lemmas.List.{append_assoc}
-use Rattle.std.specs.Slice.Iter.{iter_rest}
 use Rattle.manifest_ffi.specs.Given.{texts, AreNames, AreListings, folder_at, listed_answer}
 use Rattle.manifest_ffi.proofs.GivenLemmas.{listings_behind, refuses_more, one_listed, was_there, was_not_there}
 use Rattle.manifest_ffi.proofs.folders.GivenFolders.new.Goals as goal

@@ -1,6 +1,5 @@
+use Rattle.manifest_schema.specs.Prelude.{iter_rest, Text}
 use Rattle.std.proofs.Common.{◌≡◌, ◌++◌, List}
-use Rattle.std.specs.Slice.Iter.{iter_rest}
-use Rattle.manifest_schema.specs.Paths.{Text}
 use Rattle.manifest_ffi.specs.declared.folders.Folder.{Folder}
 use Rattle.manifest_ffi.specs.Given.{folder_at, AreListings, listed_at}
 use Rattle.manifest_ffi.proofs.folders.GivenFolders.new.Given as goal

@@ -1,6 +1,5 @@
+use Rattle.manifest_schema.specs.Prelude.{HasWritten, IsPlainFormatter, next_text}
 use Rattle.std.proofs.Common.{flat_map, take}
-use Rattle.std.specs.Fmt.{HasWritten, IsPlainFormatter}
-use Rattle.manifest_schema.specs.PathTexts.{next_text}
 use Rattle.manifest_value.specs.Faults.{step_of}
 use Rattle.manifest_value.proofs.path_text.KeyPathDisplay.fmt.Given as goal
 
