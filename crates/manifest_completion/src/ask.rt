@@ -86,8 +86,8 @@ fn ask_entries<FS: AbstractFilesystem>(
     folder: &str,
     names: &BTreeSet<String>,
 ) -> Result<Vec<io::Result<BTreeSet<String>>>, AllocError>
-    ensures { IfOk result
-        (λ v. AreAllowedAnswers (FS.allows fs.now) folder.now (set_names names.now) (answers_of v)) }
+    ensures { IfOk result (λ answers.
+        AreAllowedAnswers (FS.allows fs.now) folder.now (set_names names.now) (answers_of answers)) }
 {
     let mut entries = Vec::new(alloc);
     for name in names.iter() {
@@ -159,9 +159,8 @@ fn ask_folder_unless<FS: AbstractFilesystem>(
     fs: &FS,
     folder: &str,
 ) -> Result<FolderAnswers, AllocError>
-    ensures { IfOk result
-        (λ a. FolderIsAnswered (λ path answer. stopped ≡ false → FS.allows fs.now path answer) folder.now
-        a) }
+    ensures { IfOk result (λ answers. FolderIsAnswered
+        (λ path answer. stopped ≡ false → FS.allows fs.now path answer) folder.now answers) }
 {
     if stopped {
         return Ok(FolderAnswers::of_unasked_folder(alloc));
@@ -175,8 +174,8 @@ fn ask_root_if<FS: AbstractFilesystem>(
     alloc: Global,
     fs: &FS,
 ) -> io::Result<BTreeSet<String>>
-    ensures { IsAllowedAnswer (λ path answer. asks ≡ true → FS.allows fs.now path answer) (codes ".")
-        (answer_of result) }
+    ensures { IsAllowedAnswer
+        (λ path answer. asks ≡ true → FS.allows fs.now path answer) (codes ".") (answer_of result) }
 {
     if asks {
         ask(alloc, fs, ".")

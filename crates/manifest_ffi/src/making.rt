@@ -37,7 +37,8 @@ fn finish_by(
 ) -> Result<(), Refusal>
     ensures ok { OnOk result (FinishesStored (root_of root.entry) (stored_by folders.entry)
         (manifest_content view view manifest.old) (manifest_content view view manifest.new)) }
-    ensures refused { IfErr result (RefusesToFinishStored (root_of root.entry) (stored_by folders.entry)
+    ensures refused { IfErr result
+        (RefusesToFinishStored (root_of root.entry) (stored_by folders.entry)
         (manifest_content view view manifest.old)) }
 {
     stored_decides();

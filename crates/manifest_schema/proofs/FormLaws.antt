@@ -3,7 +3,11 @@ use Rattle.manifest_schema.specs.Prelude.{and_parts, not-true, Data, table, Memb
 use Rattle.std.proofs.Common.{◌≡◌, Bool, true, false, not, ◌||◌, if◌then◌else◌, inl, inr, List, [], ◌∷◌, Option, Some, None, IsTrue, refl, sym, ap, ◌∙◌, true≢false}
 use Rattle.manifest_schema.specs.Kinds
 use Rattle.manifest_schema.specs.Forms.{reads_form}
-use Rattle.manifest_schema.proofs.KindLaws.{entries_single, entry_apart, entries_well, entries_back}
+use Rattle.manifest_schema.specs.Paths.{wrong_kind}
+use Rattle.manifest_schema.specs.Findings.{unlisted_keys, FindsAll}
+use Rattle.manifest_schema.specs.Forms.{findings_beside, row_findings, left_over, form_findings}
+use Rattle.manifest_schema.proofs.FindingLaws.{finds_nothing, finds_here, finds_both, finds_beside, unlisted_faultless}
+use Rattle.manifest_schema.proofs.KindLaws.{entries_single, entry_apart, entries_well, entries_back, entries_exact}
 use Rattle.manifest_schema.proofs.TableLaws.{same_key-self, same_key-false, not_among_head, not_among_tail, turned, get-member_other, get-put_same, get-put_other, get-put_some_other, without-put_some}
 
 -- SPELLINGS
@@ -102,6 +106,11 @@ module _ {A : Type 0} (named : List Text) where
   rows_well (others get K) ms t l a = (entries_none_named named K ms t a, entries_well l (without named ms) t a)
   rows_well (r ⨾ rs) ms t l a = (l.0.well (at r.spellings ms) t.0 a.0, rows_well rs ms t.1 l.1 a.1)
 
+  pub rows_exact : (rows : Rows A) (ms : Members) → AreLawful rows → FindsAll (findings_beside named rows ms) (unfit_beside named rows ms)
+  rows_exact no_more ms l = finds_nothing
+  rows_exact (others get K) ms l = entries_exact l (without named ms)
+  rows_exact (r ⨾ rs) ms l = finds_both (r.need.findings r.spellings (at r.spellings ms)) (findings_beside named rs ms) (r.need.faulty r.spellings (at r.spellings ms)) (unfit_beside named rs ms) (l.0.exact r.spellings (at r.spellings ms)) (rows_exact rs ms l.1)
+
   -- a key of the named ones that no row has is under none of what is written
   pub written_none : (rows : Rows A) (t : Fields rows) (j : Text) → is_among named j ≡ true → is_among (spelled rows) j ≡ false → good_beside named rows t → get_member j (written_rows rows t) ≡ None
   written_none no_more t j known new g = refl
@@ -151,5 +160,9 @@ module _ {A : Type 0} (rows : Rows A) (L : AreLawful rows) (B : IsBuilt rows) (D
   form_well (table ms) x a = rows_well (spelled rows) rows ms (gets rows x) L a
   form_well _ x a = absurd a
 
+  form_exact : (d : Data) → FindsAll (form_findings rows d) (faulty_form rows d)
+  form_exact (table ms) = finds_beside (row_findings rows ms) (unlisted_keys (left_over rows ms)) (unfit_beside (spelled rows) rows ms) (unlisted_faultless (left_over rows ms)) (rows_exact (spelled rows) rows ms L)
+  form_exact _ = finds_here wrong_kind
+
   pub form_lawful : IsLawful (form rows)
-  form_lawful = record { single = form_single; apart = form_apart; well = form_well; back = λ x g. rows_back (spelled rows) rows (gets rows x) L D (λ k h. h) g }
+  form_lawful = record { single = form_single; apart = form_apart; well = form_well; back = λ x g. rows_back (spelled rows) rows (gets rows x) L D (λ k h. h) g; exact = form_exact }

@@ -1,8 +1,11 @@
 -- Each kind satisfies the laws, where the kinds that it is made of do.
-use Rattle.manifest_schema.specs.Prelude.{false≢true, none-some, same_Some, Data, string, integer, boolean, array, table, Items, no_items, item, Members, no_members, member, get_item, Text, Path, Cause, Faults, text, flag, within, whole, truth, reads_choice, not_choice, choice, reads_items, faulty_item, written_items, good_items, list_of, Entries, reads_entries, has_entry, faulty_entry, faulty_map, written_entries, good_entries, map_of, Inheritable, inherited, local, inherits, reads_inh, faulty_inh, good_inh, inh, reads_split, faulty_split, written_split, good_split, split, tree_of, IsLawful, IsPlain}
-use Rattle.std.proofs.Common.{◌≡◌, ℕ, zero, suc, ℤ, Bool, true, false, ◌⊎◌, inl, inr, List, [], ◌∷◌, Option, Some, IsTrue, refl, sym, ap, ◌∙◌, true≢false}
+use Rattle.manifest_schema.specs.Prelude.{false≢true, none-some, same_Some, Data, string, integer, boolean, array, table, Items, no_items, item, Members, no_members, member, get_item, Text, Path, Cause, Faults, index, key, behind, itself, wrong_kind, out_of_range, not_true, not_a_choice, without, text, flag, within, whole, truth, reads_choice, not_choice, choice, reads_items, faulty_item, written_items, good_items, list_of, Entries, reads_entries, has_entry, faulty_entry, faulty_map, written_entries, good_entries, map_of, Inheritable, inherited, local, inherits, reads_inh, faulty_inh, good_inh, inh, reads_split, faulty_split, written_split, good_split, split, tree_of, IsLawful, IsPlain}
+use Rattle.std.proofs.Common.{◌≡◌, ◌↔◌, ℕ, zero, suc, ◌+◌, ℤ, Bool, true, false, ◌⊎◌, inl, inr, List, [], ◌∷◌, Option, Some, IsTrue, IsFalse, if◌then◌else◌, codes, refl, sym, ap, ◌∙◌, true≢false, arith}
 use Rattle.manifest_schema.specs.Kinds
-use Rattle.manifest_schema.specs.Kinds.{reads_text, not_text, reads_flag, not_flag, reads_whole, not_whole, reads_truth, not_truth, reads_list, faulty_list, reads_map, written_inh, metadata}
+use Rattle.manifest_schema.specs.Findings.{Finding, found_behind, faults_of, among, FindsAll}
+use Rattle.manifest_schema.proofs.FindingLaws.{finds_nothing, finds_here, finds_unless, finds_unless_some, finds_behind, finds_both, finds_beside, faultless_finds, append_to, append_first, append_second, behind_to, behind_from, unlisted_faultless}
+use Rattle.manifest_schema.specs.Findings.{found_here, unlisted_keys}
+use Rattle.manifest_schema.specs.Kinds.{reads_text, not_text, reads_flag, not_flag, reads_whole, not_whole, reads_truth, not_truth, reads_list, faulty_list, reads_map, written_inh, metadata, text_findings, flag_findings, whole_findings, truth_findings, choice_findings, item_findings, list_findings, entry_findings, map_findings, inh_findings, split_findings}
 
 -- TEXT
 text_single : (d : Data) (x y : List ℕ) → reads_text d x → reads_text d y → x ≡ y
@@ -13,8 +16,12 @@ text_apart : (d : Data) (p : Path) (c : Cause) (x : List ℕ) → not_text d p c
 text_apart (string s) p c x f a = f
 text_apart _ p c x f a = a
 
+text_exact : (d : Data) → FindsAll (text_findings d) (not_text d)
+text_exact (string s) = finds_nothing
+text_exact _ = finds_here wrong_kind
+
 pub text_lawful : IsLawful text
-text_lawful = record { single = text_single; apart = text_apart; well = λ d x a. tt; back = λ x g. refl }
+text_lawful = record { single = text_single; apart = text_apart; well = λ d x a. tt; back = λ x g. refl; exact = text_exact }
 
 -- BOOLEAN
 boolean_single : (d : Data) (x y : Bool) → reads_flag d x → reads_flag d y → x ≡ y
@@ -25,8 +32,12 @@ boolean_apart : (d : Data) (p : Path) (c : Cause) (x : Bool) → not_flag d p c 
 boolean_apart (boolean s) p c x f a = f
 boolean_apart _ p c x f a = a
 
+boolean_exact : (d : Data) → FindsAll (flag_findings d) (not_flag d)
+boolean_exact (boolean b) = finds_nothing
+boolean_exact _ = finds_here wrong_kind
+
 pub flag_lawful : IsLawful flag
-flag_lawful = record { single = boolean_single; apart = boolean_apart; well = λ d x a. tt; back = λ x g. refl }
+flag_lawful = record { single = boolean_single; apart = boolean_apart; well = λ d x a. tt; back = λ x g. refl; exact = boolean_exact }
 
 -- WHOLE
 whole_single : (low high : ℤ) (d : Data) (x y : ℤ) → reads_whole low high d x → reads_whole low high d y → x ≡ y
@@ -41,8 +52,12 @@ whole_well : (low high : ℤ) (d : Data) (x : ℤ) → reads_whole low high d x 
 whole_well low high (integer z) x a = ap (within low high) (sym a.0) ∙ a.1
 whole_well low high _ x a = absurd a
 
+whole_exact : (low high : ℤ) (d : Data) → FindsAll (whole_findings low high d) (not_whole low high d)
+whole_exact low high (integer z) = finds_unless (within low high z) out_of_range
+whole_exact low high _ = finds_here wrong_kind
+
 pub whole_lawful : (low high : ℤ) → IsLawful (whole low high)
-whole_lawful low high = record { single = whole_single low high; apart = whole_apart low high; well = whole_well low high; back = λ x g. (refl, g) }
+whole_lawful low high = record { single = whole_single low high; apart = whole_apart low high; well = whole_well low high; back = λ x g. (refl, g); exact = whole_exact low high }
 
 -- TRUE
 truth_single : (d : Data) (x y : Unit {0}) → reads_truth d x → reads_truth d y → x ≡ y
@@ -53,8 +68,13 @@ truth_apart (boolean true) p c x f a = f
 truth_apart (boolean false) p c x f a = a
 truth_apart _ p c x f a = a
 
+truth_exact : (d : Data) → FindsAll (truth_findings d) (not_truth d)
+truth_exact (boolean true) = finds_nothing
+truth_exact (boolean false) = finds_here not_true
+truth_exact _ = finds_here wrong_kind
+
 pub truth_lawful : IsLawful truth
-truth_lawful = record { single = truth_single; apart = truth_apart; well = λ d x a. tt; back = λ x g. tt }
+truth_lawful = record { single = truth_single; apart = truth_apart; well = λ d x a. tt; back = λ x g. tt; exact = truth_exact }
 
 -- A CHOICE
 module _ {A : Type 0} (meaning : Data → Option A) where
@@ -65,10 +85,39 @@ module _ {A : Type 0} (meaning : Data → Option A) where
   choice_apart (string s) p c x f a = none-some x (sym f.0 ∙ a)
   choice_apart _ p c x f a = none-some x (sym f.0 ∙ a)
 
+  choice_exact : (d : Data) → FindsAll (choice_findings meaning d) (not_choice meaning d)
+  choice_exact (string s) = finds_unless_some (meaning (string s)) not_a_choice
+  choice_exact d = finds_unless_some (meaning d) wrong_kind
+
 pub choice_lawful : {A : Type 0} (meaning : Data → Option A) (written : A → Data) → ((x : A) → meaning (written x) ≡ Some x) → IsLawful (choice meaning written)
-choice_lawful meaning written back = record { single = choice_single meaning; apart = choice_apart meaning; well = λ d x a. tt; back = λ x g. back x }
+choice_lawful meaning written back = record { single = choice_single meaning; apart = choice_apart meaning; well = λ d x a. tt; back = λ x g. back x; exact = choice_exact meaning }
 
 -- A LIST
+-- a fault of an item, where the first item has the index i
+abbrev pub ItemFrom : ℕ → (Data → Faults) → Items → Faults
+ItemFrom i F ds p c = (j : ℕ) × (d : Data) × (get_item j ds ≡ Some d) × behind (index (i + j)) (F d) p c
+
+pub item_here : (i : ℕ) (F : Data → Faults) (d : Data) (ds : Items) (p : Path) (c : Cause) → behind (index i) (F d) p c → ItemFrom i F (item d ds) p c
+item_here i F d ds p c b = let e : i + 0 ≡ i = omega arith in (0, d, refl, rw e b)
+
+pub item_there : (i : ℕ) (F : Data → Faults) (d : Data) (ds : Items) (p : Path) (c : Cause) → ItemFrom (suc i) F ds p c → ItemFrom i F (item d ds) p c
+item_there i F d ds p c f = let e : i + suc f.0 ≡ suc i + f.0 = omega arith in (suc f.0, f.1, f.2, rw e f.3)
+
+pub item_cases : (i : ℕ) (F : Data → Faults) (d : Data) (ds : Items) (p : Path) (c : Cause) (j : ℕ) (x : Data) → get_item j (item d ds) ≡ Some x → behind (index (i + j)) (F x) p c
+    → behind (index i) (F d) p c ⊎ ItemFrom (suc i) F ds p c
+item_cases i F d ds p c zero x g b = let e : i + 0 ≡ i = omega arith in inl (rw (same_Some d x g, ← e) b)
+item_cases i F d ds p c (suc j) x g b = let e : i + suc j ≡ suc i + j = omega arith in inr (j, x, g, rw (← e) b)
+
+pub no_item : (j : ℕ) (x : Data) → get_item j no_items ≡ Some x → ⊥
+no_item zero x g = none-some x g
+no_item (suc j) x g = none-some x g
+
+pub from_zero : (F : Data → Faults) (ds : Items) (p : Path) (c : Cause) → ItemFrom 0 F ds p c ↔ ((j : ℕ) × (d : Data) × (get_item j ds ≡ Some d) × behind (index j) (F d) p c)
+from_zero F ds p c = (
+  λ f. let e : 0 + f.0 ≡ f.0 = omega arith in (f.0, f.1, f.2, rw (← e) f.3),
+  λ f. let e : 0 + f.0 ≡ f.0 = omega arith in (f.0, f.1, f.2, rw e f.3),
+)
+
 module _ {A : Type 0} {K : Kinds.Kind A} (L : IsLawful K) where
   items_single : (ds : Items) (xs ys : List A) → reads_items K ds xs → reads_items K ds ys → xs ≡ ys
   items_single no_items [] [] a b = refl
@@ -109,8 +158,24 @@ module _ {A : Type 0} {K : Kinds.Kind A} (L : IsLawful K) where
   items_back [] g = tt
   items_back (x ∷ xs) g = (L.back x g.0, items_back xs g.1)
 
+  items_exact : (i : ℕ) (ds : Items) → FindsAll (item_findings K i ds) (ItemFrom i K.faulty ds)
+  items_exact i no_items p c = (λ h. absurd h, λ f. no_item f.0 f.1 f.2)
+  items_exact i (item d ds) p c =
+      let t = finds_both (found_behind (index i) (K.findings d)) (item_findings K (suc i) ds) (behind (index i) (K.faulty d)) (ItemFrom (suc i) K.faulty ds)
+      (finds_behind (index i) (K.findings d) (K.faulty d) (L.exact d)) (items_exact (suc i) ds) p c in (
+        λ h. elim (t.0 h) [ inl a ↦ item_here i K.faulty d ds p c a | inr b ↦ item_there i K.faulty d ds p c b ],
+        λ f. t.1 (item_cases i K.faulty d ds p c f.0 f.1 f.2 f.3),
+      )
+
+  list_exact : (d : Data) → FindsAll (list_findings K d) (faulty_list K d)
+  list_exact (array ds) p c =
+      let t = items_exact 0 ds p c in
+      let z = from_zero K.faulty ds p c in
+      (λ h. z.0 (t.0 h), λ f. t.1 (z.1 f))
+  list_exact _ p c = finds_here wrong_kind p c
+
   pub list_lawful : IsLawful (list_of K)
-  list_lawful = record { single = list_single; apart = list_apart; well = list_well; back = items_back }
+  list_lawful = record { single = list_single; apart = list_apart; well = list_well; back = items_back; exact = list_exact }
 
 -- A MAP
 module _ {A : Type 0} {K : Kinds.Kind A} (L : IsLawful K) where
@@ -154,8 +219,21 @@ module _ {A : Type 0} {K : Kinds.Kind A} (L : IsLawful K) where
   map_well (table ms) xs a = entries_well ms xs a
   map_well _ xs a = absurd a
 
+  pub entries_exact : (ms : Members) → FindsAll (entry_findings K ms) (faulty_entry K ms)
+  entries_exact no_members p c = (λ h. absurd h, λ f. absurd f.2)
+  entries_exact (member k d ms) p c =
+      let t = finds_both (found_behind (key k) (K.findings d)) (entry_findings K ms) (behind (key k) (K.faulty d)) (faulty_entry K ms)
+      (finds_behind (key k) (K.findings d) (K.faulty d) (L.exact d)) (entries_exact ms) p c in (
+        λ h. elim (t.0 h) [ inl a ↦ (k, d, inl (refl, refl), a) | inr b ↦ (b.0, b.1, inr b.2, b.3) ],
+        λ f. t.1 (elim f.2 [ inl here ↦ inl (rw (← here.0, ← here.1) f.3) | inr there ↦ inr (f.0, f.1, there, f.3) ]),
+      )
+
+  map_exact : (d : Data) → FindsAll (map_findings K d) (faulty_map K d)
+  map_exact (table ms) p c = entries_exact ms p c
+  map_exact _ p c = finds_here wrong_kind p c
+
   pub map_lawful : IsLawful (map_of K)
-  map_lawful = record { single = map_single; apart = map_apart; well = map_well; back = entries_back }
+  map_lawful = record { single = map_single; apart = map_apart; well = map_well; back = entries_back; exact = map_exact }
 
 -- PLAIN: a kind that reads no table writes none
 pub plain_from : {A : Type 0} {K : Kinds.Kind A} → IsLawful K → ((ms : Members) (x : A) → K.reads (table ms) x → ⊥) → ((x : A) → K.good x) → IsPlain K
@@ -191,8 +269,16 @@ module _ {A : Type 0} {K : Kinds.Kind A} (L : IsLawful K) (N : IsPlain K) where
   inh_back inherited g = refl
   inh_back (local x) g = L.back x g
 
+  workspace_exact : (b : Bool) (ms : Members) → FindsAll (if b then unlisted_keys ms else found_here wrong_kind) (λ p c. IsFalse b × itself wrong_kind p c)
+  workspace_exact true ms p c = let t = faultless_finds (unlisted_keys ms) (unlisted_faultless ms) p c in (λ h. absurd (t.0 h), λ f. absurd (true≢false f.0))
+  workspace_exact false ms p c = finds_unless false wrong_kind p c
+
+  inh_exact : (d : Data) → FindsAll (inh_findings K d) (faulty_inh K d)
+  inh_exact (table ms) p c = workspace_exact (inherits (table ms)) (without (codes "workspace" ∷ []) ms) p c
+  inh_exact d p c = L.exact d p c
+
   pub inh_lawful : IsLawful (inh K)
-  inh_lawful = record { single = inh_single; apart = inh_apart; well = inh_well; back = inh_back }
+  inh_lawful = record { single = inh_single; apart = inh_apart; well = inh_well; back = inh_back; exact = inh_exact }
 
 -- ONE OF TWO KINDS: a content is one of the two, and they are distinguished by what is written of them
 pub record IsSplit {A B C : Type 0} (test : Data → Bool) (K : Kinds.Kind A) (M : Kinds.Kind B) (side : C → A ⊎ B) : Type 0 where
@@ -228,25 +314,31 @@ module _ {A B : Type 0} {K : Kinds.Kind A} {M : Kinds.Kind B} (k : IsLawful K) (
   split_back test p q (inl x) g = rw (p x g) (k.back x g)
   split_back test p q (inr x) g = rw (q x g) (m.back x g)
 
+  split_exact : (t : Bool) (d : Data) → FindsAll (split_findings K M t d) (faulty_split K M t d)
+  split_exact true d p c = k.exact d p c
+  split_exact false d p c = m.exact d p c
+
   pub split_lawful : {C : Type 0} {test : Data → Bool} {side : C → A ⊎ B} → IsSplit test K M side → IsLawful (split test K M side)
   split_lawful {test = test} {side = side} s = record {
     single = λ d x y a b. sym (s.back x) ∙ ap s.from (split_single (test d) d (side x) (side y) a b) ∙ s.back y;
     apart = λ d p c x f a. split_apart (test d) d p c (side x) f a;
     well = λ d x a. split_well (test d) d (side x) a;
     back = λ x g. split_back test s.first s.second (side x) g;
+    exact = λ d. split_exact (test d) d;
   }
 
 -- METADATA
-pub metadata_lawful : {M : Type 0} {reads : Data → M → Type 0} {faulty : Data → Faults} {tree : M → Data} {good : M → Type 0}
+pub metadata_lawful : {M : Type 0} {reads : Data → M → Type 0} {faulty : Data → Faults} {tree : M → Data} {good : M → Type 0} {findings : Data → List Finding}
     → ((d : Data) (x y : M) → reads d x → reads d y → tree x ≡ tree y) → ((d : Data) (p : Path) (c : Cause) (x : M) → faulty d p c → reads d x → ⊥)
-    → ((d : Data) (x : M) → reads d x → good x) → ((x : M) → good x → reads (tree x) x) → IsLawful (metadata reads faulty tree good)
-metadata_lawful {reads = reads} single apart well back = record {
+    → ((d : Data) (x : M) → reads d x → good x) → ((x : M) → good x → reads (tree x) x) → ((d : Data) → FindsAll (findings d) (faulty d)) → IsLawful (metadata reads faulty tree good findings)
+metadata_lawful {reads = reads} single apart well back exact = record {
   single = λ d x y a b. sym a.2 ∙ single d a.0 b.0 a.1 b.1 ∙ b.2;
   apart = λ d p c x f a. apart d p c a.0 f a.1;
   well = λ d x a. (a.0, well d a.0 a.1, a.2);
   back = λ x g. (g.0, rw (← g.2) (back g.0 g.1), g.2);
+  exact = exact;
 }
 
 -- the metadata of a lawful kind
 pub tree_lawful : {A : Type 0} {K : Kinds.Kind A} → IsLawful K → IsLawful (tree_of K)
-tree_lawful {K = K} L = metadata_lawful (λ d x y a b. ap K.written (L.single d x y a b)) L.apart L.well L.back
+tree_lawful {K = K} L = metadata_lawful (λ d x y a b. ap K.written (L.single d x y a b)) L.apart L.well L.back L.exact

@@ -1,3 +1,4 @@
+pub mod FindingLaws
 pub mod KeptLaws
 pub mod KindLaws
 pub mod TableLaws
@@ -11,6 +12,7 @@ pub mod Built
 pub mod PartLaws
 pub mod ManifestLaws
 pub mod MeaningLaws
+pub mod FoundLaws
 pub mod GoodLaws
 pub mod FormerLaws
 pub mod CopyLaws

@@ -1,5 +1,5 @@
 -- The forms of a package, a workspace and a manifest satisfy the laws.
-use Rattle.manifest_schema.specs.Prelude.{Data, Kind, form, IsLawful, IsBuilt, IsTotal, package_rows, workspace_package_rows, workspace_rows, manifest_rows}
+use Rattle.manifest_schema.specs.Prelude.{Data, Kind, form, IsLawful, AreLawful, IsBuilt, IsTotal, package_rows, workspace_package_rows, workspace_rows, manifest_rows}
 use Rattle.std.proofs.Common.{refl}
 use Rattle.manifest_schema.proofs.Built.{turned, built}
 use Rattle.manifest_schema.proofs.FormLaws.{form_lawful}
@@ -12,9 +12,13 @@ pub package_built : (K : Kind Data) → IsBuilt (package_rows K)
 unfolding package_rows
 package_built K = built (package_rows K) (λ F m. hlevel turned) (λ x. refl) (λ t. refl)
 
+pub package_rows_lawful : (K : Kind Data) → IsLawful K → AreLawful (package_rows K)
+unfolding package_rows
+package_rows_lawful K l = search row_laws
+
 pub package_lawful : (K : Kind Data) → IsLawful K → IsLawful (form (package_rows K))
 unfolding package_rows
-package_lawful K l = form_lawful (package_rows K) (search row_laws) (package_built K) refl
+package_lawful K l = form_lawful (package_rows K) (package_rows_lawful K l) (package_built K) refl
 
 pub package_total : (K : Kind Data) → IsTotal K → IsTotal (form (package_rows K))
 unfolding package_rows
@@ -43,9 +47,13 @@ pub manifest_built : (K W : Kind Data) → IsBuilt (manifest_rows K W)
 unfolding manifest_rows
 manifest_built K W = built (manifest_rows K W) (λ F m. hlevel turned) (λ x. refl) (λ t. refl)
 
+pub manifest_rows_lawful : (K W : Kind Data) → IsLawful K → IsLawful W → AreLawful (manifest_rows K W)
+unfolding manifest_rows
+manifest_rows_lawful K W k w = search (row_laws, package_lawful, workspace_lawful, dependency_lawful, platform_form, product_form, profiles_form, badges_form, lints_form)
+
 pub manifest_lawful : (K W : Kind Data) → IsLawful K → IsLawful W → IsLawful (form (manifest_rows K W))
 unfolding manifest_rows
-manifest_lawful K W k w = form_lawful (manifest_rows K W) (search (row_laws, package_lawful, workspace_lawful, dependency_lawful, platform_form, product_form, profiles_form, badges_form, lints_form)) (manifest_built K W) refl
+manifest_lawful K W k w = form_lawful (manifest_rows K W) (manifest_rows_lawful K W k w) (manifest_built K W) refl
 
 pub manifest_total : (K W : Kind Data) → IsTotal K → IsTotal W → IsTotal (form (manifest_rows K W))
 unfolding manifest_rows

@@ -1,7 +1,21 @@
 -- Each need satisfies the laws, where its kind does.
-use Rattle.manifest_schema.specs.Prelude.{Data, Text, Path, Cause, Spellings, Slot, absent, one, clash, slot, meets_required, faulty_required, faulty_free, meets_optional, meets_default, meets_lenient, written_some, written_unless, good_some, required, optional, default, lenient_optional, lenient_default, IsLawful, IsLawfulNeed, IsDefault}
+use Rattle.manifest_schema.specs.Prelude.{Data, Text, Path, Cause, key, missing, two_spellings, no_fault, first, Spellings, Slot, absent, one, clash, slot, meets_required, faulty_required, faulty_free, meets_optional, meets_default, meets_lenient, written_some, written_unless, good_some, required, optional, default, lenient_optional, lenient_default, IsLawful, IsLawfulNeed, IsDefault}
 use Rattle.std.proofs.Common.{◌≡◌, Bool, true, false, ◌⊎◌, inl, inr, Option, Some, None, refl, sym, ap, ◌∙◌}
 use Rattle.manifest_schema.specs.Kinds
+
+use Rattle.manifest_schema.specs.Findings.{found_here, FindsAll}
+use Rattle.manifest_schema.specs.Needs.{free_findings, required_findings, lenient_findings}
+use Rattle.manifest_schema.proofs.FindingLaws.{finds_nothing, finds_behind, finds_behind_here, faultless_finds, lenient_faultless}
+
+-- WHAT IS FOUND of a field that may be absent
+module _ {B : Type 0} {K : Kinds.Kind B} (L : IsLawful K) where
+  free_exact : (names : Spellings) (s : Slot) → FindsAll (free_findings names K s) (faulty_free names K s)
+  free_exact names absent = finds_nothing
+  free_exact names clash = finds_behind_here (key (first names)) two_spellings
+  free_exact names (one k d) = finds_behind (key k) (K.findings d) (K.faulty d) (L.exact d)
+
+lenient_exact : {B : Type 0} (K : Kinds.Kind B) (names : Spellings) (s : Slot) → FindsAll (lenient_findings names K s) no_fault
+lenient_exact K names s = faultless_finds (lenient_findings names K s) (lenient_faultless (free_findings names K s))
 
 -- ROWS
 module _ {B : Type 0} {K : Kinds.Kind B} (L : IsLawful K) where
@@ -20,8 +34,13 @@ module _ {B : Type 0} {K : Kinds.Kind B} (L : IsLawful K) where
   required_well (one k d) x a = L.well d x a
   required_well clash x a = absurd a
 
+  required_exact : (names : Spellings) (s : Slot) → FindsAll (required_findings names K s) (faulty_required names K s)
+  required_exact names absent = finds_behind_here (key (first names)) missing
+  required_exact names clash = finds_behind_here (key (first names)) two_spellings
+  required_exact names (one k d) = finds_behind (key k) (K.findings d) (K.faulty d) (L.exact d)
+
   pub required_lawful : IsLawfulNeed (required K)
-  required_lawful = record { single = required_single; apart = required_apart; well = required_well; back = λ k x g. L.back x g }
+  required_lawful = record { single = required_single; apart = required_apart; well = required_well; back = λ k x g. L.back x g; exact = required_exact }
 
 module _ {B : Type 0} {K : Kinds.Kind B} (L : IsLawful K) where
   optional_single : (s : Slot) (x y : Option B) → meets_optional K s x → meets_optional K s y → x ≡ y
@@ -50,7 +69,7 @@ module _ {B : Type 0} {K : Kinds.Kind B} (L : IsLawful K) where
   optional_back k (Some x) g = L.back x g
 
   pub optional_lawful : IsLawfulNeed (optional K)
-  optional_lawful = record { single = optional_single; apart = optional_apart; well = optional_well; back = optional_back }
+  optional_lawful = record { single = optional_single; apart = optional_apart; well = optional_well; back = optional_back; exact = free_exact L }
 
 module _ {B : Type 0} {K : Kinds.Kind B} (L : IsLawful K) {e : B} {skipped : B → Bool} (D : IsDefault K e skipped) where
   default_single : (s : Slot) (x y : B) → meets_default e K s x → meets_default e K s y → x ≡ y
@@ -73,7 +92,7 @@ module _ {B : Type 0} {K : Kinds.Kind B} (L : IsLawful K) {e : B} {skipped : B �
   default_back false k x is g = L.back x g
 
   pub default_lawful : IsLawfulNeed (default K e skipped)
-  default_lawful = record { single = default_single; apart = default_apart; well = default_well; back = λ k x g. default_back (skipped x) k x (D.skips x) g }
+  default_lawful = record { single = default_single; apart = default_apart; well = default_well; back = λ k x g. default_back (skipped x) k x (D.skips x) g; exact = free_exact L }
 
 module _ {B C : Type 0} {K : Kinds.Kind B} (L : IsLawful K) (wrap : B → C) (e : C) where
   lenient_one : (d : Data) (x y : C) → ((b : B) × K.reads d b × (x ≡ wrap b)) ⊎ (((b : B) → K.reads d b → ⊥) × (x ≡ e)) → ((b : B) × K.reads d b × (y ≡ wrap b)) ⊎ (((b : B) → K.reads d b → ⊥) × (y ≡ e)) → x ≡ y
@@ -107,6 +126,7 @@ module _ {B : Type 0} {K : Kinds.Kind B} (L : IsLawful K) where
     apart = λ names s p c x f a. f;
     well = λ s x a. lenient_well L Some None (good_some K) (λ b g. g) tt s x a;
     back = lenient_optional_back L;
+    exact = lenient_exact K;
   }
 
   pub lenient_default_lawful : (e : B) → K.good e → IsLawfulNeed (lenient_default K e)
@@ -115,4 +135,5 @@ module _ {B : Type 0} {K : Kinds.Kind B} (L : IsLawful K) where
     apart = λ names s p c x f a. f;
     well = λ s x a. lenient_well L (λ b. b) e K.good (λ b g. g) base s x a;
     back = λ k x g. inl (x, L.back x g, refl);
+    exact = lenient_exact K;
   }

@@ -77,8 +77,8 @@ empty_to : {A : Type 0} (xs : List A) → is_empty xs ≡ true → xs ≡ []
 empty_to [] h = refl
 empty_to (x ∷ xs) h = absurd (false≢true h)
 
-pub unless_empty : {A : Type 0} {K : Kinds.Kind A} → IsDefault (list_of K) [] is_empty
-unless_empty = record { well = tt; skips = empty_to }
+pub unless_empty : {A : Type 0} (K : Kinds.Kind A) → IsDefault (list_of K) [] is_empty
+unless_empty K = record { well = tt; skips = empty_to }
 
 pub ruleset row_laws = (required_lawful, optional_lawful, default_lawful, lenient_optional_lawful, lenient_default_lawful, never_skips, unless_true, unless_false, unless_empty, text_lawful, flag_lawful, truth_lawful, whole_lawful, list_lawful, map_lawful, text_or_flag_lawful, publish_lawful, kept_lawful, edition_lawful, resolver_lawful, level_lawful, status_lawful, strip_lawful, inh_lawful, text_plain, texts_plain, text_or_flag_plain, publish_plain, edition_plain, form_is_lawful)
 

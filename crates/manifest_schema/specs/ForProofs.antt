@@ -1,6 +1,6 @@
 -- What the contracts of single steps and the laws of impls cite. It is not needed to read the meaning of a table.
 use Rattle.std.specs.Prelude.{ℕ, suc, [], Option, Some, None, refl}
-use Rattle.std.proofs.Common.{inr}
+use Rattle.std.proofs.Common.{inl, inr}
 use Rattle.toml.specs.Data.{Members}
 use Rattle.manifest_schema.specs.Paths.{Text, metadata_fault}
 use Rattle.manifest_schema.specs.Slots.{Spellings, only, both, at}
@@ -26,6 +26,7 @@ nothing_laws = record {
   apart = λ d p c x f a. a;
   well = λ d x a. a;
   back = λ x g. absurd g;
+  exact = λ d p c. (elim [ inl h ↦ h | inr h ↦ absurd h ], λ h. inl h);
 }
 
 pub nothing_told : IsTotal nothing
@@ -38,4 +39,5 @@ unread_laws = record {
   apart = λ d p c x f a. f;
   well = λ d x a. tt;
   back = λ x g. tt;
+  exact = λ d p c. (λ h. h, λ h. h);
 }

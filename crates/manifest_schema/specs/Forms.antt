@@ -1,9 +1,10 @@
 -- Forms: a record is read from a table by a list of rows, one for each field.
-use Rattle.std.specs.Prelude.{Bool, true, not, ◌&&◌, ◌⊎◌, List, [], ◌∷◌, IsTrue}
+use Rattle.std.specs.Prelude.{Bool, true, not, ◌&&◌, ◌⊎◌, List, [], ◌∷◌, ◌++◌, IsTrue}
 use Rattle.toml.specs.Data.{Data, table, Members, no_members}
 use Rattle.manifest_schema.specs.Paths.{Text, wrong_kind, Faults, itself}
+use Rattle.manifest_schema.specs.Findings.{Finding, found_here, unlisted_keys}
 use Rattle.manifest_schema.specs.Slots.{Spellings, only, both, first, at, put_some, is_among, without}
-use Rattle.manifest_schema.specs.Kinds.{Kind, Entries, reads_entries, faulty_entry, written_entries, good_entries}
+use Rattle.manifest_schema.specs.Kinds.{Kind, Entries, reads_entries, faulty_entry, written_entries, good_entries, entry_findings}
 use Rattle.manifest_schema.specs.Needs.{Need}
 
 -- A row: where the field's content stands in the record, its spellings, and its need with its kind.
@@ -92,6 +93,25 @@ good_beside named no_more t = Unit {0}
 abbrev pub good_rows : {A : Type 0} → Rows A → A → Type 0
 good_rows rows x = good_beside (spelled rows) rows (gets rows x)
 
+-- WHAT IS FOUND: row by row, or in the map of all other keys
+abbrev pub findings_beside : {A : Type 0} → List Text → Rows A → Members → List Finding
+findings_beside named (r ⨾ rs) ms =
+    r.need.findings r.spellings (at r.spellings ms) ++ findings_beside named rs ms
+findings_beside named (others get K) ms = entry_findings K (without named ms)
+findings_beside named no_more ms = []
+
+abbrev pub row_findings : {A : Type 0} → Rows A → Members → List Finding
+row_findings rows = findings_beside (spelled rows) rows
+
+-- the entries that nothing of the form reads: none where it ends with the map of all other keys
+abbrev pub left_beside : {A : Type 0} → List Text → Rows A → Members → Members
+left_beside named (r ⨾ rs) ms = left_beside named rs ms
+left_beside named (others get K) ms = no_members
+left_beside named no_more ms = without named ms
+
+abbrev pub left_over : {A : Type 0} → Rows A → Members → Members
+left_over rows = left_beside (spelled rows) rows
+
 -- THE KIND OF A FORM
 abbrev pub reads_form : {A : Type 0} → Rows A → Data → A → Type 0
 reads_form rows (table ms) x = fits rows ms x
@@ -101,10 +121,15 @@ abbrev pub faulty_form : {A : Type 0} → Rows A → Data → Faults
 faulty_form rows (table ms) p c = unfit rows ms p c
 faulty_form rows _ p c = itself wrong_kind p c
 
+abbrev pub form_findings : {A : Type 0} → Rows A → Data → List Finding
+form_findings rows (table ms) = row_findings rows ms ++ unlisted_keys (left_over rows ms)
+form_findings rows _ = found_here wrong_kind
+
 abbrev pub form : {A : Type 0} → Rows A → Kind A
 form rows = record {
   reads = reads_form rows;
   faulty = faulty_form rows;
   written = λ x. table (written_rows rows (gets rows x));
   good = good_rows rows;
+  findings = form_findings rows;
 }

@@ -1,8 +1,10 @@
 -- Kinds of values: what a value means, which faults it has, what is written, and what is well-formed.
-use Rattle.std.specs.Prelude.{◌≡◌, ℕ, ℤ, Bool, true, false, ◌&&◌, ◌⊎◌, List, [], ◌∷◌, Option, Some, None, IsTrue, IsFalse, codes, int_le}
+use Rattle.std.specs.Prelude.{◌≡◌, ℕ, suc, ℤ, Bool, true, false, ◌&&◌, ◌⊎◌, if◌then◌else◌, List, [], ◌∷◌, ◌++◌, Option, Some, None, is_some, IsTrue, IsFalse, codes, int_le}
 use Rattle.std.proofs.Common.{inl, inr}
 use Rattle.toml.specs.Data.{Data, string, integer, float, boolean, array, table, Items, no_items, item, Members, no_members, member, get_item, get}
 use Rattle.manifest_schema.specs.Paths.{Text, wrong_kind, not_a_choice, out_of_range, not_true, holds_float, metadata_fault, key, index, Path, Faults, itself, behind}
+use Rattle.manifest_schema.specs.Findings.{Finding, found_here, found_behind, unlisted_keys}
+use Rattle.manifest_schema.specs.Slots.{without}
 
 -- A kind of values that stand for an A.
 pub record Kind (A : Type 0) : Type 1 where
@@ -14,6 +16,8 @@ pub record Kind (A : Type 0) : Type 1 where
   pub written : A → Data
   -- it is well-formed: it can be written and read back
   pub good : A → Type 0
+  -- what is found in the value: its faults, in order, and the keys that nothing reads
+  pub findings : Data → List Finding
 
 -- everything of the type is well-formed
 abbrev pub any_good : {A : Type 0} → A → Type 0
@@ -28,8 +32,18 @@ abbrev pub not_text : Data → Faults
 not_text (string s) p c = ⊥
 not_text _ p c = itself wrong_kind p c
 
+abbrev pub text_findings : Data → List Finding
+text_findings (string s) = []
+text_findings _ = found_here wrong_kind
+
 abbrev pub text : Kind Text
-text = record { reads = reads_text; faulty = not_text; written = string; good = any_good }
+text = record {
+  reads = reads_text;
+  faulty = not_text;
+  written = string;
+  good = any_good;
+  findings = text_findings;
+}
 
 -- BOOLEAN
 abbrev pub reads_flag : Data → Bool → Type 0
@@ -40,8 +54,18 @@ abbrev pub not_flag : Data → Faults
 not_flag (boolean b) p c = ⊥
 not_flag _ p c = itself wrong_kind p c
 
+abbrev pub flag_findings : Data → List Finding
+flag_findings (boolean b) = []
+flag_findings _ = found_here wrong_kind
+
 abbrev pub flag : Kind Bool
-flag = record { reads = reads_flag; faulty = not_flag; written = boolean; good = any_good }
+flag = record {
+  reads = reads_flag;
+  faulty = not_flag;
+  written = boolean;
+  good = any_good;
+  findings = flag_findings;
+}
 
 -- A WHOLE NUMBER from low to high, both included
 abbrev pub within : ℤ → ℤ → ℤ → Bool
@@ -55,12 +79,17 @@ abbrev pub not_whole : ℤ → ℤ → Data → Faults
 not_whole low high (integer z) p c = IsFalse (within low high z) × itself out_of_range p c
 not_whole low high _ p c = itself wrong_kind p c
 
+abbrev pub whole_findings : ℤ → ℤ → Data → List Finding
+whole_findings low high (integer z) = if within low high z then [] else found_here out_of_range
+whole_findings low high _ = found_here wrong_kind
+
 abbrev pub whole : ℤ → ℤ → Kind ℤ
 whole low high = record {
   reads = reads_whole low high;
   faulty = not_whole low high;
   written = integer;
   good = λ x. IsTrue (within low high x);
+  findings = whole_findings low high;
 }
 
 -- THE BOOLEAN TRUE
@@ -73,12 +102,18 @@ not_truth (boolean true) p c = ⊥
 not_truth (boolean false) p c = itself not_true p c
 not_truth _ p c = itself wrong_kind p c
 
+abbrev pub truth_findings : Data → List Finding
+truth_findings (boolean true) = []
+truth_findings (boolean false) = found_here not_true
+truth_findings _ = found_here wrong_kind
+
 abbrev pub truth : Kind (Unit {0})
 truth = record {
   reads = reads_truth;
   faulty = not_truth;
   written = λ x. boolean true;
   good = any_good;
+  findings = truth_findings;
 }
 
 -- A CHOICE of texts, or of texts and booleans: each word has one meaning, and each meaning one written word
@@ -89,12 +124,20 @@ abbrev pub not_choice : {A : Type 0} → (Data → Option A) → Data → Faults
 not_choice meaning (string s) p c = (meaning (string s) ≡ None) × itself not_a_choice p c
 not_choice meaning d p c = (meaning d ≡ None) × itself wrong_kind p c
 
+abbrev pub no_word_findings : Data → List Finding
+no_word_findings (string s) = found_here not_a_choice
+no_word_findings _ = found_here wrong_kind
+
+abbrev pub choice_findings : {A : Type 0} → (Data → Option A) → Data → List Finding
+choice_findings meaning d = if is_some (meaning d) then [] else no_word_findings d
+
 abbrev pub choice : {A : Type 0} → (Data → Option A) → (A → Data) → Kind A
 choice meaning written = record {
   reads = reads_choice meaning;
   faulty = not_choice meaning;
   written = written;
   good = any_good;
+  findings = choice_findings meaning;
 }
 
 -- A LIST of values of one kind
@@ -124,12 +167,23 @@ abbrev pub good_items : {A : Type 0} → Kind A → List A → Type 0
 good_items K [] = Unit {0}
 good_items K (x ∷ xs) = K.good x × good_items K xs
 
+-- what is found in the items, from the index of the first
+abbrev pub item_findings : {A : Type 0} → Kind A → ℕ → Items → List Finding
+item_findings K i no_items = []
+item_findings K i (item d ds) =
+    found_behind (index i) (K.findings d) ++ item_findings K (suc i) ds
+
+abbrev pub list_findings : {A : Type 0} → Kind A → Data → List Finding
+list_findings K (array ds) = item_findings K 0 ds
+list_findings K _ = found_here wrong_kind
+
 abbrev pub list_of : {A : Type 0} → Kind A → Kind (List A)
 list_of K = record {
   reads = reads_list K;
   faulty = faulty_list K;
   written = λ xs. array (written_items K xs);
   good = good_items K;
+  findings = list_findings K;
 }
 
 -- A MAP: a table whose values are of one kind, by its entries in the order of their keys
@@ -166,12 +220,22 @@ abbrev pub good_entries : {A : Type 0} → Kind A → Entries A → Type 0
 good_entries K [] = Unit {0}
 good_entries K (e ∷ es) = K.good e.1 × good_entries K es
 
+-- what is found in the entries, in their order
+abbrev pub entry_findings : {A : Type 0} → Kind A → Members → List Finding
+entry_findings K no_members = []
+entry_findings K (member k d ms) = found_behind (key k) (K.findings d) ++ entry_findings K ms
+
+abbrev pub map_findings : {A : Type 0} → Kind A → Data → List Finding
+map_findings K (table ms) = entry_findings K ms
+map_findings K _ = found_here wrong_kind
+
 abbrev pub map_of : {A : Type 0} → Kind A → Kind (Entries A)
 map_of K = record {
   reads = reads_map K;
   faulty = faulty_map K;
   written = λ es. table (written_entries K es);
   good = good_entries K;
+  findings = map_findings K;
 }
 
 -- KEPT: any value without a float, as it is
@@ -203,12 +267,29 @@ reads_kept d x = (d ≡ x) × IsTrue (plain d)
 abbrev pub float_in : Data → Faults
 float_in d p c = float_at p d × (c ≡ holds_float)
 
+-- each float, at its path
+abbrev mutual
+  pub float_findings : Data → List Finding
+  float_findings (float x) = found_here holds_float
+  float_findings (array ds) = item_floats 0 ds
+  float_findings (table ms) = entry_floats ms
+  float_findings _ = []
+
+  pub item_floats : ℕ → Items → List Finding
+  item_floats i no_items = []
+  item_floats i (item d ds) = found_behind (index i) (float_findings d) ++ item_floats (suc i) ds
+
+  pub entry_floats : Members → List Finding
+  entry_floats no_members = []
+  entry_floats (member k d ms) = found_behind (key k) (float_findings d) ++ entry_floats ms
+
 abbrev pub kept : Kind Data
 kept = record {
   reads = reads_kept;
   faulty = float_in;
   written = λ x. x;
   good = λ x. IsTrue (plain x);
+  findings = float_findings;
 }
 
 -- WHAT MAY BE INHERITED from the workspace: a table whose `workspace` is the boolean true, or a value of its own
@@ -240,12 +321,20 @@ abbrev pub good_inh : {A : Type 0} → Kind A → Inheritable A → Type 0
 good_inh K inherited = Unit {0}
 good_inh K (local x) = K.good x
 
+-- of a table whose `workspace` is the boolean true, nothing else is read
+abbrev pub inh_findings : {A : Type 0} → Kind A → Data → List Finding
+inh_findings K (table ms) =
+    if inherits (table ms) then unlisted_keys (without (codes "workspace" ∷ []) ms)
+    else found_here wrong_kind
+inh_findings K d = K.findings d
+
 abbrev pub inh : {A : Type 0} → Kind A → Kind (Inheritable A)
 inh K = record {
   reads = reads_inh K;
   faulty = faulty_inh K;
   written = written_inh K;
   good = good_inh K;
+  findings = inh_findings K;
 }
 
 -- ONE OF TWO KINDS: K where the test of the value holds, else L; `side` says of which of the two a C is
@@ -266,12 +355,17 @@ abbrev pub good_split : {A B : Type 0} → Kind A → Kind B → A ⊎ B → Typ
 good_split K L (inl a) = K.good a
 good_split K L (inr b) = L.good b
 
+abbrev pub split_findings : {A B : Type 0} → Kind A → Kind B → Bool → Data → List Finding
+split_findings K L true = K.findings
+split_findings K L false = L.findings
+
 abbrev pub split : {A B C : Type 0} → (Data → Bool) → Kind A → Kind B → (C → A ⊎ B) → Kind C
 split test K L side = record {
   reads = λ d x. reads_split K L (test d) d (side x);
   faulty = λ d. faulty_split K L (test d) d;
   written = λ x. written_split K L (side x);
   good = λ x. good_split K L (side x);
+  findings = λ d. split_findings K L (test d) d;
 }
 
 -- the tests
@@ -285,17 +379,19 @@ is_flag _ = false
 
 -- METADATA: what a metadata type names, each of its values by its written tree
 abbrev pub metadata :
-    {M : Type 0} → (Data → M → Type 0) → (Data → Faults) → (M → Data) → (M → Type 0) → Kind Data
-metadata {M} reads faulty written good = record {
+    {M : Type 0} → (Data → M → Type 0) → (Data → Faults) → (M → Data) → (M → Type 0)
+    → (Data → List Finding) → Kind Data
+metadata {M} reads faulty written good findings = record {
   reads = λ d x. (m : M) × reads d m × (written m ≡ x);
   faulty = faulty;
   written = λ x. x;
   good = λ x. (m : M) × good m × (written m ≡ x);
+  findings = findings;
 }
 
 -- the metadata of a kind: each value of the kind by its written tree
 abbrev pub tree_of : {A : Type 0} → Kind A → Kind Data
-tree_of K = metadata K.reads K.faulty K.written K.good
+tree_of K = metadata K.reads K.faulty K.written K.good K.findings
 
 -- no metadata at all: every value is refused, and nothing is well-formed
 abbrev pub nothing : Kind (Unit {0})
@@ -304,6 +400,7 @@ nothing = record {
   faulty = λ d. itself metadata_fault;
   written = λ x. table no_members;
   good = λ x. ⊥;
+  findings = λ d. found_here metadata_fault;
 }
 
 -- metadata that is not looked at: every value is read, as the same, and the empty table is written
@@ -313,4 +410,5 @@ unread = record {
   faulty = λ d p c. ⊥;
   written = λ x. table no_members;
   good = any_good;
+  findings = λ d. [];
 }

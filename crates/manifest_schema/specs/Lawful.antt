@@ -2,12 +2,13 @@
 use Rattle.std.specs.Prelude.{◌≡◌, ◌⊎◌, Bool, true}
 use Rattle.toml.specs.Data.{Data, Members, table}
 use Rattle.manifest_schema.specs.Paths.{Text, Cause, Path, Faults}
+use Rattle.manifest_schema.specs.Findings.{FindsAll}
 use Rattle.manifest_schema.specs.Slots.{Spellings, Slot, slot}
 use Rattle.manifest_schema.specs.Kinds.{Kind}
 use Rattle.manifest_schema.specs.Needs.{Need}
 use Rattle.manifest_schema.specs.Forms.{Rows, no_more, others, ◌⨾◌, Fields, gets}
 
--- THE FOUR LAWS of a kind
+-- THE FIVE LAWS of a kind
 pub record IsLawful {A : Type 0} (K : Kind A) : Type 0 where
   -- a value has at most one reading
   pub single : (d : Data) (x y : A) → K.reads d x → K.reads d y → x ≡ y
@@ -17,6 +18,8 @@ pub record IsLawful {A : Type 0} (K : Kind A) : Type 0 where
   pub well : (d : Data) (x : A) → K.reads d x → K.good x
   -- what is written of a well-formed one is read back
   pub back : (x : A) → K.good x → K.reads (K.written x) x
+  -- each of its faults is found, and no other
+  pub exact : (d : Data) → FindsAll (K.findings d) (K.faulty d)
 
 -- the same for a need
 pub record IsLawfulNeed {C : Type 0} (n : Need C) : Type 0 where
@@ -26,6 +29,7 @@ pub record IsLawfulNeed {C : Type 0} (n : Need C) : Type 0 where
       n.meets s x → ⊥
   pub well : (s : Slot) (x : C) → n.meets s x → n.good x
   pub back : (k : Text) (x : C) → n.good x → n.meets (slot k (n.written x)) x
+  pub exact : (names : Spellings) (s : Slot) → FindsAll (n.findings names s) (n.faulty names s)
 
 -- the rows of a form satisfy them
 abbrev pub AreLawful : {A : Type 0} → Rows A → Type 0

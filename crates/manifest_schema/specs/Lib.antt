@@ -1,5 +1,6 @@
 pub mod Paths
 pub mod PathTexts
+pub mod Findings
 pub mod Slots
 pub mod Kinds
 pub mod Needs
@@ -12,6 +13,7 @@ pub mod Choices
 pub mod PartForms
 pub mod ManifestForms
 pub mod Meaning
+pub mod Found
 pub mod Former
 pub mod Dates
 pub mod Examples

@@ -2,6 +2,7 @@
 use Rattle.std.specs.Prelude.{◌≡◌, Bool, true, false, not, ◌⊎◌, List, [], Option, Some, None}
 use Rattle.toml.specs.Data.{Data}
 use Rattle.manifest_schema.specs.Paths.{missing, two_spellings, key, Faults, itself, behind, no_fault}
+use Rattle.manifest_schema.specs.Findings.{Finding, found_here, found_behind, leniently}
 use Rattle.manifest_schema.specs.Slots.{Spellings, first, Slot, absent, one, clash}
 use Rattle.manifest_schema.specs.Kinds.{Kind}
 
@@ -15,6 +16,8 @@ pub record Need (C : Type 0) : Type 1 where
   pub written : C → Option Data
   -- the content is well-formed
   pub good : C → Type 0
+  -- what is found under the spellings, in the order in which it is told
+  pub findings : Spellings → Slot → List Finding
 
 -- FAULTS OF A FIELD
 -- a clash and an absence are reported under the first spelling
@@ -30,6 +33,19 @@ faulty_free names K absent p c = ⊥
 faulty_free names K clash p c = clash_at names p c
 faulty_free names K (one k d) p c = behind (key k) (K.faulty d) p c
 
+-- a clash and an absence as findings
+abbrev pub clash_found : Spellings → List Finding
+clash_found names = found_behind (key (first names)) (found_here two_spellings)
+
+abbrev pub missing_found : Spellings → List Finding
+missing_found names = found_behind (key (first names)) (found_here missing)
+
+-- what is found of a field that may be absent
+abbrev pub free_findings : {B : Type 0} → Spellings → Kind B → Slot → List Finding
+free_findings names K absent = []
+free_findings names K clash = clash_found names
+free_findings names K (one k d) = found_behind (key k) (K.findings d)
+
 -- REQUIRED: it is there
 abbrev pub meets_required : {B : Type 0} → Kind B → Slot → B → Type 0
 meets_required K (one k d) x = K.reads d x
@@ -40,12 +56,18 @@ faulty_required names K absent = missing_at names
 faulty_required names K clash = clash_at names
 faulty_required names K (one k d) = behind (key k) (K.faulty d)
 
+abbrev pub required_findings : {B : Type 0} → Spellings → Kind B → Slot → List Finding
+required_findings names K absent = missing_found names
+required_findings names K clash = clash_found names
+required_findings names K (one k d) = found_behind (key k) (K.findings d)
+
 abbrev pub required : {B : Type 0} → Kind B → Need B
 required K = record {
   meets = meets_required K;
   faulty = λ names. faulty_required names K;
   written = λ x. Some (K.written x);
   good = K.good;
+  findings = λ names. required_findings names K;
 }
 
 -- OPTIONAL: None where it is absent, and None is not written
@@ -68,6 +90,7 @@ optional K = record {
   faulty = λ names. faulty_free names K;
   written = written_some K;
   good = good_some K;
+  findings = λ names. free_findings names K;
 }
 
 -- DEFAULT: e where it is absent; not written where the test holds of its content
@@ -86,6 +109,7 @@ default K e skipped = record {
   faulty = λ names. faulty_free names K;
   written = λ x. written_unless K (skipped x) x;
   good = K.good;
+  findings = λ names. free_findings names K;
 }
 
 -- when a default is not written: never, where it is true, where it is false, where it is the empty list
@@ -108,6 +132,10 @@ meets_lenient {B} wrap e K (one k d) x =
     ((b : B) × K.reads d b × (x ≡ wrap b)) ⊎ (((b : B) → K.reads d b → ⊥) × (x ≡ e))
 meets_lenient wrap e K _ x = x ≡ e
 
+-- what does not fit is ignored, and so are two spellings
+abbrev pub lenient_findings : {B : Type 0} → Spellings → Kind B → Slot → List Finding
+lenient_findings names K s = leniently (free_findings names K s)
+
 -- None where nothing fits, and None is not written
 abbrev pub lenient_optional : {B : Type 0} → Kind B → Need (Option B)
 lenient_optional K = record {
@@ -115,6 +143,7 @@ lenient_optional K = record {
   faulty = λ names s. no_fault;
   written = written_some K;
   good = good_some K;
+  findings = λ names. lenient_findings names K;
 }
 
 -- e where nothing fits, written always
@@ -124,4 +153,5 @@ lenient_default K e = record {
   faulty = λ names s. no_fault;
   written = λ x. Some (K.written x);
   good = K.good;
+  findings = λ names. lenient_findings names K;
 }

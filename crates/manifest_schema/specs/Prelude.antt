@@ -49,13 +49,15 @@ pub use Rattle.manifest_schema.specs.Contents.{Dependency, DependencyDetail, Edi
 pub use Rattle.manifest_schema.specs.Dates.{HasValidDates, KeepsValidDates, MeantDatesAreValid, WrittenDatesAreValid, kept_metadata}
 pub use Rattle.manifest_schema.specs.Defaults.{empty_manifest, named}
 pub use Rattle.manifest_schema.specs.ForProofs.{first_fit, nothing_laws, spellings_of, unread_laws}
+pub use Rattle.manifest_schema.specs.Findings.{Finding, FindsAll, IsFaultless, among, fault, faults_of, first_found, foremost, found_behind, found_here, ignored, ignored_of, leniently, unlisted, unlisted_keys, unlisted_of}
+pub use Rattle.manifest_schema.specs.Found.{FaultlessIfMeant, FindsEveryFault, findings_by, manifest_faults, manifest_findings, manifest_ignored, manifest_unlisted, old_findings}
 pub use Rattle.manifest_schema.specs.Former.{AllValues, ManifestLeavesDefaults, OldWrittenIsRead, former_written}
-pub use Rattle.manifest_schema.specs.Forms.{Fields, Rows, differ, distinct, faulty_form, fits, fits_beside, form, gets, good_beside, good_rows, no_more, none_named, others, spell, spelled, unfit_beside, written_rows, ◌⨾◌}
-pub use Rattle.manifest_schema.specs.Kinds.{Entries, Inheritable, Kind, choice, faulty_entry, faulty_inh, faulty_item, faulty_map, faulty_split, flag, float_at, float_in, good_entries, good_inh, good_items, good_split, has_entry, inh, inherited, inherits, is_text, kept, list_of, local, map_of, not_choice, nothing, plain, plain_items, plain_members, reads_choice, reads_entries, reads_inh, reads_items, reads_kept, reads_split, split, text, tree_of, truth, unread, whole, within, written_entries, written_items, written_split}
+pub use Rattle.manifest_schema.specs.Forms.{Fields, Rows, differ, distinct, faulty_form, findings_beside, form_findings, left_beside, left_over, row_findings, fits, fits_beside, form, gets, good_beside, good_rows, no_more, none_named, others, spell, spelled, unfit_beside, written_rows, ◌⨾◌}
+pub use Rattle.manifest_schema.specs.Kinds.{Entries, Inheritable, Kind, choice, choice_findings, entry_findings, entry_floats, faulty_entry, faulty_inh, faulty_item, faulty_map, faulty_split, flag, float_at, float_findings, float_in, good_entries, good_inh, good_items, good_split, has_entry, inh, inherited, inherits, is_text, item_findings, item_floats, kept, list_of, local, map_of, not_choice, nothing, plain, plain_items, plain_members, reads_choice, reads_entries, reads_inh, reads_items, reads_kept, reads_split, split, text, tree_of, truth, unread, whole, within, written_entries, written_items, written_split}
 pub use Rattle.manifest_schema.specs.Lawful.{AreLawful, AreTotal, IsBuilt, IsDefault, IsLawful, IsLawfulNeed, IsPlain, IsTotal, IsTotalNeed, ReadOrFaulty}
 unfoldable pub use Rattle.manifest_schema.specs.ManifestForms.{manifest_rows, package_rows, workspace_package_rows, workspace_rows}
 pub use Rattle.manifest_schema.specs.Meaning.{AcceptedIsWellFormed, AcceptedOrFaulty, FaultyMeansNothing, MeansOne, RewrittenMeansTheSame, RewrittenTwiceIsOnce, SameExactly, SameWrittenIsSame, WrittenIsRead, WrittenMeansTheSame, faulty_old, has_header, is_headed, means, means_by, old_package, reads_manifest, rewritten, unmeant, unmeant_by, well_formed, written_manifest}
-pub use Rattle.manifest_schema.specs.Needs.{Need, default, faulty_free, faulty_required, good_some, is_empty, lenient_default, lenient_optional, meets_default, meets_lenient, meets_optional, meets_required, never, optional, required, written_some, written_unless}
+pub use Rattle.manifest_schema.specs.Needs.{Need, clash_found, default, faulty_free, faulty_required, free_findings, good_some, is_empty, lenient_default, lenient_findings, lenient_optional, meets_default, meets_lenient, meets_optional, meets_required, missing_found, never, optional, required, required_findings, written_some, written_unless}
 pub use Rattle.manifest_schema.specs.PartForms.{codegen, dependency, dependency_table, lint, publish, text_or_flag, texts}
 unfoldable pub use Rattle.manifest_schema.specs.PartForms.{badge_rows, badges_rows, detailed_rows, inherited_rows, lint_rows, lints_rows, maintenance_rows, platform_rows, product_rows, profile_rows, profiles_rows}
 pub use Rattle.manifest_schema.specs.PathTexts.{is_bare, is_bare_key, key_text, next_text, path_text, quoted_byte}

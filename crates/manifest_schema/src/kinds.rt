@@ -78,7 +78,6 @@ pub fn simple_kinds_are_lawful()
 {}
 
 /// What is made of a lawful kind satisfies the laws: lists, maps, what may be inherited, and metadata.
-#[tactic(auto, using(crate::proofs::KindLaws::list_lawful, crate::proofs::KindLaws::map_lawful))]
 pub fn made_kinds_are_lawful<K: LawfulKind>()
     ensures list_is { IsLawful (list_of K.kind) }
     ensures map_is { IsLawful (map_of K.kind) }

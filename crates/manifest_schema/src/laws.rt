@@ -3,7 +3,7 @@
 //! The parameters `P` and `W` stand for the two kinds of metadata. Each function returns at once: it is there for
 //! its contract, a law of the definitions.
 
-ghost use Rattle.manifest_schema.specs.Prelude.{tree_of, MeansOne, WrittenIsRead, AcceptedIsWellFormed, WrittenMeansTheSame, RewrittenMeansTheSame, RewrittenTwiceIsOnce, SameExactly, SameWrittenIsSame, FaultyMeansNothing, AcceptedOrFaulty, OldWrittenIsRead};
+ghost use Rattle.manifest_schema.specs.Prelude.{tree_of, MeansOne, WrittenIsRead, AcceptedIsWellFormed, WrittenMeansTheSame, RewrittenMeansTheSame, RewrittenTwiceIsOnce, SameExactly, SameWrittenIsSame, FaultyMeansNothing, AcceptedOrFaulty, OldWrittenIsRead, FindsEveryFault, FaultlessIfMeant};
 
 use crate::kinds::{LawfulKind, TotalKind};
 
@@ -14,25 +14,21 @@ pub fn means_one<P: LawfulKind, W: LawfulKind>()
 
 /// What is written of a well-formed manifest is read as that manifest, by the form of a manifest (which takes no old
 /// header into account).
-#[tactic(auto, using(crate::proofs::MeaningLaws::written_is_read, crate::proofs::KindLaws::tree_lawful))]
 pub fn written_is_read<P: LawfulKind, W: LawfulKind>()
     ensures { WrittenIsRead (tree_of P.kind) (tree_of W.kind) }
 {}
 
 /// What a table means is well-formed, and has a package or a workspace.
-#[tactic(auto, using(crate::proofs::MeaningLaws::accepted_is_well_formed, crate::proofs::KindLaws::tree_lawful))]
 pub fn accepted_is_well_formed<P: LawfulKind, W: LawfulKind>()
     ensures { AcceptedIsWellFormed (tree_of P.kind) (tree_of W.kind) }
 {}
 
 /// What is written of a well-formed manifest with a package or a workspace means that manifest.
-#[tactic(auto, using(crate::proofs::MeaningLaws::written_means_the_same, crate::proofs::KindLaws::tree_lawful))]
 pub fn written_means_the_same<P: LawfulKind, W: LawfulKind>()
     ensures { WrittenMeansTheSame (tree_of P.kind) (tree_of W.kind) }
 {}
 
 /// The rewritten table of an accepted table (the canonical table of what it means) means the same manifest.
-#[tactic(auto, using(crate::proofs::MeaningLaws::rewritten_means_the_same, crate::proofs::KindLaws::tree_lawful))]
 pub fn rewritten_means_the_same<P: LawfulKind, W: LawfulKind>()
     ensures { RewrittenMeansTheSame (tree_of P.kind) (tree_of W.kind) }
 {}
@@ -60,6 +56,13 @@ pub fn faulty_means_nothing<P: LawfulKind, W: LawfulKind>()
 /// A table means a manifest or has a fault, where each value has a reading or a fault as metadata.
 pub fn accepted_or_faulty<P: TotalKind, W: TotalKind>()
     ensures { AcceptedOrFaulty (tree_of P.kind) (tree_of W.kind) }
+{}
+
+/// Each fault of a table is found, and no other; and no fault is found exactly if the table means a manifest, where
+/// each value has a reading or a fault as metadata.
+pub fn finds_every_fault<P: TotalKind, W: TotalKind>()
+    ensures every { FindsEveryFault (tree_of P.kind) (tree_of W.kind) }
+    ensures none { FaultlessIfMeant (tree_of P.kind) (tree_of W.kind) }
 {}
 
 /// Where no inherited dependency of a manifest chooses its default features, what is written of the manifest is what

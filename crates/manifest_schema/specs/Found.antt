@@ -1,0 +1,53 @@
+-- What is found in a whole table, with old headers, and what is promised of it for every kind of metadata.
+use Rattle.std.specs.Prelude.{◌≡◌, ◌↔◌, Bool, true, false, List, [], ◌∷◌, ◌++◌, Option, Some, None, codes}
+use Rattle.toml.specs.Data.{Data, table, Members, get_member}
+use Rattle.manifest_schema.specs.Paths.{Path, Cause, key}
+use Rattle.manifest_schema.specs.Findings.{Finding, found_behind, unlisted_keys, faults_of, ignored_of, unlisted_of, FindsAll}
+use Rattle.manifest_schema.specs.Slots.{without}
+use Rattle.manifest_schema.specs.Kinds.{Kind}
+use Rattle.manifest_schema.specs.Forms.{form, row_findings, left_over}
+use Rattle.manifest_schema.specs.Contents.{Manifest}
+use Rattle.manifest_schema.specs.ManifestForms.{package_rows, manifest_rows}
+use Rattle.manifest_schema.specs.Meaning.{has_header, means, unmeant}
+
+-- without a header the package is `project`, or else its rows are those of the whole table too
+abbrev pub old_findings : Kind Data → Kind Data → Members → Option Data → List Finding
+old_findings K W ms (Some d) =
+    row_findings (manifest_rows K W) ms
+    ++ (found_behind (key (codes "project")) ((form (package_rows K)).findings d)
+    ++ unlisted_keys (without (codes "project" ∷ []) (left_over (manifest_rows K W) ms)))
+old_findings K W ms None =
+    row_findings (manifest_rows K W) ms
+    ++ (row_findings (package_rows K) ms
+    ++ unlisted_keys (left_over (package_rows K) (left_over (manifest_rows K W) ms)))
+
+-- what is found in a table, by whether it has a header
+abbrev pub findings_by : Kind Data → Kind Data → Bool → Members → List Finding
+findings_by K W true ms = (form (manifest_rows K W)).findings (table ms)
+findings_by K W false ms = old_findings K W ms (get_member (codes "project") ms)
+
+-- WHAT IS FOUND IN A TABLE, in the order in which it is told
+abbrev pub manifest_findings : Kind Data → Kind Data → Members → List Finding
+manifest_findings K W ms = findings_by K W (has_header ms) ms
+
+-- every fault
+abbrev pub manifest_faults : Kind Data → Kind Data → Members → List (Path × Cause)
+manifest_faults K W ms = faults_of (manifest_findings K W ms)
+
+-- what does not fit where that is no fault
+abbrev pub manifest_ignored : Kind Data → Kind Data → Members → List (Path × Cause)
+manifest_ignored K W ms = ignored_of (manifest_findings K W ms)
+
+-- every key that nothing reads
+abbrev pub manifest_unlisted : Kind Data → Kind Data → Members → List Path
+manifest_unlisted K W ms = unlisted_of (manifest_findings K W ms)
+
+-- WHAT IS PROMISED
+-- each fault of the table is found, and no other
+abbrev pub FindsEveryFault : Kind Data → Kind Data → Type 0
+FindsEveryFault K W = (ms : Members) → FindsAll (manifest_findings K W ms) (unmeant K W ms)
+
+-- no fault is found exactly if the table means a manifest
+abbrev pub FaultlessIfMeant : Kind Data → Kind Data → Type 0
+FaultlessIfMeant K W =
+    (ms : Members) → (manifest_faults K W ms ≡ []) ↔ ((m : Manifest) × means K W ms m)
