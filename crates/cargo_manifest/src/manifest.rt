@@ -15,10 +15,12 @@ use crate::workspace::Workspace;
 use manifest_parts::{
     Badges, DepsSet, FeatureSet, MaybeInheritedLintsSet, PatchSet, Product, TargetDepsSet,
 };
+use manifest_value::findings::Found;
 use manifest_value::form::{RowPut, RowRead, Rowed, Word, write_form};
 use manifest_value::row_slots::RowSlot;
 use manifest_value::{
-    Form, Metadata, Spellings, empty_of, good_row_of, names_of_rows, put_row_of, read_row_of,
+    Form, Metadata, Spellings, empty_of, findings_of_row, good_row_of, names_of_rows, put_row_of,
+    read_row_of,
 };
 use std::alloc::{AllocError, Global};
 use toml::{Table, Value};
@@ -134,6 +136,10 @@ impl<P: Metadata, W: Metadata> Rowed for Manifest<P, W> {
 
     fn read_row(&mut self, alloc: Global, i: usize, key: Word, slot: &mut RowSlot<'_>) -> RowRead {
         manifest!(read_row_of(self, alloc, i, key, slot))
+    }
+
+    fn row_findings(&self, alloc: Global, i: usize, key: Word, slot: &RowSlot<'_>) -> Found {
+        manifest!(findings_of_row(self, alloc, i, key, slot))
     }
 
     fn put_row(&self, alloc: Global, i: usize, key: Word, out: &mut Table) -> RowPut {

@@ -13,11 +13,12 @@ ghost use Rattle.manifest_parts.specs.Queries.{version_of};
 ghost use Rattle.cargo_manifest.specs.Tables.{package_content, package_of, package_form};
 
 use manifest_parts::{Edition, MaybeInherited, Publish, Resolver, StringOrBool};
+use manifest_value::findings::Found;
 use manifest_value::form::{RowPut, RowRead, Rowed, Word, read_form};
 use manifest_value::row_slots::RowSlot;
 use manifest_value::{
-    Form, Metadata, ReadFault, Spellings, TableSource, empty_of, good_row_of, names_of_rows,
-    put_row_of, read_row_of,
+    Form, Metadata, ReadFault, Spellings, TableSource, empty_of, findings_of_row, good_row_of,
+    names_of_rows, put_row_of, read_row_of,
 };
 use std::alloc::Global;
 use toml::{Table, Value};
@@ -211,6 +212,10 @@ impl<M: Metadata> Rowed for Package<M> {
 
     fn read_row(&mut self, alloc: Global, i: usize, key: Word, slot: &mut RowSlot<'_>) -> RowRead {
         package!(read_row_of(self, alloc, i, key, slot))
+    }
+
+    fn row_findings(&self, alloc: Global, i: usize, key: Word, slot: &RowSlot<'_>) -> Found {
+        package!(findings_of_row(self, alloc, i, key, slot))
     }
 
     fn put_row(&self, alloc: Global, i: usize, key: Word, out: &mut Table) -> RowPut {

@@ -11,15 +11,17 @@ ghost use Rattle.manifest_value.specs.Sources.{table_source};
 ghost use Rattle.cargo_manifest.specs.Tables.{profiles_content};
 
 use manifest_parts::Profile;
+use manifest_value::findings::Found;
 use manifest_value::form::{
     RowPut, RowRead, Rowed, Word, put_rows, read_open, rows_are_well_formed,
 };
+use manifest_value::form_findings::findings_of_open;
 use manifest_value::maps::{entries_table, map_of_entries};
 use manifest_value::row_slots::RowSlot;
 use manifest_value::well_formed::{none_is_named, values_are_well_formed};
 use manifest_value::{
-    ReadFault, Schema, Source, Spellings, TableSource, good_row_of, names_of_rows, put_row_of,
-    read_row_of, table,
+    ReadFault, Schema, Source, Spellings, TableSource, findings_of_row, good_row_of, names_of_rows,
+    put_row_of, read_row_of, table,
 };
 use std::alloc::{AllocError, Global};
 use std::collections::BTreeMap;
@@ -101,6 +103,10 @@ impl Rowed for Profiles {
         profiles!(read_row_of(self, alloc, i, key, slot))
     }
 
+    fn row_findings(&self, alloc: Global, i: usize, key: Word, slot: &RowSlot<'_>) -> Found {
+        profiles!(findings_of_row(self, alloc, i, key, slot))
+    }
+
     fn put_row(&self, alloc: Global, i: usize, key: Word, out: &mut Table) -> RowPut {
         profiles!(put_row_of(self, alloc, i, key, out))
     }
@@ -138,6 +144,10 @@ impl Schema for Profiles {
 
     fn read(alloc: Global, source: Source<'_>) -> Result<Profiles, ReadFault> {
         profiles_from(alloc, source.into_table(alloc)?)
+    }
+
+    fn findings(alloc: Global, value: &Value) -> Found {
+        findings_of_open::<Profiles, Profile>(alloc, value)
     }
 
     fn to_value(&self, alloc: Global) -> Result<Value, AllocError> {

@@ -9,10 +9,12 @@ ghost use Rattle.cargo_manifest.specs.Tables.{workspace_package_content, workspa
 ghost use Rattle.manifest_value.specs.Reading.{IsOfTable};
 
 use manifest_parts::{DepsSet, Edition, LintsSet, Publish, Resolver, StringOrBool};
+use manifest_value::findings::Found;
 use manifest_value::form::{RowPut, RowRead, Rowed, Word};
 use manifest_value::row_slots::RowSlot;
 use manifest_value::{
-    Form, Metadata, Spellings, empty_of, good_row_of, names_of_rows, put_row_of, read_row_of,
+    Form, Metadata, Spellings, empty_of, findings_of_row, good_row_of, names_of_rows, put_row_of,
+    read_row_of,
 };
 use std::alloc::Global;
 use toml::{Table, Value};
@@ -100,6 +102,10 @@ impl Rowed for WorkspacePackage {
 
     fn read_row(&mut self, alloc: Global, i: usize, key: Word, slot: &mut RowSlot<'_>) -> RowRead {
         workspace_package!(read_row_of(self, alloc, i, key, slot))
+    }
+
+    fn row_findings(&self, alloc: Global, i: usize, key: Word, slot: &RowSlot<'_>) -> Found {
+        workspace_package!(findings_of_row(self, alloc, i, key, slot))
     }
 
     fn put_row(&self, alloc: Global, i: usize, key: Word, out: &mut Table) -> RowPut {
@@ -205,6 +211,10 @@ impl<M: Metadata> Rowed for Workspace<M> {
 
     fn read_row(&mut self, alloc: Global, i: usize, key: Word, slot: &mut RowSlot<'_>) -> RowRead {
         workspace!(read_row_of(self, alloc, i, key, slot))
+    }
+
+    fn row_findings(&self, alloc: Global, i: usize, key: Word, slot: &RowSlot<'_>) -> Found {
+        workspace!(findings_of_row(self, alloc, i, key, slot))
     }
 
     fn put_row(&self, alloc: Global, i: usize, key: Word, out: &mut Table) -> RowPut {

@@ -7,6 +7,7 @@ ghost use Rattle.manifest_schema.proofs.ChoiceLaws.{edition_lawful, edition_plai
 ghost use Rattle.manifest_parts.specs.Parts.{edition_content, resolver_content, level_content, status_content};
 
 use manifest_value::fault::fault_here;
+use manifest_value::findings::{Found, findings_by_reading};
 use manifest_value::{Cause, Plain, ReadFault, Schema, Source};
 use std::alloc::{AllocError, Global};
 use toml::Value;
@@ -65,6 +66,10 @@ impl Schema for Edition {
             },
             _ => Err(fault_here(alloc, Cause::WrongKind)),
         }
+    }
+
+    fn findings(alloc: Global, value: &Value) -> Found {
+        findings_by_reading::<Edition>(alloc, value)
     }
 
     fn to_value(&self, alloc: Global) -> Result<Value, AllocError> {
@@ -137,6 +142,10 @@ impl Schema for Resolver {
             },
             _ => Err(fault_here(alloc, Cause::WrongKind)),
         }
+    }
+
+    fn findings(alloc: Global, value: &Value) -> Found {
+        findings_by_reading::<Resolver>(alloc, value)
     }
 
     fn to_value(&self, alloc: Global) -> Result<Value, AllocError> {
@@ -213,6 +222,10 @@ impl Schema for LintLevel {
             },
             _ => Err(fault_here(alloc, Cause::WrongKind)),
         }
+    }
+
+    fn findings(alloc: Global, value: &Value) -> Found {
+        findings_by_reading::<LintLevel>(alloc, value)
     }
 
     fn to_value(&self, alloc: Global) -> Result<Value, AllocError> {
@@ -298,6 +311,10 @@ impl Schema for MaintenanceStatus {
             },
             _ => Err(fault_here(alloc, Cause::WrongKind)),
         }
+    }
+
+    fn findings(alloc: Global, value: &Value) -> Found {
+        findings_by_reading::<MaintenanceStatus>(alloc, value)
     }
 
     fn to_value(&self, alloc: Global) -> Result<Value, AllocError> {

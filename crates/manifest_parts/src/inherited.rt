@@ -1,15 +1,17 @@
 //! What may be inherited from the workspace.
 
 ghost use Rattle.manifest_schema.specs.Prelude.{view, Data, Path, Cause as FaultCause, Inheritable, inh, inherits, truth};
-ghost use Rattle.std.specs.Prelude.{◌≡◌, true};
+ghost use Rattle.std.specs.Prelude.{◌≡◌, true, IfOk};
 ghost use Rattle.manifest_schema.proofs.KindLaws.{inh_lawful, truth_lawful};
 ghost use Rattle.manifest_parts.specs.Parts.{inh_content};
+ghost use Rattle.manifest_value.specs.Found.{found};
 ghost use Rattle.manifest_value.specs.Reading.{data_of};
 
 use manifest_value::fault::fault_here;
+use manifest_value::findings::{Findings, Found};
 use manifest_value::readers::find;
 use manifest_value::rows::put_row;
-use manifest_value::{Cause, Plain, ReadFault, Schema, Source};
+use manifest_value::{Cause, Plain, ReadFault, Schema, Source, TableSource, spelled, walk};
 use std::alloc::{AllocError, Global};
 use toml::{Table, Value};
 
@@ -33,6 +35,14 @@ impl Schema for True {
             Value::Boolean(true) => Ok(True),
             Value::Boolean(false) => Err(fault_here(alloc, Cause::NotTrue)),
             _ => Err(fault_here(alloc, Cause::WrongKind)),
+        }
+    }
+
+    fn findings(alloc: Global, value: &Value) -> Found {
+        match value {
+            Value::Boolean(true) => Ok(Findings::none(alloc)),
+            Value::Boolean(false) => Findings::here(alloc, Cause::NotTrue),
+            _ => Findings::here(alloc, Cause::WrongKind),
         }
     }
 
@@ -93,6 +103,19 @@ pub fn has_workspace(table: &Table) -> bool
     }
 }
 
+/// What is found in a table in place of a value that may be inherited: each key but `workspace` is unlisted where that
+/// says that the value is inherited, and else the table is of the wrong kind.
+fn findings_beside_workspace<T: Plain>(alloc: Global, table: &Table) -> Found
+    ensures { IfOk result (λ f. found f ≡ (inh T.kind).findings (data_of table.now)) }
+{
+    if has_workspace(table) {
+        let walk = walk(alloc, TableSource::Lent(table), &spelled!["workspace"])?;
+        Findings::none(alloc).and_unlisted(alloc, walk.rest)
+    } else {
+        Findings::here(alloc, Cause::WrongKind)
+    }
+}
+
 /// A table whose `workspace` is the boolean true is read as `Inherited`, whatever else it has; another table is refused
 /// with `WrongKind`, and any other value is read by the type itself. Written as `{ workspace = true }`, or as the type
 /// writes its value.
@@ -110,6 +133,13 @@ impl<T: Plain> Schema for MaybeInherited<T> {
         match source.value() {
             Value::Table(_) => Err(fault_here(alloc, Cause::WrongKind)),
             _ => Ok(MaybeInherited::Local(T::read(alloc, source)?)),
+        }
+    }
+
+    fn findings(alloc: Global, value: &Value) -> Found {
+        match value {
+            Value::Table(table) => findings_beside_workspace::<T>(alloc, table),
+            _ => T::findings(alloc, value),
         }
     }
 

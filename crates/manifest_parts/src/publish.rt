@@ -6,6 +6,7 @@ ghost use Rattle.manifest_schema.specs.PartForms.{text_or_flag, publish};
 ghost use Rattle.manifest_schema.proofs.RowLaws.{text_or_flag_lawful, text_or_flag_plain, publish_lawful, publish_plain};
 ghost use Rattle.manifest_parts.specs.Parts.{text_or_flag_content, publish_content};
 
+use manifest_value::findings::{Findings, Found};
 use manifest_value::{Plain, ReadFault, Schema, Source};
 use std::alloc::{AllocError, Global};
 use toml::Value;
@@ -31,6 +32,13 @@ impl Schema for StringOrBool {
         match source.value() {
             Value::Boolean(b) => Ok(StringOrBool::Bool(*b)),
             _ => Ok(StringOrBool::String(String::read(alloc, source)?)),
+        }
+    }
+
+    fn findings(alloc: Global, value: &Value) -> Found {
+        match value {
+            Value::Boolean(_) => Ok(Findings::none(alloc)),
+            _ => String::findings(alloc, value),
         }
     }
 
@@ -74,6 +82,13 @@ impl Schema for Publish {
         match source.value() {
             Value::Boolean(b) => Ok(Publish::Flag(*b)),
             _ => Ok(Publish::Registry(Schema::read(alloc, source)?)),
+        }
+    }
+
+    fn findings(alloc: Global, value: &Value) -> Found {
+        match value {
+            Value::Boolean(_) => Ok(Findings::none(alloc)),
+            _ => <Vec<String> as Schema>::findings(alloc, value),
         }
     }
 

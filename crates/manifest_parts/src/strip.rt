@@ -9,6 +9,7 @@ ghost use Rattle.manifest_value.specs.Reading.{Reads};
 ghost use Rattle.manifest_parts.specs.Refusals.{RefusesStrip};
 
 use manifest_value::fault::fault_here;
+use manifest_value::findings::{Found, findings_by_reading};
 use manifest_value::{Cause, Error, ReadFault, Schema, Source};
 use std::alloc::{AllocError, Global};
 use toml::Value;
@@ -88,6 +89,10 @@ impl Schema for StripSetting {
             },
             _ => Err(fault_here(alloc, Cause::WrongKind)),
         }
+    }
+
+    fn findings(alloc: Global, value: &Value) -> Found {
+        findings_by_reading::<StripSetting>(alloc, value)
     }
 
     fn to_value(&self, alloc: Global) -> Result<Value, AllocError> {

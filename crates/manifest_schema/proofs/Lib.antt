@@ -7,6 +7,7 @@ pub mod FormLaws
 pub mod WithoutLaws
 pub mod Totals
 pub mod ChoiceLaws
+pub mod OneFaultLaws
 pub mod RowLaws
 pub mod Built
 pub mod PartLaws

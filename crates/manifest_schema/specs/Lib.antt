@@ -5,6 +5,7 @@ pub mod Slots
 pub mod Kinds
 pub mod Needs
 pub mod Forms
+pub mod OneFault
 pub mod Lawful
 pub mod ForProofs
 pub mod Contents

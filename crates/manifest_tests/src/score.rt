@@ -6,11 +6,12 @@ ghost use Rattle.manifest_schema.proofs.KindLaws.{whole_lawful};
 ghost use Rattle.manifest_tests.specs.Scores.{score_rows, score_lawful, score_plain, score_by_tree};
 
 use manifest_value::fault::fault_here;
+use manifest_value::findings::{Found, findings_by_reading};
 use manifest_value::form::{RowPut, RowRead, Rowed, Word};
 use manifest_value::row_slots::RowSlot;
 use manifest_value::{
-    Cause, Form, Metadata, ReadFault, Schema, Source, Spellings, good_row_of, names_of_rows,
-    put_row_of, read_row_of,
+    Cause, Form, Metadata, ReadFault, Schema, Source, Spellings, findings_of_row, good_row_of,
+    names_of_rows, put_row_of, read_row_of,
 };
 use std::alloc::{AllocError, Global};
 use toml::{Table, Value};
@@ -40,6 +41,10 @@ impl Schema for Level {
             }
             _ => Err(fault_here(alloc, Cause::WrongKind)),
         }
+    }
+
+    fn findings(alloc: Global, value: &Value) -> Found {
+        findings_by_reading::<Level>(alloc, value)
     }
 
     fn to_value(&self, _alloc: Global) -> Result<Value, AllocError> {
@@ -90,6 +95,10 @@ impl Rowed for Score {
 
     fn read_row(&mut self, alloc: Global, i: usize, key: Word, slot: &mut RowSlot<'_>) -> RowRead {
         score!(read_row_of(self, alloc, i, key, slot))
+    }
+
+    fn row_findings(&self, alloc: Global, i: usize, key: Word, slot: &RowSlot<'_>) -> Found {
+        score!(findings_of_row(self, alloc, i, key, slot))
     }
 
     fn put_row(&self, alloc: Global, i: usize, key: Word, out: &mut Table) -> RowPut {

@@ -1,10 +1,12 @@
 //! Values that are kept as they are.
-ghost use Rattle.manifest_schema.specs.Prelude.{Data, array, table, view, array_view, table_view, plain, plain_items, plain_members, float_in, kept as kept_kind};
+ghost use Rattle.manifest_schema.specs.Prelude.{Data, array, table, view, array_view, table_view, plain, plain_items, plain_members, float_in, float_findings, item_floats, entry_floats, kept as kept_kind};
 ghost use Rattle.std.specs.Prelude.{◌≡◌, not, IsTrue, IfOk, IfErr, OnOk};
 ghost use Rattle.manifest_schema.proofs.KeptLaws.{kept_lawful};
 ghost use Rattle.manifest_value.specs.Faults.{FaultIn};
+ghost use Rattle.manifest_value.specs.Found.{found};
 
 use crate::fault::{Cause, ReadFault, Step, fault_behind_step, fault_here, fault_under_key};
+use crate::findings::{Findings, Found};
 use crate::schema::Schema;
 use crate::source::Source;
 use std::alloc::{AllocError, Global};
@@ -99,6 +101,43 @@ fn refuse_float_in_members(alloc: Global, members: &Table) -> Result<(), ReadFau
     Ok(())
 }
 
+/// Each float in a value: the fault `HoldsFloat` at its path.
+#[cycle(all_places)]
+fn find_floats(alloc: Global, value: &Value) -> Found
+    ensures { IfOk result (λ f. found f ≡ float_findings (view value.now)) }
+{
+    match value {
+        Value::Float(_) => Findings::here(alloc, Cause::HoldsFloat),
+        Value::Array(items) => find_floats_in_items(alloc, items),
+        Value::Table(members) => find_floats_in_members(alloc, members),
+        _ => Ok(Findings::none(alloc)),
+    }
+}
+
+/// Each float in the items of an array, with the item's index before its path.
+#[cycle(all_places)]
+fn find_floats_in_items(alloc: Global, items: &Vec<Value>) -> Found
+    ensures { IfOk result (λ f. found f ≡ item_floats 0 (array_view items.now)) }
+{
+    let mut out = Findings::none(alloc);
+    for (i, item) in items.iter().enumerate() {
+        out = out.and_at(i, find_floats(alloc, item)?)?;
+    }
+    Ok(out)
+}
+
+/// Each float in the values of a table, with the entry's key before its path.
+#[cycle(all_places)]
+fn find_floats_in_members(alloc: Global, members: &Table) -> Found
+    ensures { IfOk result (λ f. found f ≡ entry_floats (table_view members.now)) }
+{
+    let mut out = Findings::none(alloc);
+    for (key, member) in members.iter() {
+        out = out.and_under(alloc, key.as_str(), find_floats(alloc, member)?)?;
+    }
+    Ok(out)
+}
+
 /// A copy of a value without floats.
 ///
 /// Refuses a value in which a float stands, by the path from the value to the first float that is met, items by
@@ -130,6 +169,10 @@ impl Schema for Value {
             Source::Lent(value) => Ok(value.clone()?),
             Source::Taken(value) => Ok(value),
         }
+    }
+
+    fn findings(alloc: Global, value: &Value) -> Found {
+        find_floats(alloc, value)
     }
 
     fn to_value(&self, _alloc: Global) -> Result<Value, AllocError> {

@@ -9,7 +9,9 @@ ghost use Rattle.manifest_value.specs.Walks.{Ascend};
 ghost use Rattle.manifest_schema.proofs.KindLaws.{map_lawful};
 
 use crate::entries::{Entries, Entry, Key};
-use crate::fault::ReadFault;
+use crate::fault::{Cause, ReadFault};
+use crate::findings::{Findings, Found};
+use crate::form_findings::findings_of_map;
 use crate::schema::Schema;
 use crate::source::{Source, TableSource, source_under};
 use crate::well_formed::values_are_well_formed;
@@ -145,6 +147,13 @@ impl<T: Schema> Schema for BTreeMap<String, T> {
     #[tactic(auto, using(crate::proofs::Behind::map_refuses))]
     fn read(alloc: Global, source: Source<'_>) -> Result<BTreeMap<String, T>, ReadFault> {
         map_from(alloc, source.into_table(alloc)?)
+    }
+
+    fn findings(alloc: Global, value: &Value) -> Found {
+        match value {
+            Value::Table(table) => findings_of_map::<T>(alloc, table),
+            _ => Findings::here(alloc, Cause::WrongKind),
+        }
     }
 
     fn to_value(&self, alloc: Global) -> Result<Value, AllocError> {

@@ -6,6 +6,7 @@ ghost use Rattle.manifest_value.specs.Faults.{FaultIn, IsSchema};
 ghost use Rattle.manifest_value.specs.Reading.{written_as};
 
 use crate::fault::{Cause, ReadFault, fault_here};
+use crate::findings::{Findings, Found};
 use crate::rows::put_optional;
 use crate::schema::Schema;
 use crate::source::Source;
@@ -58,6 +59,10 @@ impl Schema for () {
         Err(fault_here(alloc, Cause::Metadata))
     }
 
+    fn findings(alloc: Global, _value: &Value) -> Found {
+        Findings::here(alloc, Cause::Metadata)
+    }
+
     fn to_value(&self, alloc: Global) -> Result<Value, AllocError> {
         Ok(Value::Table(Table::new(alloc)))
     }
@@ -105,6 +110,10 @@ impl Schema for Unread {
 
     fn read(_alloc: Global, _source: Source<'_>) -> Result<Unread, ReadFault> {
         Ok(Unread)
+    }
+
+    fn findings(alloc: Global, _value: &Value) -> Found {
+        Ok(Findings::none(alloc))
     }
 
     fn to_value(&self, alloc: Global) -> Result<Value, AllocError> {

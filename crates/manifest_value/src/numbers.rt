@@ -5,6 +5,7 @@ ghost use Rattle.manifest_schema.specs.Kinds.{whole};
 ghost use Rattle.manifest_schema.proofs.KindLaws.{whole_lawful};
 
 use crate::fault::{Cause, ReadFault, fault_here};
+use crate::findings::{Findings, Found};
 use crate::schema::Schema;
 use crate::source::Source;
 use std::alloc::{AllocError, Global};
@@ -32,6 +33,20 @@ impl Schema for u16 {
                 }
             }
             _ => Err(fault_here(alloc, Cause::WrongKind)),
+        }
+    }
+
+    fn findings(alloc: Global, value: &Value) -> Found {
+        match value {
+            Value::Integer(n) => {
+                let n = *n;
+                if 0 <= n && n <= 65535 {
+                    Ok(Findings::none(alloc))
+                } else {
+                    Findings::here(alloc, Cause::OutOfRange)
+                }
+            }
+            _ => Findings::here(alloc, Cause::WrongKind),
         }
     }
 
@@ -70,6 +85,20 @@ impl Schema for i8 {
                 }
             }
             _ => Err(fault_here(alloc, Cause::WrongKind)),
+        }
+    }
+
+    fn findings(alloc: Global, value: &Value) -> Found {
+        match value {
+            Value::Integer(n) => {
+                let n = *n;
+                if -128 <= n && n <= 127 {
+                    Ok(Findings::none(alloc))
+                } else {
+                    Findings::here(alloc, Cause::OutOfRange)
+                }
+            }
+            _ => Findings::here(alloc, Cause::WrongKind),
         }
     }
 

@@ -4,12 +4,15 @@ ghost use Rattle.manifest_schema.specs.Prelude.{view, Kind, text, flag, list_of,
 ghost use Rattle.std.specs.Prelude.{◌≡◌, ◌↔◌, ℕ, Bool, List, IsTrue, map, IfOk, IfErr, string_bytes};
 ghost use Rattle.manifest_schema.proofs.KindLaws.{text_lawful, flag_lawful, list_lawful};
 ghost use Rattle.manifest_value.specs.Faults.{FaultIn, IsSchema};
+ghost use Rattle.manifest_value.specs.Found.{found};
 ghost use Rattle.manifest_value.specs.Reading.{Reads};
 ghost use Rattle.manifest_value.specs.Refusals.{RefusedIn, IsSchemaError};
 ghost use Rattle.manifest_value.specs.Sources.{source_view};
 
 use crate::error::{Error, refusal};
 use crate::fault::{Cause, ReadFault, fault_here};
+use crate::findings::{Findings, Found};
+use crate::form_findings::findings_of_items;
 use crate::items::{Items, read_items};
 use crate::readers::{boolean, text};
 use crate::source::Source;
@@ -60,6 +63,15 @@ pub trait Schema: Sized + Drop {
         Self::read(alloc, Source::Lent(value)).map_err(refusal)
     }
 
+    /// What is found in a value, in order: each fault that it has, what does not fit where that is no fault, and each key
+    /// that nothing reads. It fails only when out of memory.
+    ///
+    /// ```ignore
+    /// let found = Edition::findings(alloc, &Value::Boolean(true))?; // one fault, `wrong kind at (top)`
+    /// ```
+    fn findings(alloc: Global, value: &Value) -> Found
+        ensures { IfOk result (λ f. found f ≡ kind.findings (view value.now)) };
+
     /// The value that is written of `self`, by the kind. It fails only when out of memory.
     fn to_value(&self, alloc: Global) -> Result<Value, AllocError>
         ensures { IfOk result (λ v. view v ≡ kind.written (content self.now)) };
@@ -85,6 +97,13 @@ impl Schema for String {
         match source {
             Source::Taken(Value::String(s)) => Ok(s),
             other => text(alloc, other.value()),
+        }
+    }
+
+    fn findings(alloc: Global, value: &Value) -> Found {
+        match value {
+            Value::String(_) => Ok(Findings::none(alloc)),
+            _ => Findings::here(alloc, Cause::WrongKind),
         }
     }
 
@@ -115,6 +134,13 @@ impl Schema for bool {
         boolean(alloc, source.value())
     }
 
+    fn findings(alloc: Global, value: &Value) -> Found {
+        match value {
+            Value::Boolean(_) => Ok(Findings::none(alloc)),
+            _ => Findings::here(alloc, Cause::WrongKind),
+        }
+    }
+
     fn to_value(&self, _alloc: Global) -> Result<Value, AllocError> {
         Ok(Value::Boolean(*self))
     }
@@ -143,6 +169,13 @@ impl<T: Schema> Schema for Vec<T> {
                 read_items(alloc, items.len(), Items::Taken(items.into_iter()))
             }
             _ => Err(fault_here(alloc, Cause::WrongKind)),
+        }
+    }
+
+    fn findings(alloc: Global, value: &Value) -> Found {
+        match value {
+            Value::Array(items) => findings_of_items::<T>(alloc, items.as_slice()),
+            _ => Findings::here(alloc, Cause::WrongKind),
         }
     }
 
