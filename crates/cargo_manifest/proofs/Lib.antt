@@ -1,5 +1,6 @@
 pub mod ProfileLemmas
 pub mod FaultLemmas
+pub mod FirstFaults
 pub mod StoredLaws
 pub mod WellFormedLaws
 pub mod CountLemmas

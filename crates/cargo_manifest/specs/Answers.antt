@@ -1,6 +1,6 @@
 -- What each answer says of the bytes that were read. K and W are the kinds of metadata of package and workspace.
-use Rattle.manifest_schema.specs.Prelude.{Data, Members, members_depth, members_have_valid_dates, IsDocumentText, IsMemory, IsWithin, Kind, tree_of, Manifest, means, unmeant, rewritten, well_formed, is_headed}
-use Rattle.std.specs.Prelude.{◌≡◌, ◌<◌, ◌≤◌, ◌⊎◌, ℕ, List, length, true, false, Some, None, IsUtf8, codes, string_bytes}
+use Rattle.manifest_schema.specs.Prelude.{Data, table, Members, key, form, package_rows, Finding, found_behind, foremost, manifest_faults, members_depth, members_have_valid_dates, IsDocumentText, IsMemory, IsWithin, Kind, tree_of, Manifest, means, unmeant, rewritten, well_formed, is_headed}
+use Rattle.std.specs.Prelude.{◌≡◌, ◌<◌, ◌≤◌, ◌⊎◌, ℕ, List, length, true, false, Option, Some, None, IsUtf8, codes, string_bytes}
 use Rattle.toml.specs.Parse.{parse_document}
 use Rattle.manifest_value.specs.declared.fault.SchemaFault.{SchemaFault}
 use Rattle.manifest_value.specs.Faults.{IsOneOf}
@@ -47,6 +47,19 @@ RefusesText K W text _ = ⊥
 abbrev pub Refuses : Kind Data → Kind Data → List ℕ → Error → Type 0
 Refuses K W bytes (Utf8 e) = ¬ IsUtf8 bytes
 Refuses K W bytes e = IsUtf8 bytes × RefusesText K W bytes e
+
+-- what is found of the package of a table without a header, which is `project` or else the whole table
+abbrev pub old_package_findings : Kind Data → Members → Option Data → List Finding
+old_package_findings K ms (Some d) =
+    found_behind (key (codes "project")) ((form (package_rows K)).findings d)
+old_package_findings K ms None = (form (package_rows K)).findings (table ms)
+
+-- where the refusal tells a fault of the document of this text, it is the first of all that are found there
+abbrev pub TellsFirst : Kind Data → Kind Data → List ℕ → Error → Type 0
+TellsFirst K W text (Parse (Schema f)) =
+    (document : Members) → parse_document text ≡ Some document
+    → IsOneOf (foremost (manifest_faults K W document)) f
+TellsFirst K W text _ = Unit {0}
 
 -- the table that is written of a manifest of the code, whose metadata has the contents p and w of these kinds
 abbrev pub written_of : {P W A B : Type 0}

@@ -3,7 +3,7 @@
 //!
 //! Each function returns at once: it is there for its contract, a law of the definitions.
 
-ghost use Rattle.manifest_schema.specs.Prelude.{kept, tree_of, MeansOne, WrittenIsRead, AcceptedIsWellFormed, WrittenMeansTheSame, RewrittenMeansTheSame, RewrittenTwiceIsOnce, SameExactly, SameWrittenIsSame, FaultyMeansNothing, AcceptedOrFaulty, OldWrittenIsRead, MeantDatesAreValid, WrittenDatesAreValid};
+ghost use Rattle.manifest_schema.specs.Prelude.{kept, tree_of, MeansOne, WrittenIsRead, AcceptedIsWellFormed, WrittenMeansTheSame, RewrittenMeansTheSame, RewrittenTwiceIsOnce, SameExactly, SameWrittenIsSame, FaultyMeansNothing, AcceptedOrFaulty, FindsEveryFault, FaultlessIfMeant, SameWithoutUnlisted, OldWrittenIsRead, MeantDatesAreValid, WrittenDatesAreValid};
 ghost use Rattle.manifest_completion.specs.Laws.{CompletedIsFixed};
 ghost use Rattle.cargo_manifest.specs.Completes.{StoredDecides};
 ghost use Rattle.cargo_manifest.specs.Dates.{ParsedDatesAreValid, ReadDatesAreValid, CompletedDatesAreValid};
@@ -22,7 +22,6 @@ pub fn means_one<P: Metadata, W: Metadata>()
 
 /// What is written of a well-formed manifest is read as that manifest, by the form of a manifest (which takes no old
 /// header into account).
-#[tactic(auto, using(manifest_schema::proofs::MeaningLaws::written_is_read, manifest_schema::proofs::KindLaws::tree_lawful))]
 pub fn written_is_read<P: Metadata, W: Metadata>()
     ensures { WrittenIsRead (tree_of P.kind) (tree_of W.kind) }
 {}
@@ -42,13 +41,11 @@ pub fn well_formed_by_parts<P: Metadata, W: Metadata>()
 {}
 
 /// What is written of a well-formed manifest with a package or a workspace means that manifest.
-#[tactic(auto, using(manifest_schema::proofs::MeaningLaws::written_means_the_same, manifest_schema::proofs::KindLaws::tree_lawful))]
 pub fn written_means_the_same<P: Metadata, W: Metadata>()
     ensures { WrittenMeansTheSame (tree_of P.kind) (tree_of W.kind) }
 {}
 
 /// The rewritten table of an accepted table (the canonical table of what it means) means the same manifest.
-#[tactic(auto, using(manifest_schema::proofs::MeaningLaws::rewritten_means_the_same, manifest_schema::proofs::KindLaws::tree_lawful))]
 pub fn rewritten_means_the_same<P: Metadata, W: Metadata>()
     ensures { RewrittenMeansTheSame (tree_of P.kind) (tree_of W.kind) }
 {}
@@ -76,6 +73,22 @@ pub fn faulty_means_nothing<P: Metadata, W: Metadata>()
 /// A table means a manifest or has a fault, with metadata kept as it is: that of the type `Value`.
 pub fn accepted_or_faulty()
     ensures { AcceptedOrFaulty (tree_of kept) (tree_of kept) }
+{}
+
+/// Each fault of a table is found, and no other.
+pub fn finds_every_fault<P: Metadata, W: Metadata>()
+    ensures { FindsEveryFault (tree_of P.kind) (tree_of W.kind) }
+{}
+
+/// No fault is found in a table exactly if it means a manifest, with metadata kept as it is: that of the type `Value`.
+pub fn faultless_if_meant()
+    ensures { FaultlessIfMeant (tree_of kept) (tree_of kept) }
+{}
+
+/// A table whose keys ascend, as those of a document do, means the same manifest and has the same faults without the
+/// keys that nothing reads, with metadata kept as it is.
+pub fn same_without_unlisted()
+    ensures { SameWithoutUnlisted (tree_of kept) (tree_of kept) }
 {}
 
 /// Where no inherited dependency of a manifest chooses its default features, what is written of the manifest is what

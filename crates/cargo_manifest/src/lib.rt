@@ -19,6 +19,7 @@ pub mod copies_of_packages;
 pub mod copies_of_profiles;
 pub mod copies_of_workspaces;
 mod files;
+mod inspecting;
 pub mod laws;
 pub mod manifest;
 mod nesting;
@@ -29,6 +30,7 @@ mod reading;
 pub mod workspace;
 mod writing;
 
+pub use inspecting::{faults, ignored, inspect, inspect_with_metadata, unlisted_keys};
 pub use manifest::Manifest;
 pub use manifest_completion::{AbstractFilesystem, Filesystem, Listing, Listings};
 pub use manifest_parts::{
@@ -38,8 +40,8 @@ pub use manifest_parts::{
     Resolver, StringOrBool, StripSetting, Target, TargetDepsSet, ToolLintsSet, True,
 };
 pub use manifest_value::{
-    Cause, Error, KeyPath, Metadata, ParseFault, Plain, ReadFault, Schema, SchemaFault, Step,
-    Unread,
+    Cause, Error, Finding, Findings, KeyPath, Metadata, ParseFault, Plain, ReadFault, Schema,
+    SchemaFault, Step, Unread,
 };
 pub use nesting::depth;
 pub use package::Package;

@@ -1,7 +1,7 @@
 //! The package of a manifest.
 #![tactic(auto, unfolding(manifest_schema::specs::ManifestForms::package_rows))]
 
-ghost use Rattle.manifest_schema.specs.Prelude.{Data, string, no_members, member, tree_of, kept, form, package_rows};
+ghost use Rattle.manifest_schema.specs.Prelude.{Data, string, no_members, member, tree_of, kept, form, package_rows, first_found};
 ghost use Rattle.std.specs.Prelude.{◌≡◌, IfOk, IfErr, Some, string_bytes, codes};
 ghost use Rattle.manifest_schema.specs.Contents;
 ghost use Rattle.manifest_schema.proofs.KindLaws.{tree_lawful};
@@ -189,6 +189,8 @@ pub fn package_from<M: Metadata>(alloc: Global, table: &Table) -> Result<Package
     ensures ok { IfOk result
         (Reads (package_form M.kind) (package_of M.kind M.content) (data_of table.now)) }
     ensures fault { IfErr result (FaultIn ((package_form M.kind).faulty (data_of table.now))) }
+    ensures first { let all = (package_form M.kind).findings (data_of table.now) in
+        IfErr result (FaultIn (first_found all)) }
 {
     read_form(alloc, TableSource::Lent(table))
 }

@@ -1,7 +1,7 @@
 //! The profiles of a manifest.
-#![tactic(auto, unfolding(manifest_schema::specs::PartForms::profiles_rows), using(manifest_value::proofs::Behind::form_refuses))]
+#![tactic(auto, unfolding(manifest_schema::specs::PartForms::profiles_rows), using(manifest_value::proofs::Behind::form_refuses, manifest_value::proofs::FirstLemmas::form_first))]
 
-ghost use Rattle.manifest_schema.specs.Prelude.{no_members, form, profiles_rows};
+ghost use Rattle.manifest_schema.specs.Prelude.{no_members, form, profiles_rows, first_found};
 ghost use Rattle.std.specs.Prelude.{IfOk, IfErr};
 ghost use Rattle.manifest_schema.specs.Contents;
 ghost use Rattle.manifest_schema.proofs.PartLaws.{profiles_form};
@@ -122,6 +122,8 @@ fn profiles_from(alloc: Global, table: TableSource<'_>) -> Result<Profiles, Read
         (Reads (form profiles_rows) profiles_content (table_source table.entry)) }
     ensures fault { IfErr result
         (FaultIn ((form profiles_rows).faulty (table_source table.entry))) }
+    ensures first { let all = (form profiles_rows).findings (table_source table.entry) in
+        IfErr result (FaultIn (first_found all)) }
 {
     let (mut x, rest) = read_open::<Profiles>(alloc, table)?;
     match map_of_entries(alloc, rest) {

@@ -1,12 +1,13 @@
 //! A manifest from bytes or from a text.
 
-ghost use Rattle.manifest_schema.specs.Prelude.{get_member, view, table_view, kept, tree_of, has_header, old_package, faulty_old, means, means_by, unmeant, unmeant_by};
+ghost use Rattle.manifest_schema.specs.Prelude.{get_member, view, table_view, kept, tree_of, has_header, old_package, faulty_old, means, means_by, unmeant, unmeant_by, first_found, foremost, findings_by, manifest_faults};
 ghost use Rattle.std.specs.Prelude.{◌≡◌, false, codes, IfOk, IfErr, OnOk, IsUtf8};
 ghost use Rattle.manifest_schema.specs.Meaning.{has};
 ghost use Rattle.manifest_value.specs.Faults.{FaultIn};
+ghost use Rattle.manifest_value.specs.Refusals.{RefusedIn};
 ghost use Rattle.cargo_manifest.specs.Tables.{package_of, package_form};
 ghost use Rattle.cargo_manifest.specs.Whole.{manifest_content, manifest_of, manifest_kept};
-ghost use Rattle.cargo_manifest.specs.Answers.{IsDocumentOf, Refuses, RefusesTable, RefusesText};
+ghost use Rattle.cargo_manifest.specs.Answers.{IsDocumentOf, Refuses, RefusesTable, RefusesText, TellsFirst, old_package_findings};
 
 use crate::manifest::Manifest;
 use crate::package::{Package, package_from};
@@ -27,7 +28,7 @@ fn has_key(table: &Table, key: &str) -> bool
 }
 
 /// Whether the table has a header: a `package` or a `workspace`.
-fn has_package_or_workspace(table: &Table) -> bool
+pub(crate) fn has_package_or_workspace(table: &Table) -> bool
     ensures { result ≡ has_header (table_view table.now) }
 {
     has_key(table, "package") | has_key(table, "workspace")
@@ -40,6 +41,9 @@ fn read_old_package<P: Metadata>(alloc: Global, table: &Table) -> Result<Package
         (old_package ms (get_member (codes "project") ms)) (package_of P.kind P.content p)) }
     ensures fault { let ms = table_view table.now in
         IfErr result (FaultIn (faulty_old (tree_of P.kind) ms (get_member (codes "project") ms))) }
+    ensures first { let ms = table_view table.now in
+        let all = old_package_findings (tree_of P.kind) ms (get_member (codes "project") ms) in
+        IfErr result (FaultIn (first_found all)) }
 {
     match find(table, "project") {
         Some(value) => read_under(alloc, value, "project"),
@@ -49,6 +53,7 @@ fn read_old_package<P: Metadata>(alloc: Global, table: &Table) -> Result<Package
 
 /// Sets `manifest` to what a table without a header means: its package is that of `project`, or else of the whole
 /// table; its other fields are read from the table.
+#[tactic(auto, using(crate::proofs::FirstFaults::first_of_rows))]
 fn read_headless<P: Metadata, W: Metadata>(
     manifest: &mut Manifest<P, W>,
     alloc: Global,
@@ -59,6 +64,9 @@ fn read_headless<P: Metadata, W: Metadata>(
         (manifest_of P.kind W.kind P.content W.content manifest.new)) }
     ensures fault { IfErr result
         (FaultIn (unmeant_by (tree_of P.kind) (tree_of W.kind) false (table_view table.now))) }
+    ensures first { let all = findings_by (tree_of P.kind) (tree_of W.kind) false
+        (table_view table.now) in
+        IfErr result (FaultIn (first_found all)) }
 {
     read_form_into(manifest, alloc, TableSource::Lent(table))?;
     match read_old_package(alloc, table) {
@@ -81,6 +89,8 @@ fn read_table<P: Metadata, W: Metadata>(
         (manifest_of P.kind W.kind P.content W.content manifest.new)) }
     ensures fault { IfErr result
         (FaultIn (unmeant (tree_of P.kind) (tree_of W.kind) (table_view table))) }
+    ensures first { let all = manifest_faults (tree_of P.kind) (tree_of W.kind) (table_view table) in
+        IfErr result (FaultIn (foremost all)) }
 {
     if has_package_or_workspace(&table) {
         read_form_into(manifest, alloc, TableSource::Taken(table))
@@ -99,6 +109,8 @@ fn read_document<P: Metadata, W: Metadata>(
         (manifest_of P.kind W.kind P.content W.content manifest.new)) }
     ensures refused { IfErr result
         (RefusesTable (tree_of P.kind) (tree_of W.kind) (table_view table)) }
+    ensures first { let all = manifest_faults (tree_of P.kind) (tree_of W.kind) (table_view table) in
+        IfErr result (RefusedIn (foremost all)) }
 {
     match read_table(manifest, alloc, table) {
         Ok(()) => Ok(()),
@@ -116,6 +128,7 @@ fn read_text<P: Metadata, W: Metadata>(
     ensures ok { OnOk result (IsDocumentOf (tree_of P.kind) (tree_of W.kind) text.now
         (manifest_of P.kind W.kind P.content W.content manifest.new)) }
     ensures refused { IfErr result (RefusesText (tree_of P.kind) (tree_of W.kind) text.now) }
+    ensures first { IfErr result (TellsFirst (tree_of P.kind) (tree_of W.kind) text.now) }
 {
     let table = match toml::table_from_str(alloc, text) {
         Ok(table) => table,
@@ -140,6 +153,7 @@ fn read_bytes<P: Metadata, W: Metadata>(
         (IsUtf8 bytes.now × IsDocumentOf (tree_of P.kind) (tree_of W.kind) bytes.now
         (manifest_of P.kind W.kind P.content W.content manifest.new)) }
     ensures refused { IfErr result (Refuses (tree_of P.kind) (tree_of W.kind) bytes.now) }
+    ensures first { IfErr result (TellsFirst (tree_of P.kind) (tree_of W.kind) bytes.now) }
 {
     match std::str::from_utf8(bytes) {
         Ok(text) => read_text(manifest, alloc, text),
@@ -177,6 +191,7 @@ impl<P: Metadata, W: Metadata> Manifest<P, W> {
             (λ m. IsUtf8 bytes.now × IsDocumentOf (tree_of P.kind) (tree_of W.kind) bytes.now
             (manifest_of P.kind W.kind P.content W.content m)) }
         ensures refused { IfErr result (Refuses (tree_of P.kind) (tree_of W.kind) bytes.now) }
+        ensures first { IfErr result (TellsFirst (tree_of P.kind) (tree_of W.kind) bytes.now) }
     {
         manifest_by!(read_bytes, alloc, bytes)
     }
@@ -184,8 +199,8 @@ impl<P: Metadata, W: Metadata> Manifest<P, W> {
     /// Reads the table of a document, as [`Manifest::from_slice_with_both_metadata`] does where it has parsed the
     /// bytes. So a caller can look at the table first, as at its [`depth`](crate::depth).
     ///
-    /// Refuses a table that means no manifest with `Error::Parse(ParseFault::Schema(..))`, with a key path and a cause
-    /// that stand there, and else only when out of memory.
+    /// Refuses a table that means no manifest with `Error::Parse(ParseFault::Schema(..))` of its first fault, that of
+    /// [`faults`](crate::faults), and else only when out of memory.
     ///
     /// ```ignore
     /// let table = toml::table_from_str(alloc, "name = 'a'")?;
@@ -200,6 +215,8 @@ impl<P: Metadata, W: Metadata> Manifest<P, W> {
             (manifest_of P.kind W.kind P.content W.content m)) }
         ensures refused { IfErr result
             (RefusesTable (tree_of P.kind) (tree_of W.kind) (table_view table)) }
+        ensures first { let all = manifest_faults (tree_of P.kind) (tree_of W.kind) (table_view table) in
+            IfErr result (RefusedIn (foremost all)) }
     {
         manifest_by!(read_document, alloc, table)
     }
@@ -210,7 +227,7 @@ impl<P: Metadata> Manifest<P, Value> {
     ///
     /// Refuses bytes that are not UTF-8 with [`Error::Utf8`]; then a text that is no TOML with
     /// `Error::Parse(ParseFault::Toml(..))`; then a table that means no manifest with
-    /// `Error::Parse(ParseFault::Schema(..))`, with a key path and a cause that stand there. When out of memory it
+    /// `Error::Parse(ParseFault::Schema(..))` of its first fault, that of [`faults`](crate::faults). When out of memory it
     /// fails with [`Error::Memory`], or with a memory fault inside `ParseFault::Toml`.
     ///
     /// Nothing is completed from folders.
@@ -226,6 +243,7 @@ impl<P: Metadata> Manifest<P, Value> {
             (λ m. IsUtf8 bytes.now × IsDocumentOf (tree_of P.kind) (tree_of kept) bytes.now
             (manifest_kept P.kind P.content m)) }
         ensures refused { IfErr result (Refuses (tree_of P.kind) (tree_of kept) bytes.now) }
+        ensures first { IfErr result (TellsFirst (tree_of P.kind) (tree_of kept) bytes.now) }
     {
         manifest_by!(read_bytes, alloc, bytes)
     }
@@ -243,6 +261,7 @@ impl Manifest<Value, Value> {
             (λ m. IsUtf8 bytes.now
             × IsDocumentOf (tree_of kept) (tree_of kept) bytes.now (manifest_content view view m)) }
         ensures refused { IfErr result (Refuses (tree_of kept) (tree_of kept) bytes.now) }
+        ensures first { IfErr result (TellsFirst (tree_of kept) (tree_of kept) bytes.now) }
     {
         manifest_by!(read_bytes, alloc, bytes)
     }
@@ -258,6 +277,7 @@ impl Manifest<Value, Value> {
             (λ m. IsDocumentOf (tree_of kept) (tree_of kept) text.now
             (manifest_content view view m)) }
         ensures refused { IfErr result (RefusesText (tree_of kept) (tree_of kept) text.now) }
+        ensures first { IfErr result (TellsFirst (tree_of kept) (tree_of kept) text.now) }
     {
         manifest_by!(read_text, alloc, text)
     }

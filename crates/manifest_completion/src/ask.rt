@@ -86,8 +86,8 @@ fn ask_entries<FS: AbstractFilesystem>(
     folder: &str,
     names: &BTreeSet<String>,
 ) -> Result<Vec<io::Result<BTreeSet<String>>>, AllocError>
-    ensures { IfOk result (λ answers.
-        AreAllowedAnswers (FS.allows fs.now) folder.now (set_names names.now) (answers_of answers)) }
+    ensures { let all = set_names names.now in IfOk result (λ answers.
+        AreAllowedAnswers (FS.allows fs.now) folder.now all (answers_of answers)) }
 {
     let mut entries = Vec::new(alloc);
     for name in names.iter() {

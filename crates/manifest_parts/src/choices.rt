@@ -7,7 +7,7 @@ ghost use Rattle.manifest_schema.proofs.ChoiceLaws.{edition_lawful, edition_plai
 ghost use Rattle.manifest_parts.specs.Parts.{edition_content, resolver_content, level_content, status_content};
 
 use manifest_value::fault::fault_here;
-use manifest_value::findings::{Found, findings_by_reading};
+use manifest_value::findings::{Findings, Found};
 use manifest_value::{Cause, Plain, ReadFault, Schema, Source};
 use std::alloc::{AllocError, Global};
 use toml::Value;
@@ -68,8 +68,12 @@ impl Schema for Edition {
         }
     }
 
+    #[tactic(auto, using(manifest_value::proofs::FoundLemmas::one_fault_read, manifest_value::proofs::FoundLemmas::one_fault_refused, manifest_schema::proofs::OneFaultLaws::choice_one_fault))]
     fn findings(alloc: Global, value: &Value) -> Found {
-        findings_by_reading::<Edition>(alloc, value)
+        match Edition::read(alloc, Source::Lent(value)) {
+            Ok(_) => Ok(Findings::none(alloc)),
+            Err(refused) => Findings::of_refusal(alloc, refused),
+        }
     }
 
     fn to_value(&self, alloc: Global) -> Result<Value, AllocError> {
@@ -144,8 +148,12 @@ impl Schema for Resolver {
         }
     }
 
+    #[tactic(auto, using(manifest_value::proofs::FoundLemmas::one_fault_read, manifest_value::proofs::FoundLemmas::one_fault_refused, manifest_schema::proofs::OneFaultLaws::choice_one_fault))]
     fn findings(alloc: Global, value: &Value) -> Found {
-        findings_by_reading::<Resolver>(alloc, value)
+        match Resolver::read(alloc, Source::Lent(value)) {
+            Ok(_) => Ok(Findings::none(alloc)),
+            Err(refused) => Findings::of_refusal(alloc, refused),
+        }
     }
 
     fn to_value(&self, alloc: Global) -> Result<Value, AllocError> {
@@ -224,8 +232,12 @@ impl Schema for LintLevel {
         }
     }
 
+    #[tactic(auto, using(manifest_value::proofs::FoundLemmas::one_fault_read, manifest_value::proofs::FoundLemmas::one_fault_refused, manifest_schema::proofs::OneFaultLaws::choice_one_fault))]
     fn findings(alloc: Global, value: &Value) -> Found {
-        findings_by_reading::<LintLevel>(alloc, value)
+        match LintLevel::read(alloc, Source::Lent(value)) {
+            Ok(_) => Ok(Findings::none(alloc)),
+            Err(refused) => Findings::of_refusal(alloc, refused),
+        }
     }
 
     fn to_value(&self, alloc: Global) -> Result<Value, AllocError> {
@@ -313,8 +325,12 @@ impl Schema for MaintenanceStatus {
         }
     }
 
+    #[tactic(auto, using(manifest_value::proofs::FoundLemmas::one_fault_read, manifest_value::proofs::FoundLemmas::one_fault_refused, manifest_schema::proofs::OneFaultLaws::choice_one_fault))]
     fn findings(alloc: Global, value: &Value) -> Found {
-        findings_by_reading::<MaintenanceStatus>(alloc, value)
+        match MaintenanceStatus::read(alloc, Source::Lent(value)) {
+            Ok(_) => Ok(Findings::none(alloc)),
+            Err(refused) => Findings::of_refusal(alloc, refused),
+        }
     }
 
     fn to_value(&self, alloc: Global) -> Result<Value, AllocError> {

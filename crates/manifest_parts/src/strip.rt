@@ -9,7 +9,7 @@ ghost use Rattle.manifest_value.specs.Reading.{Reads};
 ghost use Rattle.manifest_parts.specs.Refusals.{RefusesStrip};
 
 use manifest_value::fault::fault_here;
-use manifest_value::findings::{Found, findings_by_reading};
+use manifest_value::findings::{Findings, Found};
 use manifest_value::{Cause, Error, ReadFault, Schema, Source};
 use std::alloc::{AllocError, Global};
 use toml::Value;
@@ -91,8 +91,12 @@ impl Schema for StripSetting {
         }
     }
 
+    #[tactic(auto, using(manifest_value::proofs::FoundLemmas::one_fault_read, manifest_value::proofs::FoundLemmas::one_fault_refused, manifest_schema::proofs::OneFaultLaws::choice_one_fault))]
     fn findings(alloc: Global, value: &Value) -> Found {
-        findings_by_reading::<StripSetting>(alloc, value)
+        match StripSetting::read(alloc, Source::Lent(value)) {
+            Ok(_) => Ok(Findings::none(alloc)),
+            Err(refused) => Findings::of_refusal(alloc, refused),
+        }
     }
 
     fn to_value(&self, alloc: Global) -> Result<Value, AllocError> {

@@ -83,7 +83,7 @@ finds_both fs gs F G t u p c = (
   elim [ inl a ↦ append_first fs gs p c ((t p c).1 a) | inr b ↦ append_second fs gs p c ((u p c).1 b) ],
 )
 
--- what is found beside faults may be findings without one
+-- findings without a fault after others add none
 pub append_faultless : (fs gs : List Finding) → IsFaultless gs → faults_of (fs ++ gs) ≡ faults_of fs
 append_faultless [] gs e = e
 append_faultless (fault p c ∷ fs) gs e = ap (λ t. (p, c) ∷ t) (append_faultless fs gs e)

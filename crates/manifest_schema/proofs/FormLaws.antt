@@ -11,14 +11,14 @@ use Rattle.manifest_schema.proofs.KindLaws.{entries_single, entry_apart, entries
 use Rattle.manifest_schema.proofs.TableLaws.{same_key-self, same_key-false, not_among_head, not_among_tail, turned, get-member_other, get-put_same, get-put_other, get-put_some_other, without-put_some}
 
 -- SPELLINGS
-among_here : (k : Text) (ks : List Text) → is_among (k ∷ ks) k ≡ true
+pub among_here : (k : Text) (ks : List Text) → is_among (k ∷ ks) k ≡ true
 among_here k ks = rw (same_key-self k)
 
 or_second : (a b : Bool) → b ≡ true → (a || b) ≡ true
 or_second true b h = refl
 or_second false b h = h
 
-among_there : (l : Text) (ks : List Text) (k : Text) → is_among ks k ≡ true → is_among (l ∷ ks) k ≡ true
+pub among_there : (l : Text) (ks : List Text) (k : Text) → is_among ks k ≡ true → is_among (l ∷ ks) k ≡ true
 among_there l ks k h = or_second (same_key l k) (is_among ks k) h
 
 not_first : (names : Spellings) (ks : List Text) (j : Text) → is_among (spell names ks) j ≡ false → same_key (first names) j ≡ false
@@ -33,7 +33,7 @@ first_among : (names : Spellings) (ks : List Text) → is_among (spell names ks)
 first_among (only k) ks = among_here k ks
 first_among (both k l) ks = among_here k (l ∷ ks)
 
-later_among : (names : Spellings) (ks : List Text) (j : Text) → is_among ks j ≡ true → is_among (spell names ks) j ≡ true
+pub later_among : (names : Spellings) (ks : List Text) (j : Text) → is_among ks j ≡ true → is_among (spell names ks) j ≡ true
 later_among (only k) ks j h = among_there k ks j h
 later_among (both k l) ks j h = among_there k (l ∷ ks) j (among_there l ks j h)
 

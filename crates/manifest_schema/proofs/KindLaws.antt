@@ -158,16 +158,16 @@ module _ {A : Type 0} {K : Kinds.Kind A} (L : IsLawful K) where
   items_back [] g = tt
   items_back (x ∷ xs) g = (L.back x g.0, items_back xs g.1)
 
-  items_exact : (i : ℕ) (ds : Items) → FindsAll (item_findings K i ds) (ItemFrom i K.faulty ds)
+  items_exact : (i : ℕ) (ds : Items) → FindsAll (item_findings K.findings i ds) (ItemFrom i K.faulty ds)
   items_exact i no_items p c = (λ h. absurd h, λ f. no_item f.0 f.1 f.2)
   items_exact i (item d ds) p c =
-      let t = finds_both (found_behind (index i) (K.findings d)) (item_findings K (suc i) ds) (behind (index i) (K.faulty d)) (ItemFrom (suc i) K.faulty ds)
+      let t = finds_both (found_behind (index i) (K.findings d)) (item_findings K.findings (suc i) ds) (behind (index i) (K.faulty d)) (ItemFrom (suc i) K.faulty ds)
       (finds_behind (index i) (K.findings d) (K.faulty d) (L.exact d)) (items_exact (suc i) ds) p c in (
         λ h. elim (t.0 h) [ inl a ↦ item_here i K.faulty d ds p c a | inr b ↦ item_there i K.faulty d ds p c b ],
         λ f. t.1 (item_cases i K.faulty d ds p c f.0 f.1 f.2 f.3),
       )
 
-  list_exact : (d : Data) → FindsAll (list_findings K d) (faulty_list K d)
+  list_exact : (d : Data) → FindsAll (list_findings K.findings d) (faulty_list K d)
   list_exact (array ds) p c =
       let t = items_exact 0 ds p c in
       let z = from_zero K.faulty ds p c in
@@ -219,16 +219,16 @@ module _ {A : Type 0} {K : Kinds.Kind A} (L : IsLawful K) where
   map_well (table ms) xs a = entries_well ms xs a
   map_well _ xs a = absurd a
 
-  pub entries_exact : (ms : Members) → FindsAll (entry_findings K ms) (faulty_entry K ms)
+  pub entries_exact : (ms : Members) → FindsAll (entry_findings K.findings ms) (faulty_entry K ms)
   entries_exact no_members p c = (λ h. absurd h, λ f. absurd f.2)
   entries_exact (member k d ms) p c =
-      let t = finds_both (found_behind (key k) (K.findings d)) (entry_findings K ms) (behind (key k) (K.faulty d)) (faulty_entry K ms)
+      let t = finds_both (found_behind (key k) (K.findings d)) (entry_findings K.findings ms) (behind (key k) (K.faulty d)) (faulty_entry K ms)
       (finds_behind (key k) (K.findings d) (K.faulty d) (L.exact d)) (entries_exact ms) p c in (
         λ h. elim (t.0 h) [ inl a ↦ (k, d, inl (refl, refl), a) | inr b ↦ (b.0, b.1, inr b.2, b.3) ],
         λ f. t.1 (elim f.2 [ inl here ↦ inl (rw (← here.0, ← here.1) f.3) | inr there ↦ inr (f.0, f.1, there, f.3) ]),
       )
 
-  map_exact : (d : Data) → FindsAll (map_findings K d) (faulty_map K d)
+  map_exact : (d : Data) → FindsAll (map_findings K.findings d) (faulty_map K d)
   map_exact (table ms) p c = entries_exact ms p c
   map_exact _ p c = finds_here wrong_kind p c
 
@@ -273,7 +273,7 @@ module _ {A : Type 0} {K : Kinds.Kind A} (L : IsLawful K) (N : IsPlain K) where
   workspace_exact true ms p c = let t = faultless_finds (unlisted_keys ms) (unlisted_faultless ms) p c in (λ h. absurd (t.0 h), λ f. absurd (true≢false f.0))
   workspace_exact false ms p c = finds_unless false wrong_kind p c
 
-  inh_exact : (d : Data) → FindsAll (inh_findings K d) (faulty_inh K d)
+  inh_exact : (d : Data) → FindsAll (inh_findings K.findings d) (faulty_inh K d)
   inh_exact (table ms) p c = workspace_exact (inherits (table ms)) (without (codes "workspace" ∷ []) ms) p c
   inh_exact d p c = L.exact d p c
 
@@ -314,7 +314,7 @@ module _ {A B : Type 0} {K : Kinds.Kind A} {M : Kinds.Kind B} (k : IsLawful K) (
   split_back test p q (inl x) g = rw (p x g) (k.back x g)
   split_back test p q (inr x) g = rw (q x g) (m.back x g)
 
-  split_exact : (t : Bool) (d : Data) → FindsAll (split_findings K M t d) (faulty_split K M t d)
+  split_exact : (t : Bool) (d : Data) → FindsAll (split_findings K.findings M.findings t d) (faulty_split K M t d)
   split_exact true d p c = k.exact d p c
   split_exact false d p c = m.exact d p c
 

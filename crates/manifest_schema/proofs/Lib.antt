@@ -1,4 +1,5 @@
 pub mod FindingLaws
+pub mod LeftOutLaws
 pub mod KeptLaws
 pub mod KindLaws
 pub mod TableLaws
@@ -6,14 +7,18 @@ pub mod NeedLaws
 pub mod FormLaws
 pub mod WithoutLaws
 pub mod Totals
+pub mod TidyLaws
+pub mod FormTidy
 pub mod ChoiceLaws
 pub mod OneFaultLaws
 pub mod RowLaws
+pub mod PartTidy
 pub mod Built
 pub mod PartLaws
 pub mod ManifestLaws
 pub mod MeaningLaws
 pub mod FoundLaws
+pub mod UnlistedLaws
 pub mod GoodLaws
 pub mod FormerLaws
 pub mod CopyLaws

@@ -2,20 +2,19 @@
 use Rattle.manifest_schema.specs.Prelude.{Data, Text, Path, Cause, key, missing, two_spellings, no_fault, first, Spellings, Slot, absent, one, clash, slot, meets_required, faulty_required, faulty_free, meets_optional, meets_default, meets_lenient, written_some, written_unless, good_some, required, optional, default, lenient_optional, lenient_default, IsLawful, IsLawfulNeed, IsDefault}
 use Rattle.std.proofs.Common.{◌≡◌, Bool, true, false, ◌⊎◌, inl, inr, Option, Some, None, refl, sym, ap, ◌∙◌}
 use Rattle.manifest_schema.specs.Kinds
-
 use Rattle.manifest_schema.specs.Findings.{found_here, FindsAll}
 use Rattle.manifest_schema.specs.Needs.{free_findings, required_findings, lenient_findings}
 use Rattle.manifest_schema.proofs.FindingLaws.{finds_nothing, finds_behind, finds_behind_here, faultless_finds, lenient_faultless}
 
 -- WHAT IS FOUND of a field that may be absent
 module _ {B : Type 0} {K : Kinds.Kind B} (L : IsLawful K) where
-  free_exact : (names : Spellings) (s : Slot) → FindsAll (free_findings names K s) (faulty_free names K s)
+  free_exact : (names : Spellings) (s : Slot) → FindsAll (free_findings names K.findings s) (faulty_free names K s)
   free_exact names absent = finds_nothing
   free_exact names clash = finds_behind_here (key (first names)) two_spellings
   free_exact names (one k d) = finds_behind (key k) (K.findings d) (K.faulty d) (L.exact d)
 
-lenient_exact : {B : Type 0} (K : Kinds.Kind B) (names : Spellings) (s : Slot) → FindsAll (lenient_findings names K s) no_fault
-lenient_exact K names s = faultless_finds (lenient_findings names K s) (lenient_faultless (free_findings names K s))
+lenient_exact : {B : Type 0} (K : Kinds.Kind B) (names : Spellings) (s : Slot) → FindsAll (lenient_findings names K.findings s) no_fault
+lenient_exact K names s = faultless_finds (lenient_findings names K.findings s) (lenient_faultless (free_findings names K.findings s))
 
 -- ROWS
 module _ {B : Type 0} {K : Kinds.Kind B} (L : IsLawful K) where
@@ -34,7 +33,7 @@ module _ {B : Type 0} {K : Kinds.Kind B} (L : IsLawful K) where
   required_well (one k d) x a = L.well d x a
   required_well clash x a = absurd a
 
-  required_exact : (names : Spellings) (s : Slot) → FindsAll (required_findings names K s) (faulty_required names K s)
+  required_exact : (names : Spellings) (s : Slot) → FindsAll (required_findings names K.findings s) (faulty_required names K s)
   required_exact names absent = finds_behind_here (key (first names)) missing
   required_exact names clash = finds_behind_here (key (first names)) two_spellings
   required_exact names (one k d) = finds_behind (key k) (K.findings d) (K.faulty d) (L.exact d)

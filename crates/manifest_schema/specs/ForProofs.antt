@@ -6,7 +6,7 @@ use Rattle.manifest_schema.specs.Paths.{Text, metadata_fault}
 use Rattle.manifest_schema.specs.Slots.{Spellings, only, both, at}
 use Rattle.manifest_schema.specs.Kinds.{nothing, unread}
 use Rattle.manifest_schema.specs.Forms.{Rows, ◌⨾◌}
-use Rattle.manifest_schema.specs.Lawful.{IsLawful, IsTotal}
+use Rattle.manifest_schema.specs.Lawful.{IsLawful, IsTidy, IsTotal}
 
 -- SPELLINGS, from a word and perhaps a second word
 abbrev pub spellings_of : Text → Option Text → Spellings
@@ -32,6 +32,14 @@ nothing_laws = record {
 pub nothing_told : IsTotal nothing
 nothing_told = record { total = λ d. inr ([], metadata_fault, (refl, refl)) }
 
+-- and it finds no key
+pub nothing_tidy : IsTidy nothing
+nothing_tidy = record {
+  reads = λ d s x. (λ h. h, λ h. h);
+  faulty = λ d s p c. (λ h. h, λ h. h);
+  inside = λ d. refl;
+}
+
 -- THE KIND THAT LOOKS AT NO VALUE satisfies them too: no value has a fault
 pub unread_laws : IsLawful unread
 unread_laws = record {
@@ -40,4 +48,11 @@ unread_laws = record {
   well = λ d x a. tt;
   back = λ x g. tt;
   exact = λ d p c. (λ h. h, λ h. h);
+}
+
+pub unread_tidy : IsTidy unread
+unread_tidy = record {
+  reads = λ d s x. (λ h. h, λ h. h);
+  faulty = λ d s p c. (λ h. h, λ h. h);
+  inside = λ d. refl;
 }

@@ -1,5 +1,5 @@
 -- Forms: a record is read from a table by a list of rows, one for each field.
-use Rattle.std.specs.Prelude.{Bool, true, not, ◌&&◌, ◌⊎◌, List, [], ◌∷◌, ◌++◌, IsTrue}
+use Rattle.std.specs.Prelude.{Bool, true, false, not, ◌&&◌, ◌⊎◌, List, [], ◌∷◌, ◌++◌, IsTrue}
 use Rattle.toml.specs.Data.{Data, table, Members, no_members}
 use Rattle.manifest_schema.specs.Paths.{Text, wrong_kind, Faults, itself}
 use Rattle.manifest_schema.specs.Findings.{Finding, found_here, unlisted_keys}
@@ -97,7 +97,7 @@ good_rows rows x = good_beside (spelled rows) rows (gets rows x)
 abbrev pub findings_beside : {A : Type 0} → List Text → Rows A → Members → List Finding
 findings_beside named (r ⨾ rs) ms =
     r.need.findings r.spellings (at r.spellings ms) ++ findings_beside named rs ms
-findings_beside named (others get K) ms = entry_findings K (without named ms)
+findings_beside named (others get K) ms = entry_findings K.findings (without named ms)
 findings_beside named no_more ms = []
 
 abbrev pub row_findings : {A : Type 0} → Rows A → Members → List Finding
@@ -133,3 +133,9 @@ form rows = record {
   good = good_rows rows;
   findings = form_findings rows;
 }
+
+-- the form reads no key but those of its rows
+abbrev pub is_closed : {A : Type 0} → Rows A → Bool
+is_closed (r ⨾ rs) = is_closed rs
+is_closed (others get K) = false
+is_closed no_more = true

@@ -1,9 +1,10 @@
 -- What is found in a whole table, with old headers, and what is promised of it for every kind of metadata.
-use Rattle.std.specs.Prelude.{◌≡◌, ◌↔◌, Bool, true, false, List, [], ◌∷◌, ◌++◌, Option, Some, None, codes}
-use Rattle.toml.specs.Data.{Data, table, Members, get_member}
+use Rattle.std.specs.Prelude.{◌≡◌, ◌↔◌, Bool, true, false, List, [], ◌∷◌, ◌++◌, Option, Some, None, IsTrue, codes}
+use Rattle.toml.specs.Data.{Data, table, Members, get_member, members_are_sorted}
 use Rattle.manifest_schema.specs.Paths.{Path, Cause, key}
 use Rattle.manifest_schema.specs.Findings.{Finding, found_behind, unlisted_keys, faults_of, ignored_of, unlisted_of, FindsAll}
 use Rattle.manifest_schema.specs.Slots.{without}
+use Rattle.manifest_schema.specs.LeftOut.{left_out_members}
 use Rattle.manifest_schema.specs.Kinds.{Kind}
 use Rattle.manifest_schema.specs.Forms.{form, row_findings, left_over}
 use Rattle.manifest_schema.specs.Contents.{Manifest}
@@ -26,7 +27,7 @@ abbrev pub findings_by : Kind Data → Kind Data → Bool → Members → List F
 findings_by K W true ms = (form (manifest_rows K W)).findings (table ms)
 findings_by K W false ms = old_findings K W ms (get_member (codes "project") ms)
 
--- WHAT IS FOUND IN A TABLE, in the order in which it is told
+-- WHAT IS FOUND IN A TABLE, in the order in which it is reported
 abbrev pub manifest_findings : Kind Data → Kind Data → Members → List Finding
 manifest_findings K W ms = findings_by K W (has_header ms) ms
 
@@ -51,3 +52,14 @@ FindsEveryFault K W = (ms : Members) → FindsAll (manifest_findings K W ms) (un
 abbrev pub FaultlessIfMeant : Kind Data → Kind Data → Type 0
 FaultlessIfMeant K W =
     (ms : Members) → (manifest_faults K W ms ≡ []) ↔ ((m : Manifest) × means K W ms m)
+
+-- the table without its unlisted keys
+abbrev pub without_unlisted : Kind Data → Kind Data → Members → Members
+without_unlisted K W ms = left_out_members (manifest_unlisted K W ms) ms
+
+-- where the keys of each table ascend, it means the same without them and has the same faults
+abbrev pub SameWithoutUnlisted : Kind Data → Kind Data → Type 0
+SameWithoutUnlisted K W =
+    (ms : Members) → IsTrue (members_are_sorted ms) →
+    ((m : Manifest) → means K W (without_unlisted K W ms) m ↔ means K W ms m)
+    × ((p : Path) (c : Cause) → unmeant K W (without_unlisted K W ms) p c ↔ unmeant K W ms p c)

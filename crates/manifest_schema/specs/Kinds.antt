@@ -168,14 +168,14 @@ good_items K [] = Unit {0}
 good_items K (x ∷ xs) = K.good x × good_items K xs
 
 -- what is found in the items, from the index of the first
-abbrev pub item_findings : {A : Type 0} → Kind A → ℕ → Items → List Finding
-item_findings K i no_items = []
-item_findings K i (item d ds) =
-    found_behind (index i) (K.findings d) ++ item_findings K (suc i) ds
+abbrev pub item_findings : (Data → List Finding) → ℕ → Items → List Finding
+item_findings find i no_items = []
+item_findings find i (item d ds) =
+    found_behind (index i) (find d) ++ item_findings find (suc i) ds
 
-abbrev pub list_findings : {A : Type 0} → Kind A → Data → List Finding
-list_findings K (array ds) = item_findings K 0 ds
-list_findings K _ = found_here wrong_kind
+abbrev pub list_findings : (Data → List Finding) → Data → List Finding
+list_findings find (array ds) = item_findings find 0 ds
+list_findings find _ = found_here wrong_kind
 
 abbrev pub list_of : {A : Type 0} → Kind A → Kind (List A)
 list_of K = record {
@@ -183,7 +183,7 @@ list_of K = record {
   faulty = faulty_list K;
   written = λ xs. array (written_items K xs);
   good = good_items K;
-  findings = list_findings K;
+  findings = list_findings K.findings;
 }
 
 -- A MAP: a table whose values are of one kind, by its entries in the order of their keys
@@ -221,13 +221,13 @@ good_entries K [] = Unit {0}
 good_entries K (e ∷ es) = K.good e.1 × good_entries K es
 
 -- what is found in the entries, in their order
-abbrev pub entry_findings : {A : Type 0} → Kind A → Members → List Finding
-entry_findings K no_members = []
-entry_findings K (member k d ms) = found_behind (key k) (K.findings d) ++ entry_findings K ms
+abbrev pub entry_findings : (Data → List Finding) → Members → List Finding
+entry_findings find no_members = []
+entry_findings find (member k d ms) = found_behind (key k) (find d) ++ entry_findings find ms
 
-abbrev pub map_findings : {A : Type 0} → Kind A → Data → List Finding
-map_findings K (table ms) = entry_findings K ms
-map_findings K _ = found_here wrong_kind
+abbrev pub map_findings : (Data → List Finding) → Data → List Finding
+map_findings find (table ms) = entry_findings find ms
+map_findings find _ = found_here wrong_kind
 
 abbrev pub map_of : {A : Type 0} → Kind A → Kind (Entries A)
 map_of K = record {
@@ -235,7 +235,7 @@ map_of K = record {
   faulty = faulty_map K;
   written = λ es. table (written_entries K es);
   good = good_entries K;
-  findings = map_findings K;
+  findings = map_findings K.findings;
 }
 
 -- KEPT: any value without a float, as it is
@@ -322,11 +322,11 @@ good_inh K inherited = Unit {0}
 good_inh K (local x) = K.good x
 
 -- of a table whose `workspace` is the boolean true, nothing else is read
-abbrev pub inh_findings : {A : Type 0} → Kind A → Data → List Finding
-inh_findings K (table ms) =
+abbrev pub inh_findings : (Data → List Finding) → Data → List Finding
+inh_findings find (table ms) =
     if inherits (table ms) then unlisted_keys (without (codes "workspace" ∷ []) ms)
     else found_here wrong_kind
-inh_findings K d = K.findings d
+inh_findings find d = find d
 
 abbrev pub inh : {A : Type 0} → Kind A → Kind (Inheritable A)
 inh K = record {
@@ -334,7 +334,7 @@ inh K = record {
   faulty = faulty_inh K;
   written = written_inh K;
   good = good_inh K;
-  findings = inh_findings K;
+  findings = inh_findings K.findings;
 }
 
 -- ONE OF TWO KINDS: K where the test of the value holds, else L; `side` says of which of the two a C is
@@ -355,9 +355,10 @@ abbrev pub good_split : {A B : Type 0} → Kind A → Kind B → A ⊎ B → Typ
 good_split K L (inl a) = K.good a
 good_split K L (inr b) = L.good b
 
-abbrev pub split_findings : {A B : Type 0} → Kind A → Kind B → Bool → Data → List Finding
-split_findings K L true = K.findings
-split_findings K L false = L.findings
+abbrev pub split_findings :
+    (Data → List Finding) → (Data → List Finding) → Bool → Data → List Finding
+split_findings first second true = first
+split_findings first second false = second
 
 abbrev pub split : {A B C : Type 0} → (Data → Bool) → Kind A → Kind B → (C → A ⊎ B) → Kind C
 split test K L side = record {
@@ -365,7 +366,7 @@ split test K L side = record {
   faulty = λ d. faulty_split K L (test d) d;
   written = λ x. written_split K L (side x);
   good = λ x. good_split K L (side x);
-  findings = λ d. split_findings K L (test d) d;
+  findings = λ d. split_findings K.findings L.findings (test d) d;
 }
 
 -- the tests

@@ -4,6 +4,7 @@ pub mod Findings
 pub mod Slots
 pub mod Kinds
 pub mod Needs
+pub mod LeftOut
 pub mod Forms
 pub mod OneFault
 pub mod Lawful

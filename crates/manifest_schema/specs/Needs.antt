@@ -16,7 +16,7 @@ pub record Need (C : Type 0) : Type 1 where
   pub written : C → Option Data
   -- the content is well-formed
   pub good : C → Type 0
-  -- what is found under the spellings, in the order in which it is told
+  -- what is found under the spellings, in the order in which it is reported
   pub findings : Spellings → Slot → List Finding
 
 -- FAULTS OF A FIELD
@@ -41,10 +41,10 @@ abbrev pub missing_found : Spellings → List Finding
 missing_found names = found_behind (key (first names)) (found_here missing)
 
 -- what is found of a field that may be absent
-abbrev pub free_findings : {B : Type 0} → Spellings → Kind B → Slot → List Finding
-free_findings names K absent = []
-free_findings names K clash = clash_found names
-free_findings names K (one k d) = found_behind (key k) (K.findings d)
+abbrev pub free_findings : Spellings → (Data → List Finding) → Slot → List Finding
+free_findings names find absent = []
+free_findings names find clash = clash_found names
+free_findings names find (one k d) = found_behind (key k) (find d)
 
 -- REQUIRED: it is there
 abbrev pub meets_required : {B : Type 0} → Kind B → Slot → B → Type 0
@@ -56,10 +56,10 @@ faulty_required names K absent = missing_at names
 faulty_required names K clash = clash_at names
 faulty_required names K (one k d) = behind (key k) (K.faulty d)
 
-abbrev pub required_findings : {B : Type 0} → Spellings → Kind B → Slot → List Finding
-required_findings names K absent = missing_found names
-required_findings names K clash = clash_found names
-required_findings names K (one k d) = found_behind (key k) (K.findings d)
+abbrev pub required_findings : Spellings → (Data → List Finding) → Slot → List Finding
+required_findings names find absent = missing_found names
+required_findings names find clash = clash_found names
+required_findings names find (one k d) = found_behind (key k) (find d)
 
 abbrev pub required : {B : Type 0} → Kind B → Need B
 required K = record {
@@ -67,7 +67,7 @@ required K = record {
   faulty = λ names. faulty_required names K;
   written = λ x. Some (K.written x);
   good = K.good;
-  findings = λ names. required_findings names K;
+  findings = λ names. required_findings names K.findings;
 }
 
 -- OPTIONAL: None where it is absent, and None is not written
@@ -90,7 +90,7 @@ optional K = record {
   faulty = λ names. faulty_free names K;
   written = written_some K;
   good = good_some K;
-  findings = λ names. free_findings names K;
+  findings = λ names. free_findings names K.findings;
 }
 
 -- DEFAULT: e where it is absent; not written where the test holds of its content
@@ -109,7 +109,7 @@ default K e skipped = record {
   faulty = λ names. faulty_free names K;
   written = λ x. written_unless K (skipped x) x;
   good = K.good;
-  findings = λ names. free_findings names K;
+  findings = λ names. free_findings names K.findings;
 }
 
 -- when a default is not written: never, where it is true, where it is false, where it is the empty list
@@ -133,8 +133,8 @@ meets_lenient {B} wrap e K (one k d) x =
 meets_lenient wrap e K _ x = x ≡ e
 
 -- what does not fit is ignored, and so are two spellings
-abbrev pub lenient_findings : {B : Type 0} → Spellings → Kind B → Slot → List Finding
-lenient_findings names K s = leniently (free_findings names K s)
+abbrev pub lenient_findings : Spellings → (Data → List Finding) → Slot → List Finding
+lenient_findings names find s = leniently (free_findings names find s)
 
 -- None where nothing fits, and None is not written
 abbrev pub lenient_optional : {B : Type 0} → Kind B → Need (Option B)
@@ -143,7 +143,7 @@ lenient_optional K = record {
   faulty = λ names s. no_fault;
   written = written_some K;
   good = good_some K;
-  findings = λ names. lenient_findings names K;
+  findings = λ names. lenient_findings names K.findings;
 }
 
 -- e where nothing fits, written always
@@ -153,5 +153,5 @@ lenient_default K e = record {
   faulty = λ names s. no_fault;
   written = λ x. Some (K.written x);
   good = K.good;
-  findings = λ names. lenient_findings names K;
+  findings = λ names. lenient_findings names K.findings;
 }

@@ -3,9 +3,9 @@
 //! The parameters `P` and `W` stand for the two kinds of metadata. Each function returns at once: it is there for
 //! its contract, a law of the definitions.
 
-ghost use Rattle.manifest_schema.specs.Prelude.{tree_of, MeansOne, WrittenIsRead, AcceptedIsWellFormed, WrittenMeansTheSame, RewrittenMeansTheSame, RewrittenTwiceIsOnce, SameExactly, SameWrittenIsSame, FaultyMeansNothing, AcceptedOrFaulty, OldWrittenIsRead, FindsEveryFault, FaultlessIfMeant};
+ghost use Rattle.manifest_schema.specs.Prelude.{tree_of, MeansOne, WrittenIsRead, AcceptedIsWellFormed, WrittenMeansTheSame, RewrittenMeansTheSame, RewrittenTwiceIsOnce, SameExactly, SameWrittenIsSame, FaultyMeansNothing, AcceptedOrFaulty, OldWrittenIsRead, FindsEveryFault, FaultlessIfMeant, SameWithoutUnlisted};
 
-use crate::kinds::{LawfulKind, TotalKind};
+use crate::kinds::{LawfulKind, TidyKind, TotalKind};
 
 /// A table means at most one manifest: there is at most one that it is read as.
 pub fn means_one<P: LawfulKind, W: LawfulKind>()
@@ -63,6 +63,12 @@ pub fn accepted_or_faulty<P: TotalKind, W: TotalKind>()
 pub fn finds_every_fault<P: TotalKind, W: TotalKind>()
     ensures every { FindsEveryFault (tree_of P.kind) (tree_of W.kind) }
     ensures none { FaultlessIfMeant (tree_of P.kind) (tree_of W.kind) }
+{}
+
+/// A table whose keys ascend, as do those of the tables inside, means without its unlisted keys the same manifest and
+/// has the same faults: the keys that are found to be read by nothing are indeed of no use.
+pub fn same_without_unlisted<P: TidyKind, W: TidyKind>()
+    ensures { SameWithoutUnlisted (tree_of P.kind) (tree_of W.kind) }
 {}
 
 /// Where no inherited dependency of a manifest chooses its default features, what is written of the manifest is what

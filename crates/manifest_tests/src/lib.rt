@@ -44,6 +44,8 @@ mod folders;
 #[cfg(test)]
 mod forms;
 #[cfg(test)]
+mod found;
+#[cfg(test)]
 mod hostile;
 #[cfg(test)]
 mod metadata;

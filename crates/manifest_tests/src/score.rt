@@ -6,7 +6,7 @@ ghost use Rattle.manifest_schema.proofs.KindLaws.{whole_lawful};
 ghost use Rattle.manifest_tests.specs.Scores.{score_rows, score_lawful, score_plain, score_by_tree};
 
 use manifest_value::fault::fault_here;
-use manifest_value::findings::{Found, findings_by_reading};
+use manifest_value::findings::{Findings, Found};
 use manifest_value::form::{RowPut, RowRead, Rowed, Word};
 use manifest_value::row_slots::RowSlot;
 use manifest_value::{
@@ -43,8 +43,12 @@ impl Schema for Level {
         }
     }
 
+    #[tactic(auto, using(manifest_value::proofs::FoundLemmas::one_fault_read, manifest_value::proofs::FoundLemmas::one_fault_refused, manifest_schema::proofs::OneFaultLaws::whole_one_fault))]
     fn findings(alloc: Global, value: &Value) -> Found {
-        findings_by_reading::<Level>(alloc, value)
+        match Level::read(alloc, Source::Lent(value)) {
+            Ok(_) => Ok(Findings::none(alloc)),
+            Err(refused) => Findings::of_refusal(alloc, refused),
+        }
     }
 
     fn to_value(&self, _alloc: Global) -> Result<Value, AllocError> {

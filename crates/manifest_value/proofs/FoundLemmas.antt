@@ -1,9 +1,13 @@
 -- What is found row by row, and then in the map of all other keys or under the keys that no row has.
-use Rattle.manifest_schema.specs.Prelude.{Members, no_members, table, Text, Spellings, Slot, at, Rows, no_more, others, ◌⨾◌, without, spelled, entry_findings, findings_beside, left_beside, form_findings, unlisted_keys}
-use Rattle.manifest_schema.specs.Findings.{Finding}
+use Rattle.manifest_schema.specs.Prelude.{Data, Kind, Members, no_members, table, Text, Spellings, Slot, at, Rows, no_more, others, ◌⨾◌, without, spelled, findings_beside, left_beside, form_findings, unlisted_keys}
+use Rattle.manifest_schema.specs.OneFault.{HasOneFault}
 use Rattle.std.proofs.Common.{◌≡◌, ℕ, zero, suc, List, [], ◌∷◌, ◌++◌, refl, sym, ap, ap₂, ◌∙◌, drop, append_assoc, append-nil}
 use Rattle.manifest_value.specs.FormRows.{many, AreAll}
-use Rattle.manifest_value.specs.Found.{findings_at, findings_from, other_findings, IsOpen}
+use Rattle.manifest_value.specs.Found.{found, findings_at, findings_from, other_findings, IsOpen, IsFoundAlone}
+use Rattle.manifest_value.specs.Faults.{FaultIn, path_of, cause_of}
+use Rattle.manifest_value.specs.declared.fault.ReadFault.{ReadFault}
+use Rattle.manifest_value.specs.declared.fault.ReadFault.TheVariants.{Schema, Memory}
+use Rattle.manifest_value.specs.declared.findings.Findings.{Findings}
 use Rattle.manifest_value.specs.Walks.{names_of, slots_at}
 use Rattle.manifest_value.proofs.FormLemmas.{head_is, no_cons}
 
@@ -43,7 +47,7 @@ none_other (r ⨾ rs) named ms a = none_other rs named ms a
 none_other (others get K) named ms a = absurd a
 none_other no_more named ms a = refl
 
-left_closed : {A : Type 0} (rows : Rows A) (named : List Text) (ms : Members) → AreAll rows → left_beside named rows ms ≡ without named ms
+pub left_closed : {A : Type 0} (rows : Rows A) (named : List Text) (ms : Members) → AreAll rows → left_beside named rows ms ≡ without named ms
 left_closed (r ⨾ rs) named ms a = left_closed rs named ms a
 left_closed (others get K) named ms a = absurd a
 left_closed no_more named ms a = refl
@@ -51,9 +55,6 @@ left_closed no_more named ms a = refl
 pub closed_rows_found : {A : Type 0} (rows : Rows A) (ms : Members) → AreAll rows → findings_from zero rows ms ≡ findings_beside (spelled rows) rows ms
 closed_rows_found rows ms a =
     sym (append-nil (findings_from zero rows ms)) ∙ ap (λ x. findings_from zero rows ms ++ x) (sym (none_other rows (spelled rows) ms a)) ∙ rows_found rows (spelled rows) ms
-
-pub closed_found : {A : Type 0} (rows : Rows A) (ms : Members) → AreAll rows → findings_from zero rows ms ++ unlisted_keys (without (spelled rows) ms) ≡ form_findings rows (table ms)
-closed_found rows ms a = ap₂ (λ x y. x ++ unlisted_keys y) (closed_rows_found rows ms a) (sym (left_closed rows (spelled rows) ms a))
 
 -- a form that ends in the map of all other keys
 left_open : {A : Type 0} (rows : Rows A) (named : List Text) (ms : Members) → IsOpen rows → left_beside named rows ms ≡ no_members
@@ -65,3 +66,11 @@ pub open_found : {A : Type 0} (rows : Rows A) (ms : Members) → IsOpen rows →
 open_found rows ms o =
     rows_found rows (spelled rows) ms ∙ sym (append-nil (findings_beside (spelled rows) rows ms))
     ∙ ap (λ x. findings_beside (spelled rows) rows ms ++ unlisted_keys x) (sym (left_open rows (spelled rows) ms o))
+
+-- ONE FAULT AT MOST: a value that is read has no finding, and one that is refused has that fault alone
+pub one_fault_read : {A : Type 0} {K : Kind A} → HasOneFault K → (d : Data) (x : A) → K.reads d x → [] ≡ K.findings d
+one_fault_read h d x r = sym (h.none d x r)
+
+pub one_fault_refused : {A : Type 0} {K : Kind A} → HasOneFault K → (d : Data) (e : ReadFault) (fs : Findings) → FaultIn (K.faulty d) e → IsFoundAlone e fs → found fs ≡ K.findings d
+one_fault_refused h d (Schema f) fs stands alone = alone ∙ sym (h.alone d (path_of f.path) (cause_of f.cause) stands)
+one_fault_refused h d (Memory e) fs stands alone = absurd alone

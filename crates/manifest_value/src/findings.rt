@@ -1,19 +1,15 @@
 //! What is found in a value: its faults, what is ignored where it does not fit, and the keys that nothing reads.
 
-ghost use Rattle.manifest_schema.specs.Prelude.{view, found_here, found_behind, unlisted_keys, leniently, key, index};
+ghost use Rattle.manifest_schema.specs.Prelude.{found_here, found_behind, unlisted_keys, faults_of, ignored_of, unlisted_of, leniently, key, index};
 ghost use Rattle.manifest_schema.specs.Findings.{behind_step};
-ghost use Rattle.manifest_schema.specs.OneFault.{HasOneFault};
 ghost use Rattle.std.specs.Prelude.{◌≡◌, ◌++◌, [], ◌∷◌, IfOk, map};
 ghost use Rattle.manifest_value.specs.Faults.{step_of, path_of, cause_of};
-ghost use Rattle.manifest_value.specs.Found.{finding_of, found};
+ghost use Rattle.manifest_value.specs.Found.{fault_of, finding_of, found, IsFoundAlone};
 ghost use Rattle.manifest_value.specs.Sources.{rest_view};
 
 use crate::entries::Entry;
 use crate::fault::{Cause, KeyPath, ReadFault, SchemaFault, Step};
-use crate::schema::Schema;
-use crate::source::Source;
 use std::alloc::{AllocError, Global};
-use toml::Value;
 
 /// One thing that is found in a value, at its path from the value.
 #[derive(Debug, PartialEq, Eq, Drop)]
@@ -27,7 +23,7 @@ pub enum Finding {
     Unlisted(KeyPath),
 }
 
-/// What is found in a value, in the order in which it is told.
+/// What is found in a value, in the order in which it is reported.
 #[derive(Debug, PartialEq, Eq, Drop)]
 pub struct Findings {
     list: Vec<Finding>,
@@ -96,6 +92,22 @@ impl Findings {
         Ok(Findings { list })
     }
 
+    /// What is found in a value that is refused with this fault, where it is the only one that the value has. It fails
+    /// where the refusal is one of memory, and when out of memory.
+    ///
+    /// ```ignore
+    /// let found = Findings::of_refusal(alloc, refused)?; // for a choice or a number, which have at most one fault
+    /// ```
+    #[cold]
+    pub fn of_refusal(alloc: Global, refused: ReadFault) -> Found
+        ensures { IfOk result (IsFoundAlone refused) }
+    {
+        match refused {
+            ReadFault::Schema(fault) => Findings::alone(alloc, Finding::Fault(fault)),
+            ReadFault::Memory(refused) => Err(refused),
+        }
+    }
+
     /// The fault of this cause at the value itself, alone.
     ///
     /// ```ignore
@@ -118,7 +130,8 @@ impl Findings {
     /// ```
     #[cold]
     pub fn under(alloc: Global, word: &str, cause: Cause) -> Found
-        ensures { IfOk result (λ f. found f ≡ found_behind (key word.now) (found_here (cause_of cause))) }
+        ensures { IfOk result
+            (λ f. found f ≡ found_behind (key word.now) (found_here (cause_of cause))) }
     {
         Findings::none(alloc).and_under(alloc, word, Findings::here(alloc, cause)?)
     }
@@ -156,7 +169,8 @@ impl Findings {
     /// ```
     #[inline(always)]
     pub fn and_under(self, alloc: Global, word: &str, more: Findings) -> Found
-        ensures { IfOk result (λ f. found f ≡ found self ++ found_behind (key word.now) (found more)) }
+        ensures { IfOk result
+            (λ f. found f ≡ found self ++ found_behind (key word.now) (found more)) }
     {
         if more.list.is_empty() {
             return Ok(self);
@@ -166,7 +180,8 @@ impl Findings {
 
     /// These findings, and then those of the value under a key, each with a copy of the key before its path.
     fn and_all_under(self, alloc: Global, word: &str, more: Findings) -> Found
-        ensures { IfOk result (λ f. found f ≡ found self ++ found_behind (key word.now) (found more)) }
+        ensures { IfOk result
+            (λ f. found f ≡ found self ++ found_behind (key word.now) (found more)) }
     {
         let mut list = self.list;
         for finding in more.list {
@@ -197,7 +212,8 @@ impl Findings {
     /// let all = found.and_unlisted(alloc, walk.rest)?;
     /// ```
     pub fn and_unlisted(self, alloc: Global, rest: Vec<Entry<'_>>) -> Found
-        ensures { IfOk result (λ f. found f ≡ found self ++ unlisted_keys (rest_view rest.entry.items)) }
+        ensures { IfOk result
+            (λ f. found f ≡ found self ++ unlisted_keys (rest_view rest.entry.items)) }
     {
         let mut list = self.list;
         for (key, value) in rest {
@@ -224,27 +240,56 @@ impl Findings {
         Ok(Findings { list })
     }
 
+    /// The faults among the findings, in their order.
+    ///
+    /// ```ignore
+    /// for fault in Findings::here(alloc, Cause::WrongKind)?.into_faults(alloc)? { .. }
+    /// ```
+    pub fn into_faults(self, alloc: Global) -> Result<Vec<SchemaFault>, AllocError>
+        ensures { IfOk result (λ v. map fault_of v.items ≡ faults_of (found self)) }
+    {
+        let mut faults = Vec::new(alloc);
+        for finding in self.list {
+            match finding {
+                Finding::Fault(fault) => faults.push(fault)?,
+                other => drop(other),
+            }
+        }
+        Ok(faults)
+    }
+
+    /// What is ignored among the findings, in their order.
+    pub fn into_ignored(self, alloc: Global) -> Result<Vec<SchemaFault>, AllocError>
+        ensures { IfOk result (λ v. map fault_of v.items ≡ ignored_of (found self)) }
+    {
+        let mut faults = Vec::new(alloc);
+        for finding in self.list {
+            match finding {
+                Finding::Ignored(fault) => faults.push(fault)?,
+                other => drop(other),
+            }
+        }
+        Ok(faults)
+    }
+
+    /// The paths of the keys among the findings that nothing reads, in their order.
+    pub fn into_unlisted(self, alloc: Global) -> Result<Vec<KeyPath>, AllocError>
+        ensures { IfOk result (λ v. map path_of v.items ≡ unlisted_of (found self)) }
+    {
+        let mut paths = Vec::new(alloc);
+        for finding in self.list {
+            match finding {
+                Finding::Unlisted(path) => paths.push(path)?,
+                other => drop(other),
+            }
+        }
+        Ok(paths)
+    }
+
     /// The findings, in their order.
     pub fn as_slice(&self) -> &[Finding]
         ensures { map finding_of result.now ≡ found self.now }
     {
         self.list.as_slice()
-    }
-}
-
-/// What is found in a value of a type that reads it whole or refuses it for its one fault, as a choice and a number do:
-/// that fault, by reading.
-///
-/// ```ignore
-/// let found = findings_by_reading::<Edition>(alloc, &Value::Boolean(true))?; // one fault, `wrong kind at (top)`
-/// ```
-pub fn findings_by_reading<T: Schema>(alloc: Global, value: &Value) -> Found
-    requires { HasOneFault T.kind }
-    ensures { IfOk result (λ f. found f ≡ T.kind.findings (view value.now)) }
-{
-    match T::read(alloc, Source::Lent(value)) {
-        Ok(_) => Ok(Findings::none(alloc)),
-        Err(ReadFault::Schema(fault)) => Findings::alone(alloc, Finding::Fault(fault)),
-        Err(ReadFault::Memory(refused)) => Err(refused),
     }
 }

@@ -1,6 +1,6 @@
 //! What is found in lists, in maps, and row by row in the tables of forms.
 
-ghost use Rattle.manifest_schema.specs.Prelude.{Members, view, table_view, items_view, without, spelled, form_findings, entry_findings, item_findings, table as table_data};
+ghost use Rattle.manifest_schema.specs.Prelude.{Members, view, table_view, items_view, without, spelled, form_findings, row_findings, left_over, entry_findings, item_findings, table as table_data};
 ghost use Rattle.std.specs.Prelude.{◌≡◌, IfOk};
 ghost use Rattle.manifest_value.specs.Found.{found, findings_from, other_findings, IsOpen};
 ghost use Rattle.manifest_value.specs.Sources.{entries_view, rest_view};
@@ -12,13 +12,13 @@ use crate::findings::{Findings, Found};
 use crate::form::{Form, Rowed};
 use crate::schema::Schema;
 use crate::source::TableSource;
-use crate::walking::walk;
+use crate::walking::{entries_without, walk};
 use std::alloc::{AllocError, Global};
 use toml::{Table, Value};
 
 /// What is found in the items of a list, each with its index before the path.
 pub(crate) fn findings_of_items<T: Schema>(alloc: Global, items: &[Value]) -> Found
-    ensures { IfOk result (λ f. found f ≡ item_findings T.kind 0 (items_view items.now)) }
+    ensures { IfOk result (λ f. found f ≡ item_findings T.kind.findings 0 (items_view items.now)) }
 {
     let mut out = Findings::none(alloc);
     for (i, item) in items.iter().enumerate() {
@@ -29,7 +29,8 @@ pub(crate) fn findings_of_items<T: Schema>(alloc: Global, items: &[Value]) -> Fo
 
 /// What is found in the values of entries, each with its key before the path.
 fn findings_of_entries<T: Schema>(alloc: Global, entries: Entries<'_>) -> Found
-    ensures { IfOk result (λ f. found f ≡ entry_findings T.kind (entries_view entries.entry)) }
+    ensures { IfOk result
+        (λ f. found f ≡ entry_findings T.kind.findings (entries_view entries.entry)) }
 {
     let mut out = Findings::none(alloc);
     for (key, source) in entries {
@@ -41,14 +42,15 @@ fn findings_of_entries<T: Schema>(alloc: Global, entries: Entries<'_>) -> Found
 
 /// What is found in the values of a table whose keys are those of a map.
 pub(crate) fn findings_of_map<T: Schema>(alloc: Global, table: &Table) -> Found
-    ensures { IfOk result (λ f. found f ≡ entry_findings T.kind (table_view table.now)) }
+    ensures { IfOk result (λ f. found f ≡ entry_findings T.kind.findings (table_view table.now)) }
 {
     findings_of_entries::<T>(alloc, TableSource::Lent(table).entries())
 }
 
 /// What is found in the values of the entries that a walk left over, where they are those of a map.
 fn findings_of_rest<T: Schema>(alloc: Global, rest: Vec<Entry<'_>>) -> Found
-    ensures { IfOk result (λ f. found f ≡ entry_findings T.kind (rest_view rest.entry.items)) }
+    ensures { IfOk result
+        (λ f. found f ≡ entry_findings T.kind.findings (rest_view rest.entry.items)) }
 {
     findings_of_entries::<T>(alloc, Entries::Rest(rest.into_iter()))
 }
@@ -74,12 +76,50 @@ pub fn findings_of_rows<'t, T: Rowed>(
     Ok((out, walk.rest))
 }
 
-/// What is found in the table of a form: row by row, and then each key that no row has.
-pub(crate) fn findings_of_form<T: Form>(alloc: Global, table: &Table) -> Found
-    ensures { IfOk result (λ f. found f ≡ form_findings T.rows (table_data (table_view table.now))) }
+/// What is found in a table by the rows of a form, and the entries under its keys that no row has.
+///
+/// ```ignore
+/// let (found, rest) = findings_of_closed::<Package<Value>>(alloc, table)?;
+/// ```
+pub fn findings_of_closed<'t, T: Form>(
+    alloc: Global,
+    table: &'t Table,
+) -> Result<(Findings, Vec<Entry<'t>>), AllocError>
+    ensures { IfOk result (λ r. (found r.0 ≡ row_findings T.rows (table_view table.entry.now))
+        × (rest_view r.1.items ≡ left_over T.rows (table_view table.entry.now))) }
 {
     T::covers();
     let (found, rest) = findings_of_rows::<T>(alloc, table)?;
+    Ok((found, rest))
+}
+
+/// The entries of a list under the keys that no row of a form has.
+///
+/// ```ignore
+/// let unlisted = entries_left_over::<Package<Value>>(alloc, rest)?;
+/// ```
+pub fn entries_left_over<'t, T: Form>(
+    alloc: Global,
+    entries: Vec<Entry<'t>>,
+) -> Result<Vec<Entry<'t>>, AllocError>
+    ensures { IfOk result
+        (λ v. rest_view v.items ≡ left_over T.rows (rest_view entries.entry.items)) }
+{
+    T::covers();
+    let left = entries_without(alloc, entries, T::names())?;
+    Ok(left)
+}
+
+/// What is found in the table of a form: row by row, and then each key that no row has.
+///
+/// ```ignore
+/// let found = findings_of_form::<Manifest>(alloc, &table)?;
+/// ```
+pub fn findings_of_form<T: Form>(alloc: Global, table: &Table) -> Found
+    ensures { IfOk result
+        (λ f. found f ≡ form_findings T.rows (table_data (table_view table.now))) }
+{
+    let (found, rest) = findings_of_closed::<T>(alloc, table)?;
     found.and_unlisted(alloc, rest)
 }
 
@@ -93,7 +133,7 @@ pub(crate) fn findings_of_form<T: Form>(alloc: Global, table: &Table) -> Found
 pub fn findings_of_open<T: Rowed, X: Schema>(alloc: Global, value: &Value) -> Found
     requires ends_with_map { IsOpen T.rows }
     requires of_its_kind { (ms : Members) → other_findings (spelled T.rows) T.rows ms
-        ≡ entry_findings X.kind (without (spelled T.rows) ms) }
+        ≡ entry_findings X.kind.findings (without (spelled T.rows) ms) }
     ensures { IfOk result (λ f. found f ≡ form_findings T.rows (view value.now)) }
 {
     match value {

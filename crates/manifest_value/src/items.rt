@@ -1,6 +1,6 @@
 //! The items of a list that is read, one after the other, whether it is borrowed or owned.
 
-ghost use Rattle.manifest_schema.specs.Prelude.{items_view, reads_items, faulty_item, behind, index};
+ghost use Rattle.manifest_schema.specs.Prelude.{items_view, reads_items, faulty_item, behind, index, first_found, found_behind, item_findings};
 ghost use Rattle.std.specs.Prelude.{map, IfOk, IfErr};
 ghost use Rattle.std.specs.Iterator.{YieldsFirstBy, item_count};
 ghost use Rattle.manifest_value.specs.Faults.{FaultIn};
@@ -48,11 +48,13 @@ impl<'t> Iterator for Items<'t> {
 
 /// Reads an item of an array as a `T`; a fault gets the item's index `i` before its path.
 #[inline(always)]
-#[tactic(auto, using(crate::proofs::Behind::fault_behind))]
+#[tactic(auto, using(crate::proofs::FirstLemmas::step_laws))]
 fn read_item<T: Schema>(alloc: Global, source: Source<'_>, i: usize) -> Result<T, ReadFault>
     ensures ok { IfOk result (Reads T.kind T.content (source_view source.entry)) }
     ensures fault { IfErr result
         (FaultIn (behind (index i) (T.kind.faulty (source_view source.entry)))) }
+    ensures first { let inside = T.kind.findings (source_view source.entry) in
+        IfErr result (FaultIn (first_found (found_behind (index i) inside))) }
 {
     match T::read(alloc, source) {
         Ok(x) => Ok(x),
@@ -70,6 +72,8 @@ pub(crate) fn read_items<T: Schema>(
         (λ v. reads_items T.kind (items_view (items_left items.entry)) (map T.content v.items)) }
     ensures fault { IfErr result
         (FaultIn (faulty_item T.kind (items_view (items_left items.entry)))) }
+    ensures first { let all = items_view (items_left items.entry) in
+        IfErr result (FaultIn (first_found (item_findings T.kind.findings 0 all))) }
 {
     let mut all = Vec::with_capacity(alloc, room)?;
     for source in items {

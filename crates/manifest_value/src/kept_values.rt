@@ -1,5 +1,5 @@
 //! Values that are kept as they are.
-ghost use Rattle.manifest_schema.specs.Prelude.{Data, array, table, view, array_view, table_view, plain, plain_items, plain_members, float_in, float_findings, item_floats, entry_floats, kept as kept_kind};
+ghost use Rattle.manifest_schema.specs.Prelude.{Data, array, table, view, array_view, table_view, plain, plain_items, plain_members, float_in, float_findings, item_floats, entry_floats, kept as kept_kind, first_found};
 ghost use Rattle.std.specs.Prelude.{◌≡◌, not, IsTrue, IfOk, IfErr, OnOk};
 ghost use Rattle.manifest_schema.proofs.KeptLaws.{kept_lawful};
 ghost use Rattle.manifest_value.specs.Faults.{FaultIn};
@@ -62,6 +62,7 @@ fn members_hold_float(members: &Table) -> bool
 fn refuse_float(alloc: Global, value: &Value) -> Result<(), ReadFault>
     ensures ok { OnOk result (IsTrue (plain (view value.now))) }
     ensures fault { IfErr result (FaultIn (float_in (view value.now))) }
+    ensures first { IfErr result (FaultIn (first_found (float_findings (view value.now)))) }
 {
     match value {
         Value::Float(_) => Err(fault_here(alloc, Cause::HoldsFloat)),
@@ -77,6 +78,7 @@ fn refuse_float(alloc: Global, value: &Value) -> Result<(), ReadFault>
 fn refuse_float_in_items(alloc: Global, items: &Vec<Value>) -> Result<(), ReadFault>
     ensures ok { OnOk result (IsTrue (plain_items (array_view items.now))) }
     ensures fault { IfErr result (FaultIn (float_in (array (array_view items.now)))) }
+    ensures first { IfErr result (FaultIn (first_found (item_floats 0 (array_view items.now)))) }
 {
     for (i, item) in items.iter().enumerate() {
         if let Err(fault) = refuse_float(alloc, item) {
@@ -92,6 +94,7 @@ fn refuse_float_in_items(alloc: Global, items: &Vec<Value>) -> Result<(), ReadFa
 fn refuse_float_in_members(alloc: Global, members: &Table) -> Result<(), ReadFault>
     ensures ok { OnOk result (IsTrue (plain_members (table_view members.now))) }
     ensures fault { IfErr result (FaultIn (float_in (table (table_view members.now)))) }
+    ensures first { IfErr result (FaultIn (first_found (entry_floats (table_view members.now)))) }
 {
     for (key, member) in members.iter() {
         if let Err(fault) = refuse_float(alloc, member) {
@@ -150,6 +153,7 @@ fn find_floats_in_members(alloc: Global, members: &Table) -> Found
 pub fn kept(alloc: Global, value: &Value) -> Result<Value, ReadFault>
     ensures ok { IfOk result (λ v. kept_kind.reads (view value.now) (view v)) }
     ensures fault { IfErr result (FaultIn (kept_kind.faulty (view value.now))) }
+    ensures first { IfErr result (FaultIn (first_found (kept_kind.findings (view value.now)))) }
 {
     refuse_float(alloc, value)?;
     Ok(value.clone()?)

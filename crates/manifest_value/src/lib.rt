@@ -45,5 +45,5 @@ pub use row_slots::{RowSlot, Walk};
 pub use schema::Schema;
 pub use source::{Source, TableSource};
 pub use spellings::Spellings;
-pub use walking::walk;
+pub use walking::{entries_without, walk};
 pub use writers::{write_list, write_map, write_text, write_texts};

@@ -1,5 +1,5 @@
 //! Maps whose keys are strings: made of entries in order, read from a table, and written as one.
-ghost use Rattle.manifest_schema.specs.Prelude.{keys_of, string_cmp, no_members, table_view, behind, key as key_step, Entries as Contents, map_of, reads_entries, written_entries, faulty_entry};
+ghost use Rattle.manifest_schema.specs.Prelude.{keys_of, string_cmp, no_members, table_view, behind, key as key_step, Entries as Contents, map_of, reads_entries, written_entries, faulty_entry, first_found, found_behind, entry_findings};
 ghost use Rattle.std.specs.Prelude.{◌≡◌, IfOk, IfErr, string_bytes};
 ghost use Rattle.std.specs.List.Sorted.{IsStrictlySortedBy};
 ghost use Rattle.manifest_value.specs.Faults.{FaultIn};
@@ -47,6 +47,8 @@ fn read_entry<T: Schema>(
         × T.kind.reads (source_view source.entry) (T.content e.1)) }
     ensures fault { IfErr result (FaultIn
         (behind (key_step (key_view key.entry)) (T.kind.faulty (source_view source.entry)))) }
+    ensures first { let inside = T.kind.findings (source_view source.entry) in
+        IfErr result (FaultIn (first_found (found_behind (key_step (key_view key.entry)) inside))) }
 {
     let name = key.into_string(alloc)?;
     let x = source_under(alloc, source, name.as_str())?;
@@ -62,6 +64,8 @@ fn list_of_entries<T: Schema>(
     ensures ok { IfOk result (λ v. reads_first T.kind (entries_view entries.entry)
         (entries_content T.content v.items) no_members) }
     ensures fault { IfErr result (FaultIn (faulty_entry T.kind (entries_view entries.entry))) }
+    ensures first { let all = entry_findings T.kind.findings (entries_view entries.entry) in
+        IfErr result (FaultIn (first_found all)) }
 {
     let mut all = Vec::with_capacity(alloc, room)?;
     for (key, source) in entries {
@@ -83,6 +87,8 @@ fn read_map<T: Schema>(
     ensures ok { IfOk result (λ m. reads_entries T.kind (entries_view entries.entry)
         (entries_content T.content m.entries)) }
     ensures fault { IfErr result (FaultIn (faulty_entry T.kind (entries_view entries.entry))) }
+    ensures first { let all = entry_findings T.kind.findings (entries_view entries.entry) in
+        IfErr result (FaultIn (first_found all)) }
 {
     let all = list_of_entries(alloc, room, entries)?;
     Ok(map_of_list(alloc, all)?)
@@ -103,6 +109,8 @@ pub fn map_of_entries<T: Schema>(
     ensures ok { IfOk result (λ m. reads_entries T.kind (rest_view rest.entry.items)
         (entries_content T.content m.entries)) }
     ensures fault { IfErr result (FaultIn (faulty_entry T.kind (rest_view rest.entry.items))) }
+    ensures first { let all = entry_findings T.kind.findings (rest_view rest.entry.items) in
+        IfErr result (FaultIn (first_found all)) }
 {
     read_map(alloc, rest.len(), Entries::Rest(rest.into_iter()))
 }
@@ -116,6 +124,8 @@ fn map_from<T: Schema>(
     ensures ok { IfOk result (λ m. reads_entries T.kind (members_of table.entry)
         (entries_content T.content m.entries)) }
     ensures fault { IfErr result (FaultIn (faulty_entry T.kind (members_of table.entry))) }
+    ensures first { let all = entry_findings T.kind.findings (members_of table.entry) in
+        IfErr result (FaultIn (first_found all)) }
 {
     let room = table.table().len();
     read_map(alloc, room, table.entries())
@@ -144,7 +154,7 @@ impl<T: Schema> Schema for BTreeMap<String, T> {
 
     ghost kind = { map_of T.kind };
 
-    #[tactic(auto, using(crate::proofs::Behind::map_refuses))]
+    #[tactic(auto, using(crate::proofs::Behind::map_refuses, crate::proofs::FirstLemmas::map_first))]
     fn read(alloc: Global, source: Source<'_>) -> Result<BTreeMap<String, T>, ReadFault> {
         map_from(alloc, source.into_table(alloc)?)
     }

@@ -1,6 +1,6 @@
 //! Readers of a value of one kind, and of a field of a table.
 
-ghost use Rattle.manifest_schema.specs.Prelude.{table as table_data, view, table_view, get_member, at, clash, text, flag, whole, list_of, spellings_of};
+ghost use Rattle.manifest_schema.specs.Prelude.{table as table_data, view, table_view, get_member, at, clash, text, flag, whole, list_of, spellings_of, first_found};
 ghost use Rattle.std.specs.Prelude.{◌≡◌, map, IfOk, IfErr, Some, string_bytes, option_map, option_copied};
 ghost use Rattle.manifest_schema.specs.Needs.{clash_at};
 ghost use Rattle.manifest_value.specs.Faults.{FaultIn, IsSchema, no_table};
@@ -26,6 +26,7 @@ use toml::{Table, Value};
 pub fn text(alloc: Global, value: &Value) -> Result<String, ReadFault>
     ensures ok { IfOk result (λ s. text.reads (view value.now) (string_bytes s)) }
     ensures fault { IfErr result (FaultIn (text.faulty (view value.now))) }
+    ensures first { IfErr result (FaultIn (first_found (text.findings (view value.now)))) }
 {
     match value {
         Value::String(s) => Ok(String::from_str(alloc, s.as_str())?),
@@ -44,6 +45,7 @@ pub fn text(alloc: Global, value: &Value) -> Result<String, ReadFault>
 pub fn boolean(alloc: Global, value: &Value) -> Result<bool, ReadFault>
     ensures ok { IfOk result (flag.reads (view value.now)) }
     ensures fault { IfErr result (FaultIn (flag.faulty (view value.now))) }
+    ensures first { IfErr result (FaultIn (first_found (flag.findings (view value.now)))) }
     ensures schema { IfErr result IsSchema }
 {
     match value {
@@ -64,6 +66,8 @@ pub fn boolean(alloc: Global, value: &Value) -> Result<bool, ReadFault>
 pub fn whole(alloc: Global, value: &Value, low: i64, high: i64) -> Result<i64, ReadFault>
     ensures ok { IfOk result ((whole low high).reads (view value.now)) }
     ensures fault { IfErr result (FaultIn ((whole low high).faulty (view value.now))) }
+    ensures first { IfErr result
+        (FaultIn (first_found ((whole low high).findings (view value.now)))) }
     ensures schema { IfErr result IsSchema }
 {
     match value {
@@ -91,6 +95,8 @@ pub fn texts(alloc: Global, value: &Value) -> Result<Vec<String>, ReadFault>
     ensures ok { IfOk result
         (λ v. (list_of text).reads (view value.now) (map string_bytes v.items)) }
     ensures fault { IfErr result (FaultIn ((list_of text).faulty (view value.now))) }
+    ensures first { IfErr result
+        (FaultIn (first_found ((list_of text).findings (view value.now)))) }
 {
     <Vec<String> as Schema>::read(alloc, Source::Lent(value))
 }

@@ -4,7 +4,7 @@
 
 ghost use Rattle.manifest_schema.specs.Prelude.{view, key, found_behind, Spellings as Words, first, free_findings, required_findings, lenient_findings};
 ghost use Rattle.std.specs.Prelude.{◌≡◌, IfOk};
-ghost use Rattle.manifest_value.specs.Found.{found};
+ghost use Rattle.manifest_value.specs.Found.{found, Finds};
 ghost use Rattle.manifest_value.specs.Sources.{row_view};
 
 use crate::fault::Cause;
@@ -17,7 +17,8 @@ use toml::Value;
 
 /// What is found in a value that stands under a key: each finding has the key before its path.
 fn found_under<T: Schema>(alloc: Global, word: &str, value: &Value) -> Found
-    ensures { IfOk result (λ f. found f ≡ found_behind (key word.now) (T.kind.findings (view value.now))) }
+    ensures { IfOk result
+        (λ f. found f ≡ found_behind (key word.now) (T.kind.findings (view value.now))) }
 {
     Findings::none(alloc).and_under(alloc, word, T::findings(alloc, value)?)
 }
@@ -26,7 +27,7 @@ fn found_under<T: Schema>(alloc: Global, word: &str, value: &Value) -> Found
 /// it is what is found in the value, with the spelling that is there before its path.
 fn found_if_there<T: Schema>(alloc: Global, key: Word, slot: &RowSlot<'_>) -> Found
     ensures { (s : Words) → first s ≡ key.now
-        → IfOk result (λ f. found f ≡ free_findings s T.kind (row_view slot.now)) }
+        → IfOk result (Finds (free_findings s T.kind.findings (row_view slot.now))) }
 {
     match slot {
         RowSlot::Absent => Ok(Findings::none(alloc)),
@@ -39,7 +40,7 @@ fn found_if_there<T: Schema>(alloc: Global, key: Word, slot: &RowSlot<'_>) -> Fo
 /// spellings are `TwoSpellings`; else it is what is found in the value.
 pub fn find_required<T: Schema>(alloc: Global, key: Word, slot: &RowSlot<'_>, _field: &T) -> Found
     ensures { (s : Words) → first s ≡ key.now
-        → IfOk result (λ f. found f ≡ required_findings s T.kind (row_view slot.now)) }
+        → IfOk result (Finds (required_findings s T.kind.findings (row_view slot.now))) }
 {
     match slot {
         RowSlot::Absent => Findings::under(alloc, key, Cause::Missing),
@@ -56,7 +57,7 @@ pub fn find_optional<T: Schema>(
     _field: &Option<T>,
 ) -> Found
     ensures { (s : Words) → first s ≡ key.now
-        → IfOk result (λ f. found f ≡ free_findings s T.kind (row_view slot.now)) }
+        → IfOk result (Finds (free_findings s T.kind.findings (row_view slot.now))) }
 {
     found_if_there::<T>(alloc, key, slot)
 }
@@ -64,7 +65,7 @@ pub fn find_optional<T: Schema>(
 /// What is found of a row that has a default: nothing where it is absent.
 pub fn find_default<T: Schema>(alloc: Global, key: Word, slot: &RowSlot<'_>, _field: &T) -> Found
     ensures { (s : Words) → first s ≡ key.now
-        → IfOk result (λ f. found f ≡ free_findings s T.kind (row_view slot.now)) }
+        → IfOk result (Finds (free_findings s T.kind.findings (row_view slot.now))) }
 {
     found_if_there::<T>(alloc, key, slot)
 }
@@ -77,7 +78,7 @@ pub fn find_lenient<T: Schema>(
     _field: &Option<T>,
 ) -> Found
     ensures { (s : Words) → first s ≡ key.now
-        → IfOk result (λ f. found f ≡ lenient_findings s T.kind (row_view slot.now)) }
+        → IfOk result (Finds (lenient_findings s T.kind.findings (row_view slot.now))) }
 {
     found_if_there::<T>(alloc, key, slot)?.leniently(alloc)
 }
@@ -90,7 +91,7 @@ pub fn find_lenient_default<T: Schema>(
     _field: &T,
 ) -> Found
     ensures { (s : Words) → first s ≡ key.now
-        → IfOk result (λ f. found f ≡ lenient_findings s T.kind (row_view slot.now)) }
+        → IfOk result (Finds (lenient_findings s T.kind.findings (row_view slot.now))) }
 {
     found_if_there::<T>(alloc, key, slot)?.leniently(alloc)
 }

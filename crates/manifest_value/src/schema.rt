@@ -1,6 +1,6 @@
 //! Types that are read from a value and written as one.
 
-ghost use Rattle.manifest_schema.specs.Prelude.{view, Kind, text, flag, list_of, IsLawful};
+ghost use Rattle.manifest_schema.specs.Prelude.{view, Kind, text, flag, list_of, IsLawful, first_found};
 ghost use Rattle.std.specs.Prelude.{◌≡◌, ◌↔◌, ℕ, Bool, List, IsTrue, map, IfOk, IfErr, string_bytes};
 ghost use Rattle.manifest_schema.proofs.KindLaws.{text_lawful, flag_lawful, list_lawful};
 ghost use Rattle.manifest_value.specs.Faults.{FaultIn, IsSchema};
@@ -39,17 +39,19 @@ pub trait Schema: Sized + Drop {
     /// Whether reading never fails as out of memory: true of a type whose reading copies nothing.
     ghost takes_no_memory: { Type 0 } = { ⊥ };
 
-    /// Reads a value: returns the one reading that it has by the kind, or a fault that it has, or `Memory`. What an
+    /// Reads a value: returns the one reading that it has by the kind, or the first of its faults, or `Memory`. What an
     /// owned value holds is moved where the type can do so, and else copied.
     fn read(alloc: Global, source: Source<'_>) -> Result<Self, ReadFault>
         ensures ok { IfOk result (Reads kind content (source_view source.entry)) }
         ensures fault { IfErr result (FaultIn (kind.faulty (source_view source.entry))) }
+        ensures first { IfErr result
+            (FaultIn (first_found (kind.findings (source_view source.entry)))) }
         ensures schema { takes_no_memory → IfErr result IsSchema };
 
     /// Reads a borrowed value: returns the one reading that it has by the kind.
     ///
-    /// Refuses with `Error::Parse(ParseFault::Schema(..))` of a cause that the value has and its key path in the value,
-    /// and when out of memory with [`Error::Memory`].
+    /// Refuses with `Error::Parse(ParseFault::Schema(..))` of the first fault that the value has, by its cause and its
+    /// key path in the value, and when out of memory with [`Error::Memory`].
     ///
     /// ```ignore
     /// let value = Value::from_str(alloc, "'2021'")?;
@@ -58,6 +60,7 @@ pub trait Schema: Sized + Drop {
     fn from_value(alloc: Global, value: &Value) -> Result<Self, Error>
         ensures ok { IfOk result (Reads kind content (view value.now)) }
         ensures refused { IfErr result (RefusedIn (kind.faulty (view value.now))) }
+        ensures first { IfErr result (RefusedIn (first_found (kind.findings (view value.now)))) }
         ensures schema { takes_no_memory → IfErr result IsSchemaError }
     {
         Self::read(alloc, Source::Lent(value)).map_err(refusal)

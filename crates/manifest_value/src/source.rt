@@ -1,8 +1,9 @@
 //! What is read: a value or a table, borrowed or owned.
 
-ghost use Rattle.manifest_schema.specs.Prelude.{view, behind, key};
+ghost use Rattle.manifest_schema.specs.Prelude.{view, behind, key, first_found, found_behind};
 ghost use Rattle.std.specs.Prelude.{◌≡◌, IfOk, IfErr};
 ghost use Rattle.manifest_value.specs.Faults.{FaultIn, no_table};
+ghost use Rattle.manifest_value.specs.Found.{HasNoFault};
 ghost use Rattle.manifest_value.specs.Reading.{Reads, data_of};
 ghost use Rattle.manifest_value.specs.Sources.{source_view, members_of, table_source, entries_view};
 ghost use Rattle.manifest_value.specs.Walks.{Ascend};
@@ -89,7 +90,7 @@ impl<'t> TableSource<'t> {
 
 /// Reads a value that stands under the key `word`: a fault gets this key before its path.
 #[inline(always)]
-#[tactic(auto, using(crate::proofs::Behind::fault_behind))]
+#[tactic(auto, using(crate::proofs::FirstLemmas::step_laws))]
 pub(crate) fn source_under<T: Schema>(
     alloc: Global,
     source: Source<'_>,
@@ -98,6 +99,10 @@ pub(crate) fn source_under<T: Schema>(
     ensures ok { IfOk result (Reads T.kind T.content (source_view source.entry)) }
     ensures fault { IfErr result
         (FaultIn (behind (key word.now) (T.kind.faulty (source_view source.entry)))) }
+    ensures first { let inside = T.kind.findings (source_view source.entry) in
+        IfErr result (FaultIn (first_found (found_behind (key word.now) inside))) }
+    ensures clean { let inside = T.kind.findings (source_view source.entry) in
+        IfOk result (λ x. HasNoFault (found_behind (key word.now) inside)) }
 {
     match T::read(alloc, source) {
         Ok(x) => Ok(x),

@@ -5,6 +5,7 @@ ghost use Rattle.std.specs.Prelude.{◌≡◌, ◌<◌, true, false, [], IsTrue,
 ghost use Rattle.manifest_value.specs.Sources.{source_view, members_of, row_view, rest_view};
 ghost use Rattle.manifest_value.specs.Walks.{spellings_view, all_words, distinct_words, is_word_at, slots_at, filled, filled_at, Ascend};
 
+use crate::entries::{Entries, Entry};
 use crate::row_slots::{RowSlot, Walk};
 use crate::source::{Source, TableSource};
 use crate::spellings::Spellings;
@@ -112,4 +113,30 @@ pub fn walk<'t>(
         }
     }
     Ok(Walk { slots, rest })
+}
+
+/// The entries of a list under all keys but the spellings of some rows.
+///
+/// ```ignore
+/// let others = entries_without(alloc, walk.rest, &spelled!["project"])?;
+/// ```
+pub fn entries_without<'t>(
+    alloc: Global,
+    entries: Vec<Entry<'t>>,
+    rows: &[Spellings],
+) -> Result<Vec<Entry<'t>>, AllocError>
+    ensures { IfOk result (λ v. rest_view v.items
+        ≡ without (all_words (map spellings_view rows.now)) (rest_view entries.entry.items)) }
+{
+    let mut others = Vec::new(alloc);
+    for (name, value) in Entries::Rest(entries.into_iter()) {
+        match row_of(rows, name.as_str()) {
+            Some(_) => {
+                drop(name);
+                drop(value);
+            }
+            None => others.push((name, value))?,
+        }
+    }
+    Ok(others)
 }

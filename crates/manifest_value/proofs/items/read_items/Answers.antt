@@ -1,7 +1,9 @@
-use Rattle.manifest_schema.specs.Prelude.{Data, Items, items_view, faulty_item, behind, index}
-use Rattle.std.proofs.Common.{◌≡◌, length, map, ap, subst, sym, rules}
+use Rattle.manifest_schema.specs.Prelude.{Data, Items, items_view, faulty_item, behind, index, first_found, found_behind, length-map}
+use Rattle.std.proofs.Common.{◌≡◌, length, map, ap, subst, sym, ◌∙◌, rules}
 use Rattle.manifest_value.specs.Sources.{source_view, items_left}
+use Rattle.manifest_value.specs.Faults.{FaultIn}
 use Rattle.manifest_value.proofs.Behind.{fault_weaker}
+use Rattle.manifest_value.proofs.FirstLemmas.{first_item}
 use Rattle.manifest_value.proofs.ReadingLemmas.{reads_first_items, items_more, next_item, no_item_left}
 use Rattle.manifest_value.proofs.items.read_items.Goals as goal
 
@@ -33,3 +35,18 @@ returns-in-Err-clause-fault g c =
     let left = subst (reads_first_items K ds (map f c.loop-source.all.items)) (ap items_view c.in-Some.ensures.steps) c.loop-source.invariant in
     let here = rw many at (next_item K f ds c.loop-source.all.items d (items_view (items_left c.next.new.self)) left) in
     fault_weaker (behind (index i) (K.faulty d)) (faulty_item K ds) c.in-Err.fault (λ p e q. (i, d, here, q)) c.in-Err.ensures.fault
+
+pub returns-in-Err-clause-first : goal.returns-in-Err-clause-first
+returns-in-Err-clause-first g c =
+    let K = g.T.Schema.kind in
+    let f = g.T.Schema.content in
+    let xs = c.loop-source.all.items in
+    let ds : Items = items_view (items_left c.args.items) in
+    let rest : Items = items_view (items_left c.next.new.self) in
+    let d : Data = source_view c.in-Some.source in
+    let i = c.len.result in
+    let many : length xs ≡ i = search rules in
+    let left = subst (reads_first_items K ds (map f xs)) (ap items_view c.in-Some.ensures.steps) c.loop-source.invariant in
+    let at_place = sym (length-map xs f ∙ many) in
+    first_item K g.met.T.Schema.lawful ds (map f xs) d rest c.in-Err.fault left
+    (subst (λ n. FaultIn (first_found (found_behind (index n) (K.findings d))) c.in-Err.fault) at_place c.in-Err.ensures.first)

@@ -14,3 +14,15 @@ returns-in_err-read-3-clause-fault c =
     let no_text : is_text (source_view c.args.source) ≡ false = search rules in
     let detailed : inherits (source_view c.args.source) ≡ false = search rules in
     rw (no_text, detailed) (search rules)
+
+pub returns-in_err-read-2-clause-first : goal.returns-in_err-read-2-clause-first
+returns-in_err-read-2-clause-first c =
+    let no_text : is_text (source_view c.args.source) ≡ false = search rules in
+    let inherited : inherits (source_view c.args.source) ≡ true = search rules in
+    rw (no_text, inherited) (search rules)
+
+pub returns-in_err-read-3-clause-first : goal.returns-in_err-read-3-clause-first
+returns-in_err-read-3-clause-first c =
+    let no_text : is_text (source_view c.args.source) ≡ false = search rules in
+    let detailed : inherits (source_view c.args.source) ≡ false = search rules in
+    rw (no_text, detailed) (search rules)

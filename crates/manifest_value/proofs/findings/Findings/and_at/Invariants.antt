@@ -4,7 +4,7 @@ use Rattle.manifest_schema.specs.Prelude.{index, found_behind}
 use Rattle.manifest_value.specs.Found.{finding_of}
 use Rattle.manifest_value.proofs.findings.Findings.and_at.Given as goal
 
--- the findings so far, and those that are to come, behind the index
+-- the findings so far, and those that are to come, with the index before their paths
 abbrev pub invariant-loop-finding : goal.invariant-loop-finding
 invariant-loop-finding l =
     map finding_of l.list.items ++ found_behind (index l.i) (map finding_of (into_iter_items l.finding-iterator)) ≡ map finding_of l.fn.self.list.items ++ found_behind (index l.i) (map finding_of l.fn.more.list.items)

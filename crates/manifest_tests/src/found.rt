@@ -1,0 +1,176 @@
+//! What is found in the table of a document: faults, what is ignored, and the keys that nothing reads.
+use crate::answers::assert_is;
+use cargo_manifest::{
+    Finding, Findings, KeyPath, SchemaFault, Unread, faults, ignored, inspect,
+    inspect_with_metadata, unlisted_keys,
+};
+use std::alloc::{AllocError, Global};
+use std::test::Fail;
+
+/// A document, and what is found in it: each finding as a line.
+type Row = (&'static str, &'static str);
+
+/// A finding as a line.
+fn line(alloc: Global, finding: &Finding) -> Result<String, AllocError> {
+    match finding {
+        Finding::Fault(fault) => format!(in alloc; "{fault}\n"),
+        Finding::Ignored(fault) => format!(in alloc; "ignored: {fault}\n"),
+        Finding::Unlisted(path) => format!(in alloc; "unlisted: {path}\n"),
+    }
+}
+
+/// All findings, a line each.
+fn lines(alloc: Global, found: &Findings) -> Result<String, AllocError> {
+    let mut text = String::new(alloc);
+    for finding in found.as_slice() {
+        text.push_str(line(alloc, finding)?.as_str())?;
+    }
+    Ok(text)
+}
+
+/// What is found in a document.
+fn found_text(alloc: Global, document: &str) -> Result<String, Fail> {
+    let table = toml::table_from_str(alloc, document)?;
+    let found = inspect(alloc, &table)?;
+    Ok(lines(alloc, &found)?)
+}
+
+const DOCUMENTS: &[Row] = &[
+    ("", "missing at name\n"),
+    ("[package]\nname = 'p'", ""),
+    // rows in their order, then the keys that no row has; nothing below such a key
+    (
+        "[package]\nname = 1\nedtion = '2021'\nauthors = [1, 'a', 2]\nedition = '2020'\n[dependecies.a]\nb = 1",
+        "wrong kind at package.name\nnot a choice at package.edition\nwrong kind at package.authors[0]\nwrong kind at package.authors[2]\nunlisted: package.edtion\nunlisted: dependecies\n",
+    ),
+    // each clash, and the other faults
+    (
+        "[package]\nname = 'p'\n[dependencies.a]\ndefault-features = true\ndefault_features = 1\nversion = 1\n[dependencies.b]\nregistry-index = 'x'\nregistry_index = 'y'",
+        "wrong kind at dependencies.a.version\ntwo spellings at dependencies.a.default-features\ntwo spellings at dependencies.b.registry-index\n",
+    ),
+    // what is inherited has one row, or four
+    (
+        "[package]\nname = 'p'\nversion = { workspace = true, x = 1 }\nedition = { workspace = false }\n[dependencies]\na = { workspace = true, version = '1', features = 'x' }\nb = { workspace = false, version = '1' }",
+        "wrong kind at package.edition\nunlisted: package.version.x\nwrong kind at dependencies.a.features\nunlisted: dependencies.a.version\nunlisted: dependencies.b.workspace\n",
+    ),
+    // a badge that does not fit is no fault
+    (
+        "package.name = 'p'\n[badges]\ngitlab = { branch = 1, foo = 2 }\nother = 3\nmaintenance = { status = 'x' }",
+        "ignored: missing at badges.gitlab.repository\nignored: wrong kind at badges.gitlab.branch\nunlisted: badges.gitlab.foo\nignored: not a choice at badges.maintenance.status\nunlisted: badges.other\n",
+    ),
+    // every float of what is kept
+    (
+        "[package]\nname = 'p'\nmetadata = { a = [0.5, 1, [2.5]], b = 1.5, c = 'x' }",
+        "holds a float at package.metadata.a[0]\nholds a float at package.metadata.a[2][0]\nholds a float at package.metadata.b\n",
+    ),
+    // maps of all other keys: profiles, and tools with their lints
+    (
+        "package.name = 'p'\n[profile.dev]\ncodegen-units = 65536\n[profile.x]\nopt-level = 0.5\nfoo = 1\n[lints]\nworkspace = false\n[lints.rust]\na = { level = 'deny', priority = -129, b = 1 }\nc = 'x'",
+        "out of range at profile.dev.codegen-units\nholds a float at profile.x.opt-level\nunlisted: profile.x.foo\nnot true at lints.workspace\nout of range at lints.rust.a.priority\nunlisted: lints.rust.a.b\nnot a choice at lints.rust.c\n",
+    ),
+    // old headers: a key is read where the manifest or the package reads it
+    ("name = 'p'\nedition = '2021'\ncargo-features = []", ""),
+    (
+        "name = 'p'\nedtion = 1\ndependencies = 1\nauthors = 1",
+        "wrong kind at dependencies\nwrong kind at authors\nunlisted: edtion\n",
+    ),
+    (
+        "bin = 1\n[project]\nname = 'p'\nx = 1\n[y]\nz = 1",
+        "wrong kind at bin\nunlisted: project.x\nunlisted: y\n",
+    ),
+    (
+        "[package]\nname = 'p'\n[project]\nname = 1",
+        "unlisted: project\n",
+    ),
+    ("project = 1", "wrong kind at project\n"),
+];
+
+#[test]
+fn everything_is_found_in_order(rt: HostRuntime) -> Result<(), Fail> {
+    for (document, expected) in DOCUMENTS {
+        assert_is(&rt, found_text(rt.alloc(), document), expected, document)?;
+    }
+    Ok(())
+}
+
+/// What is found in a document by the three calls, and with metadata that is not looked at.
+fn apart(alloc: Global) -> Result<String, Fail> {
+    let table = toml::table_from_str(
+        alloc,
+        "[package]\nname = 1\nmetadata = 0.5\n[badges]\ngitlab = 1\nx = 2",
+    )?;
+    let mut text = String::new(alloc);
+    for fault in &faults(alloc, &table)? {
+        text.push_str(format!(in alloc; "{fault}\n")?.as_str())?;
+    }
+    for fault in &ignored(alloc, &table)? {
+        text.push_str(format!(in alloc; "{fault}\n")?.as_str())?;
+    }
+    for path in &unlisted_keys(alloc, &table)? {
+        text.push_str(format!(in alloc; "{path}\n")?.as_str())?;
+    }
+    let found = inspect_with_metadata::<Unread, Unread>(alloc, &table)?; // metadata is not looked at
+    text.push_str(lines(alloc, &found)?.as_str())?;
+    Ok(text)
+}
+
+#[test]
+fn each_call_gives_its_own(rt: HostRuntime) -> Result<(), Fail> {
+    let expected =
+        "wrong kind at package.name\nholds a float at package.metadata\nwrong kind at badges.gitlab\nbadges.x\nwrong kind at package.name\nignored: wrong kind at badges.gitlab\nunlisted: badges.x\n";
+    assert_is(&rt, apart(rt.alloc()), expected, "the three calls")
+}
+
+/// The findings of two keys of a package.
+fn findings_of_a_package(alloc: Global) -> Result<Findings, Fail> {
+    let table = toml::table_from_str(alloc, "[package]\nname = 1\nedtion = '2021'")?;
+    let found = inspect(alloc, &table)?; // `wrong kind at package.name`, and nothing reads `package.edtion`
+    Ok(found)
+}
+
+#[test]
+fn findings_of_an_example(rt: HostRuntime) -> Result<(), Fail> {
+    let found = findings_of_a_package(rt.alloc())?;
+    let text = lines(rt.alloc(), &found)?;
+    assert_is(
+        &rt,
+        Ok(text),
+        "wrong kind at package.name\nunlisted: package.edtion\n",
+        "a package",
+    )
+}
+
+fn all_faults(alloc: Global) -> Result<Vec<SchemaFault>, Fail> {
+    let table = toml::table_from_str(alloc, "[package]\nname = 1\nauthors = [2]")?;
+    let all = faults(alloc, &table)?; // `wrong kind` at `package.name` and at `package.authors[0]`
+    Ok(all)
+}
+
+fn dropped_badge(alloc: Global) -> Result<Vec<SchemaFault>, Fail> {
+    let table = toml::table_from_str(alloc, "package.name = 'a'\nbadges.gitlab = 1")?;
+    let dropped = ignored(alloc, &table)?; // `wrong kind` at `badges.gitlab`
+    Ok(dropped)
+}
+
+fn misspelled_key(alloc: Global) -> Result<Vec<KeyPath>, Fail> {
+    let table = toml::table_from_str(alloc, "[package]\nname = 'a'\nedtion = '2021'")?;
+    let keys = unlisted_keys(alloc, &table)?; // `package.edtion`
+    Ok(keys)
+}
+
+#[test]
+fn examples_of_the_calls(rt: HostRuntime) -> Result<(), Fail> {
+    let mut text = String::new(rt.alloc());
+    for fault in all_faults(rt.alloc())? {
+        text.push_str(format!(in rt.alloc(); "{fault}\n")?.as_str())?;
+    }
+    for fault in dropped_badge(rt.alloc())? {
+        text.push_str(format!(in rt.alloc(); "{fault}\n")?.as_str())?;
+    }
+    for path in misspelled_key(rt.alloc())? {
+        text.push_str(format!(in rt.alloc(); "{path}\n")?.as_str())?;
+    }
+    let expected =
+        "wrong kind at package.name\nwrong kind at package.authors[0]\nwrong kind at badges.gitlab\npackage.edtion\n";
+    assert_is(&rt, Ok(text), expected, "the examples")
+}
