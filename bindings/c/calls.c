@@ -9,7 +9,7 @@
 
 enum which {
     CANONICAL, COMPLETED, RESOLVED, RESOLVED_COMPLETED, TABLE, COMPLETED_TABLE, RESOLVED_TABLE, RESOLVED_COMPLETED_TABLE,
-    TABLE_WITHOUT_METADATA, DOCUMENT, CANONICAL_OF_TABLE, COMPLETED_OF_TABLE, RESOLVED_OF_TABLES
+    TABLE_WITHOUT_METADATA, DOCUMENT, FINDINGS, CANONICAL_OF_TABLE, COMPLETED_OF_TABLE, RESOLVED_OF_TABLES
 };
 
 /* A call, and its answer. For bytes, a root or folders that are null a null pointer and the length 0 are passed. */
@@ -176,6 +176,29 @@ static const struct call UNREAD[] = {
     {DOCUMENT, BYTES("\x08\x00")},
 };
 
+/* A finding of two keys, whose numbers are 0 to 8: what it is, and its cause. */
+#define FOUND(what, cause, one, other) "\x07\x03\x02" what "\x02" cause "\x07\x02" one other
+#define KEYS(count, text) "\x01" count text
+
+/* What is found in documents. */
+static const struct call FINDINGS_OF[] = {
+    {FINDINGS, .bytes = NAME, BYTES("\x07\x00")},
+    {FINDINGS, BYTES("\x07\x01\x07\x03\x02\x00\x02\x02\x07\x01\x01\x04name")},
+    {FINDINGS, .bytes = "[package]\nname = 1\nedtion = '2021'",
+     BYTES("\x07\x02" FOUND("\x00", "\x01", KEYS("\x07", "package"), KEYS("\x04", "name"))
+           FOUND("\x02", "\x00", KEYS("\x07", "package"), KEYS("\x06", "edtion")))},
+    {FINDINGS, .bytes = NAME "authors = [true, 'a', 2]",
+     BYTES("\x07\x02\x07\x03\x02\x00\x02\x01\x07\x03\x01\x07package\x01\x07" "authors\x02\x00"
+           "\x07\x03\x02\x00\x02\x01\x07\x03\x01\x07package\x01\x07" "authors\x02\x02")},
+    {FINDINGS, .bytes = NAME "[badges]\ngitlab = 1\nx = 1",
+     BYTES("\x07\x02" FOUND("\x01", "\x01", KEYS("\x06", "badges"), KEYS("\x06", "gitlab"))
+           FOUND("\x02", "\x00", KEYS("\x06", "badges"), KEYS("\x01", "x")))},
+    {FINDINGS, .bytes = NAME "metadata = nan",
+     BYTES("\x07\x01" FOUND("\x00", "\x07", KEYS("\x07", "package"), KEYS("\x08", "metadata")))},
+    {FINDINGS, .bytes = "\xff", .status = MANIFEST_NOT_UTF8, .text = ""},
+    {FINDINGS, .bytes = "[package\nname = 'p'", .status = MANIFEST_NO_TOML, .start = 8},
+};
+
 /* Calls whose bytes are a tagged table. */
 static const struct call OF_TABLES[] = {
     {CANONICAL_OF_TABLE, .bytes = "\x08\x01" PACKAGE_TABLE, .text = PACKAGE},
@@ -254,6 +277,9 @@ static const struct call DEPTHS[] = {
     {DOCUMENT, .bytes = "[k" TIMES_15(".k") ".k]\nk = " TIMES_21("[") TIMES_21("]"), .status = MANIFEST_TOO_DEEP,
      .text = ""},
     {DOCUMENT, .bytes = BRACKETS, .status = MANIFEST_TOO_DEEP, .text = ""},
+    {FINDINGS, .bytes = OWN DEEP(""), BYTES("\x07\x01\x07\x03\x02\x02\x02\x00\x07\x01\x01\x01k")},
+    {FINDINGS, .bytes = OWN DEEP(".k"), .status = MANIFEST_TOO_DEEP, .text = ""},
+    {FINDINGS, .bytes = BRACKETS, .status = MANIFEST_TOO_DEEP, .text = ""},
     {TABLE, .bytes = OWN BRACKETS, .status = MANIFEST_TOO_DEEP, .text = ""},
     {RESOLVED_TABLE, .bytes = OWN, .root = BRACKETS, .status = MANIFEST_ROOT_TOO_DEEP, .text = ""},
     {DOCUMENT, .bytes = "k = '" TIMES_510("[") "' # " TIMES_510("["), .text = KEY "\x01\xfe\x03" TIMES_510("[")},
@@ -316,8 +342,8 @@ static const struct group {
     const char *name;
     const struct call *calls;
     size_t length;
-} GROUPS[] = {GROUP(READINGS), GROUP(COMPLETIONS), GROUP(RESOLVINGS), GROUP(TABLES), GROUP(UNREAD), GROUP(OF_TABLES),
-              GROUP(DEPTHS), GROUP(ORDERS), GROUP(NULLS)};
+} GROUPS[] = {GROUP(READINGS), GROUP(COMPLETIONS), GROUP(RESOLVINGS), GROUP(TABLES), GROUP(UNREAD), GROUP(FINDINGS_OF),
+              GROUP(OF_TABLES), GROUP(DEPTHS), GROUP(ORDERS), GROUP(NULLS)};
 
 enum { GROUP_COUNT = sizeof GROUPS / sizeof GROUPS[0], THREADS = 4, TURNS = 20, SET = 0xAA };
 
@@ -349,6 +375,8 @@ static struct manifest_answer made(const struct call *call, size_t most, uint8_t
         return manifest_table_without_metadata(bytes, length, most, out, room);
     case DOCUMENT:
         return manifest_document(bytes, length, most, out, room);
+    case FINDINGS:
+        return manifest_findings(bytes, length, most, out, room);
     case CANONICAL_OF_TABLE:
         return manifest_canonical_of_table(bytes, length, most, out, room);
     case COMPLETED_OF_TABLE:

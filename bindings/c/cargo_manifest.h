@@ -248,6 +248,30 @@ struct manifest_answer manifest_table_without_metadata(const uint8_t *bytes, siz
 struct manifest_answer manifest_document(const uint8_t *bytes, size_t bytes_length, size_t most, uint8_t *out,
                                          size_t out_length);
 
+/* What is found by manifest_findings. */
+enum manifest_found {
+    MANIFEST_FOUND_FAULT = 0,   /* a value, or its absence, does not fit: the manifest is refused */
+    MANIFEST_FOUND_IGNORED = 1, /* it does not fit where that refuses nothing: a badge, which counts as absent */
+    MANIFEST_FOUND_UNLISTED = 2 /* a key that nothing reads, as a misspelled one; nothing below it is looked at */
+};
+
+/* What is found in the document that the bytes are, as in a manifest: every fault, and not the first one alone, what is
+   ignored, and every key that nothing reads. The status is MANIFEST_ACCEPTED with faults too: they are what was asked for.
+   Without any, the bytes are a manifest, which manifest_canonical accepts if its text is not too long; and else the first
+   fault is the one with which that refuses them. Metadata is kept as it is there, so each float in it is a fault.
+
+   It is a tagged array, which has for each finding an array of three values:
+
+      a number of enum manifest_found
+      a number of enum manifest_cause; 0 of a key that nothing reads
+      an array: the path from the whole table, a text for each key and a number for each index
+
+   They stand in the order in which docs/KEYS.md of the repository has the keys: the values of a table key by key, those
+   of lists and maps one by one, and after all of a table its keys that nothing reads. `[package]` with `name = 1` and
+   `edtion = "2021"` is 7 2 7 3 2 0 2 1 7 2 1 7 `package` 1 4 `name` 7 3 2 2 2 0 7 2 1 7 `package` 1 6 `edtion`. */
+struct manifest_answer manifest_findings(const uint8_t *bytes, size_t bytes_length, size_t most, uint8_t *out,
+                                         size_t out_length);
+
 /* Calls whose bytes are no text but a tagged table, such as manifest_table gives, or a program makes. A table has no old
    headers: its package is `package`. A float in it is refused as any other value that does not fit.
 

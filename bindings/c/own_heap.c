@@ -86,10 +86,13 @@ static const struct manifest_folder FOLDERS[] = {{{(const uint8_t *)".", 1}, {NU
 
 #define INLINE "package = {edition = '2021', name = 'p-q'}"
 #define TABLE "\x08\x01\x07package\x08\x02\x07" "edition\x01\x04" "2021\x04name\x01\x03p-q"
+#define BADGE "badges.gitlab = 1\npackage = {name = 'p-q'}"
+/* (what is ignored, since no byte of it is zero) */
+#define FOUND "\x07\x01\x07\x03\x02\x01\x02\x01\x07\x02\x01\x06" "badges\x01\x06gitlab"
 
 /* What each kind of call answers. */
 static const char *const TEXTS[] = {PACKAGE, LIBRARY PACKAGE, PACKAGE VERSION, LIBRARY PACKAGE VERSION,
-                                    TABLE, TABLE, TABLE, PACKAGE};
+                                    TABLE, TABLE, TABLE, FOUND, PACKAGE};
 
 enum { CALLS = sizeof TEXTS / sizeof TEXTS[0] };
 
@@ -112,6 +115,8 @@ static struct manifest_answer made(int call, uint8_t *out, size_t room)
         return manifest_table_without_metadata(own, length, SIZE_MAX, out, room);
     case 6:
         return manifest_document((const uint8_t *)INLINE, sizeof INLINE - 1, SIZE_MAX, out, room);
+    case 7:
+        return manifest_findings((const uint8_t *)BADGE, sizeof BADGE - 1, SIZE_MAX, out, room);
     default:
         return manifest_canonical_of_table((const uint8_t *)TABLE, sizeof TABLE - 1, SIZE_MAX, out, room);
     }

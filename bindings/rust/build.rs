@@ -10,13 +10,14 @@ use std::process;
 const ARCHIVE: &str = "libcargo_manifest.a";
 
 /// The calls that this crate makes.
-const CALLS: [&str; 14] = [
+const CALLS: [&str; 15] = [
     "manifest_canonical",
     "manifest_canonical_of_table",
     "manifest_completed",
     "manifest_completed_of_table",
     "manifest_completed_table",
     "manifest_document",
+    "manifest_findings",
     "manifest_resolved",
     "manifest_resolved_completed",
     "manifest_resolved_completed_table",

@@ -20,8 +20,10 @@ fn answers(text: &[u8]) -> bool {
     let manifest = calls::resolved_completed(text, b"[workspace]\n", &listings);
     let table = calls::resolved_completed_table(text, b"[workspace]\n", &listings);
     let root = calls::resolved_completed(b"name = 'p'\n", text, &listings);
+    let found = calls::findings(text);
     manifest.as_ref().err().is_none_or(is_due)
         && table.as_ref().err().is_none_or(is_due)
+        && found.as_ref().err().is_none_or(is_due)
         && root.is_err_and(|refusal| is_due(&refusal))
 }
 

@@ -13,16 +13,21 @@ meanwhile.
 from ._calls import canonical, completed, completed_table, resolved, resolved_completed
 from ._calls import resolved_completed_table, resolved_table, table
 from ._error import Cause, ManifestError
+from ._faults import Fault, faults, ignored, unlisted_keys
 
 __all__ = [
     "Cause",
+    "Fault",
     "ManifestError",
     "canonical",
     "completed",
     "completed_table",
+    "faults",
+    "ignored",
     "resolved",
     "resolved_completed",
     "resolved_completed_table",
     "resolved_table",
     "table",
+    "unlisted_keys",
 ]

@@ -9,8 +9,8 @@ from ._paths import KeyPath, key_text, steps_of
 Part = Literal["manifest", "root"]
 
 
-class Cause(enum.Enum):
-    """Why a call refuses; the value says it in plain words."""
+class Cause(str, enum.Enum):
+    """Why a call refuses; the value says it in plain words, and equals them."""
 
     NO_TOML = "no TOML"
     """The text is no TOML."""

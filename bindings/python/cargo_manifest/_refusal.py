@@ -14,7 +14,7 @@ _NO_TOML, _SCHEMA, _FOLDER, _NOT_UTF8, _MEMORY = 1, 2, 3, 4, 6
 
 _NO_MEMORY = "no memory was left for the manifest"
 
-_SCHEMA_CAUSES = {
+SCHEMA_CAUSES = {
     1: Cause.WRONG_KIND,
     2: Cause.MISSING,
     3: Cause.TWO_SPELLINGS,
@@ -59,8 +59,8 @@ def _of_text(answer: Answer, said: str, status: int, part: Part, text: bytes) ->
         return ManifestError(Cause.NOT_UTF8, part=part)
     if status == _NO_TOML:
         return ManifestError(Cause.NO_TOML, said, part=part, place=place_of(text, answer.start, answer.end))
-    if status == _SCHEMA and answer.cause in _SCHEMA_CAUSES:
-        return ManifestError(_SCHEMA_CAUSES[answer.cause], part=part, path_text=said)
+    if status == _SCHEMA and answer.cause in SCHEMA_CAUSES:
+        return ManifestError(SCHEMA_CAUSES[answer.cause], part=part, path_text=said)
     raise broken()
 
 

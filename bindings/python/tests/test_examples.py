@@ -8,12 +8,13 @@ import unittest
 from pathlib import Path
 
 import cargo_manifest
-from cargo_manifest import _calls, _error
+from cargo_manifest import _calls, _error, _faults
 
 from .places import PROJECT, make_files
 
 
 CALLS = ("canonical", "completed", "resolved", "resolved_completed", "table")
+FINDERS = ("faults", "ignored", "unlisted_keys")
 
 
 class Readme(unittest.TestCase):
@@ -40,9 +41,9 @@ class Documented(unittest.TestCase):
     def test_each_public_name_has_a_doc_comment(self) -> None:
         for name in cargo_manifest.__all__:
             self.assertTrue(getattr(cargo_manifest, name).__doc__, name)
-        for call in CALLS:
+        for call in CALLS + FINDERS:
             self.assertIn(">>> ", getattr(cargo_manifest, call).__doc__)
-            self.assertIn("Raises ", getattr(cargo_manifest, call).__doc__)
+            self.assertRegex(getattr(cargo_manifest, call).__doc__, "[Rr]aises ")
 
     def test_types_can_be_told(self) -> None:
         returned = {call: typing.get_type_hints(getattr(cargo_manifest, call))["return"] for call in CALLS}
@@ -52,6 +53,6 @@ class Documented(unittest.TestCase):
 
 
 def load_tests(loader: unittest.TestLoader, tests: unittest.TestSuite, pattern: str) -> unittest.TestSuite:
-    for module in (cargo_manifest, _calls, _error):
+    for module in (cargo_manifest, _calls, _error, _faults):
         tests.addTests(doctest.DocTestSuite(module))
     return tests

@@ -5,7 +5,8 @@ import unittest
 from collections.abc import Callable
 from concurrent.futures import ThreadPoolExecutor
 
-from cargo_manifest import ManifestError, canonical, completed, resolved, resolved_completed, table
+from cargo_manifest import ManifestError, canonical, completed, faults, resolved, resolved_completed, table
+from cargo_manifest import unlisted_keys
 
 from .test_calls import COUNT, FOLDERS, LIB, MANY, MANY_BINS, MEMBER, RESOLVED, ROOT
 
@@ -35,6 +36,8 @@ def each_call(thread: int) -> list[object]:
         len(table(MANY)["bin"]),
         refused(f"package = {{ name = 'p', authors = [{'1, ' * thread}] }}"),
         refused(" " * thread + "="),
+        [fault.path for fault in faults(f"package = {{ name = {thread}, authors = [{'1, ' * thread}] }}")],
+        unlisted_keys(f"name = 'p'\n{name} = 1"),
     ]
 
 
@@ -53,6 +56,8 @@ def wanted(thread: int) -> list[object]:
         COUNT,
         ("accepted",) if accepted else ("wrong kind at package.authors[0]", ("package", "authors", 0), None),
         (refused(" " * thread + "=")[0], None, thread),
+        [("package", "name"), *(("package", "authors", index) for index in range(thread))],
+        [(name,)],
     ]
 
 

@@ -37,6 +37,17 @@
 //! assert!(checked(b"[package\nname = 'a'\n").unwrap_err().starts_with("line 1: "));
 //! ```
 //!
+//! All that is wrong, and not the first fault alone, is in [`faults`]; and keys that nothing reads, as misspelled ones, are in
+//! [`unlisted_keys`]:
+//!
+//! ```
+//! let upload = b"[package]\nname = 'a'\nversion = 1\nauthors = 'b'\nlicence = 'MIT'\n";
+//! let faults: Vec<_> = cargo_manifest::faults(upload)?.iter().map(ToString::to_string).collect();
+//! assert_eq!(faults, ["wrong kind at package.version", "wrong kind at package.authors"]);
+//! assert_eq!(cargo_manifest::unlisted_keys(upload)?[0].to_string(), "package.licence");
+//! # Ok::<(), cargo_manifest::Error>(())
+//! ```
+//!
 //! # A planner makes a skeleton
 //!
 //! Of a manifest and a list of files it takes what is built, and writes the smallest manifest that builds it: so a layer of
@@ -142,6 +153,7 @@ mod completing;
 mod dependency;
 mod error;
 mod filesystem;
+mod found;
 mod inherited;
 mod lint;
 mod manifest;
@@ -167,9 +179,11 @@ pub mod from_cargo_manifest {}
 
 pub use badge::{Badge, Badges, Maintenance, MaintenanceStatus};
 pub use calls::Cause;
+pub use codec::Step;
 pub use dependency::{Dependency, DependencyDetail, InheritedDependencyDetail, Target};
 pub use error::{Error, ParseError};
 pub use filesystem::{AbstractFilesystem, Filesystem};
+pub use found::{faults, ignored, unlisted_keys, Fault, Finding, KeyPath};
 pub use inherited::{MaybeInherited, True};
 pub use lint::{Lint, LintConfig, LintLevel, MaybeInheritedLintsSet};
 pub use manifest::Manifest;

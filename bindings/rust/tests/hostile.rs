@@ -73,6 +73,7 @@ declared! {
     manifest_table(usize, *mut u8, usize);
     manifest_table_without_metadata(usize, *mut u8, usize);
     manifest_document(usize, *mut u8, usize);
+    manifest_findings(usize, *mut u8, usize);
     manifest_canonical_of_table(usize, *mut u8, usize);
     manifest_completed(*const Folder, usize, usize, *mut u8, usize);
     manifest_completed_table(*const Folder, usize, usize, *mut u8, usize);
@@ -96,7 +97,7 @@ use Call::{OfBoth as B, OfRoot as R, OnBytes as O, OverFolders as F};
 /// An export: its name, whether it takes tagged tables, whether it gives one, and the call.
 type Export = (&'static str, bool, bool, Call);
 
-const EXPORTS: [Export; 13] = [
+const EXPORTS: [Export; 14] = [
     ("canonical", false, false, O(manifest_canonical)),
     ("completed", false, false, F(manifest_completed)),
     ("resolved", false, false, R(manifest_resolved)),
@@ -107,6 +108,7 @@ const EXPORTS: [Export; 13] = [
     ("resolved_completed_table", false, true, B(manifest_resolved_completed_table)),
     ("table_without_metadata", false, true, O(manifest_table_without_metadata)),
     ("document", false, true, O(manifest_document)),
+    ("findings", false, true, O(manifest_findings)),
     ("canonical_of_table", true, false, O(manifest_canonical_of_table)),
     ("completed_of_table", true, true, F(manifest_completed_of_table)),
     ("resolved_of_tables", true, true, R(manifest_resolved_of_tables)),
@@ -143,7 +145,7 @@ fn is_due(status: u8, export: &Export) -> bool {
     match status {
         0 | 15 | 32 => true,
         1 | 4 => !takes_table,
-        2 => name != "document",
+        2 => name != "document" && name != "findings",
         3 | 5 | 8 => has_folders,
         7 => takes_table && !gives_table,
         14 => takes_table,

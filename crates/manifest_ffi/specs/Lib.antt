@@ -9,3 +9,4 @@ pub mod Nesting
 pub mod Read
 pub mod Made
 pub mod Unread
+pub mod Inspected

@@ -8,6 +8,7 @@
 
 mod answer;
 mod folders;
+mod inspecting;
 mod making;
 mod nesting;
 mod reading;
@@ -21,6 +22,7 @@ ghost use Rattle.std.specs.Prelude.{◌≡◌, Some, None};
 ghost use Rattle.manifest_ffi.specs.Made.{Makes, RefusesToMake};
 ghost use Rattle.manifest_ffi.specs.Answered.{Answers, IsAnswered};
 ghost use Rattle.manifest_ffi.specs.Unread.{GivesUnread, RefusesUnread, GivesDocument, RefusesDocument};
+ghost use Rattle.manifest_ffi.specs.Inspected.{GivesFindings, RefusesFindings};
 
 pub use answer::Answer;
 use answer::{Asked, outcome, respond, write_answer};
@@ -267,6 +269,33 @@ pub extern "C" fn manifest_document(
 {
     let document = unread::document_table(alloc, bytes, most);
     let told = outcome(alloc, document);
+    write_answer(&told, out)
+}
+
+/// Reads bytes as a TOML document, and writes what is found in it as in a manifest, as tagged bytes: every fault, what
+/// does not fit where that is no fault, and every key that nothing reads. They stand in the order of the rows of
+/// `docs/KEYS.md`, and such keys after the rows of their table.
+///
+/// The tagged bytes are those of an array. It has an array for each finding: 0 for a fault, 1 for what is ignored, 2
+/// for a key that nothing reads; the number of the cause, as in `docs/LIBRARY.md`, or 0 for such a key; and the path, an
+/// array with a text for each key and a number for each index. A document with faults is accepted all the same: refused
+/// is what [`manifest_document`] refuses, and tagged bytes that are more than `most`.
+///
+/// ```ignore
+/// let answer = manifest_findings(alloc, b"name = 1", usize::MAX, &mut out); // status 0, and `[[0, 1, ['name']]]`
+/// ```
+#[unsafe(no_mangle)]
+pub extern "C" fn manifest_findings(
+    alloc: Global,
+    bytes: &[u8],
+    most: usize,
+    out: &mut [u8],
+) -> Answer
+    ensures { IsAnswered (GivesFindings most bytes.now) (RefusesFindings most bytes.now)
+        out.old out.new result }
+{
+    let findings = inspecting::document_findings(alloc, bytes, most);
+    let told = outcome(alloc, findings);
     write_answer(&told, out)
 }
 

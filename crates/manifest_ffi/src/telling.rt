@@ -57,7 +57,7 @@ fn memory(alloc: Global, _refused: AllocError) -> Told
 }
 
 /// The number by which an answer reports a cause of a fault of the schema.
-fn cause_number(cause: Cause) -> u8
+pub(crate) fn cause_number(cause: Cause) -> u8
     ensures { result ≡ cause_number (cause_of cause) }
 {
     match cause {

@@ -1,9 +1,10 @@
 //! The calls with a bound on what they answer.
 
-use super::declared::{complete, read, resolve, resolve_and_complete, text_of, Output};
+use super::declared::{complete, manifest_findings, of_text, read, resolve, resolve_and_complete, text_of, Output};
 use super::listings::Listings;
 use super::refusal::Refusal;
 use super::value_of;
+use crate::found::{findings_of, Finding};
 use crate::value::Value;
 
 /// The calls of this module, none of which returns more than a given number of bytes: what could take more is
@@ -62,5 +63,10 @@ impl AtMost {
     /// [`resolved_completed_table`](super::resolved_completed_table) in at most this many tagged bytes.
     pub fn resolved_completed_table(self, bytes: &[u8], root: &[u8], listings: &Listings) -> Result<Value, Refusal> {
         resolve_and_complete(Output::Table, bytes, root, listings, self.0).map(value_of)
+    }
+
+    /// [`findings`](super::findings) in at most this many tagged bytes.
+    pub fn findings(self, bytes: &[u8]) -> Result<Vec<Finding>, Refusal> {
+        of_text(manifest_findings, bytes, self.0).map(value_of).map(findings_of)
     }
 }

@@ -43,6 +43,7 @@ declared! {
     manifest_table();
     manifest_table_without_metadata();
     manifest_document();
+    manifest_findings();
     manifest_canonical_of_table();
     manifest_completed(folders: Folder, folders_length);
     manifest_completed_table(folders: Folder, folders_length);
@@ -224,11 +225,11 @@ pub(crate) fn resolve_and_complete(
 /// A call that takes one slice.
 type OnSlice = unsafe extern "C" fn(*const u8, usize, usize, *mut u8, usize) -> Answer;
 
-/// What a call answers that takes one slice.
-pub(crate) fn of_text(call: OnSlice, bytes: &[u8]) -> Result<Vec<u8>, Refusal> {
-    bytes_of(room_for(bytes.len(), 0), |out, room| {
+/// What a call answers that takes one slice, in at most this many bytes.
+pub(crate) fn of_text(call: OnSlice, bytes: &[u8], most: usize) -> Result<Vec<u8>, Refusal> {
+    bytes_of(room_for(bytes.len(), 0).min(most), |out, room| {
         // SAFETY: as in `read`.
-        unsafe { call(bytes.as_ptr(), bytes.len(), ANY, out, room) }
+        unsafe { call(bytes.as_ptr(), bytes.len(), most, out, room) }
     })
 }
 

@@ -23,6 +23,7 @@ pub(crate) mod tables;
 #[cfg(test)]
 mod tests;
 
+use crate::found::Finding;
 use crate::value::{decoded, Value};
 pub use at_most::AtMost;
 pub(crate) use declared::is_broken;
@@ -90,4 +91,26 @@ pub fn resolved_table(bytes: &[u8], root: &[u8]) -> Result<Value, Refusal> {
 /// The table of the resolved and completed manifest: what [`resolved_completed`] says, by values.
 pub fn resolved_completed_table(bytes: &[u8], root: &[u8], listings: &Listings) -> Result<Value, Refusal> {
     AtMost(ANY).resolved_completed_table(bytes, root, listings)
+}
+
+/// What is found in the document that the bytes are, as in a manifest: every fault, what is ignored where it does not fit,
+/// and every key that nothing reads. They stand in the order in which `docs/KEYS.md` of the repository has the keys, and the
+/// keys that nothing reads after what is found in the other keys of their table.
+///
+/// A document with faults is no error here. An error is what is no TOML, or nests too deep.
+///
+/// ```
+/// use cargo_manifest::calls::findings;
+///
+/// let found = findings(b"[package]\nname = 1\nedtion = '2021'\n[badges]\ngitlab = 1")?;
+/// let lines: Vec<_> = found.iter().map(ToString::to_string).collect();
+/// assert_eq!(lines, [
+///     "wrong kind at package.name",
+///     "nothing reads package.edtion",
+///     "ignored: wrong kind at badges.gitlab",
+/// ]);
+/// # Ok::<(), cargo_manifest::calls::Refusal>(())
+/// ```
+pub fn findings(bytes: &[u8]) -> Result<Vec<Finding>, Refusal> {
+    AtMost(ANY).findings(bytes)
 }

@@ -1,24 +1,24 @@
 //! Calls on the tagged bytes of a whole manifest's table.
 
-use super::declared::{self, of_table, of_tables, of_text, text_of};
+use super::declared::{self, of_table, of_tables, of_text, text_of, ANY};
 use super::folders::with_folders;
 use super::{Apart, Listings, Refusal};
 
 /// The table of the manifest that the bytes are.
 pub(crate) fn table(bytes: &[u8]) -> Result<Vec<u8>, Refusal> {
-    of_text(declared::manifest_table, bytes)
+    of_text(declared::manifest_table, bytes, ANY)
 }
 
 /// The same with an empty table in the place of metadata, and the document that has it: where metadata has a float.
 pub(crate) fn without_metadata(bytes: &[u8]) -> Result<Apart, Refusal> {
-    let table = of_text(declared::manifest_table_without_metadata, bytes)?;
-    let document = of_text(declared::manifest_document, bytes)?;
+    let table = of_text(declared::manifest_table_without_metadata, bytes, ANY)?;
+    let document = of_text(declared::manifest_document, bytes, ANY)?;
     Ok(Apart { table, document })
 }
 
 /// The canonical text of a table.
 pub(crate) fn canonical(table: &[u8]) -> Result<String, Refusal> {
-    of_text(declared::manifest_canonical_of_table, table).map(text_of)
+    of_text(declared::manifest_canonical_of_table, table, ANY).map(text_of)
 }
 
 /// The table, completed over listings.

@@ -3,7 +3,7 @@
 use super::declared::{manifest_canonical, room_for, room_for_table, Answer};
 use super::folders::{Folder, Slice};
 use super::heap::refusals::{blocks, with_refused};
-use super::{canonical, resolved_completed, resolved_completed_table, table, Fault, Listings, Refusal};
+use super::{canonical, findings, resolved_completed, resolved_completed_table, table, Fault, Listings, Refusal};
 use crate::value::{decoded, Value};
 use std::fmt::Debug;
 use std::mem::{offset_of, size_of};
@@ -78,6 +78,7 @@ fn each_growth_is_refused() {
     for bytes in manifests {
         are_refused(|| canonical(bytes), &canonical(bytes));
         are_refused(|| table(bytes), &table(bytes));
+        are_refused(|| findings(bytes), &findings(bytes));
     }
 }
 

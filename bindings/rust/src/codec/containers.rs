@@ -126,7 +126,7 @@ impl<T: Form> Form for Vec<T> {
     fn wanted_at(path: &[Step]) -> Option<Cow<'static, str>> {
         match path {
             [] => Some(Self::wanted()),
-            [Step::Place(_), path @ ..] => T::wanted_at(path),
+            [Step::Index(_), path @ ..] => T::wanted_at(path),
             [Step::Key(_), ..] => None,
         }
     }
@@ -165,7 +165,7 @@ impl<T: Form> Form for BTreeMap<String, T> {
         match path {
             [] => Some(Self::wanted()),
             [Step::Key(_), path @ ..] => T::wanted_at(path),
-            [Step::Place(_), ..] => None,
+            [Step::Index(_), ..] => None,
         }
     }
 }

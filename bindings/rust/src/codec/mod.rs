@@ -19,9 +19,9 @@ pub(crate) use words::words;
 pub(crate) use writer::{AsideOf, Members, Writer};
 
 use crate::value::Value;
-#[cfg(feature = "serde")]
+pub(crate) use path::steps;
 pub(crate) use path::text as path_text;
-pub(crate) use path::{steps, Step};
+pub use path::Step;
 pub(crate) use read::Misfit;
 use std::borrow::Cow;
 

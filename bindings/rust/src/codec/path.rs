@@ -1,12 +1,12 @@
 //! Key paths, as `target."cfg(unix)".dependencies.b` and `package.authors[0]`.
 
-use crate::value::key;
-
-/// One step of a key path.
-#[derive(Clone, Debug, PartialEq, Eq)]
-pub(crate) enum Step {
+/// One step of a [`KeyPath`](crate::KeyPath).
+#[derive(Clone, Debug, PartialEq, Eq, Hash, PartialOrd, Ord)]
+pub enum Step {
+    /// To the value of a key of a table.
     Key(String),
-    Place(usize),
+    /// To an item of an array, from 0 on.
+    Index(usize),
 }
 
 /// The steps of a key path. There are none where the text is no key path.
@@ -25,7 +25,7 @@ pub(crate) fn steps(path: &str) -> Vec<Step> {
 fn step(path: &str) -> Option<(Step, &str)> {
     if let Some(rest) = path.strip_prefix('[') {
         let (place, rest) = rest.split_once(']')?;
-        return Some((Step::Place(place.parse().ok()?), rest));
+        return Some((Step::Index(place.parse().ok()?), rest));
     }
     if let Some(rest) = path.strip_prefix('"') {
         let (key, rest) = quoted(rest)?;
@@ -56,18 +56,35 @@ fn quoted(path: &str) -> Option<(String, &str)> {
     }
 }
 
+/// A key as the library writes it in a key path: between quotes where it is no bare key.
+fn push_key(key: &str, text: &mut String) {
+    let is_bare = |byte: u8| byte.is_ascii_alphanumeric() || byte == b'_' || byte == b'-';
+    if !key.is_empty() && key.bytes().all(is_bare) {
+        text.push_str(key);
+        return;
+    }
+    text.push('"');
+    for c in key.chars() {
+        match c {
+            '"' | '\\' => text.extend(['\\', c]),
+            '\0'..='\x1f' | '\x7f' => text.push_str(&format!("\\u{:04X}", u32::from(c))),
+            _ => text.push(c),
+        }
+    }
+    text.push('"');
+}
+
 /// The text of a key path.
 pub(crate) fn text(steps: &[Step]) -> String {
     let mut text = String::new();
     for step in steps {
         match step {
-            Step::Place(place) => text.push_str(&format!("[{place}]")),
-            Step::Key(name) => {
+            Step::Index(place) => text.push_str(&format!("[{place}]")),
+            Step::Key(key) => {
                 if !text.is_empty() {
                     text.push('.');
                 }
-                // (writing to a string does not fail)
-                let _ = key(name, &mut text);
+                push_key(key, &mut text);
             }
         }
     }

@@ -91,7 +91,7 @@ pub(crate) fn items<T: Form>(items: Vec<Value>, aside: &mut Aside) -> Result<Vec
     let read = items
         .into_iter()
         .enumerate()
-        .map(|(place, item)| T::read(item, aside).map_err(|misfit| misfit.below(Step::Place(place))));
+        .map(|(place, item)| T::read(item, aside).map_err(|misfit| misfit.below(Step::Index(place))));
     read.collect()
 }
 

@@ -93,7 +93,7 @@ impl<'de> SeqAccess<'de> for Items {
         let Some(item) = self.left.next() else { return Ok(None) };
         let place = self.place;
         self.place += 1;
-        seed.deserialize(item).map(Some).map_err(|error| error.below(Step::Place(place)))
+        seed.deserialize(item).map(Some).map_err(|error| error.below(Step::Index(place)))
     }
 
     fn size_hint(&self) -> Option<usize> {

@@ -167,7 +167,7 @@ pub(super) struct Items {
 impl Items {
     fn put<T: Serialize + ?Sized>(&mut self, item: &T) -> Result<(), ValueError> {
         let place = self.items.len();
-        self.items.push(written(item).map_err(|error| error.below(Step::Place(place)))?);
+        self.items.push(written(item).map_err(|error| error.below(Step::Index(place)))?);
         Ok(())
     }
 

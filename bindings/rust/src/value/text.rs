@@ -20,7 +20,7 @@ pub(crate) fn quoted(text: &str, out: &mut impl Write) -> fmt::Result {
 }
 
 /// A key, between quotes where it is no bare key.
-pub(crate) fn key(key: &str, out: &mut impl Write) -> fmt::Result {
+fn key(key: &str, out: &mut impl Write) -> fmt::Result {
     let is_bare = |byte: u8| byte.is_ascii_alphanumeric() || byte == b'_' || byte == b'-';
     if !key.is_empty() && key.bytes().all(is_bare) {
         out.write_str(key)

@@ -1,0 +1,154 @@
+//! What is found in documents: faults, what is ignored, and the keys that nothing reads.
+
+mod stored;
+
+use cargo_manifest::calls::{findings, AtMost, Part, Refusal};
+use cargo_manifest::{faults, ignored, unlisted_keys, Cause, Error, Fault, Finding, KeyPath, Manifest, Step};
+
+/// Documents, and what is found in them, line by line.
+const DOCUMENTS: &[(&str, &str)] = &[
+    ("[package]\nname = 'p'", ""),
+    ("", "missing at name\n"),
+    (
+        "[package]\nname = 1\nedtion = '2021'\nauthors = [1, 'a', 2]\nedition = '2020'\n[dependecies.a]\nb = 1",
+        "wrong kind at package.name\nnot a choice at package.edition\nwrong kind at package.authors[0]\n\
+         wrong kind at package.authors[2]\nnothing reads package.edtion\nnothing reads dependecies\n",
+    ),
+    (
+        "[package]\nname = 'p'\n[dependencies.a]\ndefault-features = true\ndefault_features = 1\nversion = 1",
+        "wrong kind at dependencies.a.version\ntwo spellings at dependencies.a.default-features\n",
+    ),
+    (
+        "[package]\nname = 'p'\nversion = { workspace = true, x = 1 }\n[badges]\ngitlab = { branch = 1, foo = 2 }",
+        "nothing reads package.version.x\nignored: missing at badges.gitlab.repository\n\
+         ignored: wrong kind at badges.gitlab.branch\nnothing reads badges.gitlab.foo\n",
+    ),
+    (
+        "[package]\nname = 'p'\nmetadata = { a = [0.5, 1, [2.5]] }\n[profile.dev]\ncodegen-units = 65536\nlto = nan\n\
+         [lints]\nworkspace = false",
+        "holds a float at package.metadata.a[0]\nholds a float at package.metadata.a[2][0]\n\
+         holds a float at profile.dev.lto\nout of range at profile.dev.codegen-units\nnot true at lints.workspace\n",
+    ),
+    (
+        "package.name = 'p'\n[target.'cfg(unix)'.dependencies]\n\"a\\\"é\" = 1\n'' = 2\n\"\\t\\\\\" = 3",
+        "wrong kind at target.\"cfg(unix)\".dependencies.\"\"\n\
+         wrong kind at target.\"cfg(unix)\".dependencies.\"\\u0009\\\\\"\n\
+         wrong kind at target.\"cfg(unix)\".dependencies.\"a\\\"é\"\n",
+    ),
+];
+
+/// A line for each of these.
+fn lines<T: ToString>(all: &[T]) -> String {
+    all.iter().map(|each| each.to_string() + "\n").collect()
+}
+
+#[test]
+fn everything_is_found_in_order() {
+    for (document, wanted) in DOCUMENTS {
+        assert_eq!(lines(&findings(document.as_bytes()).unwrap()), *wanted, "{document}");
+    }
+}
+
+fn path(steps: &[&str]) -> KeyPath {
+    let step = |text: &&str| match text.parse() {
+        Ok(index) => Step::Index(index),
+        Err(_) => Step::Key(text.to_string()),
+    };
+    KeyPath { steps: steps.iter().map(step).collect() }
+}
+
+#[test]
+fn each_part_of_a_finding() {
+    let text = b"package.name = 'p'\npackage.authors = [true]\nx.y = 1\n[badges]\ngitlab = 1\n";
+    let wrong = |steps: &[&str]| Fault { path: path(steps), cause: Cause::WrongKind };
+    let all = findings(text).unwrap();
+    assert_eq!(
+        all,
+        [
+            Finding::Fault(wrong(&["package", "authors", "0"])),
+            Finding::Ignored(wrong(&["badges", "gitlab"])),
+            Finding::Unlisted(path(&["x"])),
+        ]
+    );
+    assert_eq!(faults(text).unwrap(), [wrong(&["package", "authors", "0"])]);
+    assert_eq!(ignored(text).unwrap(), [wrong(&["badges", "gitlab"])]);
+    assert_eq!(unlisted_keys(text).unwrap(), [path(&["x"])]);
+    assert_eq!(path(&[]).to_string(), "(top)");
+}
+
+/// Each refusal is that of the other calls.
+#[test]
+fn what_is_no_document_is_refused() {
+    assert_eq!(findings(b"\xff"), Err(Refusal::Utf8(Part::Manifest)));
+    assert!(matches!(findings(b"[package"), Err(Refusal::Toml { part: Part::Manifest, .. })));
+    let deep = format!("a = {}", "[".repeat(510));
+    assert_eq!(findings(deep.as_bytes()), Err(Refusal::TooDeep(Part::Manifest)));
+    for text in [&b"\xff"[..], b"[package\nname = 1", deep.as_bytes()] {
+        let wanted = Manifest::from_slice(text).unwrap_err().to_string();
+        let said = [faults(text).err(), ignored(text).err(), unlisted_keys(text).err()];
+        assert_eq!(said.map(|error| error.unwrap().to_string()), [(); 3].map(|()| wanted.clone()));
+    }
+}
+
+#[test]
+fn the_bound_is_that_on_the_tagged_bytes() {
+    // 7 1 7 3 2 0 2 2 7 1 1 4 `name`
+    assert_eq!(AtMost(16).findings(b""), findings(b""));
+    assert_eq!(AtMost(15).findings(b""), Err(Refusal::TooLong));
+    let many: String = (0..1_000).map(|number| format!("{number} = 1\n")).collect();
+    assert_eq!(unlisted_keys(format!("name = 'p'\n{many}").as_bytes()).unwrap().len(), 1_000);
+}
+
+/// Metadata with a float is kept by this crate, and by its calls it is not.
+#[test]
+fn a_float_in_metadata() {
+    for header in ["", "[package]", "[project]"] {
+        let text = format!("{header}\nname = 'p'\nmetadata = [{{ a = 0.5 }}]\n");
+        assert_eq!(faults(text.as_bytes()).unwrap(), []);
+        assert!(text.parse::<Manifest>().is_ok());
+        assert_eq!(findings(text.as_bytes()).unwrap().len(), 1, "{text}");
+    }
+    let text = b"package.name = 'p'\n[workspace]\nmetadata = inf\n[profile.metadata]\ndebug = 0.5";
+    assert_eq!(lines(&faults(text).unwrap()), "holds a float at profile.metadata.debug\n");
+}
+
+/// There are faults exactly where a text is refused, and the first one is that with which it is refused. Where there is none,
+/// what is written has nothing that is ignored, and no key that nothing reads.
+fn agrees_with_reading(text: &str) -> bool {
+    let all = match faults(text.as_bytes()) {
+        Ok(all) => all,
+        Err(_) => {
+            assert!(text.parse::<Manifest>().is_err());
+            return false;
+        }
+    };
+    match text.parse::<Manifest>() {
+        Ok(manifest) => {
+            assert_eq!(all, [], "{text}");
+            let written = manifest.to_toml_string().unwrap();
+            let again = findings(written.as_bytes()).unwrap();
+            assert!(again.iter().all(|each| matches!(each, Finding::Fault(_))), "{written}");
+            assert_eq!(faults(written.as_bytes()).is_ok_and(|all| all.is_empty()), written.parse::<Manifest>().is_ok());
+        }
+        Err(Error::Parse(error)) => {
+            let first = all.first().unwrap_or_else(|| panic!("no fault of {text}"));
+            let said = (Some(first.cause), Some(first.path.to_string()));
+            assert_eq!(said, (error.cause(), error.key_path().map(ToOwned::to_owned)), "{text}");
+        }
+        Err(other) => panic!("{other}"),
+    }
+    !all.is_empty()
+}
+
+#[test]
+fn faults_are_those_of_reading() {
+    let inputs = ["manifests.jsonl", "completions.jsonl"].into_iter().flat_map(stored::lines);
+    let texts: Vec<String> = inputs
+        .flat_map(|line| [stored::strings(&line, "input"), stored::strings(&line, "manifest")].concat())
+        .collect();
+    let refused = texts.iter().filter(|text| agrees_with_reading(text)).count();
+    assert!(texts.is_empty() || refused > 50, "{refused}");
+    for (document, _) in DOCUMENTS {
+        agrees_with_reading(document);
+    }
+}
