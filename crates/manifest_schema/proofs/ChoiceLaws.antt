@@ -5,19 +5,19 @@ use Rattle.manifest_schema.specs.Contents.{e2018, e2024, v1, v2, v3, actively_de
 use Rattle.manifest_schema.proofs.KindLaws.{choice_lawful, plain_from}
 
 pub edition_lawful : IsLawful edition
-edition_lawful = choice_lawful _ _ (elim [ e2015 ↦ refl | e2018 ↦ refl | e2021 ↦ refl | e2024 ↦ refl ])
+edition_lawful = choice_lawful _ _ _ (elim [ e2015 ↦ refl | e2018 ↦ refl | e2021 ↦ refl | e2024 ↦ refl ])
 
 pub edition_plain : IsPlain edition
 edition_plain = plain_from edition_lawful (λ ms x a. none-some x a) (λ x. tt)
 
 pub resolver_lawful : IsLawful resolver
-resolver_lawful = choice_lawful _ _ (elim [ v1 ↦ refl | v2 ↦ refl | v3 ↦ refl ])
+resolver_lawful = choice_lawful _ _ _ (elim [ v1 ↦ refl | v2 ↦ refl | v3 ↦ refl ])
 
 pub level_lawful : IsLawful level
-level_lawful = choice_lawful _ _ (elim [ forbid ↦ refl | deny ↦ refl | warn ↦ refl | allow ↦ refl ])
+level_lawful = choice_lawful _ _ _ (elim [ forbid ↦ refl | deny ↦ refl | warn ↦ refl | allow ↦ refl ])
 
 pub status_lawful : IsLawful status
-status_lawful = choice_lawful _ _ (elim [
+status_lawful = choice_lawful _ _ _ (elim [
   | no_status ↦ refl
   | actively_developed ↦ refl
   | passively_maintained ↦ refl
@@ -28,4 +28,4 @@ status_lawful = choice_lawful _ _ (elim [
 ])
 
 pub strip_lawful : IsLawful strip
-strip_lawful = choice_lawful _ _ (elim [ strip_none ↦ refl | strip_debuginfo ↦ refl | strip_symbols ↦ refl ])
+strip_lawful = choice_lawful _ _ _ (elim [ strip_none ↦ refl | strip_debuginfo ↦ refl | strip_symbols ↦ refl ])

@@ -85,12 +85,12 @@ module _ {A : Type 0} (meaning : Data → Option A) where
   choice_apart (string s) p c x f a = none-some x (sym f.0 ∙ a)
   choice_apart _ p c x f a = none-some x (sym f.0 ∙ a)
 
-  choice_exact : (d : Data) → FindsAll (choice_findings meaning d) (not_choice meaning d)
-  choice_exact (string s) = finds_unless_some (meaning (string s)) not_a_choice
-  choice_exact d = finds_unless_some (meaning d) wrong_kind
+  choice_exact : (words : List Text) (d : Data) → FindsAll (choice_findings words meaning d) (not_choice meaning d)
+  choice_exact words (string s) = finds_unless_some (meaning (string s)) not_a_choice words
+  choice_exact words d = finds_unless_some (meaning d) wrong_kind []
 
-pub choice_lawful : {A : Type 0} (meaning : Data → Option A) (written : A → Data) → ((x : A) → meaning (written x) ≡ Some x) → IsLawful (choice meaning written)
-choice_lawful meaning written back = record { single = choice_single meaning; apart = choice_apart meaning; well = λ d x a. tt; back = λ x g. back x; exact = choice_exact meaning }
+pub choice_lawful : {A : Type 0} (words : List Text) (meaning : Data → Option A) (written : A → Data) → ((x : A) → meaning (written x) ≡ Some x) → IsLawful (choice words meaning written)
+choice_lawful words meaning written back = record { single = choice_single meaning; apart = choice_apart meaning; well = λ d x a. tt; back = λ x g. back x; exact = choice_exact meaning words }
 
 -- A LIST
 -- a fault of an item, where the first item has the index i

@@ -10,8 +10,8 @@ unlisted_at s fs = from_step s (unlisted_of fs)
 
 unlisted-append : (fs gs : List Finding) → unlisted_of (fs ++ gs) ≡ unlisted_of fs ++ unlisted_of gs
 unlisted-append [] gs = refl
-unlisted-append (fault p c ∷ fs) gs = unlisted-append fs gs
-unlisted-append (ignored p c ∷ fs) gs = unlisted-append fs gs
+unlisted-append (fault p c ws ∷ fs) gs = unlisted-append fs gs
+unlisted-append (ignored p c ws ∷ fs) gs = unlisted-append fs gs
 unlisted-append (unlisted p ∷ fs) gs = ap (λ ps. p ∷ ps) (unlisted-append fs gs)
 
 from-append : (s : Step) (ps qs : List Path) → from_step s (ps ++ qs) ≡ from_step s ps ++ from_step s qs
@@ -31,27 +31,27 @@ at_second s fs gs e = at-append s fs gs ∙ ap (λ ps. ps ++ unlisted_at s gs) e
 
 pub at-behind : (s t : Step) (fs : List Finding) → same_step s t ≡ true → unlisted_at s (found_behind t fs) ≡ unlisted_of fs
 at-behind s t [] e = refl
-at-behind s t (fault p c ∷ fs) e = at-behind s t fs e
-at-behind s t (ignored p c ∷ fs) e = at-behind s t fs e
+at-behind s t (fault p c ws ∷ fs) e = at-behind s t fs e
+at-behind s t (ignored p c ws ∷ fs) e = at-behind s t fs e
 at-behind s t (unlisted p ∷ fs) e = rw e (ap (λ ps. p ∷ ps) (at-behind s t fs e))
 
 pub at-other : (s t : Step) (fs : List Finding) → same_step s t ≡ false → unlisted_at s (found_behind t fs) ≡ []
 at-other s t [] e = refl
-at-other s t (fault p c ∷ fs) e = at-other s t fs e
-at-other s t (ignored p c ∷ fs) e = at-other s t fs e
+at-other s t (fault p c ws ∷ fs) e = at-other s t fs e
+at-other s t (ignored p c ws ∷ fs) e = at-other s t fs e
 at-other s t (unlisted p ∷ fs) e = rw e (at-other s t fs e)
 
 pub unlisted-lenient : (fs : List Finding) → unlisted_of (leniently fs) ≡ unlisted_of fs
 unlisted-lenient [] = refl
-unlisted-lenient (fault p c ∷ fs) = unlisted-lenient fs
-unlisted-lenient (ignored p c ∷ fs) = unlisted-lenient fs
+unlisted-lenient (fault p c ws ∷ fs) = unlisted-lenient fs
+unlisted-lenient (ignored p c ws ∷ fs) = unlisted-lenient fs
 unlisted-lenient (unlisted p ∷ fs) = ap (λ ps. p ∷ ps) (unlisted-lenient fs)
 
 -- NO KEY among some findings, and so none with a step before their paths
 pub bare_behind : (s : Step) (fs gs : List Finding) → unlisted_of fs ≡ [] → unlisted_of gs ≡ [] → unlisted_of (found_behind s fs ++ gs) ≡ []
 bare_behind s [] gs e h = h
-bare_behind s (fault p c ∷ fs) gs e h = bare_behind s fs gs e h
-bare_behind s (ignored p c ∷ fs) gs e h = bare_behind s fs gs e h
+bare_behind s (fault p c ws ∷ fs) gs e h = bare_behind s fs gs e h
+bare_behind s (ignored p c ws ∷ fs) gs e h = bare_behind s fs gs e h
 bare_behind s (unlisted p ∷ fs) gs e h = cc
 
 -- NO PATH ENDS at the value itself, or at what a step leads to
@@ -68,8 +68,8 @@ inner_append fs gs h k = ap ends_here (unlisted-append fs gs) ∙ none_end (unli
 
 pub inner_behind : (s : Step) (fs : List Finding) → Inner (found_behind s fs)
 inner_behind s [] = refl
-inner_behind s (fault p c ∷ fs) = inner_behind s fs
-inner_behind s (ignored p c ∷ fs) = inner_behind s fs
+inner_behind s (fault p c ws ∷ fs) = inner_behind s fs
+inner_behind s (ignored p c ws ∷ fs) = inner_behind s fs
 inner_behind s (unlisted p ∷ fs) = inner_behind s fs
 
 pub inner_keys : (ms : Members) → Inner (unlisted_keys ms)

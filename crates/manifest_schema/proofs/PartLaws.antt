@@ -86,7 +86,7 @@ pub lint_lawful : IsLawful lint
 lint_lawful = split_lawful level_lawful lint_config_form.lawful lint_split
 
 pub lint_total : IsTotal lint
-lint_total = split_total (choice_total _ _) lint_config_form.total lint_split
+lint_total = split_total (choice_total _ _ _) lint_config_form.total lint_split
 
 -- PRODUCT
 pub product_form : IsSoundForm product_rows

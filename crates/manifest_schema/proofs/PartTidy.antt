@@ -56,7 +56,7 @@ unfolding lint_rows
 lint_table_tidy = form_tidy lint_rows (search row_tidies) refl
 
 pub lint_tidy : IsTidy lint
-lint_tidy = split_tidy (choice_tidy _ _) lint_table_tidy is_text _ (λ d. text_left _ d)
+lint_tidy = split_tidy (choice_tidy _ _ _) lint_table_tidy is_text _ (λ d. text_left _ d)
 
 product_tidy : IsTidy (form product_rows)
 unfolding product_rows

@@ -3,7 +3,7 @@ use Rattle.manifest_schema.specs.Prelude.{and_parts, Data, string, integer, bool
 use Rattle.std.proofs.Common.{◌≡◌, ◌↔◌, ℕ, suc, ◌<◌, ◌≤◌, ℤ, Bool, true, false, ◌⊎◌, inl, inr, List, [], ◌∷◌, Option, Some, None, if◌then◌else◌, is_some, codes, refl, ap, ◌∙◌, subst, arith}
 use Rattle.manifest_schema.specs.Kinds
 use Rattle.manifest_schema.specs.Kinds.{is_truth, inh_findings, split_findings}
-use Rattle.manifest_schema.specs.Findings.{Finding, found_here, found_behind, unlisted_keys, leniently, unlisted_of}
+use Rattle.manifest_schema.specs.Findings.{Finding, fault, found_here, found_behind, unlisted_keys, leniently, unlisted_of}
 use Rattle.manifest_schema.proofs.KindLaws.{ItemFrom, item_here, item_there, item_cases, from_zero}
 use Rattle.manifest_schema.proofs.TableLaws.{same_key-self, same_key-false}
 use Rattle.manifest_schema.proofs.LeftOutLaws.{unlisted_at, at-behind, at-other, at_first, at_second, unlisted-lenient, bare_behind, Inner, inner_append, inner_behind, inner_keys, Stays, stays_append, stays_behind, named_not_found, left-nothing, test-left, InOrder, in_order}
@@ -50,19 +50,19 @@ flag_tidy = bare_tidy flag (elim [ boolean b ↦ refl | _ ↦ refl ])
 pub truth_tidy : IsTidy truth
 truth_tidy = bare_tidy truth (elim [ boolean true ↦ refl | boolean false ↦ refl | _ ↦ refl ])
 
-unlisted-if : (b : Bool) (c : Cause) → unlisted_of (if b then [] else found_here c) ≡ []
-unlisted-if true c = refl
-unlisted-if false c = refl
+unlisted-if : (b : Bool) (c : Cause) (words : List Text) → unlisted_of (if b then [] else fault [] c words ∷ []) ≡ []
+unlisted-if true c words = refl
+unlisted-if false c words = refl
 
 pub whole_tidy : (low high : ℤ) → IsTidy (whole low high)
-whole_tidy low high = bare_tidy (whole low high) (elim [ integer z ↦ unlisted-if (within low high z) out_of_range | _ ↦ refl ])
+whole_tidy low high = bare_tidy (whole low high) (elim [ integer z ↦ unlisted-if (within low high z) out_of_range [] | _ ↦ refl ])
 
-pub choice_tidy : {A : Type 0} (meaning : Data → Option A) (written : A → Data) → IsTidy (choice meaning written)
-choice_tidy meaning written = bare_tidy (choice meaning written) bare
+pub choice_tidy : {A : Type 0} (words : List Text) (meaning : Data → Option A) (written : A → Data) → IsTidy (choice words meaning written)
+choice_tidy words meaning written = bare_tidy (choice words meaning written) bare
   where
-    bare : (d : Data) → unlisted_in (choice meaning written) d ≡ []
-    bare (string s) = unlisted-if (is_some (meaning (string s))) not_a_choice
-    bare d = unlisted-if (is_some (meaning d)) wrong_kind
+    bare : (d : Data) → unlisted_in (choice words meaning written) d ≡ []
+    bare (string s) = unlisted-if (is_some (meaning (string s))) not_a_choice words
+    bare d = unlisted-if (is_some (meaning d)) wrong_kind []
 
 mutual
   kept_bare : (d : Data) → unlisted_in kept d ≡ []

@@ -40,8 +40,8 @@ word_told meaning d (Some x) e = inl (x, e)
 word_told meaning (string s) None e = inr ([], not_a_choice, (e, (refl, refl)))
 word_told meaning _ None e = inr ([], wrong_kind, (e, (refl, refl)))
 
-pub choice_total : {A : Type 0} (meaning : Data → Option A) (written : A → Data) → IsTotal (choice meaning written)
-choice_total meaning written = record { total = λ d. word_told meaning d (meaning d) refl }
+pub choice_total : {A : Type 0} (words : List Text) (meaning : Data → Option A) (written : A → Data) → IsTotal (choice words meaning written)
+choice_total words meaning written = record { total = λ d. word_told meaning d (meaning d) refl }
 
 module _ {A : Type 0} {K : Kinds.Kind A} (T : IsTotal K) where
   items_then : (d : Data) (ds : Items) → ReadOrFaulty (K.reads d) (K.faulty d) → ReadOrFaulty (reads_items K ds) (faulty_item K ds) → ReadOrFaulty (reads_items K (item d ds)) (faulty_item K (item d ds))

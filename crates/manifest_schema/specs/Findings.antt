@@ -1,25 +1,29 @@
 -- What is found in a value: its faults, what is ignored where it does not fit, and the keys that nothing reads.
 use Rattle.std.specs.Prelude.{◌≡◌, ◌⊎◌, ◌↔◌, List, [], ◌∷◌}
 use Rattle.toml.specs.Data.{Members, no_members, member}
-use Rattle.manifest_schema.specs.Paths.{Cause, Step, key, Path, Faults}
+use Rattle.manifest_schema.specs.Paths.{Text, Cause, not_a_choice, Step, key, Path, Faults}
 
 -- one finding, at its path from the value
 pub data Finding : Type 0 where
-  -- the value, or its absence, does not fit, for this cause
-  fault : Path → Cause → Finding
+  -- the value, or its absence, does not fit, for this cause; of a choice, with the words that there are
+  fault : Path → Cause → List Text → Finding
   -- it does not fit where that is no fault: the field counts as absent
-  ignored : Path → Cause → Finding
+  ignored : Path → Cause → List Text → Finding
   -- nothing reads the entry of this key; nothing below it is found
   unlisted : Path → Finding
 
--- this fault at the value itself, and nothing else
+-- this fault at the value itself, which is none of a choice, and nothing else
 abbrev pub found_here : Cause → List Finding
-found_here c = fault [] c ∷ []
+found_here c = fault [] c [] ∷ []
+
+-- the value itself is none of these words
+abbrev pub none_of : List Text → List Finding
+none_of words = fault [] not_a_choice words ∷ []
 
 -- the finding with one step before its path
 abbrev pub behind_step : Step → Finding → Finding
-behind_step s (fault p c) = fault (s ∷ p) c
-behind_step s (ignored p c) = ignored (s ∷ p) c
+behind_step s (fault p c ws) = fault (s ∷ p) c ws
+behind_step s (ignored p c ws) = ignored (s ∷ p) c ws
 behind_step s (unlisted p) = unlisted (s ∷ p)
 
 -- what is found in the value that a step leads to
@@ -35,19 +39,19 @@ unlisted_keys (member k d ms) = unlisted (key k ∷ []) ∷ unlisted_keys ms
 -- what is found in a value whose faults are ignored
 abbrev pub leniently : List Finding → List Finding
 leniently [] = []
-leniently (fault p c ∷ fs) = ignored p c ∷ leniently fs
+leniently (fault p c ws ∷ fs) = ignored p c ws ∷ leniently fs
 leniently (f ∷ fs) = f ∷ leniently fs
 
 -- THE FAULTS among some findings, in their order, each by its path and its cause
 abbrev pub faults_of : List Finding → List (Path × Cause)
 faults_of [] = []
-faults_of (fault p c ∷ fs) = (p, c) ∷ faults_of fs
+faults_of (fault p c ws ∷ fs) = (p, c) ∷ faults_of fs
 faults_of (f ∷ fs) = faults_of fs
 
 -- what is ignored among them
 abbrev pub ignored_of : List Finding → List (Path × Cause)
 ignored_of [] = []
-ignored_of (ignored p c ∷ fs) = (p, c) ∷ ignored_of fs
+ignored_of (ignored p c ws ∷ fs) = (p, c) ∷ ignored_of fs
 ignored_of (f ∷ fs) = ignored_of fs
 
 -- the paths of the keys among them that nothing reads

@@ -3,7 +3,7 @@ use Rattle.std.specs.Prelude.{◌≡◌, ℕ, suc, ℤ, Bool, true, false, ◌&&
 use Rattle.std.proofs.Common.{inl, inr}
 use Rattle.toml.specs.Data.{Data, string, integer, float, boolean, array, table, Items, no_items, item, Members, no_members, member, get_item, get}
 use Rattle.manifest_schema.specs.Paths.{Text, wrong_kind, not_a_choice, out_of_range, not_true, holds_float, metadata_fault, key, index, Path, Faults, itself, behind}
-use Rattle.manifest_schema.specs.Findings.{Finding, found_here, found_behind, unlisted_keys}
+use Rattle.manifest_schema.specs.Findings.{Finding, found_here, none_of, found_behind, unlisted_keys}
 use Rattle.manifest_schema.specs.Slots.{without}
 
 -- A kind of values that stand for an A.
@@ -124,20 +124,20 @@ abbrev pub not_choice : {A : Type 0} → (Data → Option A) → Data → Faults
 not_choice meaning (string s) p c = (meaning (string s) ≡ None) × itself not_a_choice p c
 not_choice meaning d p c = (meaning d ≡ None) × itself wrong_kind p c
 
-abbrev pub no_word_findings : Data → List Finding
-no_word_findings (string s) = found_here not_a_choice
-no_word_findings _ = found_here wrong_kind
+abbrev pub no_word_findings : List Text → Data → List Finding
+no_word_findings words (string s) = none_of words
+no_word_findings words _ = found_here wrong_kind
 
-abbrev pub choice_findings : {A : Type 0} → (Data → Option A) → Data → List Finding
-choice_findings meaning d = if is_some (meaning d) then [] else no_word_findings d
+abbrev pub choice_findings : {A : Type 0} → List Text → (Data → Option A) → Data → List Finding
+choice_findings words meaning d = if is_some (meaning d) then [] else no_word_findings words d
 
-abbrev pub choice : {A : Type 0} → (Data → Option A) → (A → Data) → Kind A
-choice meaning written = record {
+abbrev pub choice : {A : Type 0} → List Text → (Data → Option A) → (A → Data) → Kind A
+choice words meaning written = record {
   reads = reads_choice meaning;
   faulty = not_choice meaning;
   written = written;
   good = any_good;
-  findings = choice_findings meaning;
+  findings = choice_findings words meaning;
 }
 
 -- A LIST of values of one kind

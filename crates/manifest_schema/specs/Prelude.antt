@@ -49,7 +49,7 @@ pub use Rattle.manifest_schema.specs.Contents.{Dependency, DependencyDetail, Edi
 pub use Rattle.manifest_schema.specs.Dates.{HasValidDates, KeepsValidDates, MeantDatesAreValid, WrittenDatesAreValid, kept_metadata}
 pub use Rattle.manifest_schema.specs.Defaults.{empty_manifest, named}
 pub use Rattle.manifest_schema.specs.ForProofs.{first_fit, nothing_laws, nothing_tidy, spellings_of, unread_laws, unread_tidy}
-pub use Rattle.manifest_schema.specs.Findings.{Finding, FindsAll, IsFaultless, among, fault, faults_of, first_found, foremost, found_behind, found_here, ignored, ignored_of, leniently, unlisted, unlisted_keys, unlisted_of}
+pub use Rattle.manifest_schema.specs.Findings.{Finding, FindsAll, IsFaultless, among, fault, faults_of, first_found, foremost, found_behind, found_here, ignored, ignored_of, leniently, none_of, unlisted, unlisted_keys, unlisted_of}
 pub use Rattle.manifest_schema.specs.Found.{FaultlessIfMeant, FindsEveryFault, SameWithoutUnlisted, findings_by, manifest_faults, manifest_findings, manifest_ignored, manifest_unlisted, old_findings, without_unlisted}
 pub use Rattle.manifest_schema.specs.Former.{AllValues, ManifestLeavesDefaults, OldWrittenIsRead, former_written}
 pub use Rattle.manifest_schema.specs.Forms.{Fields, Rows, differ, distinct, faulty_form, findings_beside, form_findings, left_beside, left_over, row_findings, fits, fits_beside, form, gets, good_beside, good_rows, is_closed, no_more, none_named, others, spell, spelled, unfit_beside, written_rows, ◌⨾◌}
