@@ -1,6 +1,6 @@
 // Takes the time, and the memory, of the steps of crates/manifest_speed:
 //
-//     speed time FILE CALLS TURNS              toml alone, from_slice, and from_slice with a text
+//     speed time FILE CALLS TURNS              toml alone, from_slice, from_slice with a text, and toml with inspect
 //     speed complete FILE NAMES CALLS TURNS    a completion, with `src/bin` listing the lines of NAMES
 //     speed once STEP CALLS FILE [NAMES]       the peak of memory, in kB; a step is named as in an answer, or `nothing`
 //
@@ -21,6 +21,7 @@ struct bytes {
 size_t manifest_speed_toml(const unsigned char *, size_t);
 _Bool manifest_speed_read(const unsigned char *, size_t);
 size_t manifest_speed_rewrite(const unsigned char *, size_t);
+size_t manifest_speed_inspect(const unsigned char *, size_t);
 size_t manifest_speed_prepare(const unsigned char *, size_t, const unsigned char *, size_t);
 size_t manifest_speed_complete(const unsigned char *, size_t, const unsigned char *, size_t);
 int atoi(const char *);
@@ -35,9 +36,9 @@ int strcmp(const char *, const char *);
 char *strstr(const char *, const char *);
 
 enum { ROOM = 1 << 26, MOST = 10000, STEADY_CLOCK = 1 };
-enum step { TOML, READ, REWRITE, PREPARE, COMPLETE, STEPS };
+enum step { TOML, READ, REWRITE, INSPECT, PREPARE, COMPLETE, STEPS };
 
-static const char *const names[STEPS] = {"toml", "from_slice", "text", "prepared", "completed"};
+static const char *const names[STEPS] = {"toml", "from_slice", "text", "inspect", "prepared", "completed"};
 static double taken[STEPS][MOST];
 static struct bytes manifest, listed;
 
@@ -76,6 +77,8 @@ static size_t answer(enum step step)
         return manifest_speed_read(manifest.front, manifest.length);
     case REWRITE:
         return manifest_speed_rewrite(manifest.front, manifest.length);
+    case INSPECT:
+        return manifest_speed_inspect(manifest.front, manifest.length);
     case PREPARE:
         return manifest_speed_prepare(manifest.front, manifest.length, listed.front, listed.length);
     default:
@@ -138,7 +141,7 @@ int main(int count, char **words)
 {
     if (count == 5 && !strcmp(words[1], "time")) {
         manifest = contents(words[2]);
-        take(TOML, REWRITE, atoi(words[3]), atoi(words[4]));
+        take(TOML, INSPECT, atoi(words[3]), atoi(words[4]));
     } else if (count == 6 && !strcmp(words[1], "complete")) {
         manifest = contents(words[2]);
         listed = contents(words[3]);

@@ -12,7 +12,7 @@ from statistics import median
 
 SETTINGS = {"kept": "what is freed is kept", "given": "what is freed is given back to the kernel"}
 SIZES = {"small": "smallest", "typical": "typical", "large": "5,000 dependencies"}
-STEPS = {"toml": "toml alone", "from_slice": "from_slice", "text": "with to_toml_string"}
+STEPS = {"toml": "toml alone", "from_slice": "from_slice", "text": "with to_toml_string", "inspect": "toml and inspect"}
 COUNTS = {"200": "200 found", "2000": "2,000 found", "20000": "20,000 found"}
 
 

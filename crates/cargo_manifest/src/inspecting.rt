@@ -84,7 +84,7 @@ pub fn faults(alloc: Global, table: &Table) -> Result<Vec<SchemaFault>, AllocErr
     ensures { IfOk result (λ v. map fault_of v.items
         ≡ manifest_faults (tree_of kept) (tree_of kept) (table_view table.now)) }
 {
-    inspect(alloc, table)?.into_faults(alloc)
+    inspect(alloc, table)?.faults(alloc)
 }
 
 /// What does not fit in the table of a document where that is no fault, since the field counts as absent: an invalid
@@ -98,7 +98,7 @@ pub fn ignored(alloc: Global, table: &Table) -> Result<Vec<SchemaFault>, AllocEr
     ensures { IfOk result (λ v. map fault_of v.items
         ≡ manifest_ignored (tree_of kept) (tree_of kept) (table_view table.now)) }
 {
-    inspect(alloc, table)?.into_ignored(alloc)
+    inspect(alloc, table)?.ignored(alloc)
 }
 
 /// The paths of the keys of the table of a document that nothing reads: a manifest does not hold them, and they are
@@ -112,5 +112,5 @@ pub fn unlisted_keys(alloc: Global, table: &Table) -> Result<Vec<KeyPath>, Alloc
     ensures { IfOk result (λ v. map path_of v.items
         ≡ manifest_unlisted (tree_of kept) (tree_of kept) (table_view table.now)) }
 {
-    inspect(alloc, table)?.into_unlisted(alloc)
+    inspect(alloc, table)?.unlisted(alloc)
 }

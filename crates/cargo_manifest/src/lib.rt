@@ -40,8 +40,8 @@ pub use manifest_parts::{
     Resolver, StringOrBool, StripSetting, Target, TargetDepsSet, ToolLintsSet, True,
 };
 pub use manifest_value::{
-    Cause, Error, Finding, Findings, KeyPath, Metadata, ParseFault, Plain, ReadFault, Schema,
-    SchemaFault, Step, Unread,
+    Cause, Choices, Error, Finding, FindingNode, Findings, KeyPath, Metadata, ParseFault, Plain,
+    ReadFault, Schema, SchemaFault, Step, Unread,
 };
 pub use nesting::depth;
 pub use package::Package;

@@ -1,11 +1,22 @@
--- What is found in the table of a document, as a value and as its tagged bytes.
-use Rattle.manifest_schema.specs.Prelude.{Data, Members, string, integer, array, no_items, item, Text, Path, Step, key, index, Finding, fault, ignored, unlisted, manifest_findings, kept_metadata}
-use Rattle.std.specs.Prelude.{◌⊎◌, ℕ, ℤ, pos, min, List, map}
+-- What is found in the table of a document, as a value and as its tagged bytes: a tree in which each step stands once.
+use Rattle.manifest_schema.specs.Prelude.{Data, Members, string, integer, array, no_items, item, Text, Step, key, index, Cause, not_a_choice, manifest_findings, kept_metadata}
+use Rattle.std.specs.Prelude.{◌≡◌, ◌⊎◌, ℕ, ℤ, pos, min, List, map, string_bytes}
 use Rattle.toml.specs.View.{items_of}
 use Rattle.manifest_bytes.specs.Encoded.{encoded}
+use Rattle.manifest_value.specs.Faults.{step_of, cause_of}
+use Rattle.manifest_value.specs.Found.{choices_of, found_among}
+use Rattle.manifest_value.specs.declared.findings.FindingNode.{FindingNode, fold-FindingNode}
+use Rattle.manifest_value.specs.declared.findings.FindingNode.TheOpen.{FindingNode-F}
 use Rattle.manifest_ffi.specs.Told.{cause_number}
 use Rattle.manifest_ffi.specs.Read.{IsDocument, IsNoDocument}
 use Rattle.manifest_ffi.specs.Made.{Refusals, OfBytes, AreWithin, RefusesTagged}
+
+-- arrays of two and of three values
+abbrev pub pair_data : Data → Data → Data
+pair_data a b = array (item a (item b no_items))
+
+abbrev pub triple_data : Data → Data → Data → Data
+triple_data a b c = array (item a (item b (item c no_items)))
 
 -- AN INDEX as a whole number: itself, or the largest one that a value can be
 abbrev pub index_number : ℕ → ℤ
@@ -16,38 +27,55 @@ abbrev pub step_data : Step → Data
 step_data (key k) = string k
 step_data (index i) = integer (index_number i)
 
--- A PATH: the array of its steps
-abbrev pub path_data : Path → Data
-path_data p = array (items_of (map step_data p))
+-- THE WORDS of a choice: the array of their texts
+abbrev pub words_data : List Text → Data
+words_data words = array (items_of (map string words))
 
--- the array of the number of what is found, the number of its cause, and its path
-abbrev pub parts_data : ℕ → ℕ → Path → Data
-parts_data what cause p =
-    array (item (integer (pos what)) (item (integer (pos cause)) (item (path_data p) no_items)))
+-- A CAUSE: after the number of what is found its own, and of a choice the words that there are
+abbrev pub cause_data : ℕ → Cause → List Text → Data
+cause_data what not_a_choice words =
+    triple_data (integer (pos what)) (integer (pos (cause_number not_a_choice))) (words_data words)
+cause_data what c words = pair_data (integer (pos what)) (integer (pos (cause_number c)))
 
--- A FINDING: 0 is a fault, 1 is ignored, and 2 is a key that nothing reads, which has no cause
-abbrev pub finding_data : Finding → Data
-finding_data (fault p c) = parts_data 0 (cause_number c) p
-finding_data (ignored p c) = parts_data 1 (cause_number c) p
-finding_data (unlisted p) = parts_data 2 0 p
+-- A NODE: 0 is a fault, 1 is ignored, 2 is a key that nothing reads, and 3 what is found behind a step
+abbrev pub node_data_step : FindingNode-F Data → Data
+node_data_step (FindingNode-F.Fault c words) = cause_data 0 (cause_of c) (choices_of words)
+node_data_step (FindingNode-F.Ignored c words) = cause_data 1 (cause_of c) (choices_of words)
+node_data_step (FindingNode-F.Unlisted k) = pair_data (integer (pos 2)) (string (string_bytes k))
+node_data_step (FindingNode-F.Within s inside) =
+    triple_data (integer (pos 3)) (step_data (step_of s)) (array (items_of inside.items))
 
--- FINDINGS: the array of them, in their order
-abbrev pub findings_data : List Finding → Data
-findings_data fs = array (items_of (map finding_data fs))
+abbrev pub node_data : FindingNode → Data
+node_data = fold-FindingNode Data node_data_step
 
--- all that is found in the table of a document, its metadata kept as it is
-abbrev pub found_data : Members → Data
-found_data document = findings_data (manifest_findings kept_metadata kept_metadata document)
+-- NODES: the array of them, in their order
+abbrev pub nodes_data : List FindingNode → Data
+nodes_data nodes = array (items_of (map node_data nodes))
 
--- THE TEXT is the tagged bytes of what is found in the table that the bytes are
+-- the nodes say all that is found in the table of a document, its metadata kept as it is, and no more
+abbrev pub SayAllFound : Members → List FindingNode → Type 0
+SayAllFound document nodes =
+    found_among nodes ≡ manifest_findings kept_metadata kept_metadata document
+
+-- THE TEXT is the tagged bytes of nodes that say all that is found in the table
+abbrev pub GivesFound : ℕ → Members → Text → Type 0
+GivesFound most document text =
+    (nodes : List FindingNode) × SayAllFound document nodes
+    × AreWithin most (encoded (nodes_data nodes)) text
+
+-- the tagged bytes of such nodes are refused as they are made
+abbrev pub RefusesFound : ℕ → Members → Refusals
+RefusesFound most document e =
+    (nodes : List FindingNode) × SayAllFound document nodes
+    × RefusesTagged most (encoded (nodes_data nodes)) e
+
+-- THE TEXT says what is found in the table that the bytes are
 abbrev pub GivesFindings : ℕ → List ℕ → Text → Type 0
 GivesFindings most bytes text =
-    (document : Members) × IsDocument bytes document
-    × AreWithin most (encoded (found_data document)) text
+    (document : Members) × IsDocument bytes document × GivesFound most document text
 
 -- the bytes are refused as they are read, or the tagged bytes as they are made
 abbrev pub RefusesFindings : ℕ → List ℕ → Refusals
 RefusesFindings most bytes e =
     OfBytes (IsNoDocument bytes) e
-    ⊎ ((document : Members) × IsDocument bytes document
-    × RefusesTagged most (encoded (found_data document)) e)
+    ⊎ ((document : Members) × IsDocument bytes document × RefusesFound most document e)

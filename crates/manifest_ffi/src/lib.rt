@@ -376,11 +376,11 @@ pub extern "C" fn manifest_resolved_of_tables(
 /// The version of these calls and of the tagged bytes. A program compares it with the one that it was written for.
 ///
 /// ```ignore
-/// let version = manifest_version(); // 2
+/// let version = manifest_version(); // 3
 /// ```
 #[unsafe(no_mangle)]
 pub extern "C" fn manifest_version() -> u32
-    ensures { result ≡ 2 }
+    ensures { result ≡ 3 }
 {
-    2
+    3
 }

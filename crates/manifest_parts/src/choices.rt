@@ -7,10 +7,30 @@ ghost use Rattle.manifest_schema.proofs.ChoiceLaws.{edition_lawful, edition_plai
 ghost use Rattle.manifest_parts.specs.Parts.{edition_content, resolver_content, level_content, status_content};
 
 use manifest_value::fault::fault_here;
-use manifest_value::findings::{Findings, Found};
+use manifest_value::findings::{Choices, Findings, Found};
 use manifest_value::{Cause, Plain, ReadFault, Schema, Source};
 use std::alloc::{AllocError, Global};
 use toml::Value;
+
+/// The editions, as they are written.
+const EDITIONS: Choices = &["2015", "2018", "2021", "2024"];
+
+/// The versions of the resolver, as they are written.
+const RESOLVERS: Choices = &["1", "2", "3"];
+
+/// The levels of lints, as they are written.
+const LEVELS: Choices = &["forbid", "deny", "warn", "allow"];
+
+/// The statuses of maintenance, as they are written.
+const STATUSES: Choices = &[
+    "none",
+    "actively-developed",
+    "passively-maintained",
+    "as-is",
+    "experimental",
+    "looking-for-maintainer",
+    "deprecated",
+];
 
 /// A Rust edition. See the
 /// [Cargo reference](https://doc.rust-lang.org/cargo/reference/manifest.html#the-edition-field).
@@ -72,7 +92,7 @@ impl Schema for Edition {
     fn findings(alloc: Global, value: &Value) -> Found {
         match Edition::read(alloc, Source::Lent(value)) {
             Ok(_) => Ok(Findings::none(alloc)),
-            Err(refused) => Findings::of_refusal(alloc, refused),
+            Err(refused) => Findings::of_refusal(alloc, refused, EDITIONS),
         }
     }
 
@@ -152,7 +172,7 @@ impl Schema for Resolver {
     fn findings(alloc: Global, value: &Value) -> Found {
         match Resolver::read(alloc, Source::Lent(value)) {
             Ok(_) => Ok(Findings::none(alloc)),
-            Err(refused) => Findings::of_refusal(alloc, refused),
+            Err(refused) => Findings::of_refusal(alloc, refused, RESOLVERS),
         }
     }
 
@@ -236,7 +256,7 @@ impl Schema for LintLevel {
     fn findings(alloc: Global, value: &Value) -> Found {
         match LintLevel::read(alloc, Source::Lent(value)) {
             Ok(_) => Ok(Findings::none(alloc)),
-            Err(refused) => Findings::of_refusal(alloc, refused),
+            Err(refused) => Findings::of_refusal(alloc, refused, LEVELS),
         }
     }
 
@@ -329,7 +349,7 @@ impl Schema for MaintenanceStatus {
     fn findings(alloc: Global, value: &Value) -> Found {
         match MaintenanceStatus::read(alloc, Source::Lent(value)) {
             Ok(_) => Ok(Findings::none(alloc)),
-            Err(refused) => Findings::of_refusal(alloc, refused),
+            Err(refused) => Findings::of_refusal(alloc, refused, STATUSES),
         }
     }
 

@@ -9,10 +9,13 @@ ghost use Rattle.manifest_value.specs.Reading.{Reads};
 ghost use Rattle.manifest_parts.specs.Refusals.{RefusesStrip};
 
 use manifest_value::fault::fault_here;
-use manifest_value::findings::{Findings, Found};
+use manifest_value::findings::{Choices, Findings, Found};
 use manifest_value::{Cause, Error, ReadFault, Schema, Source};
 use std::alloc::{AllocError, Global};
 use toml::Value;
+
+/// The texts of the settings.
+const SETTINGS: Choices = &["none", "symbols", "debuginfo"];
 
 /// What is stripped from a binary, from nothing to all symbols. See the
 /// [Cargo reference](https://doc.rust-lang.org/cargo/reference/profiles.html#strip).
@@ -95,7 +98,7 @@ impl Schema for StripSetting {
     fn findings(alloc: Global, value: &Value) -> Found {
         match StripSetting::read(alloc, Source::Lent(value)) {
             Ok(_) => Ok(Findings::none(alloc)),
-            Err(refused) => Findings::of_refusal(alloc, refused),
+            Err(refused) => Findings::of_refusal(alloc, refused, SETTINGS),
         }
     }
 

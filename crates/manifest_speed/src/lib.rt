@@ -1,7 +1,7 @@
 //! The steps that scripts/speed takes the time of, for its driver in C.
 #![tactic(auto)]
 
-use cargo_manifest::{Error, Listing, Listings, Manifest};
+use cargo_manifest::{Error, Listing, Listings, Manifest, inspect};
 use std::alloc::{AllocError, Global};
 use std::collections::BTreeSet;
 
@@ -31,6 +31,22 @@ pub extern "C" fn manifest_speed_rewrite(alloc: Global, bytes: &[u8]) -> usize {
     };
     match manifest.to_toml_string(alloc) {
         Ok(text) => text.len(),
+        Err(_) => 0,
+    }
+}
+
+/// Reads bytes as a TOML table and finds all that is found in it, and answers one more than the nodes of that, or 0 where it is
+/// refused.
+#[unsafe(no_mangle)]
+pub extern "C" fn manifest_speed_inspect(alloc: Global, bytes: &[u8]) -> usize {
+    let Ok(text) = std::str::from_utf8(bytes) else {
+        return 0;
+    };
+    let Ok(table) = toml::table_from_str(alloc, text) else {
+        return 0;
+    };
+    match inspect(alloc, &table) {
+        Ok(found) => found.nodes().len().saturating_add(1),
         Err(_) => 0,
     }
 }

@@ -1,7 +1,7 @@
 //! What is found in the table of a document: faults, what is ignored, and the keys that nothing reads.
 use crate::answers::assert_is;
 use cargo_manifest::{
-    Finding, Findings, KeyPath, SchemaFault, Unread, faults, ignored, inspect,
+    Choices, Finding, Findings, KeyPath, SchemaFault, Unread, faults, ignored, inspect,
     inspect_with_metadata, unlisted_keys,
 };
 use std::alloc::{AllocError, Global};
@@ -10,11 +10,27 @@ use std::test::Fail;
 /// A document, and what is found in it: each finding as a line.
 type Row = (&'static str, &'static str);
 
-/// A finding as a line.
+/// The words of a choice, each after a blank.
+fn words(alloc: Global, choices: Choices) -> Result<String, AllocError> {
+    let mut text = String::new(alloc);
+    for word in choices {
+        text.push_str(" ")?;
+        text.push_str(word)?;
+    }
+    Ok(text)
+}
+
+/// A finding as a line: a fault of a choice with its words.
 fn line(alloc: Global, finding: &Finding) -> Result<String, AllocError> {
     match finding {
-        Finding::Fault(fault) => format!(in alloc; "{fault}\n"),
-        Finding::Ignored(fault) => format!(in alloc; "ignored: {fault}\n"),
+        Finding::Fault(fault, choices) => {
+            let words = words(alloc, choices)?;
+            format!(in alloc; "{fault}{words}\n")
+        }
+        Finding::Ignored(fault, choices) => {
+            let words = words(alloc, choices)?;
+            format!(in alloc; "ignored: {fault}{words}\n")
+        }
         Finding::Unlisted(path) => format!(in alloc; "unlisted: {path}\n"),
     }
 }
@@ -22,7 +38,7 @@ fn line(alloc: Global, finding: &Finding) -> Result<String, AllocError> {
 /// All findings, a line each.
 fn lines(alloc: Global, found: &Findings) -> Result<String, AllocError> {
     let mut text = String::new(alloc);
-    for finding in found.as_slice() {
+    for finding in &found.to_vec(alloc)? {
         text.push_str(line(alloc, finding)?.as_str())?;
     }
     Ok(text)
@@ -41,7 +57,7 @@ const DOCUMENTS: &[Row] = &[
     // rows in their order, then the keys that no row has; nothing below such a key
     (
         "[package]\nname = 1\nedtion = '2021'\nauthors = [1, 'a', 2]\nedition = '2020'\n[dependecies.a]\nb = 1",
-        "wrong kind at package.name\nnot a choice at package.edition\nwrong kind at package.authors[0]\nwrong kind at package.authors[2]\nunlisted: package.edtion\nunlisted: dependecies\n",
+        "wrong kind at package.name\nnot a choice at package.edition 2015 2018 2021 2024\nwrong kind at package.authors[0]\nwrong kind at package.authors[2]\nunlisted: package.edtion\nunlisted: dependecies\n",
     ),
     // each clash, and the other faults
     (
@@ -56,7 +72,12 @@ const DOCUMENTS: &[Row] = &[
     // a badge that does not fit is no fault
     (
         "package.name = 'p'\n[badges]\ngitlab = { branch = 1, foo = 2 }\nother = 3\nmaintenance = { status = 'x' }",
-        "ignored: missing at badges.gitlab.repository\nignored: wrong kind at badges.gitlab.branch\nunlisted: badges.gitlab.foo\nignored: not a choice at badges.maintenance.status\nunlisted: badges.other\n",
+        "ignored: missing at badges.gitlab.repository\nignored: wrong kind at badges.gitlab.branch\nunlisted: badges.gitlab.foo\nignored: not a choice at badges.maintenance.status none actively-developed passively-maintained as-is experimental looking-for-maintainer deprecated\nunlisted: badges.other\n",
+    ),
+    // the words of each choice
+    (
+        "[package]\nname = 'p'\nresolver = '4'\n[lints.rust]\na = { level = 'x' }\n[profile.dev]\nstrip = 'x'\n[profile.dev.build-override]\nstrip = 1",
+        "not a choice at package.resolver 1 2 3\nnot a choice at profile.dev.strip none symbols debuginfo\nwrong kind at profile.dev.build-override.strip\nnot a choice at lints.rust.a.level forbid deny warn allow\n",
     ),
     // every float of what is kept
     (
@@ -66,7 +87,7 @@ const DOCUMENTS: &[Row] = &[
     // maps of all other keys: profiles, and tools with their lints
     (
         "package.name = 'p'\n[profile.dev]\ncodegen-units = 65536\n[profile.x]\nopt-level = 0.5\nfoo = 1\n[lints]\nworkspace = false\n[lints.rust]\na = { level = 'deny', priority = -129, b = 1 }\nc = 'x'",
-        "out of range at profile.dev.codegen-units\nholds a float at profile.x.opt-level\nunlisted: profile.x.foo\nnot true at lints.workspace\nout of range at lints.rust.a.priority\nunlisted: lints.rust.a.b\nnot a choice at lints.rust.c\n",
+        "out of range at profile.dev.codegen-units\nholds a float at profile.x.opt-level\nunlisted: profile.x.foo\nnot true at lints.workspace\nout of range at lints.rust.a.priority\nunlisted: lints.rust.a.b\nnot a choice at lints.rust.c forbid deny warn allow\n",
     ),
     // old headers: a key is read where the manifest or the package reads it
     ("name = 'p'\nedition = '2021'\ncargo-features = []", ""),

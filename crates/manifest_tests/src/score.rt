@@ -47,7 +47,7 @@ impl Schema for Level {
     fn findings(alloc: Global, value: &Value) -> Found {
         match Level::read(alloc, Source::Lent(value)) {
             Ok(_) => Ok(Findings::none(alloc)),
-            Err(refused) => Findings::of_refusal(alloc, refused),
+            Err(refused) => Findings::of_refusal(alloc, refused, &[]),
         }
     }
 

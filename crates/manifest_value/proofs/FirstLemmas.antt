@@ -1,7 +1,6 @@
 -- The first fault that is found: one step further out, and after findings without a fault.
 use Rattle.manifest_schema.specs.Prelude.{no_fault, itself, table, Data, Items, no_items, item, Members, no_members, member, Text, Path, Cause as SchemaCause, Step, behind, key, index, Spellings, Slot, IsLawful, Kind, Entries, Rows, spelled, left_over, findings_beside, fault, ignored, unlisted, unlisted_keys, faults_of, foremost, first_found, found_here, found_behind, leniently, IsFaultless, item_findings, entry_findings, form_findings, plain, kept}
 use Rattle.manifest_schema.specs.Findings.{Finding}
-use Rattle.manifest_schema.specs.OneFault.{HasOneFault}
 use Rattle.std.proofs.Common.{◌≡◌, ℕ, suc, true, List, [], ◌∷◌, ◌++◌, Result, Ok, Err, OnOk, refl, sym, ap, ◌∙◌, subst, length, ◌+◌, arith, drop}
 use Rattle.manifest_schema.proofs.FindingLaws.{read_faultless, lenient_faultless, faults-append}
 use Rattle.manifest_schema.proofs.KeptLaws.{kept_lawful}
@@ -20,8 +19,8 @@ use Rattle.manifest_value.proofs.ReadingLemmas.{reads_first_items}
 -- ONE STEP FURTHER OUT
 foremost_behind : (fs : List Finding) (s : Step) (p q : Path) (c e : SchemaCause) → foremost (faults_of fs) p c → q ≡ s ∷ p → e ≡ c → foremost (faults_of (found_behind s fs)) q e
 foremost_behind [] s p q c e h k l = absurd h
-foremost_behind (fault r f ∷ fs) s p q c e h k l = (k ∙ ap (λ r. s ∷ r) h.0, l ∙ h.1)
-foremost_behind (ignored r f ∷ fs) s p q c e h k l = foremost_behind fs s p q c e h k l
+foremost_behind (fault r f ws ∷ fs) s p q c e h k l = (k ∙ ap (λ r. s ∷ r) h.0, l ∙ h.1)
+foremost_behind (ignored r f ws ∷ fs) s p q c e h k l = foremost_behind fs s p q c e h k l
 foremost_behind (unlisted r ∷ fs) s p q c e h k l = foremost_behind fs s p q c e h k l
 
 -- the fault g is f one step further out
@@ -40,11 +39,6 @@ pub first_memory : (fs : List Finding) (f : ReadFault) → FaultIn no_fault f �
 first_memory fs (Memory e) h = tt
 first_memory fs (Schema f) h = absurd h
 
--- A KIND OF WHICH A VALUE HAS ONE FAULT
-pub first_alone : {A : Type 0} (K : Kind A) → HasOneFault K → (d : Data) (f : ReadFault) → FaultIn (K.faulty d) f → FaultIn (first_found (K.findings d)) f
-first_alone K o d (Memory e) h = tt
-first_alone K o d (Schema f) h = rw (o.alone d _ _ h) (refl, refl)
-
 -- AFTER FINDINGS WITHOUT A FAULT
 no_cons : {X : Type 0} {x : X} {xs : List X} → x ∷ xs ≡ [] → ⊥
 no_cons e = cc
@@ -54,16 +48,16 @@ faultless_before fs gs e = faults-append fs gs ∙ ap (λ x. x ++ faults_of gs) 
 
 pub faultless_behind : (s : Step) (fs : List Finding) → IsFaultless fs → IsFaultless (found_behind s fs)
 faultless_behind s [] e = refl
-faultless_behind s (fault p c ∷ fs) e = absurd (no_cons e)
-faultless_behind s (ignored p c ∷ fs) e = faultless_behind s fs e
+faultless_behind s (fault p c ws ∷ fs) e = absurd (no_cons e)
+faultless_behind s (ignored p c ws ∷ fs) e = faultless_behind s fs e
 faultless_behind s (unlisted p ∷ fs) e = faultless_behind s fs e
 
 -- the first fault of the former findings is that of all
 pub first_before : (fs gs : List Finding) (f : ReadFault) → FaultIn (first_found fs) f → FaultIn (first_found (fs ++ gs)) f
 first_before fs gs (Memory e) h = tt
 first_before [] gs (Schema f) h = absurd h
-first_before (fault p c ∷ fs) gs (Schema f) h = h
-first_before (ignored p c ∷ fs) gs (Schema f) h = first_before fs gs (Schema f) h
+first_before (fault p c ws ∷ fs) gs (Schema f) h = h
+first_before (ignored p c ws ∷ fs) gs (Schema f) h = first_before fs gs (Schema f) h
 first_before (unlisted p ∷ fs) gs (Schema f) h = first_before fs gs (Schema f) h
 
 pub first_same : (fs gs : List Finding) (f : ReadFault) → faults_of fs ≡ faults_of gs → FaultIn (first_found gs) f → FaultIn (first_found fs) f
@@ -80,14 +74,14 @@ read_clean K L d x r = read_faultless (K.reads d) (K.faulty d) (K.findings d) (L
 -- the same, said without an equation
 pub none_faultless : (fs : List Finding) → HasNoFault fs → IsFaultless fs
 none_faultless [] h = refl
-none_faultless (fault p c ∷ fs) h = absurd h
-none_faultless (ignored p c ∷ fs) h = none_faultless fs h
+none_faultless (fault p c ws ∷ fs) h = absurd h
+none_faultless (ignored p c ws ∷ fs) h = none_faultless fs h
 none_faultless (unlisted p ∷ fs) h = none_faultless fs h
 
 faultless_none : (fs : List Finding) → IsFaultless fs → HasNoFault fs
 faultless_none [] e = tt
-faultless_none (fault p c ∷ fs) e = absurd (no_cons e)
-faultless_none (ignored p c ∷ fs) e = faultless_none fs e
+faultless_none (fault p c ws ∷ fs) e = absurd (no_cons e)
+faultless_none (ignored p c ws ∷ fs) e = faultless_none fs e
 faultless_none (unlisted p ∷ fs) e = faultless_none fs e
 
 pub none_behind : (s : Step) (fs : List Finding) → HasNoFault fs → HasNoFault (found_behind s fs)

@@ -3,7 +3,7 @@ use Rattle.manifest_schema.specs.Prelude.{Data, Kind, Members, no_members, table
 use Rattle.manifest_schema.specs.OneFault.{HasOneFault}
 use Rattle.std.proofs.Common.{◌≡◌, ℕ, zero, suc, List, [], ◌∷◌, ◌++◌, refl, sym, ap, ap₂, ◌∙◌, drop, append_assoc, append-nil}
 use Rattle.manifest_value.specs.FormRows.{many, AreAll}
-use Rattle.manifest_value.specs.Found.{found, findings_at, findings_from, other_findings, IsOpen, IsFoundAlone}
+use Rattle.manifest_value.specs.Found.{found, findings_at, findings_from, other_findings, IsOpen, IsFoundHere}
 use Rattle.manifest_value.specs.Faults.{FaultIn, path_of, cause_of}
 use Rattle.manifest_value.specs.declared.fault.ReadFault.{ReadFault}
 use Rattle.manifest_value.specs.declared.fault.ReadFault.TheVariants.{Schema, Memory}
@@ -68,9 +68,9 @@ open_found rows ms o =
     ∙ ap (λ x. findings_beside (spelled rows) rows ms ++ unlisted_keys x) (sym (left_open rows (spelled rows) ms o))
 
 -- ONE FAULT AT MOST: a value that is read has no finding, and one that is refused has that fault alone
-pub one_fault_read : {A : Type 0} {K : Kind A} → HasOneFault K → (d : Data) (x : A) → K.reads d x → [] ≡ K.findings d
+pub one_fault_read : {A : Type 0} {K : Kind A} {words : List Text} → HasOneFault K words → (d : Data) (x : A) → K.reads d x → [] ≡ K.findings d
 one_fault_read h d x r = sym (h.none d x r)
 
-pub one_fault_refused : {A : Type 0} {K : Kind A} → HasOneFault K → (d : Data) (e : ReadFault) (fs : Findings) → FaultIn (K.faulty d) e → IsFoundAlone e fs → found fs ≡ K.findings d
+pub one_fault_refused : {A : Type 0} {K : Kind A} {words : List Text} → HasOneFault K words → (d : Data) (e : ReadFault) (fs : Findings) → FaultIn (K.faulty d) e → IsFoundHere words e fs → found fs ≡ K.findings d
 one_fault_refused h d (Schema f) fs stands alone = alone ∙ sym (h.alone d (path_of f.path) (cause_of f.cause) stands)
 one_fault_refused h d (Memory e) fs stands alone = absurd alone

@@ -1,42 +1,77 @@
 -- What the code finds in a value, as the definitions see it, and what is found row by row.
-use Rattle.manifest_schema.specs.Prelude.{Members, Spellings, Slot, at, without, Rows, no_more, others, ◌⨾◌, entry_findings, fault, ignored, unlisted, Text, Path, Cause as SchemaCause}
+use Rattle.manifest_schema.specs.Prelude.{Members, Spellings, Slot, at, without, Rows, no_more, others, ◌⨾◌, entry_findings, fault, ignored, unlisted, found_behind, Text, Path, key, Cause as SchemaCause}
 use Rattle.manifest_schema.specs.Findings.{Finding as PathFinding}
-use Rattle.std.specs.Prelude.{◌≡◌, ℕ, zero, suc, List, [], ◌∷◌, ◌++◌, map}
-use Rattle.manifest_value.specs.Faults.{path_of, cause_of}
+use Rattle.manifest_schema.specs.OneFault.{fault_here}
+use Rattle.std.specs.Prelude.{◌≡◌, ℕ, zero, suc, List, [], ◌∷◌, ◌++◌, map, string_bytes}
+use Rattle.std.specs.Borrow.{Bor}
+use Rattle.manifest_value.specs.Faults.{step_of, path_of, cause_of}
 use Rattle.manifest_value.specs.declared.fault.SchemaFault.{SchemaFault}
 use Rattle.manifest_value.specs.declared.fault.ReadFault.{ReadFault}
 use Rattle.manifest_value.specs.declared.fault.ReadFault.TheVariants.{Schema, Memory}
-use Rattle.manifest_value.specs.declared.findings.Finding.{Finding}
-use Rattle.manifest_value.specs.declared.findings.Finding.TheVariants.{Fault, Ignored, Unlisted}
+use Rattle.manifest_value.specs.declared.finding_lists.Finding.{Finding}
+use Rattle.manifest_value.specs.declared.finding_lists.Finding.TheVariants.{Fault, Ignored, Unlisted}
+use Rattle.manifest_value.specs.declared.findings.FindingNode.{FindingNode, fold-FindingNode}
+use Rattle.manifest_value.specs.declared.findings.FindingNode.TheOpen.{FindingNode-F}
 use Rattle.manifest_value.specs.declared.findings.Findings.{Findings}
 
--- a finding, by its path and its cause
+-- the words of a choice
+abbrev pub choices_of : Bor (List (Bor Text)) → List Text
+choices_of words = map (λ (w : Bor Text). w.now) words.now
+
+-- AS A LIST
+-- a finding, by its path, its cause and the words of a choice
 abbrev pub finding_of : Finding → PathFinding
-finding_of (Fault f) = fault (path_of f.path) (cause_of f.cause)
-finding_of (Ignored f) = ignored (path_of f.path) (cause_of f.cause)
+finding_of (Fault f words) = fault (path_of f.path) (cause_of f.cause) (choices_of words)
+finding_of (Ignored f words) = ignored (path_of f.path) (cause_of f.cause) (choices_of words)
 finding_of (Unlisted p) = unlisted (path_of p)
 
 -- a fault, by its path and its cause
 abbrev pub fault_of : SchemaFault → Path × SchemaCause
 fault_of f = (path_of f.path, cause_of f.cause)
 
--- all of them, in their order
+-- AS A TREE
+-- lists of findings, one after another
+abbrev pub joined : List (List PathFinding) → List PathFinding
+joined [] = []
+joined (fs ∷ more) = fs ++ joined more
+
+-- one node, with what is found by each node inside
+abbrev pub node_step : FindingNode-F (List PathFinding) → List PathFinding
+node_step (FindingNode-F.Fault c words) = fault [] (cause_of c) (choices_of words) ∷ []
+node_step (FindingNode-F.Ignored c words) = ignored [] (cause_of c) (choices_of words) ∷ []
+node_step (FindingNode-F.Unlisted k) = unlisted (key (string_bytes k) ∷ []) ∷ []
+node_step (FindingNode-F.Within s inside) = found_behind (step_of s) (joined inside.items)
+
+-- what a node says
+abbrev pub found_in : FindingNode → List PathFinding
+found_in = fold-FindingNode (List PathFinding) node_step
+
+-- what some nodes say, in their order
+abbrev pub found_among : List FindingNode → List PathFinding
+found_among nodes = joined (map found_in nodes)
+
+-- ALL THAT IS FOUND, in its order
 abbrev pub found : Findings → List PathFinding
-found fs = map finding_of fs.list.items
+found fs = found_among fs.nodes.items
+
+-- the findings of a value at this path
+abbrev pub found_at : Path → List PathFinding → List PathFinding
+found_at [] fs = fs
+found_at (s ∷ p) fs = found_behind s (found_at p fs)
 
 -- this list is what was found
 abbrev pub Finds : List PathFinding → Findings → Type 0
 Finds all fs = found fs ≡ all
 
--- the fault with which a value is refused is all that is found
-abbrev pub IsFoundAlone : ReadFault → Findings → Type 0
-IsFoundAlone (Schema f) fs = found fs ≡ fault (path_of f.path) (cause_of f.cause) ∷ []
-IsFoundAlone (Memory e) fs = ⊥
+-- the fault with which a value itself is refused is all that is found
+abbrev pub IsFoundHere : List Text → ReadFault → Findings → Type 0
+IsFoundHere words (Schema f) fs = found fs ≡ fault_here words (cause_of f.cause)
+IsFoundHere words (Memory e) fs = ⊥
 
 -- no fault is among the findings
 abbrev pub HasNoFault : List PathFinding → Type 0
 HasNoFault [] = Unit {0}
-HasNoFault (fault p c ∷ fs) = ⊥
+HasNoFault (fault p c ws ∷ fs) = ⊥
 HasNoFault (f ∷ fs) = HasNoFault fs
 
 -- ROW BY ROW

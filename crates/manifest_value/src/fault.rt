@@ -49,7 +49,7 @@ pub struct SchemaFault {
 
 impl Step {
     /// A copy of the step: of its key a new string.
-    fn clone(&self, alloc: Global) -> Result<Step, AllocError>
+    pub(crate) fn clone(&self, alloc: Global) -> Result<Step, AllocError>
         ensures { IfOk result (λ s. step_of s ≡ step_of self.now) }
     {
         match self {
@@ -61,7 +61,7 @@ impl Step {
 
 impl KeyPath {
     /// A copy of the path, with a copy of each step.
-    fn clone(&self, alloc: Global) -> Result<KeyPath, AllocError>
+    pub(crate) fn clone(&self, alloc: Global) -> Result<KeyPath, AllocError>
         ensures { IfOk result (λ p. path_of p ≡ path_of self.now) }
     {
         let mut steps = Vec::new(alloc);

@@ -1,71 +1,71 @@
 //! What is found in a value: its faults, what is ignored where it does not fit, and the keys that nothing reads.
+//!
+//! It is kept as a tree, in which each step of a path stands once: so it takes memory in proportion to the value that it
+//! is found in, however many findings stand below one long key.
 
-ghost use Rattle.manifest_schema.specs.Prelude.{found_here, found_behind, unlisted_keys, faults_of, ignored_of, unlisted_of, leniently, key, index};
-ghost use Rattle.manifest_schema.specs.Findings.{behind_step};
-ghost use Rattle.std.specs.Prelude.{◌≡◌, ◌++◌, [], ◌∷◌, IfOk, map};
-ghost use Rattle.manifest_value.specs.Faults.{step_of, path_of, cause_of};
-ghost use Rattle.manifest_value.specs.Found.{fault_of, finding_of, found, IsFoundAlone};
+ghost use Rattle.manifest_schema.specs.Prelude.{found_here, found_behind, unlisted_keys, leniently, key, index};
+ghost use Rattle.std.specs.Prelude.{◌≡◌, ◌++◌, [], IfOk};
+ghost use Rattle.manifest_value.specs.Faults.{step_of, cause_of};
+ghost use Rattle.manifest_value.specs.Found.{choices_of, found_in, found_among, found, IsFoundHere};
 ghost use Rattle.manifest_value.specs.Sources.{rest_view};
 
 use crate::entries::Entry;
-use crate::fault::{Cause, KeyPath, ReadFault, SchemaFault, Step};
+use crate::fault::{Cause, ReadFault, Step};
 use std::alloc::{AllocError, Global};
 
-/// One thing that is found in a value, at its path from the value.
+/// The words that there are where a text is not one of a choice; none for any other cause.
+pub type Choices = &'static [&'static str];
+
+/// Of each other cause.
+const NO_CHOICES: Choices = &[];
+
+/// A part of what is found in a value.
 #[derive(Debug, PartialEq, Eq, Drop)]
-pub enum Finding {
-    /// The value at the path, or its absence, does not fit.
-    Fault(SchemaFault),
-    /// The value at the path, or its absence, does not fit, and that is no fault: the field counts as absent, as of a
-    /// badge.
-    Ignored(SchemaFault),
-    /// Nothing reads the entry of the key at the path, and nothing that stands in it is found.
-    Unlisted(KeyPath),
+pub enum FindingNode {
+    /// The value, or its absence, does not fit.
+    Fault(Cause, Choices),
+    /// The value, or its absence, does not fit, and that is no fault: the field counts as absent, as of a badge.
+    Ignored(Cause, Choices),
+    /// Nothing reads the entry of this key, and nothing that stands in it is found.
+    Unlisted(String),
+    /// What is found in the value that the step leads to.
+    Within(Step, Vec<FindingNode>),
 }
 
-/// What is found in a value, in the order in which it is reported.
+/// What is found in a value, in the order in which it is reported: depth first, from the first node on.
 #[derive(Debug, PartialEq, Eq, Drop)]
 pub struct Findings {
-    list: Vec<Finding>,
+    nodes: Vec<FindingNode>,
 }
 
 /// What the calls here return: findings, or out of memory.
 pub type Found = Result<Findings, AllocError>;
 
-/// The path with the step before it.
-fn path_behind(step: Step, path: KeyPath) -> Result<KeyPath, AllocError>
-    ensures { IfOk result (λ p. path_of p ≡ step_of step ∷ path_of path) }
+/// The node where it is of a value whose faults are ignored.
+#[cycle(lenient)]
+fn node_leniently(alloc: Global, node: FindingNode) -> Result<FindingNode, AllocError>
+    ensures { IfOk result (λ n. found_in n ≡ leniently (found_in node)) }
 {
-    let mut path = path;
-    path.steps.insert(0, step)?;
-    Ok(path)
-}
-
-/// The finding with the step before its path, as it is seen one level further out.
-fn finding_behind(step: Step, finding: Finding) -> Result<Finding, AllocError>
-    ensures { IfOk result (λ f. finding_of f ≡ behind_step (step_of step) (finding_of finding)) }
-{
-    match finding {
-        Finding::Fault(SchemaFault { path, cause }) => Ok(Finding::Fault(SchemaFault {
-            path: path_behind(step, path)?,
-            cause,
-        })),
-        Finding::Ignored(SchemaFault { path, cause }) => Ok(Finding::Ignored(SchemaFault {
-            path: path_behind(step, path)?,
-            cause,
-        })),
-        Finding::Unlisted(path) => Ok(Finding::Unlisted(path_behind(step, path)?)),
+    match node {
+        FindingNode::Fault(cause, choices) => Ok(FindingNode::Ignored(cause, choices)),
+        FindingNode::Within(step, nodes) => Ok(FindingNode::Within(step, nodes_leniently(alloc, nodes)?)),
+        other => Ok(other),
     }
 }
 
-/// The finding where it is of a value whose faults are ignored.
-fn finding_leniently(finding: Finding) -> Finding
-    ensures { finding_of result ∷ [] ≡ leniently (finding_of finding ∷ []) }
+/// The nodes where they are of a value whose faults are ignored.
+#[cycle(lenient)]
+fn nodes_leniently(
+    alloc: Global,
+    nodes: Vec<FindingNode>,
+) -> Result<Vec<FindingNode>, AllocError>
+    ensures { IfOk result (λ v. found_among v.items ≡ leniently (found_among nodes.items)) }
 {
-    match finding {
-        Finding::Fault(fault) => Finding::Ignored(fault),
-        other => other,
+    let mut out = Vec::new(alloc);
+    for node in nodes {
+        out.push(node_leniently(alloc, node)?)?;
     }
+    Ok(out)
 }
 
 impl Findings {
@@ -79,36 +79,40 @@ impl Findings {
         ensures { found result ≡ [] }
     {
         Findings {
-            list: Vec::new(alloc),
+            nodes: Vec::new(alloc),
         }
     }
 
-    /// One finding.
-    fn alone(alloc: Global, finding: Finding) -> Found
-        ensures { IfOk result (λ f. found f ≡ finding_of finding ∷ []) }
+    /// What one node says, and no more.
+    fn alone(alloc: Global, node: FindingNode) -> Found
+        ensures { IfOk result (λ f. found f ≡ found_in node) }
     {
-        let mut list = Vec::new(alloc);
-        list.push(finding)?;
-        Ok(Findings { list })
+        let mut nodes = Vec::new(alloc);
+        nodes.push(node)?;
+        Ok(Findings { nodes })
     }
 
-    /// What is found in a value that is refused with this fault, where it is the only one that the value has. It fails
-    /// where the refusal is one of memory, and when out of memory.
+    /// What is found in a value that is refused itself, and in which nothing else is found: its one fault, and of a choice
+    /// the words that there are. It fails where the refusal is one of memory, and when out of memory.
     ///
     /// ```ignore
-    /// let found = Findings::of_refusal(alloc, refused)?; // for a choice or a number, which have at most one fault
+    /// let found = Findings::of_refusal(alloc, refused, &["1", "2", "3"])?; // of the version of a resolver
     /// ```
     #[cold]
-    pub fn of_refusal(alloc: Global, refused: ReadFault) -> Found
-        ensures { IfOk result (IsFoundAlone refused) }
+    pub fn of_refusal(alloc: Global, refused: ReadFault, choices: Choices) -> Found
+        ensures { IfOk result (IsFoundHere (choices_of choices.entry) refused) }
     {
-        match refused {
-            ReadFault::Schema(fault) => Findings::alone(alloc, Finding::Fault(fault)),
-            ReadFault::Memory(refused) => Err(refused),
+        let cause = match refused {
+            ReadFault::Schema(fault) => fault.cause,
+            ReadFault::Memory(refused) => return Err(refused),
+        };
+        match cause {
+            Cause::NotAChoice => Findings::alone(alloc, FindingNode::Fault(cause, choices)),
+            _ => Findings::alone(alloc, FindingNode::Fault(cause, NO_CHOICES)),
         }
     }
 
-    /// The fault of this cause at the value itself, alone.
+    /// The fault of this cause at the value itself, alone, with no choice.
     ///
     /// ```ignore
     /// let found = Findings::here(alloc, Cause::WrongKind)?;
@@ -117,10 +121,7 @@ impl Findings {
     pub fn here(alloc: Global, cause: Cause) -> Found
         ensures { IfOk result (λ f. found f ≡ found_here (cause_of cause)) }
     {
-        let path = KeyPath {
-            steps: Vec::new(alloc),
-        };
-        Findings::alone(alloc, Finding::Fault(SchemaFault { path, cause }))
+        Findings::alone(alloc, FindingNode::Fault(cause, NO_CHOICES))
     }
 
     /// The fault of this cause under a key, alone.
@@ -145,24 +146,34 @@ impl Findings {
     pub fn and(self, more: Findings) -> Found
         ensures { IfOk result (λ f. found f ≡ found self ++ found more) }
     {
-        if more.list.is_empty() {
+        if more.nodes.is_empty() {
             return Ok(self);
         }
         self.and_all(more)
     }
 
-    /// These findings, and then more, each of which is moved.
+    /// These findings, and then more, whose nodes are moved.
     fn and_all(self, more: Findings) -> Found
         ensures { IfOk result (λ f. found f ≡ found self ++ found more) }
     {
-        let mut list = self.list;
-        for finding in more.list {
-            list.push(finding)?;
+        let mut nodes = self.nodes;
+        for node in more.nodes {
+            nodes.push(node)?;
         }
-        Ok(Findings { list })
+        Ok(Findings { nodes })
     }
 
-    /// These findings, and then those of the value under a key: each gets the key before its path.
+    /// These findings, and then those of the value that a step leads to.
+    fn and_within(self, step: Step, more: Findings) -> Found
+        ensures { IfOk result
+            (λ f. found f ≡ found self ++ found_behind (step_of step) (found more)) }
+    {
+        let mut nodes = self.nodes;
+        nodes.push(FindingNode::Within(step, more.nodes))?;
+        Ok(Findings { nodes })
+    }
+
+    /// These findings, and then those of the value under a key.
     ///
     /// ```ignore
     /// let all = found.and_under(alloc, "package", inside)?;
@@ -172,26 +183,13 @@ impl Findings {
         ensures { IfOk result
             (λ f. found f ≡ found self ++ found_behind (key word.now) (found more)) }
     {
-        if more.list.is_empty() {
+        if more.nodes.is_empty() {
             return Ok(self);
         }
-        self.and_all_under(alloc, word, more)
+        self.and_within(Step::Key(String::from_str(alloc, word)?), more)
     }
 
-    /// These findings, and then those of the value under a key, each with a copy of the key before its path.
-    fn and_all_under(self, alloc: Global, word: &str, more: Findings) -> Found
-        ensures { IfOk result
-            (λ f. found f ≡ found self ++ found_behind (key word.now) (found more)) }
-    {
-        let mut list = self.list;
-        for finding in more.list {
-            let step = Step::Key(String::from_str(alloc, word)?);
-            list.push(finding_behind(step, finding)?)?;
-        }
-        Ok(Findings { list })
-    }
-
-    /// These findings, and then those of the item at an index: each gets the index before its path.
+    /// These findings, and then those of the item at an index.
     ///
     /// ```ignore
     /// let all = found.and_at(0, first_item)?;
@@ -199,11 +197,10 @@ impl Findings {
     pub fn and_at(self, i: usize, more: Findings) -> Found
         ensures { IfOk result (λ f. found f ≡ found self ++ found_behind (index i) (found more)) }
     {
-        let mut list = self.list;
-        for finding in more.list {
-            list.push(finding_behind(Step::Index(i), finding)?)?;
+        if more.nodes.is_empty() {
+            return Ok(self);
         }
-        Ok(Findings { list })
+        self.and_within(Step::Index(i), more)
     }
 
     /// These findings, and then the keys of entries that nothing reads.
@@ -215,14 +212,12 @@ impl Findings {
         ensures { IfOk result
             (λ f. found f ≡ found self ++ unlisted_keys (rest_view rest.entry.items)) }
     {
-        let mut list = self.list;
+        let mut nodes = self.nodes;
         for (key, value) in rest {
             drop(value);
-            let mut steps = Vec::new(alloc);
-            steps.push(Step::Key(key.into_string(alloc)?))?;
-            list.push(Finding::Unlisted(KeyPath { steps }))?;
+            nodes.push(FindingNode::Unlisted(key.into_string(alloc)?))?;
         }
-        Ok(Findings { list })
+        Ok(Findings { nodes })
     }
 
     /// The findings where they are of a value whose faults are ignored: each fault becomes `Ignored`.
@@ -233,63 +228,14 @@ impl Findings {
     pub fn leniently(self, alloc: Global) -> Found
         ensures { IfOk result (λ f. found f ≡ leniently (found self)) }
     {
-        let mut list = Vec::new(alloc);
-        for finding in self.list {
-            list.push(finding_leniently(finding))?;
-        }
-        Ok(Findings { list })
+        let nodes = nodes_leniently(alloc, self.nodes)?;
+        Ok(Findings { nodes })
     }
 
-    /// The faults among the findings, in their order.
-    ///
-    /// ```ignore
-    /// for fault in Findings::here(alloc, Cause::WrongKind)?.into_faults(alloc)? { .. }
-    /// ```
-    pub fn into_faults(self, alloc: Global) -> Result<Vec<SchemaFault>, AllocError>
-        ensures { IfOk result (λ v. map fault_of v.items ≡ faults_of (found self)) }
+    /// The nodes, in their order.
+    pub fn nodes(&self) -> &[FindingNode]
+        ensures { found_among result.now ≡ found self.now }
     {
-        let mut faults = Vec::new(alloc);
-        for finding in self.list {
-            match finding {
-                Finding::Fault(fault) => faults.push(fault)?,
-                other => drop(other),
-            }
-        }
-        Ok(faults)
-    }
-
-    /// What is ignored among the findings, in their order.
-    pub fn into_ignored(self, alloc: Global) -> Result<Vec<SchemaFault>, AllocError>
-        ensures { IfOk result (λ v. map fault_of v.items ≡ ignored_of (found self)) }
-    {
-        let mut faults = Vec::new(alloc);
-        for finding in self.list {
-            match finding {
-                Finding::Ignored(fault) => faults.push(fault)?,
-                other => drop(other),
-            }
-        }
-        Ok(faults)
-    }
-
-    /// The paths of the keys among the findings that nothing reads, in their order.
-    pub fn into_unlisted(self, alloc: Global) -> Result<Vec<KeyPath>, AllocError>
-        ensures { IfOk result (λ v. map path_of v.items ≡ unlisted_of (found self)) }
-    {
-        let mut paths = Vec::new(alloc);
-        for finding in self.list {
-            match finding {
-                Finding::Unlisted(path) => paths.push(path)?,
-                other => drop(other),
-            }
-        }
-        Ok(paths)
-    }
-
-    /// The findings, in their order.
-    pub fn as_slice(&self) -> &[Finding]
-        ensures { map finding_of result.now ≡ found self.now }
-    {
-        self.list.as_slice()
+        self.nodes.as_slice()
     }
 }

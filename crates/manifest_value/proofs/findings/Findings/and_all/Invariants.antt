@@ -1,9 +1,9 @@
-use Rattle.std.proofs.Common.{◌≡◌, ◌++◌, map}
+use Rattle.std.proofs.Common.{◌≡◌, ◌++◌}
 use Rattle.std.specs.Vec.Iter.{into_iter_items}
-use Rattle.manifest_value.specs.Found.{finding_of}
+use Rattle.manifest_value.specs.Found.{found_among}
 use Rattle.manifest_value.proofs.findings.Findings.and_all.Given as goal
 
--- the findings so far, and those that are to come
-abbrev pub invariant-loop-finding : goal.invariant-loop-finding
-invariant-loop-finding l =
-    map finding_of l.list.items ++ map finding_of (into_iter_items l.finding-iterator) ≡ map finding_of l.fn.self.list.items ++ map finding_of l.fn.more.list.items
+-- what the nodes so far say, and those that are to come
+abbrev pub invariant-loop-node : goal.invariant-loop-node
+invariant-loop-node l =
+    found_among l.nodes.items ++ found_among (into_iter_items l.node-iterator) ≡ found_among l.fn.self.nodes.items ++ found_among l.fn.more.nodes.items
