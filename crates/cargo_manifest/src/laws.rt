@@ -3,7 +3,7 @@
 //!
 //! Each function returns at once: it is there for its contract, a law of the definitions.
 
-ghost use Rattle.manifest_schema.specs.Prelude.{kept, tree_of, MeansOne, WrittenIsRead, AcceptedIsWellFormed, WrittenMeansTheSame, RewrittenMeansTheSame, RewrittenTwiceIsOnce, SameExactly, SameWrittenIsSame, FaultyMeansNothing, AcceptedOrFaulty, FindsEveryFault, FaultlessIfMeant, SameWithoutUnlisted, OldWrittenIsRead, MeantDatesAreValid, WrittenDatesAreValid};
+ghost use Rattle.manifest_schema.specs.Prelude.{kept, tree_of, MeansOne, WrittenIsRead, AcceptedIsWellFormed, WrittenMeansTheSame, RewrittenMeansTheSame, RewrittenTwiceIsOnce, SameExactly, SameWrittenIsSame, FaultyMeansNothing, AcceptedOrFaulty, FindsEveryFault, FaultlessIfMeant, SameWithoutUnlisted, RewrittenWithoutUnlisted, FindsEachOnce, FindsNothingWritten, FindsNothingRewritten, IsClean, WritesEachRow, form, manifest_rows, OldWrittenIsRead, MeantDatesAreValid, WrittenDatesAreValid};
 ghost use Rattle.manifest_completion.specs.Laws.{CompletedIsFixed};
 ghost use Rattle.cargo_manifest.specs.Completes.{StoredDecides};
 ghost use Rattle.cargo_manifest.specs.Dates.{ParsedDatesAreValid, ReadDatesAreValid, CompletedDatesAreValid};
@@ -89,6 +89,35 @@ pub fn faultless_if_meant()
 /// keys that nothing reads, with metadata kept as it is.
 pub fn same_without_unlisted()
     ensures { SameWithoutUnlisted (tree_of kept) (tree_of kept) }
+{}
+
+/// An accepted table whose keys ascend, as do those of the tables inside, is rewritten to the same table with its
+/// unlisted keys and without them, with metadata of the type `Value`.
+pub fn rewritten_without_unlisted()
+    ensures { RewrittenWithoutUnlisted (tree_of kept) (tree_of kept) }
+{}
+
+/// Each place of a table whose keys ascend, as do those of the tables inside, is reported once, with metadata of the
+/// type `Value`: no two findings have the same path, and none stands inside the value that another one stands at.
+pub fn finds_each_once()
+    ensures { FindsEachOnce (tree_of kept) (tree_of kept) }
+{}
+
+/// Nothing is found in what is written of a well-formed manifest with a package or a workspace, nor in the rewritten
+/// table of an accepted table, with metadata of the type `Value`: no fault, nothing that is ignored, and no key that
+/// nothing reads. Nor does the form of a manifest (which takes no old header into account) find anything in what is
+/// written of any well-formed manifest.
+pub fn finds_nothing_written()
+    ensures form { IsClean (form (manifest_rows (tree_of kept) (tree_of kept))) }
+    ensures written { FindsNothingWritten (tree_of kept) (tree_of kept) }
+    ensures rewritten { FindsNothingRewritten (tree_of kept) (tree_of kept) }
+{}
+
+/// The table that is written of a well-formed manifest holds what the need of each row writes, under the first spelling
+/// of the row, and nothing else.
+#[tactic(auto, using(manifest_schema::proofs::WrittenLaws::manifest_by_rows))]
+pub fn manifest_is_written_by_rows<P: Metadata, W: Metadata>()
+    ensures { WritesEachRow (manifest_rows (tree_of P.kind) (tree_of W.kind)) }
 {}
 
 /// Where no inherited dependency of a manifest chooses its default features, what is written of the manifest is what

@@ -1,7 +1,7 @@
 -- Lists of findings: which faults they have, put together and one step further out.
 use Rattle.std.proofs.Common.{◌≡◌, Bool, true, false, ◌⊎◌, inl, inr, List, [], ◌∷◌, ◌++◌, Option, Some, None, ◌↔◌, refl, sym, ap, ◌∙◌, true≢false, if◌then◌else◌, IsFalse, is_some}
-use Rattle.manifest_schema.specs.Prelude.{none-some, Data, Members, Text, no_members, member, Path, Cause, Step, Faults, no_fault, itself, behind, two_spellings, missing, Kind, Entries, IsLawful, ReadOrFaulty}
-use Rattle.manifest_schema.specs.Findings.{Finding, fault, ignored, unlisted, found_here, found_behind, unlisted_keys, leniently, faults_of, among, foremost, first_found, IsFaultless, FindsAll}
+use Rattle.manifest_schema.specs.Prelude.{none-some, Members, Text, no_members, member, Path, Cause, Step, Faults, no_fault, itself, behind, ReadOrFaulty}
+use Rattle.manifest_schema.specs.Findings.{Finding, fault, ignored, unlisted, found_here, found_behind, unlisted_keys, leniently, faults_of, among, IsFaultless, FindsAll}
 
 -- ONE FAULT, OR NONE
 pub faultless_finds : (fs : List Finding) → IsFaultless fs → FindsAll fs no_fault

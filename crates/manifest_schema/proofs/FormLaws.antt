@@ -1,5 +1,5 @@
 -- A form satisfies the laws, where its rows do and all its spellings differ.
-use Rattle.manifest_schema.specs.Prelude.{and_parts, not-true, Data, table, Members, no_members, member, get_member, same_key, Text, Path, Cause, Spellings, only, both, first, slot, at, put_some, is_among, without, Entries, reads_entries, written_entries, Fields, gets, Rows, no_more, others, ◌⨾◌, spell, spelled, fits_beside, unfit_beside, written_rows, none_named, good_beside, good_rows, faulty_form, form, differ, distinct, IsLawful, AreLawful, IsBuilt}
+use Rattle.manifest_schema.specs.Prelude.{and_parts, not-true, Data, table, Members, no_members, member, get_member, same_key, Text, Path, Cause, Spellings, only, both, first, slot, at, put_some, is_among, without, Entries, reads_entries, written_entries, Fields, gets, Rows, no_more, others, ◌⨾◌, spell, spelled, fits_beside, unfit_beside, written_rows, holds_beside, none_named, good_beside, good_rows, faulty_form, form, differ, distinct, IsLawful, AreLawful, IsBuilt, WritesEachRow}
 use Rattle.std.proofs.Common.{◌≡◌, Bool, true, false, not, ◌||◌, if◌then◌else◌, inl, inr, List, [], ◌∷◌, Option, Some, None, IsTrue, refl, sym, ap, ◌∙◌, true≢false}
 use Rattle.manifest_schema.specs.Kinds
 use Rattle.manifest_schema.specs.Forms.{reads_form}
@@ -120,10 +120,10 @@ module _ {A : Type 0} (named : List Text) where
       ∙ written_none rs t.1 j known (not_later r.spellings (spelled rs) j new) g.1
 
   -- one more entry that no row has
-  fits_more : (rows : Rows A) (ms : Members) (t : Fields rows) (j : Text) (o : Option Data) → is_among named j ≡ true → is_among (spelled rows) j ≡ false → fits_beside named rows ms t → fits_beside named rows (put_some j o ms) t
-  fits_more no_more ms t j o known new a = tt
-  fits_more (others get K) ms t j o known new a = rw (without-put_some named j o ms known) a
-  fits_more (r ⨾ rs) ms t j o known new a = (rw (at-put_some r.spellings (spelled rs) j o ms new) a.0, fits_more rs ms t.1 j o known (not_later r.spellings (spelled rs) j new) a.1)
+  holds_more : (rows : Rows A) (ms : Members) (t : Fields rows) (j : Text) (o : Option Data) → is_among named j ≡ true → is_among (spelled rows) j ≡ false → holds_beside named rows t ms → holds_beside named rows t (put_some j o ms)
+  holds_more no_more ms t j o known new h = without-put_some named j o ms known ∙ h
+  holds_more (others get K) ms t j o known new h = without-put_some named j o ms known ∙ h
+  holds_more (r ⨾ rs) ms t j o known new h = (at-put_some r.spellings (spelled rs) j o ms new ∙ h.0, holds_more rs ms t.1 j o known (not_later r.spellings (spelled rs) j new) h.1)
 
   abbrev Within : Rows A → Type 0
   Within rows = (k : Text) → is_among (spelled rows) k ≡ true → is_among named k ≡ true
@@ -136,16 +136,25 @@ module _ {A : Type 0} (named : List Text) where
         written_none rs t l (w l (among_there k (l ∷ spelled rs) l (among_here l (spelled rs)))) (not-true _ b) g,
       )
 
-  rows_back : (rows : Rows A) (t : Fields rows) → AreLawful rows → distinct rows ≡ true → Within rows → good_beside named rows t → fits_beside named rows (written_rows rows t) t
-  rows_back no_more t l d w g = tt
-  rows_back (others get K) t l d w g = rw (without_none named K t g.0) (entries_back l t g.1)
-  rows_back (r ⨾ rs) t l d w g =
+  rows_hold : (rows : Rows A) (t : Fields rows) → distinct rows ≡ true → Within rows → good_beside named rows t → holds_beside named rows t (written_rows rows t)
+  rows_hold no_more t d w g = refl
+  rows_hold (others get K) t d w g = without_none named K t g.0
+  rows_hold (r ⨾ rs) t d w g =
       let (new, later) = and_parts (differ r.spellings (spelled rs)) (distinct rs) d in
       let none : AbsentFrom r.spellings (written_rows rs t.1) = no_keys rs t.1 r.spellings new w g.1 in (
-        rw (at_written r.spellings (r.need.written t.0) (written_rows rs t.1) (differ_own r.spellings (spelled rs) new) none) (l.0.back (first r.spellings) t.0 g.0),
-        fits_more rs (written_rows rs t.1) t.1 (first r.spellings) (r.need.written t.0) (w (first r.spellings) (first_among r.spellings (spelled rs)))
-            (first_new r.spellings (spelled rs) new) (rows_back rs t.1 l.1 later (λ k h. w k (later_among r.spellings (spelled rs) k h)) g.1),
+        at_written r.spellings (r.need.written t.0) (written_rows rs t.1) (differ_own r.spellings (spelled rs) new) none,
+        holds_more rs (written_rows rs t.1) t.1 (first r.spellings) (r.need.written t.0) (w (first r.spellings) (first_among r.spellings (spelled rs)))
+            (first_new r.spellings (spelled rs) new) (rows_hold rs t.1 later (λ k h. w k (later_among r.spellings (spelled rs) k h)) g.1),
       )
+
+  -- a table that holds what is written of each row is read back
+  rows_back : (rows : Rows A) (ms : Members) (t : Fields rows) → AreLawful rows → good_beside named rows t → holds_beside named rows t ms → fits_beside named rows ms t
+  rows_back no_more ms t l g h = tt
+  rows_back (others get K) ms t l g h = rw h (entries_back l t g.1)
+  rows_back (r ⨾ rs) ms t l g h = (rw h.0 (l.0.back (first r.spellings) t.0 g.0), rows_back rs ms t.1 l.1 g.1 h.1)
+
+pub writes_each_row : {A : Type 0} (rows : Rows A) → IsTrue (distinct rows) → WritesEachRow rows
+writes_each_row rows d x g = rows_hold (spelled rows) rows (gets rows x) d (λ k h. h) g
 
 module _ {A : Type 0} (rows : Rows A) (L : AreLawful rows) (B : IsBuilt rows) (D : IsTrue (distinct rows)) where
   form_single : (d : Data) (x y : A) → reads_form rows d x → reads_form rows d y → x ≡ y
@@ -165,4 +174,4 @@ module _ {A : Type 0} (rows : Rows A) (L : AreLawful rows) (B : IsBuilt rows) (D
   form_exact _ = finds_here wrong_kind
 
   pub form_lawful : IsLawful (form rows)
-  form_lawful = record { single = form_single; apart = form_apart; well = form_well; back = λ x g. rows_back (spelled rows) rows (gets rows x) L D (λ k h. h) g; exact = form_exact }
+  form_lawful = record { single = form_single; apart = form_apart; well = form_well; back = λ x g. rows_back (spelled rows) rows (written_rows rows (gets rows x)) (gets rows x) L g (writes_each_row rows D x g); exact = form_exact }

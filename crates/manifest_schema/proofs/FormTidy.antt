@@ -34,12 +34,12 @@ differ_from (both l m) ks k d e h =
     elim e [ inl e ↦ true≢false (sym (among_there m ks k h) ∙ rw (← e) (not-true _ a)) | inr e ↦ true≢false (sym h ∙ rw (← e) (not-true _ b)) ]
 
 -- SLOTS
-abbrev OfOne : (Text → Data → Type 0) → Slot → Type 0
+abbrev pub OfOne : (Text → Data → Type 0) → Slot → Type 0
 OfOne P (one k d) = P k d
 OfOne P _ = Unit {0}
 
 -- the value of a slot is that of an entry under a spelling
-slot_of : (names : Spellings) (ms : Members) → OfOne (λ k d. HasSpelling names k × has_entry k d ms) (at names ms)
+pub slot_of : (names : Spellings) (ms : Members) → OfOne (λ k d. HasSpelling names k × has_entry k d ms) (at names ms)
 slot_of (only k) ms = by_one (get_member k ms) refl
   where
     by_one : (o : Option Data) → get_member k ms ≡ o → OfOne (λ j d. (k ≡ j) × has_entry j d ms) (slot k o)
@@ -105,10 +105,10 @@ module _ {A : Type 0} (named : List Text) where
   Owns (others get K) k = is_among named k ≡ false
   Owns no_more k = ⊥
 
-  abbrev Within : Rows A → Type 0
+  abbrev pub Within : Rows A → Type 0
   Within rows = (k : Text) → is_among (spelled rows) k ≡ true → is_among named k ≡ true
 
-  within_later : (r : Forms.Row A) (rs : Rows A) → Within (r ⨾ rs) → Within rs
+  pub within_later : (r : Forms.Row A) (rs : Rows A) → Within (r ⨾ rs) → Within rs
   within_later r rs w k h = w k (later_among r.spellings (spelled rs) k h)
 
   owned_cases : (rows : Rows A) (k : Text) → Owns rows k → (is_among (spelled rows) k ≡ true) ⊎ ((is_among named k ≡ false) × (is_closed rows ≡ false))
@@ -121,7 +121,7 @@ module _ {A : Type 0} (named : List Text) where
   owned_spelled rows k c o = elim (owned_cases rows k o) [ inl h ↦ h | inr h ↦ absurd (true≢false (sym c ∙ h.1)) ]
 
   -- no key of the later rows is a spelling of the first
-  owned_once : (r : Forms.Row A) (rs : Rows A) (k : Text) → differ r.spellings (spelled rs) ≡ true → Within (r ⨾ rs) → Owns rs k → HasSpelling r.spellings k → ⊥
+  pub owned_once : (r : Forms.Row A) (rs : Rows A) (k : Text) → differ r.spellings (spelled rs) ≡ true → Within (r ⨾ rs) → Owns rs k → HasSpelling r.spellings k → ⊥
   owned_once r rs k d w o e = elim (owned_cases rs k o) [
     | inl h ↦ differ_from r.spellings (spelled rs) k d e h
     | inr h ↦ true≢false (sym (w k (spelling_among r.spellings (spelled rs) k e)) ∙ h.0)

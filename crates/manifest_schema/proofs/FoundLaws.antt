@@ -1,6 +1,6 @@
 -- What is found in a whole table: each of its faults, and none exactly where it means a manifest.
-use Rattle.manifest_schema.specs.Prelude.{Data, table, Members, get_member, key, Kind, form, faulty_form, IsLawful, IsTotal, package_rows, manifest_rows, has_header, faulty_old, means, unmeant, unmeant_by, spelled, unfit_beside, without}
-use Rattle.std.proofs.Common.{◌≡◌, Bool, true, false, [], ◌∷◌, ◌++◌, Option, Some, None, codes, ◌⊎◌}
+use Rattle.manifest_schema.specs.Prelude.{Data, table, Members, get_member, key, Kind, form, faulty_form, IsLawful, IsTotal, package_rows, manifest_rows, has_header, faulty_old, means, unmeant, unmeant_by, spelled, without}
+use Rattle.std.proofs.Common.{Bool, true, false, [], ◌∷◌, ◌++◌, Option, Some, None, codes, ◌⊎◌}
 use Rattle.manifest_schema.specs.Findings.{found_behind, unlisted_keys, FindsAll}
 use Rattle.manifest_schema.specs.Forms.{row_findings, left_over}
 use Rattle.manifest_schema.specs.Found.{old_findings, findings_by, manifest_findings, FindsEveryFault, FaultlessIfMeant}

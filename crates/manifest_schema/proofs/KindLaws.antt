@@ -1,9 +1,9 @@
 -- Each kind satisfies the laws, where the kinds that it is made of do.
-use Rattle.manifest_schema.specs.Prelude.{false≢true, none-some, same_Some, Data, string, integer, boolean, array, table, Items, no_items, item, Members, no_members, member, get_item, Text, Path, Cause, Faults, index, key, behind, itself, wrong_kind, out_of_range, not_true, not_a_choice, without, text, flag, within, whole, truth, reads_choice, not_choice, choice, reads_items, faulty_item, written_items, good_items, list_of, Entries, reads_entries, has_entry, faulty_entry, faulty_map, written_entries, good_entries, map_of, Inheritable, inherited, local, inherits, reads_inh, faulty_inh, good_inh, inh, reads_split, faulty_split, written_split, good_split, split, tree_of, IsLawful, IsPlain}
+use Rattle.manifest_schema.specs.Prelude.{false≢true, none-some, same_Some, Data, string, integer, boolean, array, table, Items, no_items, item, Members, no_members, member, get_item, Text, Path, Cause, Faults, index, key, behind, itself, wrong_kind, out_of_range, not_true, not_a_choice, without, text, flag, within, whole, truth, reads_choice, not_choice, choice, reads_items, written_items, good_items, list_of, Entries, reads_entries, has_entry, faulty_entry, faulty_map, written_entries, good_entries, map_of, Inheritable, inherited, local, inherits, reads_inh, faulty_inh, good_inh, inh, reads_split, faulty_split, written_split, good_split, split, tree_of, IsLawful, IsPlain}
 use Rattle.std.proofs.Common.{◌≡◌, ◌↔◌, ℕ, zero, suc, ◌+◌, ℤ, Bool, true, false, ◌⊎◌, inl, inr, List, [], ◌∷◌, Option, Some, IsTrue, IsFalse, if◌then◌else◌, codes, refl, sym, ap, ◌∙◌, true≢false, arith}
 use Rattle.manifest_schema.specs.Kinds
-use Rattle.manifest_schema.specs.Findings.{Finding, found_behind, faults_of, among, FindsAll}
-use Rattle.manifest_schema.proofs.FindingLaws.{finds_nothing, finds_here, finds_unless, finds_unless_some, finds_behind, finds_both, finds_beside, faultless_finds, append_to, append_first, append_second, behind_to, behind_from, unlisted_faultless}
+use Rattle.manifest_schema.specs.Findings.{Finding, found_behind, FindsAll}
+use Rattle.manifest_schema.proofs.FindingLaws.{finds_nothing, finds_here, finds_unless, finds_unless_some, finds_behind, finds_both, faultless_finds, unlisted_faultless}
 use Rattle.manifest_schema.specs.Findings.{found_here, unlisted_keys}
 use Rattle.manifest_schema.specs.Kinds.{reads_text, not_text, reads_flag, not_flag, reads_whole, not_whole, reads_truth, not_truth, reads_list, faulty_list, reads_map, written_inh, metadata, text_findings, flag_findings, whole_findings, truth_findings, choice_findings, item_findings, list_findings, entry_findings, map_findings, inh_findings, split_findings}
 

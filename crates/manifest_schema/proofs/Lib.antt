@@ -6,9 +6,13 @@ pub mod TableLaws
 pub mod NeedLaws
 pub mod FormLaws
 pub mod WithoutLaws
+pub mod CleanLaws
 pub mod Totals
 pub mod TidyLaws
 pub mod FormTidy
+pub mod DivergingLaws
+pub mod FormDiverging
+pub mod SoundForms
 pub mod ChoiceLaws
 pub mod OneFaultLaws
 pub mod RowLaws
@@ -19,6 +23,8 @@ pub mod ManifestLaws
 pub mod MeaningLaws
 pub mod FoundLaws
 pub mod UnlistedLaws
+pub mod FoundOnce
+pub mod WrittenLaws
 pub mod GoodLaws
 pub mod FormerLaws
 pub mod CopyLaws

@@ -34,7 +34,7 @@ present N k None (Some x) a = absurd a
 present N k (Some d) None a = absurd a
 present N k (Some d) (Some x) a = refl
 
-headers : (K W : Kind Data) (ms : Members) (m : Manifest) → fits (manifest_rows K W) ms m → has_header ms ≡ is_headed m
+pub headers : (K W : Kind Data) (ms : Members) (m : Manifest) → fits (manifest_rows K W) ms m → has_header ms ≡ is_headed m
 unfolding manifest_rows
 headers K W ms m a =
     ap₂ (λ a b. a || b) (present (form (package_rows K)) (codes "package") (get_member (codes "package") ms) m.package assumption)

@@ -2,7 +2,7 @@
 use Rattle.manifest_schema.specs.Prelude.{Data, Text, Path, Cause, key, missing, two_spellings, no_fault, first, Spellings, Slot, absent, one, clash, slot, meets_required, faulty_required, faulty_free, meets_optional, meets_default, meets_lenient, written_some, written_unless, good_some, required, optional, default, lenient_optional, lenient_default, IsLawful, IsLawfulNeed, IsDefault}
 use Rattle.std.proofs.Common.{◌≡◌, Bool, true, false, ◌⊎◌, inl, inr, Option, Some, None, refl, sym, ap, ◌∙◌}
 use Rattle.manifest_schema.specs.Kinds
-use Rattle.manifest_schema.specs.Findings.{found_here, FindsAll}
+use Rattle.manifest_schema.specs.Findings.{FindsAll}
 use Rattle.manifest_schema.specs.Needs.{free_findings, required_findings, lenient_findings}
 use Rattle.manifest_schema.proofs.FindingLaws.{finds_nothing, finds_behind, finds_behind_here, faultless_finds, lenient_faultless}
 

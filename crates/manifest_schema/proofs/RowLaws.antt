@@ -1,5 +1,5 @@
 -- The laws that the rows of the forms are found from.
-use Rattle.manifest_schema.specs.Prelude.{false≢true, not-true, Text, text, flag, list_of, never, is_empty, IsLawful, IsTotal, IsDefault, IsPlain, a_text, a_flag, publish_flag, registries, texts, text_or_flag, publish}
+use Rattle.manifest_schema.specs.Prelude.{false≢true, not-true, Text, text, flag, list_of, never, is_empty, IsLawful, IsTotal, IsClean, IsDefault, IsPlain, a_text, a_flag, publish_flag, registries, texts, text_or_flag, publish}
 use Rattle.std.proofs.Common.{◌≡◌, true, false, inl, inr, List, [], ◌∷◌, refl}
 use Rattle.manifest_schema.specs.Kinds
 use Rattle.manifest_schema.specs.Kinds.{is_flag}
@@ -8,7 +8,10 @@ use Rattle.manifest_schema.specs.PartForms.{text_or_flag_side, publish_side}
 use Rattle.manifest_schema.proofs.KeptLaws.{kept_lawful}
 use Rattle.manifest_schema.proofs.KindLaws.{text_lawful, flag_lawful, whole_lawful, truth_lawful, list_lawful, map_lawful, inh_lawful, IsSplit, split_lawful, plain_from}
 use Rattle.manifest_schema.proofs.NeedLaws.{required_lawful, optional_lawful, default_lawful, lenient_optional_lawful, lenient_default_lawful}
-use Rattle.manifest_schema.proofs.Totals.{text_total, flag_total, whole_total, truth_total, choice_total, list_total, map_total, kept_total, inh_total, split_total, required_total, optional_total, default_total, lenient_optional_total, lenient_default_total, form_is_lawful, form_is_total}
+use Rattle.manifest_schema.proofs.Totals.{text_total, flag_total, whole_total, truth_total, choice_total, list_total, map_total, kept_total, inh_total, split_total, required_total, optional_total, default_total, lenient_optional_total, lenient_default_total}
+use Rattle.manifest_schema.proofs.CleanLaws.{text_clean, flag_clean, truth_clean, whole_clean, choice_clean, kept_clean, list_clean, map_clean, inh_clean, split_clean, required_clean, optional_clean, default_clean, lenient_optional_clean, lenient_default_clean}
+use Rattle.manifest_schema.proofs.DivergingLaws.{text_diverging, flag_diverging, truth_diverging, whole_diverging, choice_diverging, kept_diverging, list_diverging, map_diverging, inh_diverging, split_diverging, required_diverging, optional_diverging, default_diverging, lenient_optional_diverging, lenient_default_diverging}
+use Rattle.manifest_schema.proofs.SoundForms.{form_is_lawful, form_is_total, form_is_clean, form_is_diverging}
 use Rattle.manifest_schema.proofs.ChoiceLaws.{edition_lawful, edition_plain, resolver_lawful, level_lawful, status_lawful, strip_lawful}
 
 -- TEXTS
@@ -41,6 +44,9 @@ text_or_flag_lawful = split_lawful flag_lawful text_lawful text_or_flag_split
 pub text_or_flag_total : IsTotal text_or_flag
 text_or_flag_total = split_total flag_total text_total text_or_flag_split
 
+pub text_or_flag_clean : IsClean text_or_flag
+text_or_flag_clean = split_clean flag_clean text_clean text_or_flag_split
+
 pub text_or_flag_plain : IsPlain text_or_flag
 text_or_flag_plain = plain_from text_or_flag_lawful (λ ms. elim [ a_text b ↦ λ a. a | a_flag s ↦ λ a. a ]) (elim [ a_text b ↦ tt | a_flag s ↦ tt ])
 
@@ -59,6 +65,9 @@ publish_lawful = split_lawful flag_lawful texts_lawful publish_split
 
 pub publish_total : IsTotal publish
 publish_total = split_total flag_total (list_total text_total) publish_split
+
+pub publish_clean : IsClean publish
+publish_clean = split_clean flag_clean (list_clean text_clean) publish_split
 
 pub publish_plain : IsPlain publish
 publish_plain = plain_from publish_lawful (λ ms. elim [ publish_flag b ↦ λ a. a | registries s ↦ λ a. a ]) (elim [ publish_flag b ↦ tt | registries s ↦ texts_good s ])
@@ -83,3 +92,7 @@ unless_empty K = record { well = tt; skips = empty_to }
 pub ruleset row_laws = (required_lawful, optional_lawful, default_lawful, lenient_optional_lawful, lenient_default_lawful, never_skips, unless_true, unless_false, unless_empty, text_lawful, flag_lawful, truth_lawful, whole_lawful, list_lawful, map_lawful, text_or_flag_lawful, publish_lawful, kept_lawful, edition_lawful, resolver_lawful, level_lawful, status_lawful, strip_lawful, inh_lawful, text_plain, texts_plain, text_or_flag_plain, publish_plain, edition_plain, form_is_lawful)
 
 pub ruleset row_totals = (required_total, optional_total, default_total, lenient_optional_total, lenient_default_total, text_total, flag_total, truth_total, whole_total, choice_total, list_total, map_total, text_or_flag_total, publish_total, kept_total, inh_total, form_is_total, form_is_lawful)
+
+pub ruleset row_cleans = (required_clean, optional_clean, default_clean, lenient_optional_clean, lenient_default_clean, text_clean, flag_clean, truth_clean, whole_clean, choice_clean, list_clean, map_clean, text_or_flag_clean, publish_clean, kept_clean, inh_clean, edition_lawful, resolver_lawful, level_lawful, status_lawful, strip_lawful, text_plain, texts_plain, text_or_flag_plain, publish_plain, edition_plain, form_is_clean)
+
+pub ruleset row_divergings = (required_diverging, optional_diverging, default_diverging, lenient_optional_diverging, lenient_default_diverging, text_diverging, flag_diverging, truth_diverging, whole_diverging, choice_diverging, list_diverging, map_diverging, split_diverging, kept_diverging, inh_diverging, form_is_diverging)

@@ -1,10 +1,9 @@
 -- Each value has a reading or a fault.
-use Rattle.manifest_schema.specs.Prelude.{cases_Bool, Data, string, integer, float, boolean, array, get_item, table, Items, no_items, item, Members, no_members, member, Text, Path, wrong_kind, out_of_range, not_true, not_a_choice, missing, two_spellings, holds_float, key, index, Spellings, Slot, absent, one, clash, at, without, text, flag, within, whole, truth, reads_choice, not_choice, choice, reads_items, plain, plain_items, plain_members, float_at, reads_kept, float_in, kept, tree_of, faulty_item, list_of, Entries, reads_entries, has_entry, faulty_entry, map_of, Inheritable, inherited, local, inherits, reads_inh, faulty_inh, inh, reads_split, faulty_split, split, meets_lenient, required, optional, default, lenient_optional, lenient_default, Rows, no_more, others, ◌⨾◌, Fields, gets, spelled, fits_beside, unfit_beside, form, distinct, IsLawful, AreLawful, IsBuilt, ReadOrFaulty, IsTotal, IsTotalNeed, AreTotal}
-use Rattle.std.proofs.Common.{◌≡◌, ℕ, zero, suc, ℤ, Bool, true, false, ◌⊎◌, inl, inr, List, [], ◌∷◌, Option, Some, None, IsTrue, refl, true≢false}
+use Rattle.manifest_schema.specs.Prelude.{cases_Bool, Data, string, integer, float, boolean, array, get_item, table, Items, no_items, item, Members, no_members, member, Text, Path, wrong_kind, out_of_range, not_true, not_a_choice, missing, two_spellings, holds_float, key, index, Spellings, Slot, absent, one, clash, at, without, text, flag, within, whole, truth, reads_choice, not_choice, choice, reads_items, plain, plain_items, plain_members, float_at, kept, tree_of, faulty_item, list_of, reads_entries, has_entry, faulty_entry, map_of, inherited, local, inherits, reads_inh, faulty_inh, inh, reads_split, faulty_split, split, meets_lenient, required, optional, default, lenient_optional, lenient_default, Rows, no_more, others, ◌⨾◌, spelled, fits_beside, unfit_beside, form, IsLawful, IsBuilt, ReadOrFaulty, IsTotal, IsTotalNeed, AreTotal}
+use Rattle.std.proofs.Common.{◌≡◌, ℕ, zero, suc, ℤ, Bool, true, false, ◌⊎◌, inl, inr, List, [], ◌∷◌, Option, Some, None, refl, true≢false}
 use Rattle.manifest_schema.specs.Kinds
 use Rattle.manifest_schema.specs.Forms
 use Rattle.manifest_schema.proofs.KindLaws.{IsSplit}
-use Rattle.manifest_schema.proofs.FormLaws.{form_lawful}
 
 text_told : (d : Data) → ReadOrFaulty (text.reads d) (text.faulty d)
 text_told (string s) = inl (s, refl)
@@ -139,22 +138,6 @@ module _ {A : Type 0} (rows : Rows A) (B : IsBuilt rows) (T : AreTotal rows) whe
 
   pub form_total : IsTotal (form rows)
   form_total = record { total = form_told }
-
--- A FORM THAT KEEPS ALL LAWS: those of its record and of its kind, and each value has a reading or a fault
-pub record IsSoundForm {A : Type 0} (rows : Rows A) : Type 0 where
-  pub built : IsBuilt rows
-  pub lawful : IsLawful (form rows)
-  pub total : IsTotal (form rows)
-
-pub sound_form : {A : Type 0} {rows : Rows A} → IsBuilt rows → AreLawful rows → AreTotal rows → IsTrue (distinct rows) → IsSoundForm rows
-sound_form {rows = rows} b l t d = record { built = b; lawful = form_lawful rows l b d; total = form_total rows b t }
-
-module _ {A : Type 0} {rows : Rows A} (S : IsSoundForm rows) where
-  pub form_is_lawful : IsLawful (form rows)
-  form_is_lawful = S.lawful
-
-  pub form_is_total : IsTotal (form rows)
-  form_is_total = S.total
 
 -- THE OTHER KINDS
 local_told : {A : Type 0} (K : Kinds.Kind A) (d : Data) → ReadOrFaulty (K.reads d) (K.faulty d) → ReadOrFaulty (reads_inh K d) (K.faulty d)

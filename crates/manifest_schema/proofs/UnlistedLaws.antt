@@ -10,11 +10,11 @@ use Rattle.manifest_schema.proofs.PartTidy.{package_rows_tidy, package_distinct,
 
 -- THE KEYS OF A MANIFEST AND OF A PACKAGE
 -- of these keys all but one are no names
-abbrev apart_but : Text → List Text → List Text → Bool
+abbrev pub apart_but : Text → List Text → List Text → Bool
 apart_but w names [] = true
 apart_but w names (k ∷ ks) = (same_key w k || not (is_among names k)) && apart_but w names ks
 
-shared_is : (w : Text) (names ks : List Text) (k : Text) → apart_but w names ks ≡ true → is_among ks k ≡ true → is_among names k ≡ true → w ≡ k
+pub shared_is : (w : Text) (names ks : List Text) (k : Text) → apart_but w names ks ≡ true → is_among ks k ≡ true → is_among names k ≡ true → w ≡ k
 shared_is w names [] k a h n = absurd (true≢false (sym h))
 shared_is w names (l ∷ ks) k a h n =
     let (here, more) = and_parts (same_key w l || not (is_among names l)) (apart_but w names ks) a in
@@ -26,17 +26,17 @@ shared_is w names (l ∷ ks) k a h n =
       | inr e ↦ shared_is w names ks k more (rw e at h) n
     ]
 
-record KnownKeys (own all : List Text) : Type 0 where
-  shared : apart_but (codes "workspace") own all ≡ true
-  no_project : is_among all (codes "project") ≡ false
-  has_package : is_among all (codes "package") ≡ true
-  has_workspace : is_among all (codes "workspace") ≡ true
+pub record KnownKeys (own all : List Text) : Type 0 where
+  pub shared : apart_but (codes "workspace") own all ≡ true
+  pub no_project : is_among all (codes "project") ≡ false
+  pub has_package : is_among all (codes "package") ≡ true
+  pub has_workspace : is_among all (codes "workspace") ≡ true
 
-known : (K W : Kind Data) → KnownKeys (spelled (package_rows K)) (spelled (manifest_rows K W))
+pub known : (K W : Kind Data) → KnownKeys (spelled (package_rows K)) (spelled (manifest_rows K W))
 unfolding package_rows manifest_rows
 known K W = record { shared = refl; no_project = refl; has_package = refl; has_workspace = refl }
 
-closed : (K W : Kind Data) → (is_closed (package_rows K) ≡ true) × (is_closed (manifest_rows K W) ≡ true)
+pub closed : (K W : Kind Data) → (is_closed (package_rows K) ≡ true) × (is_closed (manifest_rows K W) ≡ true)
 unfolding package_rows manifest_rows
 closed K W = (refl, refl)
 
@@ -47,7 +47,7 @@ has_key j ms = is_some (get_member j ms)
 has_key-left : (ps : List Path) (j : Text) (ms : Members) → (ends_here (from_step (key j) ps) ≡ false) ⊎ (has_key j ms ≡ false) → has_key j (left_out_members ps ms) ≡ has_key j ms
 has_key-left ps j ms h = test-left is_some refl (λ ps d. refl) ps j ms h
 
-none_of : (o : Option Data) → is_some o ≡ false → o ≡ None
+pub none_of : (o : Option Data) → is_some o ≡ false → o ≡ None
 none_of None h = refl
 none_of (Some d) h = absurd (true≢false h)
 

@@ -1,5 +1,5 @@
 -- What is found in a value: its faults, what is ignored where it does not fit, and the keys that nothing reads.
-use Rattle.std.specs.Prelude.{◌≡◌, ◌⊎◌, ◌↔◌, List, [], ◌∷◌}
+use Rattle.std.specs.Prelude.{◌≡◌, ◌⊎◌, ◌↔◌, List, [], ◌∷◌, ◌++◌}
 use Rattle.toml.specs.Data.{Members, no_members, member}
 use Rattle.manifest_schema.specs.Paths.{Text, Cause, not_a_choice, Step, key, Path, Faults}
 
@@ -81,3 +81,34 @@ IsFaultless fs = faults_of fs ≡ []
 -- these faults are found, and no others
 abbrev pub FindsAll : List Finding → Faults → Type 0
 FindsAll fs F = (p : Path) (c : Cause) → among (faults_of fs) p c ↔ F p c
+
+-- WHERE IT IS FOUND
+abbrev pub found_at : Finding → Path
+found_at (fault p c ws) = p
+found_at (ignored p c ws) = p
+found_at (unlisted p) = p
+
+-- the paths of some findings, in their order
+abbrev pub found_paths : List Finding → List Path
+found_paths [] = []
+found_paths (f ∷ fs) = found_at f ∷ found_paths fs
+
+-- the two paths diverge: neither is the other one, or begins with it
+abbrev pub Diverge : Path → Path → Type 0
+Diverge p q = (r : Path) → (p ++ r ≡ q → ⊥) × (q ++ r ≡ p → ⊥)
+
+-- the path diverges from each of these
+abbrev pub DivergeFrom : List Path → Path → Type 0
+DivergeFrom [] p = Unit {0}
+DivergeFrom (q ∷ qs) p = Diverge p q × DivergeFrom qs p
+
+-- EACH PATH ONCE: each of them diverges from all others
+abbrev pub AllDiverge : List Path → Type 0
+AllDiverge [] = Unit {0}
+AllDiverge (p ∷ ps) = DivergeFrom ps p × AllDiverge ps
+
+-- each of the paths begins with a step of which P holds
+abbrev pub AllBegin : (Step → Type 0) → List Path → Type 0
+AllBegin P [] = Unit {0}
+AllBegin P ([] ∷ ps) = ⊥
+AllBegin P ((s ∷ p) ∷ ps) = P s × AllBegin P ps

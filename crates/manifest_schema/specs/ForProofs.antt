@@ -6,7 +6,7 @@ use Rattle.manifest_schema.specs.Paths.{Text, metadata_fault}
 use Rattle.manifest_schema.specs.Slots.{Spellings, only, both, at}
 use Rattle.manifest_schema.specs.Kinds.{nothing, unread}
 use Rattle.manifest_schema.specs.Forms.{Rows, ◌⨾◌}
-use Rattle.manifest_schema.specs.Lawful.{IsLawful, IsTidy, IsTotal}
+use Rattle.manifest_schema.specs.Lawful.{IsLawful, IsTidy, IsTotal, IsClean, IsDiverging}
 
 -- SPELLINGS, from a word and perhaps a second word
 abbrev pub spellings_of : Text → Option Text → Spellings
@@ -40,6 +40,13 @@ nothing_tidy = record {
   inside = λ d. refl;
 }
 
+-- it writes nothing, and what it finds is one fault
+pub nothing_clean : IsClean nothing
+nothing_clean = record { clean = λ x g. absurd g }
+
+pub nothing_diverging : IsDiverging nothing
+nothing_diverging = record { diverging = λ d s. (tt, tt) }
+
 -- THE KIND THAT LOOKS AT NO VALUE satisfies them too: no value has a fault
 pub unread_laws : IsLawful unread
 unread_laws = record {
@@ -56,3 +63,9 @@ unread_tidy = record {
   faulty = λ d s p c. (λ h. h, λ h. h);
   inside = λ d. refl;
 }
+
+pub unread_clean : IsClean unread
+unread_clean = record { clean = λ x g. refl }
+
+pub unread_diverging : IsDiverging unread
+unread_diverging = record { diverging = λ d s. tt }

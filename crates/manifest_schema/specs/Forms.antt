@@ -1,9 +1,9 @@
 -- Forms: a record is read from a table by a list of rows, one for each field.
-use Rattle.std.specs.Prelude.{Bool, true, false, not, ◌&&◌, ◌⊎◌, List, [], ◌∷◌, ◌++◌, IsTrue}
+use Rattle.std.specs.Prelude.{◌≡◌, Bool, true, false, not, ◌&&◌, ◌⊎◌, List, [], ◌∷◌, ◌++◌, IsTrue}
 use Rattle.toml.specs.Data.{Data, table, Members, no_members}
 use Rattle.manifest_schema.specs.Paths.{Text, wrong_kind, Faults, itself}
 use Rattle.manifest_schema.specs.Findings.{Finding, found_here, unlisted_keys}
-use Rattle.manifest_schema.specs.Slots.{Spellings, only, both, first, at, put_some, is_among, without}
+use Rattle.manifest_schema.specs.Slots.{Spellings, only, both, first, slot, at, put_some, is_among, without}
 use Rattle.manifest_schema.specs.Kinds.{Kind, Entries, reads_entries, faulty_entry, written_entries, good_entries, entry_findings}
 use Rattle.manifest_schema.specs.Needs.{Need}
 
@@ -79,6 +79,18 @@ abbrev pub written_rows : {A : Type 0} (rows : Rows A) → Fields rows → Membe
 written_rows (r ⨾ rs) t = put_some (first r.spellings) (r.need.written t.0) (written_rows rs t.1)
 written_rows (others get K) t = written_entries K t
 written_rows no_more t = no_members
+
+-- the table holds what is written of each row, under its first spelling alone, and no other entries than the map's
+abbrev pub holds_beside :
+    {A : Type 0} → List Text → (rows : Rows A) → Fields rows → Members → Type 0
+holds_beside named (r ⨾ rs) t ms =
+    (at r.spellings ms ≡ slot (first r.spellings) (r.need.written t.0))
+    × holds_beside named rs t.1 ms
+holds_beside named (others get K) t ms = without named ms ≡ written_entries K t
+holds_beside named no_more t ms = without named ms ≡ no_members
+
+abbrev pub holds : {A : Type 0} → Rows A → Members → A → Type 0
+holds rows ms x = holds_beside (spelled rows) rows (gets rows x) ms
 
 -- WHAT IS WELL-FORMED: each content, and no entry of the map has the key of a row
 abbrev pub none_named : {B : Type 0} → List Text → Entries B → Bool

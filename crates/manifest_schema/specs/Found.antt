@@ -2,14 +2,14 @@
 use Rattle.std.specs.Prelude.{◌≡◌, ◌↔◌, Bool, true, false, List, [], ◌∷◌, ◌++◌, Option, Some, None, IsTrue, codes}
 use Rattle.toml.specs.Data.{Data, table, Members, get_member, members_are_sorted}
 use Rattle.manifest_schema.specs.Paths.{Path, Cause, key}
-use Rattle.manifest_schema.specs.Findings.{Finding, found_behind, unlisted_keys, faults_of, ignored_of, unlisted_of, FindsAll}
+use Rattle.manifest_schema.specs.Findings.{Finding, found_behind, unlisted_keys, faults_of, ignored_of, unlisted_of, FindsAll, found_paths, AllDiverge}
 use Rattle.manifest_schema.specs.Slots.{without}
 use Rattle.manifest_schema.specs.LeftOut.{left_out_members}
 use Rattle.manifest_schema.specs.Kinds.{Kind}
 use Rattle.manifest_schema.specs.Forms.{form, row_findings, left_over}
 use Rattle.manifest_schema.specs.Contents.{Manifest}
 use Rattle.manifest_schema.specs.ManifestForms.{package_rows, manifest_rows}
-use Rattle.manifest_schema.specs.Meaning.{has_header, means, unmeant}
+use Rattle.manifest_schema.specs.Meaning.{well_formed, rewritten, has_header, is_headed, means, unmeant}
 
 -- without a header the package is `project`, or else its rows are those of the whole table too
 abbrev pub old_findings : Kind Data → Kind Data → Members → Option Data → List Finding
@@ -63,3 +63,27 @@ SameWithoutUnlisted K W =
     (ms : Members) → IsTrue (members_are_sorted ms) →
     ((m : Manifest) → means K W (without_unlisted K W ms) m ↔ means K W ms m)
     × ((p : Path) (c : Cause) → unmeant K W (without_unlisted K W ms) p c ↔ unmeant K W ms p c)
+
+-- where the keys of each table ascend, what is found stands at paths that diverge: each place is reported once
+abbrev pub FindsEachOnce : Kind Data → Kind Data → Type 0
+FindsEachOnce K W =
+    (ms : Members) → IsTrue (members_are_sorted ms) →
+    AllDiverge (found_paths (manifest_findings K W ms))
+
+-- nothing is found in what is written of a well-formed manifest with a package or a workspace
+abbrev pub FindsNothingWritten : Kind Data → Kind Data → Type 0
+FindsNothingWritten K W =
+    (m : Manifest) → well_formed K W m → is_headed m ≡ true →
+    manifest_findings K W (rewritten K W m) ≡ []
+
+-- nor in the rewritten table of an accepted table
+abbrev pub FindsNothingRewritten : Kind Data → Kind Data → Type 0
+FindsNothingRewritten K W =
+    (ms : Members) (m : Manifest) → means K W ms m → manifest_findings K W (rewritten K W m) ≡ []
+
+-- where the keys of each table ascend, an accepted table is rewritten as it is without its unlisted keys
+abbrev pub RewrittenWithoutUnlisted : Kind Data → Kind Data → Type 0
+RewrittenWithoutUnlisted K W =
+    (ms : Members) (m n : Manifest) → IsTrue (members_are_sorted ms) →
+    means K W ms m → means K W (without_unlisted K W ms) n
+    → rewritten K W m ≡ rewritten K W n

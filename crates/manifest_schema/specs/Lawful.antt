@@ -2,12 +2,12 @@
 use Rattle.std.specs.Prelude.{◌≡◌, ◌⊎◌, ◌↔◌, Bool, true, not, List, [], IsTrue, IsFalse}
 use Rattle.toml.specs.Data.{Data, Members, table, is_sorted}
 use Rattle.manifest_schema.specs.Paths.{Text, Cause, key, Path, Faults}
-use Rattle.manifest_schema.specs.Findings.{Finding, found_behind, unlisted_of, FindsAll}
-use Rattle.manifest_schema.specs.Slots.{Spellings, Slot, one, slot, is_among}
+use Rattle.manifest_schema.specs.Findings.{Finding, found_behind, unlisted_of, FindsAll, found_paths, AllDiverge, AllBegin}
+use Rattle.manifest_schema.specs.Slots.{Spellings, first, Slot, one, slot, is_among}
 use Rattle.manifest_schema.specs.Kinds.{Kind, has_entry}
 use Rattle.manifest_schema.specs.Needs.{Need}
 use Rattle.manifest_schema.specs.LeftOut.{from_step, ends_here, left_out}
-use Rattle.manifest_schema.specs.Forms.{Rows, no_more, others, ◌⨾◌, Fields, gets, spelled, is_closed, form}
+use Rattle.manifest_schema.specs.Forms.{Rows, no_more, others, ◌⨾◌, Fields, gets, spelled, is_closed, form, written_rows, good_rows, holds}
 
 -- THE FIVE LAWS of a kind
 pub record IsLawful {A : Type 0} (K : Kind A) : Type 0 where
@@ -121,3 +121,55 @@ UnlistedIfNoRow rows =
     IsTrue (is_closed rows) → (ms : Members) (k : Text) (d : Data) → has_entry k d ms →
     ends_here (from_step (key k) (unlisted_in (form rows) (table ms)))
     ≡ not (is_among (spelled rows) k)
+
+-- WHAT IS WRITTEN HAS NOTHING TO BE FOUND
+-- nothing is found in what is written of a well-formed content
+pub record IsClean {A : Type 0} (K : Kind A) : Type 0 where
+  pub clean : (x : A) → K.good x → K.findings (K.written x) ≡ []
+
+-- the same for a need
+pub record IsCleanNeed {C : Type 0} (n : Need C) : Type 0 where
+  pub clean :
+      (names : Spellings) (k : Text) (x : C) → n.good x →
+      n.findings names (slot k (n.written x)) ≡ []
+
+-- the same for the rows of a form
+abbrev pub AreClean : {A : Type 0} → Rows A → Type 0
+AreClean (r ⨾ rs) = IsCleanNeed r.need × AreClean rs
+AreClean (others get K) = IsClean K
+AreClean no_more = Unit {0}
+
+-- of a well-formed content the form writes each row, and nothing else
+abbrev pub WritesEachRow : {A : Type 0} → Rows A → Type 0
+WritesEachRow {A} rows =
+    (x : A) → good_rows rows x → holds rows (written_rows rows (gets rows x)) x
+
+-- EACH PLACE ONCE
+-- where the keys of a value ascend, what is found in it stands at paths that diverge
+pub record IsDiverging {A : Type 0} (K : Kind A) : Type 0 where
+  pub diverging : (d : Data) → IsTrue (is_sorted d) → AllDiverge (found_paths (K.findings d))
+
+-- the key under which something may be found of a slot
+abbrev pub slot_key : Spellings → Slot → Text
+slot_key names (one k d) = k
+slot_key names _ = first names
+
+-- the keys of the slot's value ascend
+abbrev pub IsSlotSorted : Slot → Type 0
+IsSlotSorted (one k d) = IsTrue (is_sorted d)
+IsSlotSorted _ = Unit {0}
+
+-- the same for a need, and each path begins with the key of the slot
+pub record IsDivergingNeed {C : Type 0} (n : Need C) : Type 0 where
+  pub behind :
+      (names : Spellings) (s : Slot) →
+      AllBegin (λ t. t ≡ key (slot_key names s)) (found_paths (n.findings names s))
+  pub diverging :
+      (names : Spellings) (s : Slot) → IsSlotSorted s →
+      AllDiverge (found_paths (n.findings names s))
+
+-- the same for the rows of a form
+abbrev pub AreDiverging : {A : Type 0} → Rows A → Type 0
+AreDiverging (r ⨾ rs) = IsDivergingNeed r.need × AreDiverging rs
+AreDiverging (others get K) = IsDiverging K
+AreDiverging no_more = Unit {0}

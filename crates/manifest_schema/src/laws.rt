@@ -3,9 +3,9 @@
 //! The parameters `P` and `W` stand for the two kinds of metadata. Each function returns at once: it is there for
 //! its contract, a law of the definitions.
 
-ghost use Rattle.manifest_schema.specs.Prelude.{tree_of, MeansOne, WrittenIsRead, AcceptedIsWellFormed, WrittenMeansTheSame, RewrittenMeansTheSame, RewrittenTwiceIsOnce, SameExactly, SameWrittenIsSame, FaultyMeansNothing, AcceptedOrFaulty, OldWrittenIsRead, FindsEveryFault, FaultlessIfMeant, SameWithoutUnlisted};
+ghost use Rattle.manifest_schema.specs.Prelude.{tree_of, MeansOne, WrittenIsRead, AcceptedIsWellFormed, WrittenMeansTheSame, RewrittenMeansTheSame, RewrittenTwiceIsOnce, SameExactly, SameWrittenIsSame, FaultyMeansNothing, AcceptedOrFaulty, OldWrittenIsRead, FindsEveryFault, FaultlessIfMeant, SameWithoutUnlisted, RewrittenWithoutUnlisted, FindsEachOnce, FindsNothingWritten, FindsNothingRewritten, IsClean, WritesEachRow, form, manifest_rows};
 
-use crate::kinds::{LawfulKind, TidyKind, TotalKind};
+use crate::kinds::{CleanKind, DivergingKind, LawfulKind, TidyKind, TotalKind};
 
 /// A table means at most one manifest: there is at most one that it is read as.
 pub fn means_one<P: LawfulKind, W: LawfulKind>()
@@ -69,6 +69,34 @@ pub fn finds_every_fault<P: TotalKind, W: TotalKind>()
 /// has the same faults: the keys that are found to be read by nothing are indeed of no use.
 pub fn same_without_unlisted<P: TidyKind, W: TidyKind>()
     ensures { SameWithoutUnlisted (tree_of P.kind) (tree_of W.kind) }
+{}
+
+/// An accepted table whose keys ascend, as do those of the tables inside, is rewritten to the same table with its
+/// unlisted keys and without them.
+pub fn rewritten_without_unlisted<P: TidyKind, W: TidyKind>()
+    ensures { RewrittenWithoutUnlisted (tree_of P.kind) (tree_of W.kind) }
+{}
+
+/// Each place of a table whose keys ascend, as do those of the tables inside, is reported once: no two findings have
+/// the same path, and none stands inside the value that another one stands at.
+pub fn finds_each_once<P: DivergingKind, W: DivergingKind>()
+    ensures { FindsEachOnce (tree_of P.kind) (tree_of W.kind) }
+{}
+
+/// Nothing is found in what is written of a well-formed manifest with a package or a workspace, nor in the rewritten
+/// table of an accepted table: no fault, nothing that is ignored, and no key that nothing reads. Nor does the form of a
+/// manifest (which takes no old header into account) find anything in what is written of any well-formed manifest.
+pub fn finds_nothing_written<P: CleanKind, W: CleanKind>()
+    ensures form { IsClean (form (manifest_rows (tree_of P.kind) (tree_of W.kind))) }
+    ensures written { FindsNothingWritten (tree_of P.kind) (tree_of W.kind) }
+    ensures rewritten { FindsNothingRewritten (tree_of P.kind) (tree_of W.kind) }
+{}
+
+/// The table that is written of a well-formed manifest holds what the need of each row writes, under the first spelling
+/// of the row, and nothing else.
+#[tactic(auto, using(crate::proofs::WrittenLaws::manifest_by_rows))]
+pub fn manifest_is_written_by_rows<P: LawfulKind, W: LawfulKind>()
+    ensures { WritesEachRow (manifest_rows (tree_of P.kind) (tree_of W.kind)) }
 {}
 
 /// Where no inherited dependency of a manifest chooses its default features, what is written of the manifest is what

@@ -4,7 +4,7 @@ use Rattle.manifest_schema.specs.Findings.{Finding, behind_step}
 use Rattle.std.proofs.Common.{◌≡◌, List, [], ◌∷◌, ◌++◌, map, refl, sym, ap, ◌∙◌, append_assoc, append-nil, String, Vec, Global, Bor, string_bytes, rules}
 use Rattle.std.proofs.lemmas.List.{map-append}
 use Rattle.manifest_value.specs.Faults.{step_of, cause_of}
-use Rattle.manifest_value.specs.Found.{finding_of, choices_of, joined, found_in, found_among, found_at}
+use Rattle.manifest_value.specs.Found.{finding_of, choices_of, joined, found_in, found_among, found_below}
 use Rattle.manifest_value.specs.declared.fault.Cause.{Cause as CodeCause}
 use Rattle.manifest_value.specs.declared.fault.Step.{Step as CodeStep}
 use Rattle.manifest_value.specs.declared.finding_lists.Finding.{Finding as CodeFinding}
@@ -57,26 +57,26 @@ lenient-behind s (ignored p c ws ∷ fs) = ap (λ t. ignored (s ∷ p) c ws ∷ 
 lenient-behind s (unlisted p ∷ fs) = ap (λ t. unlisted (s ∷ p) ∷ t) (lenient-behind s fs)
 
 -- AT A PATH
-pub at-none : (p : Path) → found_at p [] ≡ []
+pub at-none : (p : Path) → found_below p [] ≡ []
 at-none [] = refl
 at-none (s ∷ p) = ap (found_behind s) (at-none p)
 
-pub at-append : (p : Path) (fs gs : List Finding) → found_at p (fs ++ gs) ≡ found_at p fs ++ found_at p gs
+pub at-append : (p : Path) (fs gs : List Finding) → found_below p (fs ++ gs) ≡ found_below p fs ++ found_below p gs
 at-append [] fs gs = refl
-at-append (s ∷ p) fs gs = ap (found_behind s) (at-append p fs gs) ∙ behind-append s (found_at p fs) (found_at p gs)
+at-append (s ∷ p) fs gs = ap (found_behind s) (at-append p fs gs) ∙ behind-append s (found_below p fs) (found_below p gs)
 
-pub at-deeper : (p : Path) (s : Step) (fs : List Finding) → found_at (p ++ s ∷ []) fs ≡ found_at p (found_behind s fs)
+pub at-deeper : (p : Path) (s : Step) (fs : List Finding) → found_below (p ++ s ∷ []) fs ≡ found_below p (found_behind s fs)
 at-deeper [] s fs = refl
 at-deeper (t ∷ p) s fs = ap (found_behind t) (at-deeper p s fs)
 
-pub at-fault : (p : Path) (c : Cause) (ws : List Text) → found_at p (fault [] c ws ∷ []) ≡ fault p c ws ∷ []
+pub at-fault : (p : Path) (c : Cause) (ws : List Text) → found_below p (fault [] c ws ∷ []) ≡ fault p c ws ∷ []
 at-fault [] c ws = refl
 at-fault (s ∷ p) c ws = ap (found_behind s) (at-fault p c ws)
 
-pub at-ignored : (p : Path) (c : Cause) (ws : List Text) → found_at p (ignored [] c ws ∷ []) ≡ ignored p c ws ∷ []
+pub at-ignored : (p : Path) (c : Cause) (ws : List Text) → found_below p (ignored [] c ws ∷ []) ≡ ignored p c ws ∷ []
 at-ignored [] c ws = refl
 at-ignored (s ∷ p) c ws = ap (found_behind s) (at-ignored p c ws)
 
-pub at-unlisted : (p : Path) (k : Text) → found_at p (unlisted (key k ∷ []) ∷ []) ≡ unlisted (p ++ key k ∷ []) ∷ []
+pub at-unlisted : (p : Path) (k : Text) → found_below p (unlisted (key k ∷ []) ∷ []) ≡ unlisted (p ++ key k ∷ []) ∷ []
 at-unlisted [] k = refl
 at-unlisted (s ∷ p) k = ap (found_behind s) (at-unlisted p k)

@@ -55,9 +55,9 @@ abbrev pub found : Findings → List PathFinding
 found fs = found_among fs.nodes.items
 
 -- the findings of a value at this path
-abbrev pub found_at : Path → List PathFinding → List PathFinding
-found_at [] fs = fs
-found_at (s ∷ p) fs = found_behind s (found_at p fs)
+abbrev pub found_below : Path → List PathFinding → List PathFinding
+found_below [] fs = fs
+found_below (s ∷ p) fs = found_behind s (found_below p fs)
 
 -- this list is what was found
 abbrev pub Finds : List PathFinding → Findings → Type 0

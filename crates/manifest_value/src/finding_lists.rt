@@ -3,7 +3,7 @@
 ghost use Rattle.manifest_schema.specs.Prelude.{faults_of, ignored_of, unlisted_of, key as key_step};
 ghost use Rattle.std.specs.Prelude.{◌≡◌, ◌++◌, [], ◌∷◌, IfOk, OnOk, map};
 ghost use Rattle.manifest_value.specs.Faults.{path_of};
-ghost use Rattle.manifest_value.specs.Found.{fault_of, finding_of, found_in, found_among, found, found_at};
+ghost use Rattle.manifest_value.specs.Found.{fault_of, finding_of, found_in, found_among, found, found_below};
 
 use crate::fault::{KeyPath, SchemaFault, Step};
 use crate::findings::{Choices, FindingNode, Findings};
@@ -39,7 +39,7 @@ fn push_node(
     out: Vec<Finding>,
 ) -> Result<Vec<Finding>, AllocError>
     ensures list { IfOk result (λ v. map finding_of v.items
-        ≡ map finding_of out.items ++ found_at (path_of path.old) (found_in node.now)) }
+        ≡ map finding_of out.items ++ found_below (path_of path.old) (found_in node.now)) }
     ensures path { OnOk result (path_of path.new ≡ path_of path.old) }
 {
     let mut out = out;
@@ -76,7 +76,7 @@ fn push_nodes(
     out: Vec<Finding>,
 ) -> Result<Vec<Finding>, AllocError>
     ensures list { IfOk result (λ v. map finding_of v.items
-        ≡ map finding_of out.items ++ found_at (path_of path.old) (found_among nodes.now)) }
+        ≡ map finding_of out.items ++ found_below (path_of path.old) (found_among nodes.now)) }
     ensures path { OnOk result (path_of path.new ≡ path_of path.old) }
 {
     let mut out = out;
