@@ -33,12 +33,14 @@ class Row(NamedTuple):
 
 
 class Place(NamedTuple):
-    """Where something may be put: the path, the rank, whether it is below a badge, the form, and what a fault is there."""
+    """Where something may be put: the path, the rank, whether it is below a badge, the form, and the texts that are allowed
+    there, if it is a choice."""
 
     path: tuple
     rank: tuple
     is_lenient: bool
     form: str
+    choices: tuple = ()
 
     def below(self, step, rank, **more):
         return self._replace(path=self.path + (step,), rank=self.rank + (rank,), **more)
@@ -51,6 +53,7 @@ class Finding(NamedTuple):
     what: str
     path: tuple
     cause: Any
+    choices: tuple
     form: str
 
 
@@ -92,6 +95,15 @@ FORMS = {
 REST = "any other key"
 
 
+def choices_of(kind):
+    """The texts that a value of the kind may be, if it is a choice."""
+    name, *more = kind
+    if name == "inherited":
+        return choices_of(more[0])
+    words = WORDS[more[0]] if name == "choice" else WORDS["level"] if name == "lint" else []
+    return tuple(word for word in words if isinstance(word, str))
+
+
 def spelled(form):
     """Both spellings of all keys of a form."""
     return {word for row in FORMS[form] for word in (row.key, row.second) if word and word != REST}
@@ -123,8 +135,8 @@ class Planted:
         return self.random.random() < chance
 
     def wanted(self, what):
-        """The paths and causes of this kind, in their order."""
-        return [(each.path, each.cause) for each in self.found if each.what == what]
+        """The paths, causes and choices of this kind, in their order."""
+        return [(each.path, each.cause, each.choices) for each in self.found if each.what == what]
 
     # good values
 
@@ -216,7 +228,8 @@ class Planted:
         what, place, _, closes, put = self.random.choice(by_cause[cause, form])
         put()
         self.closed |= {place.path, *closes}
-        self.found.append(Finding(place.rank, what, place.path, None if what == UNLISTED else cause, form))
+        choices = place.choices if cause == NOT_A_CHOICE else ()
+        self.found.append(Finding(place.rank, what, place.path, None if what == UNLISTED else cause, choices, form))
 
     def root(self):
         """What may be done in the whole table. Each of it is the place, the cause, other paths that it closes, and the deed."""
@@ -238,8 +251,9 @@ class Planted:
     def at(self, kind, holder, step, place):
         """What may be done at the value that the holder has there, or will have."""
         if self.is_free(place.path):
+            allowed = place._replace(choices=choices_of(kind))
             for cause, value in self.misfits(kind):
-                yield place, cause, (), lambda value=value: put(holder, step, value)
+                yield allowed, cause, (), lambda value=value: put(holder, step, value)
         is_there = step < len(holder) if isinstance(holder, list) else step in holder
         if is_there and all(place.path[: len(each)] != each for each in self.closed):
             yield from self.inside(kind, holder[step], place)

@@ -248,11 +248,12 @@ struct manifest_answer manifest_table_without_metadata(const uint8_t *bytes, siz
 struct manifest_answer manifest_document(const uint8_t *bytes, size_t bytes_length, size_t most, uint8_t *out,
                                          size_t out_length);
 
-/* What is found by manifest_findings. */
+/* The parts of what is found by manifest_findings. */
 enum manifest_found {
-    MANIFEST_FOUND_FAULT = 0,   /* a value, or its absence, does not fit: the manifest is refused */
-    MANIFEST_FOUND_IGNORED = 1, /* it does not fit where that refuses nothing: a badge, which counts as absent */
-    MANIFEST_FOUND_UNLISTED = 2 /* a key that nothing reads, as a misspelled one; nothing below it is looked at */
+    MANIFEST_FOUND_FAULT = 0,    /* the value here, or its absence, does not fit: the manifest is refused */
+    MANIFEST_FOUND_IGNORED = 1,  /* it does not fit where that refuses nothing: a badge, which counts as absent */
+    MANIFEST_FOUND_UNLISTED = 2, /* nothing reads this key of the table here, as a misspelled one, or looks below it */
+    MANIFEST_FOUND_BELOW = 3     /* what is found in a value of the table or the array here */
 };
 
 /* What is found in the document that the bytes are, as in a manifest: every fault, and not the first one alone, what is
@@ -260,15 +261,19 @@ enum manifest_found {
    Without any, the bytes are a manifest, which manifest_canonical accepts if its text is not too long; and else the first
    fault is the one with which that refuses them. Metadata is kept as it is there, so each float in it is a fault.
 
-   It is a tagged array, which has for each finding an array of three values:
+   It is a tagged array of parts, of what is found in the whole table. Each part is an array, whose first value is a number of
+   enum manifest_found. What stands after it:
 
-      a number of enum manifest_found
-      a number of enum manifest_cause; 0 of a key that nothing reads
-      an array: the path from the whole table, a text for each key and a number for each index
+      0, 1   a number of enum manifest_cause; and after MANIFEST_NOT_A_CHOICE, and no other, an array of the texts that are
+             allowed here
+      2      the key, a text
+      3      a text for a key, or a number for an index of an array, from 0 on; and an array of the parts of what is found in
+             the value that it leads to. What is missing is found in the value that it would be
 
-   They stand in the order in which docs/KEYS.md of the repository has the keys: the values of a table key by key, those
-   of lists and maps one by one, and after all of a table its keys that nothing reads. `[package]` with `name = 1` and
-   `edtion = "2021"` is 7 2 7 3 2 0 2 1 7 2 1 7 `package` 1 4 `name` 7 3 2 2 2 0 7 2 1 7 `package` 1 6 `edtion`. */
+   So each step of a path stands once, however much is found below it. Read from the beginning, the parts stand in the order
+   in which docs/KEYS.md of the repository has the keys: the values of a table key by key, those of lists and maps one by
+   one, and after all of a table its keys that nothing reads. `[package]` with `name = 1` and `edtion = "2021"` is
+   7 1 7 3 2 3 1 7 `package` 7 2 7 3 2 3 1 4 `name` 7 1 7 2 2 0 2 1 7 2 2 2 1 6 `edtion`. */
 struct manifest_answer manifest_findings(const uint8_t *bytes, size_t bytes_length, size_t most, uint8_t *out,
                                          size_t out_length);
 
@@ -291,7 +296,7 @@ struct manifest_answer manifest_resolved_of_tables(const uint8_t *bytes, size_t 
 
 /* The version of these calls and of the tagged bytes: MANIFEST_VERSION, where the library is of the same version as this
    header. */
-#define MANIFEST_VERSION 2
+#define MANIFEST_VERSION 3
 uint32_t manifest_version(void);
 
 /* What a request for memory answers. */

@@ -3,11 +3,11 @@
 get_filename_component(_cargo_manifest_folder "${CMAKE_CURRENT_LIST_DIR}" REALPATH)
 get_filename_component(_cargo_manifest_prefix "${_cargo_manifest_folder}/../../.." ABSOLUTE)
 
-if(NOT TARGET cargo_manifest::cargo_manifest AND EXISTS "${_cargo_manifest_prefix}/lib/libcargo_manifest.so.2")
+if(NOT TARGET cargo_manifest::cargo_manifest AND EXISTS "${_cargo_manifest_prefix}/lib/libcargo_manifest.so.3")
     add_library(cargo_manifest::cargo_manifest SHARED IMPORTED)
     set_target_properties(cargo_manifest::cargo_manifest PROPERTIES
-        IMPORTED_LOCATION "${_cargo_manifest_prefix}/lib/libcargo_manifest.so.2"
-        IMPORTED_SONAME libcargo_manifest.so.2
+        IMPORTED_LOCATION "${_cargo_manifest_prefix}/lib/libcargo_manifest.so.3"
+        IMPORTED_SONAME libcargo_manifest.so.3
         INTERFACE_INCLUDE_DIRECTORIES "${_cargo_manifest_prefix}/include")
 endif()
 

@@ -88,7 +88,8 @@ static const struct manifest_folder FOLDERS[] = {{{(const uint8_t *)".", 1}, {NU
 #define TABLE "\x08\x01\x07package\x08\x02\x07" "edition\x01\x04" "2021\x04name\x01\x03p-q"
 #define BADGE "badges.gitlab = 1\npackage = {name = 'p-q'}"
 /* (what is ignored, since no byte of it is zero) */
-#define FOUND "\x07\x01\x07\x03\x02\x01\x02\x01\x07\x02\x01\x06" "badges\x01\x06gitlab"
+#define FOUND                                                                                                           \
+    "\x07\x01\x07\x03\x02\x03\x01\x06" "badges\x07\x01\x07\x03\x02\x03\x01\x06gitlab\x07\x01\x07\x02\x02\x01\x02\x01"
 
 /* What each kind of call answers. */
 static const char *const TEXTS[] = {PACKAGE, LIBRARY PACKAGE, PACKAGE VERSION, LIBRARY PACKAGE VERSION,

@@ -1,7 +1,8 @@
 //! Does one thing with each text in a thread with so much stack. A thread that runs out of it ends the process by a signal.
 //!
 //! `stack STEP BYTES < CASES`, where STEP is `call`, which makes calls of the library alone, with the text as the manifest and as
-//! its root; or `read` (and drop), `clone`, `compare`, `print`, `pretty` or `write`, of which each reads first.
+//! its root; or `find`, which finds one thing in the text, copies, compares, prints and drops it; or `read` (and drop), `clone`,
+//! `compare`, `print`, `pretty` or `write`, of which each reads first.
 
 mod cases;
 
@@ -31,6 +32,11 @@ fn answers(text: &[u8]) -> bool {
 fn does(step: &str, text: &[u8]) -> bool {
     if step == "call" {
         return answers(text);
+    }
+    if step == "find" {
+        return calls::findings(text).is_ok_and(|found| {
+            found.len() == 1 && found.clone() == found && !format!("{found:?}{found:#?}{}", found[0]).is_empty()
+        });
     }
     let Ok(manifest) = Manifest::from_slice(text) else { return false };
     match step {

@@ -1,53 +1,87 @@
 """What is found in a document: its faults, what is ignored, and the keys that nothing reads."""
 from __future__ import annotations
 
-from typing import Any, NamedTuple, Optional
+from collections.abc import Iterable, Iterator
+from typing import Any, Optional, cast
 
 from ._answer import answered
 from ._error import Cause
-from ._library import broken, manifest_findings
-from ._paths import KeyPath, text_of
-from ._refusal import SCHEMA_CAUSES
-from ._tagged import decoded
+from ._library import manifest_findings
+from ._parts import FAULT, IGNORED, UNLISTED, Choices, Found, found_in
+from ._paths import KeyPath, Link, Step, link_of, path_of, text_of
 from ._texts import Text, bytes_of
 
 
-class Fault(NamedTuple):
+class Fault:
     """A value, or its absence, that does not fit. Its text is one plain line, as `wrong kind at package.name`.
 
     - `path`: the keys and indexes that lead to it from the top of the text, as `("package", "authors", 0)`. What is
-      missing has the path that it would have.
+      missing has the path that it would have. The tuple is made each time: a fault holds its last step, and what stands
+      below one key shares the steps to it.
     - `cause`: why, a `Cause`, which equals its words, as `"wrong kind"`.
+    - `choices`: the texts that may stand there, where the cause is `Cause.NOT_A_CHOICE`; else `()`.
 
-    >>> fault = Fault(("package", "authors", 0), Cause.WRONG_KIND)
+    >>> fault = Fault(("package", "edition"), Cause.NOT_A_CHOICE, ("2015", "2018", "2021", "2024"))
     >>> print(fault)
-    wrong kind at package.authors[0]
-    >>> fault.cause == "wrong kind"
-    True
+    not a choice at package.edition
+    >>> fault.cause == "not a choice", fault.path, fault.choices[-1]
+    (True, ('package', 'edition'), '2024')
     """
 
-    path: KeyPath
-    cause: Cause
+    __slots__ = ("_link", "_cause", "_choices")
+    _link: Optional[Link]
+    _cause: Cause
+    _choices: Choices
+
+    def __init__(self, path: Iterable[Step], cause: Cause, choices: Iterable[str] = ()) -> None:
+        self._link = link_of(path)
+        self._cause = cause
+        self._choices = tuple(choices)
+
+    @classmethod
+    def _of(cls, found: Found) -> Fault:
+        """The fault that is found, whose path is not made."""
+        fault = cls.__new__(cls)
+        fault._link, fault._cause, fault._choices = found.link, cast(Cause, found.cause), found.choices
+        return fault
+
+    @property
+    def path(self) -> KeyPath:
+        return path_of(self._link)
+
+    @property
+    def cause(self) -> Cause:
+        return self._cause
+
+    @property
+    def choices(self) -> Choices:
+        return self._choices
+
+    def _parts(self) -> tuple[KeyPath, Cause, Choices]:
+        return self.path, self.cause, self.choices
+
+    def __eq__(self, other: object) -> bool:
+        if not isinstance(other, Fault):
+            return NotImplemented
+        return self._parts() == other._parts()
+
+    def __hash__(self) -> int:
+        return hash(self._parts())
 
     def __str__(self) -> str:
         return f"{self.cause} at {text_of(self.path)}"
 
+    def __repr__(self) -> str:
+        return f"Fault(path={self.path!r}, cause={self.cause!r}, choices={self.choices!r})"
 
-_FAULT, _IGNORED, _UNLISTED = range(3)
-
-
-def _found(manifest: Text, most: Optional[int]) -> list[tuple[int, int, KeyPath]]:
-    """Everything that is found: what it is, the number of its cause, and where it stands."""
-    all_found: list[Any] = decoded(answered(manifest_findings, most, bytes_of(manifest, "manifest")))
-    return [(what, cause, tuple(path)) for what, cause, path in all_found]
+    def __reduce__(self) -> tuple[Any, ...]:
+        return type(self), self._parts()
 
 
-def _faults(manifest: Text, most: Optional[int], wanted: int) -> list[Fault]:
-    """What is found of this kind, with its cause."""
-    found = [(path, cause) for what, cause, path in _found(manifest, most) if what == wanted]
-    if any(cause not in SCHEMA_CAUSES for _, cause in found):
-        raise broken()
-    return [Fault(path, SCHEMA_CAUSES[cause]) for path, cause in found]
+def _found(manifest: Text, most: Optional[int], wanted: int) -> Iterator[Found]:
+    """What is found of this kind."""
+    held = answered(manifest_findings, most, bytes_of(manifest, "manifest"))
+    return (each for each in found_in(held) if each.what == wanted)
 
 
 def faults(manifest: Text, *, most: Optional[int] = None) -> list[Fault]:
@@ -69,7 +103,7 @@ def faults(manifest: Text, *, most: Optional[int] = None) -> list[Fault]:
     >>> fault.path
     ('package', 'authors', 1)
     """
-    return _faults(manifest, most, _FAULT)
+    return [Fault._of(each) for each in _found(manifest, most, FAULT)]
 
 
 def ignored(manifest: Text, *, most: Optional[int] = None) -> list[Fault]:
@@ -80,7 +114,7 @@ def ignored(manifest: Text, *, most: Optional[int] = None) -> list[Fault]:
     >>> [str(each) for each in ignored("package.name = 'a'\nbadges.gitlab = 1")]
     ['wrong kind at badges.gitlab']
     """
-    return _faults(manifest, most, _IGNORED)
+    return [Fault._of(each) for each in _found(manifest, most, IGNORED)]
 
 
 def unlisted_keys(manifest: Text, *, most: Optional[int] = None) -> list[KeyPath]:
@@ -93,4 +127,4 @@ def unlisted_keys(manifest: Text, *, most: Optional[int] = None) -> list[KeyPath
     >>> unlisted_keys("[package]\nname = 'a'\nedtion = '2021'\n[dependecies]\nb = '1'")
     [('package', 'edtion'), ('dependecies',)]
     """
-    return [path for what, _, path in _found(manifest, most) if what == _UNLISTED]
+    return [path_of(each.link) for each in _found(manifest, most, UNLISTED)]

@@ -70,7 +70,7 @@ def _loaded() -> ctypes.CDLL:
 
 
 # the version of the calls that this package is written for: MANIFEST_VERSION of `cargo_manifest.h`
-_VERSION = 2
+_VERSION = 3
 
 
 def compare_versions(library: ctypes.CDLL) -> None:

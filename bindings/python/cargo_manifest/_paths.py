@@ -2,11 +2,13 @@
 from __future__ import annotations
 
 import re
-from typing import Union
+from collections.abc import Iterable
+from typing import NamedTuple, Optional, Union
 
 from ._library import broken
 
-KeyPath = tuple[Union[str, int], ...]
+Step = Union[str, int]
+KeyPath = tuple[Step, ...]
 
 TOP = "(top)"
 _BARE = re.compile(r"[A-Za-z0-9_-]+")
@@ -26,7 +28,7 @@ def _escaped(found: re.Match[str]) -> str:
 
 def steps_of(text: str) -> KeyPath:
     """The steps of a path that the library wrote, as `package.authors[0]`."""
-    steps: list[Union[str, int]] = []
+    steps: list[Step] = []
     if text == TOP:
         return ()
     left = text if text.startswith("[") else f".{text}"
@@ -53,3 +55,27 @@ def text_of(path: KeyPath) -> str:
     """The text of a path, written as the library writes it."""
     steps = (f"[{step}]" if isinstance(step, int) else f".{key_text(step)}" for step in path)
     return "".join(steps).removeprefix(".") or TOP
+
+
+class Link(NamedTuple):
+    """The last step of a path, and the link of the steps before it, if there are any. Paths share the links before theirs."""
+
+    outer: Optional[Link]
+    step: Step
+
+
+def link_of(path: Iterable[Step]) -> Optional[Link]:
+    """The link of a path."""
+    link = None
+    for step in path:
+        link = Link(link, step)
+    return link
+
+
+def path_of(link: Optional[Link]) -> KeyPath:
+    """The path of a link."""
+    steps: list[Step] = []
+    while link is not None:
+        steps.append(link.step)
+        link = link.outer
+    return tuple(reversed(steps))

@@ -8,6 +8,9 @@ from ._library import broken
 
 T = TypeVar("T")
 
+# the tags of values
+TEXT, NUMBER, BELOW_ZERO, FALSE, TRUE, DATE_TIME, ARRAY, TABLE = range(1, 9)
+
 
 def utf8(held: bytes) -> str:
     """The text of bytes that the library gave."""
@@ -54,3 +57,13 @@ class Reader:
     def part(self, read: Callable[[], T]) -> Optional[T]:
         """What `read` reads, where there is any."""
         return read() if self.byte() else None
+
+    def tag(self, tag: int) -> None:
+        """Steps over this tag."""
+        if self.byte() != tag:
+            raise broken()
+
+    def array(self) -> int:
+        """How many values an array has, by its tag and its length. They are read next."""
+        self.tag(ARRAY)
+        return self.number()

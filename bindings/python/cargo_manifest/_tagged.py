@@ -7,9 +7,7 @@ from ._dates import date_time
 from ._error import Cause, ManifestError
 from ._library import broken
 from ._paths import text_of
-from ._reader import Reader
-
-_TEXT, _NUMBER, _BELOW_ZERO, _FALSE, _TRUE, _DATE_TIME, _ARRAY, _TABLE = range(1, 9)
+from ._reader import ARRAY, BELOW_ZERO, DATE_TIME, FALSE, NUMBER, TABLE, TEXT, TRUE, Reader
 
 
 class _Open:
@@ -36,15 +34,15 @@ class _Open:
 
 def _simple(reader: Reader, tag: int) -> Any:
     """What stands after the tag of a value that holds no other."""
-    if tag == _TEXT:
+    if tag == TEXT:
         return reader.text()
-    if tag == _NUMBER:
+    if tag == NUMBER:
         return reader.number()
-    if tag == _BELOW_ZERO:
+    if tag == BELOW_ZERO:
         return -1 - reader.number()
-    if tag in (_FALSE, _TRUE):
-        return tag == _TRUE
-    if tag == _DATE_TIME:
+    if tag in (FALSE, TRUE):
+        return tag == TRUE
+    if tag == DATE_TIME:
         return date_time(reader)
     raise broken()
 
@@ -54,8 +52,8 @@ def _read(reader: Reader, holders: list[_Open]) -> None:
     holder = holders[-1]
     holder.begin(reader)
     tag = reader.byte()
-    if tag in (_ARRAY, _TABLE):
-        inner: Union[list[Any], dict[str, Any]] = [] if tag == _ARRAY else {}
+    if tag in (ARRAY, TABLE):
+        inner: Union[list[Any], dict[str, Any]] = [] if tag == ARRAY else {}
         holder.put(inner)
         holders.append(_Open(inner, reader.number()))
         return

@@ -60,7 +60,7 @@ class WithoutThisLibrary(unittest.TestCase):
         def version() -> int:
             return 1
 
-        with self.assertRaisesRegex(ImportError, "has version 1 of its calls.* written for version 2"):
+        with self.assertRaisesRegex(ImportError, "has version 1 of its calls.* written for version 3"):
             _library.compare_versions({"manifest_version": version})  # type: ignore[arg-type]
 
     def test_beside_the_modules_and_above(self) -> None:

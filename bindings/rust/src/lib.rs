@@ -37,8 +37,8 @@
 //! assert!(checked(b"[package\nname = 'a'\n").unwrap_err().starts_with("line 1: "));
 //! ```
 //!
-//! All that is wrong, and not the first fault alone, is in [`faults`]; and keys that nothing reads, as misspelled ones, are in
-//! [`unlisted_keys`]:
+//! All that is wrong, and not the first fault alone, is in [`faults`], with the words that may stand where one is wrong
+//! ([`Fault::choices`]); and keys that nothing reads, as misspelled ones, are in [`unlisted_keys`]:
 //!
 //! ```
 //! let upload = b"[package]\nname = 'a'\nversion = 1\nauthors = 'b'\nlicence = 'MIT'\n";

@@ -144,9 +144,8 @@ impl TryFrom<Value> for StripSetting {
 impl Form for StripSetting {
     fn decode(reader: &mut Reader<'_>) -> Option<StripSetting> {
         if reader.peek()? == STRING {
-            reader.tag(STRING)?;
             // (the other two words are written as booleans)
-            return (reader.str()? == "debuginfo").then_some(StripSetting::Debuginfo);
+            return (reader.string()? == "debuginfo").then_some(StripSetting::Debuginfo);
         }
         bool::decode(reader).map(StripSetting::of_flag)
     }

@@ -54,13 +54,17 @@ fn path(steps: &[&str]) -> KeyPath {
         Ok(index) => Step::Index(index),
         Err(_) => Step::Key(text.to_string()),
     };
-    KeyPath { steps: steps.iter().map(step).collect() }
+    steps.iter().map(step).collect()
+}
+
+fn fault(steps: &[&str], cause: Cause, choices: &[&str]) -> Fault {
+    Fault { path: path(steps), cause, choices: choices.iter().map(ToString::to_string).collect() }
 }
 
 #[test]
 fn each_part_of_a_finding() {
     let text = b"package.name = 'p'\npackage.authors = [true]\nx.y = 1\n[badges]\ngitlab = 1\n";
-    let wrong = |steps: &[&str]| Fault { path: path(steps), cause: Cause::WrongKind };
+    let wrong = |steps: &[&str]| fault(steps, Cause::WrongKind, &[]);
     let all = findings(text).unwrap();
     assert_eq!(
         all,
@@ -74,6 +78,50 @@ fn each_part_of_a_finding() {
     assert_eq!(ignored(text).unwrap(), [wrong(&["badges", "gitlab"])]);
     assert_eq!(unlisted_keys(text).unwrap(), [path(&["x"])]);
     assert_eq!(path(&[]).to_string(), "(top)");
+}
+
+/// The words of each choice are those of `docs/KEYS.md`, wherever it stands.
+#[test]
+fn a_text_that_is_not_a_choice_has_the_choices() {
+    let text = b"[package]\nname = 'p'\nedition = '2020'\nresolver = ''\n[workspace.package]\nedition = ''\n[[bin]]\n\
+                 edition = '2015 '\n[lints.rust]\na = 'x'\nb = { level = 'Warn' }\n[profile.dev]\nstrip = 'all'\n\
+                 [badges.maintenance]\nstatus = 'new'";
+    let (editions, levels) = (["2015", "2018", "2021", "2024"], ["forbid", "deny", "warn", "allow"]);
+    let wanted: [(&[&str], &[&str]); 7] = [
+        (&["package", "edition"], &editions),
+        (&["package", "resolver"], &["1", "2", "3"]),
+        (&["workspace", "package", "edition"], &editions),
+        (&["bin", "0", "edition"], &editions),
+        (&["profile", "dev", "strip"], &["none", "symbols", "debuginfo"]),
+        (&["lints", "rust", "a"], &levels),
+        (&["lints", "rust", "b", "level"], &levels),
+    ];
+    let wanted = wanted.map(|(steps, choices)| fault(steps, Cause::NotAChoice, choices));
+    assert_eq!(faults(text).unwrap(), wanted);
+    let words = ["none", "actively-developed", "passively-maintained", "as-is", "experimental", "looking-for-maintainer"];
+    let status = [&words[..], &["deprecated"]].concat();
+    assert_eq!(ignored(text).unwrap(), [fault(&["badges", "maintenance", "status"], Cause::NotAChoice, &status)]);
+}
+
+/// What is found takes no more than some times the document, however long the keys above it are, and however many.
+#[test]
+fn what_is_found_is_no_longer_than_some_times_the_document() {
+    let long = "k".repeat(20_000);
+    let many: String = (0..20_000).map(|number| format!("a{number} = 1\n")).collect();
+    let text = format!("package.name = 'p'\n[target.{long}]\n{many}");
+    let found = AtMost(2 * text.len()).findings(text.as_bytes()).unwrap();
+    let keys = unlisted_keys(text.as_bytes()).unwrap();
+    assert_eq!((found.len(), keys.len()), (20_000, 20_000));
+    assert!(keys.is_sorted() && keys.iter().all(|key| std::ptr::eq(key.steps()[1], keys[0].steps()[1])));
+    assert_eq!(keys[0], path(&["target", &long, "a0"]));
+
+    let floats = "0.5, ".repeat(20_000);
+    let text = format!("[package]\nname = 'p'\n[package.metadata{}]\na{} = [{floats}]", ".a".repeat(76), ".a".repeat(23));
+    let found = AtMost(4 * text.len()).findings(text.as_bytes()).unwrap();
+    assert_eq!((found.len(), faults(text.as_bytes()).unwrap().len()), (20_000, 0));
+    let Some(Finding::Fault(last)) = found.last() else { panic!() };
+    assert_eq!((last.path.steps().len(), last.cause), (103, Cause::HoldsFloat));
+    assert!(last.to_string().ends_with(".a.a.a[19999]"));
 }
 
 /// Each refusal is that of the other calls.
@@ -92,9 +140,9 @@ fn what_is_no_document_is_refused() {
 
 #[test]
 fn the_bound_is_that_on_the_tagged_bytes() {
-    // 7 1 7 3 2 0 2 2 7 1 1 4 `name`
-    assert_eq!(AtMost(16).findings(b""), findings(b""));
-    assert_eq!(AtMost(15).findings(b""), Err(Refusal::TooLong));
+    // 7 1 7 3 2 3 1 4 `name` 7 1 7 2 2 0 2 2
+    assert_eq!(AtMost(20).findings(b""), findings(b""));
+    assert_eq!(AtMost(19).findings(b""), Err(Refusal::TooLong));
     let many: String = (0..1_000).map(|number| format!("{number} = 1\n")).collect();
     assert_eq!(unlisted_keys(format!("name = 'p'\n{many}").as_bytes()).unwrap().len(), 1_000);
 }

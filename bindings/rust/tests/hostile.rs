@@ -219,6 +219,8 @@ fn try_export(export: &Export, given: &Given<'_>, random: &mut Random) -> u8 {
     if whole.status == 0 && !gives_table {
         check_text(&out[..whole.length]);
     }
+    // (each step of the paths of what is found stands once)
+    assert!(*name != "findings" || whole.length <= 10 * given.bytes.len() + 64, "{whole:?}");
     // (most refusals come of what is done before)
     if whole.status == 0 || random.one_in(4) {
         let most = match random.below(3) {

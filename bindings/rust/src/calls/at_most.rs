@@ -67,6 +67,6 @@ impl AtMost {
 
     /// [`findings`](super::findings) in at most this many tagged bytes.
     pub fn findings(self, bytes: &[u8]) -> Result<Vec<Finding>, Refusal> {
-        of_text(manifest_findings, bytes, self.0).map(value_of).map(findings_of)
+        of_text(manifest_findings, bytes, self.0).map(findings_of)
     }
 }

@@ -112,7 +112,7 @@ fn version() -> u32 {
 }
 
 /// The version of the calls that this crate is written for.
-const VERSION: u32 = 2;
+const VERSION: u32 = 3;
 
 /// Compares the versions of this crate and of the archive, at the first call.
 fn version_fits() {

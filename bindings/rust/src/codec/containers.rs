@@ -1,6 +1,6 @@
 //! Strings, numbers, lists and maps.
 
-use super::reader::{ARRAY, BELOW_ZERO, FALSE, FROM_ZERO, STRING, TABLE, TRUE};
+use super::reader::{ARRAY, BELOW_ZERO, FALSE, FROM_ZERO, TABLE, TRUE};
 use super::{read, Aside, Encode, Form, Misfit, Reader, Step, Writer};
 use crate::calls::Cause;
 use crate::value::Value;
@@ -9,8 +9,7 @@ use std::collections::BTreeMap;
 
 impl Form for String {
     fn decode(reader: &mut Reader<'_>) -> Option<String> {
-        reader.tag(STRING)?;
-        reader.str().map(str::to_owned)
+        reader.string().map(str::to_owned)
     }
 
     fn read(value: Value, _: &mut Aside) -> Result<String, Misfit> {
@@ -103,8 +102,7 @@ small_integer! { i8 u16 }
 
 impl<T: Form> Form for Vec<T> {
     fn decode(reader: &mut Reader<'_>) -> Option<Vec<T>> {
-        reader.tag(ARRAY)?;
-        let count = reader.number()?;
+        let count = reader.array()?;
         let mut items = Vec::with_capacity(reader.at_most::<T>(count));
         for _ in 0..count {
             items.push(T::decode(reader)?);

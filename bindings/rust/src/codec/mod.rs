@@ -13,7 +13,7 @@ mod words;
 mod writer;
 
 pub(crate) use containers::integer;
-pub(crate) use reader::{Keys, Reader, ARRAY, DATETIME, FALSE, FLOAT, STRING, TABLE, TRUE};
+pub(crate) use reader::{Keys, Reader, ARRAY, DATETIME, FALSE, FLOAT, FROM_ZERO, STRING, TABLE, TRUE};
 pub(crate) use record::{others_of, record, row};
 pub(crate) use words::words;
 pub(crate) use writer::{AsideOf, Members, Writer};

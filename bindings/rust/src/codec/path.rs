@@ -75,7 +75,7 @@ fn push_key(key: &str, text: &mut String) {
 }
 
 /// The text of a key path.
-pub(crate) fn text(steps: &[Step]) -> String {
+pub(crate) fn text<'a>(steps: impl IntoIterator<Item = &'a Step>) -> String {
     let mut text = String::new();
     for step in steps {
         match step {

@@ -88,6 +88,18 @@ impl<'a> Reader<'a> {
         std::str::from_utf8(self.bytes()?).ok()
     }
 
+    /// A string, whose tag is next.
+    pub(crate) fn string(&mut self) -> Option<&'a str> {
+        self.tag(STRING)?;
+        self.str()
+    }
+
+    /// How many values the array has whose tag is next; they stand after it.
+    pub(crate) fn array(&mut self) -> Option<u64> {
+        self.tag(ARRAY)?;
+        self.number()
+    }
+
     /// The count, but no more than take as much memory as the bytes that are left: room may be reserved for this many,
     /// whatever the bytes say. (Each value takes more memory than bytes.)
     pub(crate) fn at_most<T>(&self, count: u64) -> usize {

@@ -30,8 +30,7 @@ macro_rules! words {
 
         impl $crate::codec::Form for $name {
             fn decode(reader: &mut $crate::codec::Reader<'_>) -> Option<$name> {
-                reader.tag($crate::codec::STRING)?;
-                reader.str().and_then($name::of_word)
+                reader.string().and_then($name::of_word)
             }
 
             fn read(value: $crate::Value, _: &mut $crate::codec::Aside) -> Result<$name, $crate::codec::Misfit> {

@@ -107,10 +107,7 @@ impl Form for Value {
         let mut open: Vec<Open<'_>> = Vec::new();
         loop {
             let mut step = match reader.peek()? {
-                ARRAY => {
-                    reader.tag(ARRAY)?;
-                    Open::Array(reader.number()?, Vec::new()).next(reader)?
-                }
+                ARRAY => Open::Array(reader.array()?, Vec::new()).next(reader)?,
                 TABLE => Open::Table(reader.table()?, Vec::new(), "").next(reader)?,
                 _ => Ok(simple(reader)?),
             };

@@ -94,7 +94,7 @@ fn put_value(value: &Value, out: &mut Vec<u8>) {
 }
 
 /// The bytes of a value.
-fn bytes_of(value: &Value) -> Vec<u8> {
+pub(crate) fn bytes_of(value: &Value) -> Vec<u8> {
     let mut out = Vec::new();
     put_value(value, &mut out);
     out

@@ -72,7 +72,7 @@ impl Most {
 const KEYS: [&str; 8] = ["a", "a", "a", "b-1", "'.'", "\"[\\\"{\"", "''", "\"\\u00e9\""];
 
 /// Where values are kept, read as types, or left out.
-const PLACES: [&str; 14] = [
+const PLACES: [&str; 15] = [
     "package.metadata",
     "package.metadata",
     "package.metadata",
@@ -86,6 +86,7 @@ const PLACES: [&str; 14] = [
     "patch.a",
     "lints",
     "workspace.dependencies",
+    "features",
     "x",
 ];
 
@@ -205,7 +206,7 @@ fn long_keys(random: &mut Random) -> String {
 
 /// Many values next to each other.
 fn wide(random: &mut Random) -> String {
-    let item = random.one_of(&["[],", "{},", "1,", "'x',", "[[]],", "{a={}},", "{a.b.c=1},"]);
+    let item = random.one_of(&["[],", "{},", "1,", "0.5,", "'x',", "[[]],", "{a={}},", "{a.b.c=1},"]);
     format!("[{}]\na = [{}]\n", random.one_of(&PLACES), item.repeat(random.one_of(&[10, 100, 1_000])))
 }
 

@@ -1,37 +1,34 @@
 //! What is found in a document: its faults, what is ignored, and the keys that nothing reads.
 
+mod path;
+#[cfg(test)]
+mod tests;
+mod tree;
+
 use crate::calls::{self, is_broken, Cause};
-use crate::codec::{path_text, Step};
+use crate::codec::Step;
 use crate::error::refused;
-use crate::value::Value;
 use crate::Error;
+pub use path::KeyPath;
 use std::fmt;
-
-/// The steps from the whole table of a document to a value in it, or to where one is missing.
-///
-/// It is written as `package.authors[0]`, or as `target."cfg(unix)".dependencies.b`.
-#[derive(Clone, Debug, PartialEq, Eq, Hash, PartialOrd, Ord)]
-pub struct KeyPath {
-    /// The steps, the outermost first.
-    pub steps: Vec<Step>,
-}
-
-impl fmt::Display for KeyPath {
-    fn fmt(&self, f: &mut fmt::Formatter<'_>) -> fmt::Result {
-        match self.steps.as_slice() {
-            [] => f.write_str("(top)"),
-            steps => f.write_str(&path_text(steps)),
-        }
-    }
-}
+use std::sync::Arc;
 
 /// A value, or its absence, that does not fit: where, and why. It is written as `wrong kind at package.name`.
+///
+/// ```
+/// let fault = &cargo_manifest::faults(b"[package]\nname = 'a'\nedition = '2020'")?[0];
+/// assert_eq!(fault.to_string(), "not a choice at package.edition");
+/// assert_eq!(fault.choices.join(", "), "2015, 2018, 2021, 2024");
+/// # Ok::<(), cargo_manifest::Error>(())
+/// ```
 #[derive(Clone, Debug, PartialEq, Eq, Hash)]
 pub struct Fault {
     /// Where. What is missing has the path that it would have.
     pub path: KeyPath,
     /// Why.
     pub cause: Cause,
+    /// The texts that are allowed there, where the cause is [`Cause::NotAChoice`]; none else. Faults share them.
+    pub choices: Arc<[String]>,
 }
 
 impl fmt::Display for Fault {
@@ -62,56 +59,28 @@ impl fmt::Display for Finding {
     }
 }
 
-fn items_of(value: Value) -> Vec<Value> {
-    match value {
-        Value::Array(items) => items,
-        _ => is_broken(),
-    }
+/// The findings of the tagged bytes by which the library reports them.
+pub(crate) fn findings_of(bytes: Vec<u8>) -> Vec<Finding> {
+    tree::decoded(&bytes).unwrap_or_else(|| is_broken())
 }
 
-fn number_of(value: &Value) -> u8 {
-    match value {
-        Value::Integer(number) => u8::try_from(*number).unwrap_or_else(|_| is_broken()),
-        _ => is_broken(),
-    }
-}
-
-fn step_of(value: Value) -> Step {
-    match value {
-        Value::String(key) => Step::Key(key),
-        Value::Integer(index) => Step::Index(usize::try_from(index).unwrap_or_else(|_| is_broken())),
-        _ => is_broken(),
-    }
-}
-
-fn finding_of(value: Value) -> Finding {
-    let Ok([what, cause, path]) = <[Value; 3]>::try_from(items_of(value)) else { is_broken() };
-    let path = KeyPath { steps: items_of(path).into_iter().map(step_of).collect() };
-    match (number_of(&what), number_of(&cause), Cause::of_number(number_of(&cause))) {
-        (0, _, Some(cause)) => Finding::Fault(Fault { path, cause }),
-        (1, _, Some(cause)) => Finding::Ignored(Fault { path, cause }),
-        (2, 0, None) => Finding::Unlisted(path),
-        _ => is_broken(),
-    }
-}
-
-/// The findings of the value by which the library reports them.
-pub(crate) fn findings_of(value: Value) -> Vec<Finding> {
-    items_of(value).into_iter().map(finding_of).collect()
-}
-
-/// What is found in the bytes of a `Cargo.toml`.
-fn findings(bytes: &[u8]) -> Result<Vec<Finding>, Error> {
-    calls::findings(bytes).map_err(|refusal| refused(refusal, bytes))
+/// Of what is found in the bytes of a `Cargo.toml`, what is picked, in its order.
+fn picked<T>(bytes: &[u8], pick: impl Fn(Finding) -> Option<T>) -> Result<Vec<T>, Error> {
+    let found = calls::findings(bytes).map_err(|refusal| refused(refusal, bytes))?;
+    Ok(found.into_iter().filter_map(pick).collect())
 }
 
 /// Whether the fault is a float in metadata, under a header of today or an old one. Where an old header is not read, nothing
 /// is found below it.
 fn is_float_of_metadata(fault: &Fault) -> bool {
-    let has = |place: usize, key: &str| matches!(fault.path.steps.get(place), Some(Step::Key(name)) if name == key);
-    let is_below = |header| has(0, header) && has(1, "metadata");
+    let is = |step: &Step, word: &str| matches!(step, Step::Key(key) if key == word);
+    let is_header = |step: &Step| ["package", "workspace", "project"].into_iter().any(|header| is(step, header));
     fault.cause == Cause::HoldsFloat
-        && (has(0, "metadata") || ["package", "workspace", "project"].into_iter().any(is_below))
+        && match fault.path.steps().as_slice() {
+            [first, ..] if is(first, "metadata") => true,
+            [first, second, ..] => is_header(first) && is(second, "metadata"),
+            _ => false,
+        }
 }
 
 /// Every fault of the bytes of a `Cargo.toml`, in the order in which `docs/KEYS.md` of the repository has the keys. There is
@@ -131,12 +100,10 @@ fn is_float_of_metadata(fault: &Fault) -> bool {
 /// # Ok::<(), cargo_manifest::Error>(())
 /// ```
 pub fn faults(cargo_toml_content: &[u8]) -> Result<Vec<Fault>, Error> {
-    let all = findings(cargo_toml_content)?.into_iter();
-    let faults = all.filter_map(|finding| match finding {
-        Finding::Fault(fault) => Some(fault),
+    picked(cargo_toml_content, |finding| match finding {
+        Finding::Fault(fault) if !is_float_of_metadata(&fault) => Some(fault),
         _ => None,
-    });
-    Ok(faults.filter(|fault| !is_float_of_metadata(fault)).collect())
+    })
 }
 
 /// What does not fit in the bytes of a `Cargo.toml` and refuses nothing: badges, which count as absent. In the same order,
@@ -148,12 +115,10 @@ pub fn faults(cargo_toml_content: &[u8]) -> Result<Vec<Fault>, Error> {
 /// # Ok::<(), cargo_manifest::Error>(())
 /// ```
 pub fn ignored(cargo_toml_content: &[u8]) -> Result<Vec<Fault>, Error> {
-    let all = findings(cargo_toml_content)?.into_iter();
-    let ignored = all.filter_map(|finding| match finding {
+    picked(cargo_toml_content, |finding| match finding {
         Finding::Ignored(fault) => Some(fault),
         _ => None,
-    });
-    Ok(ignored.collect())
+    })
 }
 
 /// The keys in the bytes of a `Cargo.toml` that nothing reads, as misspelled ones: a manifest does not hold them, and they
@@ -166,10 +131,8 @@ pub fn ignored(cargo_toml_content: &[u8]) -> Result<Vec<Fault>, Error> {
 /// # Ok::<(), cargo_manifest::Error>(())
 /// ```
 pub fn unlisted_keys(cargo_toml_content: &[u8]) -> Result<Vec<KeyPath>, Error> {
-    let all = findings(cargo_toml_content)?.into_iter();
-    let keys = all.filter_map(|finding| match finding {
+    picked(cargo_toml_content, |finding| match finding {
         Finding::Unlisted(path) => Some(path),
         _ => None,
-    });
-    Ok(keys.collect())
+    })
 }
