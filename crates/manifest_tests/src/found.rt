@@ -76,8 +76,8 @@ const DOCUMENTS: &[Row] = &[
     ),
     // the words of each choice
     (
-        "[package]\nname = 'p'\nresolver = '4'\n[lints.rust]\na = { level = 'x' }\n[profile.dev]\nstrip = 'x'\n[profile.dev.build-override]\nstrip = 1",
-        "not a choice at package.resolver 1 2 3\nnot a choice at profile.dev.strip none symbols debuginfo\nwrong kind at profile.dev.build-override.strip\nnot a choice at lints.rust.a.level forbid deny warn allow\n",
+        "[package]\nname = 'p'\nresolver = '4'\n[lints.rust]\na = { level = 'x' }\n[profile.dev]\nstrip = 'x'\n[profile.bench]\nstrip = 1",
+        "not a choice at package.resolver 1 2 3\nnot a choice at profile.dev.strip none symbols debuginfo\nwrong kind at profile.bench.strip\nnot a choice at lints.rust.a.level forbid deny warn allow\n",
     ),
     // every float of what is kept
     (
