@@ -37,7 +37,7 @@ cause_data what not_a_choice words =
     triple_data (integer (pos what)) (integer (pos (cause_number not_a_choice))) (words_data words)
 cause_data what c words = pair_data (integer (pos what)) (integer (pos (cause_number c)))
 
--- A NODE: 0 is a fault, 1 is ignored, 2 is a key that nothing reads, and 3 what is found behind a step
+-- A NODE: 0 is a fault, 1 is ignored, 2 is a key that nothing reads, and 3 is what is found in the value of a step
 abbrev pub node_data_step : FindingNode-F Data → Data
 node_data_step (FindingNode-F.Fault c words) = cause_data 0 (cause_of c) (choices_of words)
 node_data_step (FindingNode-F.Ignored c words) = cause_data 1 (cause_of c) (choices_of words)
