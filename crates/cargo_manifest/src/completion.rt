@@ -1,19 +1,21 @@
-//! Completion of a manifest from the listings of a filesystem, and the flags that it uses.
+//! Completion of a manifest from the listings of a filesystem, the flags that it uses, and the declared targets for
+//! which it finds no file.
 
-ghost use Rattle.std.specs.Prelude.{◌≡◌, OnErr, Ok, Some, None};
+ghost use Rattle.std.specs.Prelude.{◌≡◌, [], IsOkAnd, OnErr, Ok, Some, None};
 ghost use Rattle.manifest_schema.specs.Contents;
 ghost use Rattle.cargo_manifest.specs.Tables.{package_of};
 ghost use Rattle.manifest_completion.specs.Completed.{targets_of, with_targets, autobins, autoexamples, autotests, autobenches};
 ghost use Rattle.manifest_completion.specs.Outcome.{declared_content, completed_content};
-ghost use Rattle.cargo_manifest.specs.Completes.{Completes};
+ghost use Rattle.cargo_manifest.specs.Completes.{Completes, IsUnfound};
 ghost use Rattle.cargo_manifest.specs.Whole.{manifest_kept};
 
 use crate::manifest::Manifest;
 use crate::package::Package;
 use manifest_completion::{
     AbstractFilesystem, CompletedTargets, DeclaredTargets, complete, discovers, is_legacy,
+    unfound_targets,
 };
-use manifest_value::{Error, Metadata};
+use manifest_value::{Error, KeyPath, Metadata};
 use std::alloc::Global;
 use toml::Value;
 
@@ -173,5 +175,34 @@ impl<P: Metadata> Manifest<P, Value> {
         };
         put_targets(self, completed);
         Ok(())
+    }
+
+    /// Where the declared targets stand for which the filesystem has no file: `lib`, where the completion of the
+    /// manifest is refused for the library, and as `bin[1]` each binary, example, test or bench that the completion
+    /// leaves without a path. Cargo refuses them. A path that is declared is not looked up. The library is first, and
+    /// then each list is in order; without a package nothing is unfound. The manifest is not changed.
+    ///
+    /// It asks for `src`; `src/bin` and each of its entries; and `examples`, `tests`, `benches`, each with its entries.
+    /// Without a package nothing is asked. Refuses with [`Error::Io`] where `src` has another fault than that it is not
+    /// there, and where memory runs out for the listing of a target folder or of an entry; and with [`Error::Memory`]
+    /// when out of memory.
+    ///
+    /// ```ignore
+    /// let manifest = Manifest::from_str(alloc, "package.name = 'a'\nlib = {}\n[[bin]]\nname = 'b'")?;
+    /// let paths = manifest.unfound_targets(alloc, &Listings::new(alloc))?; // `lib` and `bin[0]`
+    /// ```
+    pub fn unfound_targets<FS: AbstractFilesystem>(
+        &self,
+        alloc: Global,
+        fs: &FS,
+    ) -> Result<Vec<KeyPath>, Error>
+        ensures answers { IsUnfound (FS.allows fs.now) (manifest_kept P.kind P.content self.now)
+            result }
+        ensures without { self.now.«package» ≡ None → IsOkAnd result (λ v. v.items ≡ []) }
+    {
+        match &self.package {
+            Some(package) => unfound_targets(alloc, fs, &declared_targets(self, package)),
+            None => Ok(Vec::new(alloc)),
+        }
     }
 }

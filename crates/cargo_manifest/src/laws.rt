@@ -12,6 +12,7 @@ ghost use Rattle.cargo_manifest.specs.WellFormed.{PackageByMetadata, WorkspaceBy
 
 pub use manifest_completion::laws::{
     ascending_differ, asked_decides, asked_differ, declared_stays, others_change_nothing,
+    refused_if_unfound, unfound_are_left,
 };
 use manifest_value::Metadata;
 

@@ -29,20 +29,20 @@ paired_is d f (n ∷ ns) (a ∷ given) e h q =
     rw here (ap (λ (xs : List Find). entry_finds d n a ++ xs)
     (paired_is d f ns given there (rw kept at h.1) (or_parts (is_memory_fault a) (list_any is_memory_fault given) q).1))
 
-folder_paired_is : (l : ListingMap) (d : TargetFolder) (a : FolderAnswers) → folder_of l d ≡ folder_listing a → IsAnsweredInTurn d a → ran_out_of_memory a ≡ false → folder_paired (folder_text d) a ≡ finds l d
+pub folder_paired_is : (l : ListingMap) (d : TargetFolder) (a : FolderAnswers) → folder_of l d ≡ folder_listing a → IsAnsweredInTurn d a → ran_out_of_memory a ≡ false → folder_paired (folder_text d) a ≡ finds l d
 folder_paired_is l d a e h q =
     let own : (folder_of l d).own ≡ answer_of a.own = ap (λ (f : FolderListing). f.own) e in
     let kept : list_any is_memory_fault (answers_of a.entries) ≡ false = any_map is_memory_fault answer_of a.entries.items ∙ (or_parts (is_memory_fault (answer_of a.own)) _ q).1 in
     rw own (paired_is (folder_text d) (λ n. at l (entry d n)) (names_of (answer_of a.own)) (answers_of a.entries) (entry_answers l d a e (ascending_differ (names_of (answer_of a.own)) h.own.0)) h.entries kept)
 
 -- THE MAP of a completion that asks `src` alone
-abbrev no_folder : FolderListing
+abbrev pub no_folder : FolderListing
 no_folder = record { own = fault NotFound; entries = [] }
 
-abbrev only_source : Answer → ListingMap
+abbrev pub only_source : Answer → ListingMap
 only_source src = record { source = src; bins = no_folder; examples = no_folder; tests = no_folder; benches = no_folder; root = fault NotFound }
 
-only_ascends : (src : Answer) → IsAscending (names_of src) → NamesAscend (only_source src)
+pub only_ascends : (src : Answer) → IsAscending (names_of src) → NamesAscend (only_source src)
 only_ascends src d source = d
 only_ascends src d (folder bins) = none_ascend
 only_ascends src d (folder examples) = none_ascend
@@ -75,24 +75,25 @@ module _ (allows : Text → Answer → Type 0) (t : PackageTargets) (src : Answe
   library_error none (Memory f) h = tt
   library_error none _ h = absurd h
 
+-- where all was answered, the map has a folder or an entry that ran out of memory exactly where an answer did
+pub any_fault : (allows : Text → Answer → Type 0) (asks : Bool) (a : Answers) → AllIsAnswered allows asks a → has_memory_fault (at (listing_map a)) (target_places (listing_map a)) ≡ some_ran_out_of_memory a
+any_fault allows asks a given =
+    let l = listing_map a in let t = λ (q : Place). is_memory_fault (at l q) in
+    list_any-append t (folder_places l bins) (folder_places l examples ++ (folder_places l tests ++ folder_places l benches))
+    ∙ ap (λ b. list_any t (folder_places l bins) || b) (list_any-append t (folder_places l examples) (folder_places l tests ++ folder_places l benches)
+    ∙ ap (λ b. list_any t (folder_places l examples) || b) (list_any-append t (folder_places l tests) (folder_places l benches)))
+    ∙ cc (folder_fault l bins a.bins refl given.bins, folder_fault l examples a.examples refl given.examples, folder_fault l tests a.tests refl given.tests, folder_fault l benches a.benches refl given.benches)
+
 -- all was answered
 module _ (allows : Text → Answer → Type 0) (t : PackageTargets) (a : Answers) (given : AllIsAnswered allows (asks_root t.build) a) (none : source_fault (answer_of a.source) ≡ None) (lib : Option Product) (got : library t (answer_of a.source) ≡ known lib) where
   explains_all : Explains allows (listing_map a) (asked_targets t (listing_map a))
   explains_all = rw (none, got) given.explained
 
-  any_fault : has_memory_fault (at (listing_map a)) (target_places (listing_map a)) ≡ some_ran_out_of_memory a
-  any_fault =
-      let l = listing_map a in let t = λ (q : Place). is_memory_fault (at l q) in
-      list_any-append t (folder_places l bins) (folder_places l examples ++ (folder_places l tests ++ folder_places l benches))
-      ∙ ap (λ b. list_any t (folder_places l bins) || b) (list_any-append t (folder_places l examples) (folder_places l tests ++ folder_places l benches)
-      ∙ ap (λ b. list_any t (folder_places l examples) || b) (list_any-append t (folder_places l tests) (folder_places l benches)))
-      ∙ cc (folder_fault l bins a.bins refl given.bins, folder_fault l examples a.examples refl given.examples, folder_fault l tests a.tests refl given.tests, folder_fault l benches a.benches refl given.benches)
-
   -- what is answered decides what the targets become
   answered_outcome : completed_targets t (listing_map a) ≡ after_root t lib (listing_map a) (fault_of_answers t a)
   answered_outcome =
       with_library t (listing_map a) lib none got
-      ∙ ap (λ (b : Bool). if b then refused OutOfMemory else after_root t lib (listing_map a) (root_fault t.build (answer_of a.root))) any_fault
+      ∙ ap (λ (b : Bool). if b then refused OutOfMemory else after_root t lib (listing_map a) (root_fault t.build (answer_of a.root))) (any_fault allows (asks_root t.build) a given)
       ∙ one (some_ran_out_of_memory a)
     where
       one : (b : Bool) → (if b then refused OutOfMemory else after_root t lib (listing_map a) (root_fault t.build (answer_of a.root)))

@@ -11,3 +11,5 @@ pub mod ListingLemmas
 pub mod AskLemmas
 pub mod AnswerLemmas
 pub mod CompleteLemmas
+pub mod UnfoundLaws
+pub mod UnfoundLemmas

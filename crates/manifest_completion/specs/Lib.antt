@@ -10,3 +10,4 @@ pub mod Stored
 pub mod Asking
 pub mod Outcome
 pub mod Steps
+pub mod Unfound

@@ -1,10 +1,11 @@
 -- What the contracts of single steps of a completion cite; it is not needed to read what completion makes.
-use Rattle.manifest_schema.specs.Prelude.{Bor, error_kind, ErrorKind, OutOfMemory, Text, Product}
-use Rattle.std.specs.Prelude.{◌≡◌, if◌then◌else◌, List, [], ◌∷◌, ◌++◌, map, option_map, Option, Some, None, string_bytes, Result, Ok, Err}
+use Rattle.manifest_schema.specs.Prelude.{Bor, Global, error_kind, ErrorKind, OutOfMemory, Text, Path, Product}
+use Rattle.std.specs.Prelude.{◌≡◌, if◌then◌else◌, List, [], ◌∷◌, ◌++◌, map, codes, option_map, Option, Some, None, string_bytes, Result, Ok, Err, Vec, true}
 use Rattle.manifest_parts.specs.Parts.{edition_content, text_or_flag_content}
 use Rattle.manifest_parts.specs.Records.{product_content}
 use Rattle.manifest_value.specs.declared.error.Error.{Error}
 use Rattle.manifest_value.specs.declared.error.Error.TheVariants.{Io, Other, Memory}
+use Rattle.manifest_value.specs.declared.fault.KeyPath.{KeyPath}
 use Rattle.manifest_completion.specs.declared.completion.CompletedTargets.{CompletedTargets}
 use Rattle.manifest_completion.specs.declared.completion.CompletedLists.{CompletedLists}
 use Rattle.manifest_completion.specs.declared.ask.Answers.{Answers}
@@ -14,10 +15,11 @@ use Rattle.manifest_completion.specs.declared.ask.FolderAnswers.{FolderAnswers}
 use Rattle.manifest_completion.specs.Listings.{Answer, folder_text, bins, examples, tests, benches, names_of}
 use Rattle.manifest_completion.specs.Finds.{Find, entry_finds, main_find}
 use Rattle.manifest_completion.specs.Targets.{Defaults, targets}
-use Rattle.manifest_completion.specs.Completed.{PackageTargets, is_legacy, discovers, bin_defaults, example_defaults, test_defaults, Library, no_file, root_fault, build_of}
+use Rattle.manifest_completion.specs.Completed.{PackageTargets, is_legacy, discovers, bin_defaults, example_defaults, test_defaults, Library, no_file, library, root_fault, build_of}
 use Rattle.manifest_completion.specs.Answered.{answer_of, answers_of}
 use Rattle.manifest_completion.specs.Asking.{some_ran_out_of_memory}
 use Rattle.manifest_completion.specs.Outcome.{library_text}
+use Rattle.manifest_completion.specs.Unfound.{as_completed, without_path, unfound_library, IsAnswer}
 
 -- CONTENTS
 abbrev pub find_content : FoundTarget → Find
@@ -37,6 +39,10 @@ defaults_content d = record {
 abbrev pub IsFault : Option ErrorKind → Error → Type 0
 IsFault k (Io e) = k ≡ Some (error_kind e)
 IsFault k _ = ⊥
+
+-- an answer for a folder of targets or an entry ran out of memory, and this is the error of it
+abbrev pub RanOutOfMemory : Answers → Error → Type 0
+RanOutOfMemory a e = (some_ran_out_of_memory a ≡ true) × IsFault (Some OutOfMemory) e
 
 -- the error of a library without a file, or out of memory
 abbrev pub RefusesLibrary : Library → Error → Type 0
@@ -97,3 +103,26 @@ abbrev pub CompletesByAnswers :
     PackageTargets → Option Product → Answers → Result CompletedTargets Error → Type 0
 CompletesByAnswers t lib a (Ok c) = (fault_of_answers t a ≡ None) × TargetsMade t lib a c
 CompletesByAnswers t lib a (Err e) = RefusesByAnswers t a e
+
+-- where the declared targets without a file stand, by what was answered
+abbrev pub unfound_by_answers : PackageTargets → Answers → List Path
+unfound_by_answers t a =
+    let src = answer_of a.source in
+    unfound_library (library t src)
+    ++ without_path (codes "bin") 0
+    (as_completed (bin_defaults t src)
+    (folder_paired (folder_text bins) a.bins ++ main_find t.name src) t.bin)
+    ++ without_path (codes "example") 0
+    (as_completed (example_defaults t) (folder_paired (folder_text examples) a.examples) t.example)
+    ++ without_path (codes "test") 0
+    (as_completed (test_defaults t) (folder_paired (folder_text tests) a.tests) t.test)
+    ++ without_path (codes "bench") 0
+    (as_completed (test_defaults t) (folder_paired (folder_text benches) a.benches) t.bench)
+
+-- the answer on unfound targets, by what was answered
+abbrev pub AnswersUnfound :
+    PackageTargets → Answers → Result (Vec KeyPath Global) Error → Type 0
+AnswersUnfound t a =
+    IsAnswer
+    (λ o. o
+    ≡ (if some_ran_out_of_memory a then Err OutOfMemory else Ok (unfound_by_answers t a)))

@@ -1,15 +1,16 @@
 //! Completing the targets of a package.
 
-ghost use Rattle.std.specs.Prelude.{◌≡◌, ◌++◌, map, codes, option_map, IfOk, MatchResult, None};
+ghost use Rattle.std.specs.Prelude.{◌≡◌, ◌++◌, map, codes, option_map, IfOk, MatchResult, None, false};
 ghost use Rattle.manifest_parts.specs.Parts.{edition_content, text_or_flag_content, inh_content};
 ghost use Rattle.manifest_parts.specs.Records.{product_content};
 ghost use Rattle.manifest_completion.specs.Listings.{examples, tests, benches};
 ghost use Rattle.manifest_completion.specs.Answered.{answer_of};
+ghost use Rattle.manifest_completion.specs.Asking.{some_ran_out_of_memory};
 ghost use Rattle.manifest_completion.specs.Finds.{main_find};
 ghost use Rattle.manifest_completion.specs.Targets.{targets};
 ghost use Rattle.manifest_completion.specs.Completed.{is_legacy, own_edition, discovers, asks_root, build_of, bin_defaults, example_defaults, test_defaults, source_fault, root_fault_if};
 ghost use Rattle.manifest_completion.specs.Outcome.{declared_content, TargetsCompleted};
-ghost use Rattle.manifest_completion.specs.Steps.{defaults_content, folder_paired, IsFault, ListsCompleted, CompletesByAnswers};
+ghost use Rattle.manifest_completion.specs.Steps.{defaults_content, folder_paired, IsFault, RanOutOfMemory, ListsCompleted, CompletesByAnswers};
 
 use crate::ask::{Answers, FolderAnswers, ask, ask_folders};
 use crate::copies::copy_optional_text;
@@ -143,7 +144,9 @@ fn asks_root(build: &Option<StringOrBool>) -> bool
 }
 
 /// Returns the answer at `src`; refuses with it where it is a fault other than that `src` is not there.
-fn check_source(source: io::Result<BTreeSet<String>>) -> Result<io::Result<BTreeSet<String>>, Error>
+pub(crate) fn check_source(
+    source: io::Result<BTreeSet<String>>,
+) -> Result<io::Result<BTreeSet<String>>, Error>
     ensures { MatchResult result (λ s. (s ≡ source) × (source_fault (answer_of source) ≡ None))
         (IsFault (source_fault (answer_of source))) }
 {
@@ -157,6 +160,17 @@ fn check_source(source: io::Result<BTreeSet<String>>) -> Result<io::Result<BTree
             }
         }
     }
+}
+
+/// Refuses with `Io` of the kind `OutOfMemory` where memory ran out for a listing of targets.
+pub(crate) fn check_memory(answers: &Answers) -> Result<(), Error>
+    ensures { MatchResult result (λ u. some_ran_out_of_memory answers.now ≡ false)
+        (RanOutOfMemory answers.now) }
+{
+    if answers.ran_out_of_memory() {
+        return Err(Error::Io(io::Error::from(ErrorKind::OutOfMemory)));
+    }
+    Ok(())
 }
 
 /// Refuses with `Io` where `asks` is true (the folder of the manifest was asked) and its answer `root` is a fault.
@@ -196,7 +210,7 @@ fn completed_build(
 }
 
 /// The edition that a test or a bench takes where it has none: the package's own.
-fn test_defaults(declared: &DeclaredTargets<'_>) -> TargetDefaults
+pub(crate) fn test_defaults(declared: &DeclaredTargets<'_>) -> TargetDefaults
     ensures { defaults_content result ≡ test_defaults (declared_content declared.now) }
 {
     TargetDefaults {
@@ -207,7 +221,7 @@ fn test_defaults(declared: &DeclaredTargets<'_>) -> TargetDefaults
 }
 
 /// The edition and the crate type `bin` that an example takes where it has none.
-fn example_defaults(declared: &DeclaredTargets<'_>) -> TargetDefaults
+pub(crate) fn example_defaults(declared: &DeclaredTargets<'_>) -> TargetDefaults
     ensures { defaults_content result ≡ example_defaults (declared_content declared.now) }
 {
     TargetDefaults {
@@ -219,7 +233,7 @@ fn example_defaults(declared: &DeclaredTargets<'_>) -> TargetDefaults
 
 /// What a binary takes where it has none: the package's own edition, and in legacy mode the path `src/main.rs`, where
 /// `src` lists it.
-fn bin_defaults(
+pub(crate) fn bin_defaults(
     declared: &DeclaredTargets<'_>,
     source: &io::Result<BTreeSet<String>>,
 ) -> TargetDefaults
@@ -340,9 +354,7 @@ fn complete_by_answers(
     ensures { let t = declared_content declared.now in
         CompletesByAnswers t (option_map product_content lib) answers.now result }
 {
-    if answers.ran_out_of_memory() {
-        return Err(Error::Io(io::Error::from(ErrorKind::OutOfMemory)));
-    }
+    check_memory(answers)?;
     check_root(asks_root(declared.build), &answers.root)?;
     let build = completed_build(alloc, declared.build, &answers.root)?;
     let CompletedLists {

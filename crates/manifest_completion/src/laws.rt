@@ -4,6 +4,7 @@
 ghost use Rattle.manifest_schema.specs.Kinds.{tree_of};
 ghost use Rattle.manifest_completion.specs.Laws.{AskedDiffer, AscendingDiffer, AskedDecides, StoredDecidesTargets, CompletedIsFixed};
 ghost use Rattle.manifest_completion.specs.Unchanged.{DeclaredStays, OthersChangeNothing};
+ghost use Rattle.manifest_completion.specs.Unfound.{UnfoundAreLeft, RefusedIfUnfound};
 
 use manifest_schema::kinds::LawfulKind;
 
@@ -51,4 +52,17 @@ pub fn declared_stays()
 #[tactic(auto, using(crate::proofs::UnchangedLaws::others_change_nothing))]
 pub fn others_change_nothing()
     ensures { OthersChangeNothing }
+{}
+
+/// Where a manifest with a package is completed, the declared targets for which no file is found are those that are
+/// left without a path, at the same places: a target that completion adds has one.
+pub fn unfound_are_left()
+    ensures { UnfoundAreLeft }
+{}
+
+/// Where `src` has no fault that refuses it, a completion is refused for a library without a file exactly where the
+/// library is among the targets for which no file is found.
+#[tactic(auto, using(crate::proofs::UnfoundLaws::refused_if_unfound))]
+pub fn refused_if_unfound()
+    ensures { RefusedIfUnfound }
 {}

@@ -13,8 +13,10 @@ pub mod laws;
 mod library;
 pub mod listings;
 mod targets;
+pub mod unfound;
 
 pub use completion::{CompletedTargets, DeclaredTargets, complete, discovers, is_legacy};
 pub use filesystem::AbstractFilesystem;
 pub use folders::Filesystem;
 pub use listings::{Listing, Listings};
+pub use unfound::unfound_targets;

@@ -4,7 +4,7 @@ ghost use Rattle.std.specs.Prelude.{◌≡◌, ◌++◌, codes, IfOk, IfErr, Mat
 ghost use Rattle.manifest_parts.specs.Records.{product_content};
 ghost use Rattle.manifest_completion.specs.Answered.{answer_of};
 ghost use Rattle.manifest_schema.specs.Slots.{underscored};
-ghost use Rattle.manifest_completion.specs.Completed.{library, known, declared_library, inferred_library, library_path, library_file, library_type, is_legacy};
+ghost use Rattle.manifest_completion.specs.Completed.{library, known, declared_library, inferred_library, library_path, library_file, library_type, is_legacy, has_no_file};
 ghost use Rattle.manifest_completion.specs.Outcome.{declared_content};
 ghost use Rattle.manifest_completion.specs.Steps.{RefusesLibrary};
 
@@ -157,5 +157,20 @@ pub fn completed_library(
             let text = String::from_str(alloc, NO_LIBRARY)?;
             Err(Error::Other(text))
         }
+    }
+}
+
+/// Whether a library is declared that has no file, so that [`completed_library`] refuses it.
+pub fn has_no_file(
+    alloc: Global,
+    declared: &DeclaredTargets<'_>,
+    source: &io::Result<BTreeSet<String>>,
+) -> Result<bool, AllocError>
+    ensures { IfOk result
+        (λ b. b ≡ has_no_file (library (declared_content declared.now) (answer_of source.now))) }
+{
+    match declared.lib {
+        Some(lib) => Ok(library_path(alloc, declared, source, lib)?.is_none()),
+        None => Ok(false),
     }
 }

@@ -1,7 +1,7 @@
 //! Completing a list of targets.
 
 ghost use Rattle.std.specs.Prelude.{◌≡◌, ◌++◌, ◌∷◌, [], map, option_map, OnOk, IfOk, string_bytes, if◌then◌else◌};
-ghost use Rattle.std.specs.Option.{option_copied, option_or};
+ghost use Rattle.std.specs.Option.{option_copied, option_or, is_some};
 ghost use Rattle.manifest_parts.specs.Records.{product_content};
 ghost use Rattle.manifest_completion.specs.Targets.{paths_of, pathed, found, added, with_defaults, targets};
 ghost use Rattle.manifest_completion.specs.Index.{paths_in, SamePaths};
@@ -190,4 +190,13 @@ pub fn completed_list(
         push_found(&mut list, alloc, taken, finds, defaults)?;
     }
     Ok(list)
+}
+
+/// Whether a declared target has a path in the completed list: its own, that of the first find of its name, or the
+/// default.
+pub fn has_path<'a>(target: &'a Product, finds: &IndexedFinds<'a>, defaults: TargetDefaults) -> bool
+    ensures { let filled = pathed finds.now (product_content target.now) in
+        result ≡ is_some (with_defaults (defaults_content defaults) filled).path }
+{
+    path_of(target, finds).or(defaults.path).is_some()
 }

@@ -65,6 +65,8 @@ mod resolved;
 mod rewritten;
 pub mod score;
 #[cfg(test)]
+mod unfound;
+#[cfg(test)]
 mod values;
 #[cfg(test)]
 mod walks;
