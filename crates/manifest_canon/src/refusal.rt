@@ -4,7 +4,7 @@ ghost use Rattle.std.specs.Prelude.{◌≡◌, IfOk, string_bytes};
 ghost use Rattle.manifest_schema.specs.PathTexts.{key_text};
 
 use cargo_manifest::{Error, KeyPath, ParseFault, Step};
-use manifest_inherit::{FinishError, ResolveError};
+use manifest_inherit::{FinishError, Refusal, ResolveError};
 use std::alloc::{AllocError, Global};
 use std::io::Write;
 
@@ -34,16 +34,18 @@ fn key_text(alloc: Global, name: &str) -> Result<String, AllocError>
 /// name in it is written as in a key path.
 fn resolve_line(alloc: Global, refused: &ResolveError) -> Result<String, AllocError> {
     match refused {
-        ResolveError::NotInWorkspace(name) => {
+        ResolveError::Refused(Refusal::NotInWorkspace(name)) => {
             let key = key_text(alloc, name.as_str())?;
             format!(in alloc; "error: not in workspace: {key}\n")
         }
-        ResolveError::InheritedInWorkspace(name) => {
+        ResolveError::Refused(Refusal::InheritedInWorkspace(name)) => {
             let key = key_text(alloc, name.as_str())?;
             format!(in alloc; "error: inherited in workspace: {key}\n")
         }
-        ResolveError::MixedLints => String::from_str(alloc, "error: mixed lints\n"),
-        ResolveError::ToolNamedWorkspace => {
+        ResolveError::Refused(Refusal::MixedLints) => {
+            String::from_str(alloc, "error: mixed lints\n")
+        }
+        ResolveError::Refused(Refusal::ToolNamedWorkspace) => {
             String::from_str(alloc, "error: tool named workspace\n")
         }
         ResolveError::Memory(_) => String::from_str(alloc, "error: memory\n"),

@@ -14,7 +14,8 @@ use Rattle.manifest_inherit.proofs.KeptLemmas.{resolved_dates_are_valid}
 use Rattle.manifest_inherit.specs.declared.error.FinishError.{FinishError}
 use Rattle.manifest_inherit.specs.declared.error.FinishError.TheVariants as unfinished
 use Rattle.manifest_inherit.specs.declared.error.ResolveError.{ResolveError}
-use Rattle.manifest_inherit.specs.declared.error.ResolveError.TheVariants as unresolved
+use Rattle.manifest_inherit.specs.declared.error.ResolveError.TheVariants.{Refused, Memory as NoMemory}
+use Rattle.manifest_inherit.specs.declared.error.Refusal.TheVariants as unresolved
 use Rattle.manifest_ffi.specs.declared.folders.Folder.{Folder}
 use Rattle.manifest_ffi.specs.declared.reading.Input.TheVariants.{Toml}
 use Rattle.manifest_ffi.specs.declared.making.Output.{Output}
@@ -68,11 +69,11 @@ input_is_not_seven true unread.TooDeep t h seven = is_other t 31 refl h.0 seven
 input_is_not_seven false unread.TooDeep t h seven = is_other t 15 refl h.0 seven
 
 resolving_is_not_seven : (e : ResolveError) (t : Told) → TellsResolving e t → t.status ≡ 7 → ⊥
-resolving_is_not_seven (unresolved.NotInWorkspace s) t h seven = is_other t 10 refl h.0 seven
-resolving_is_not_seven (unresolved.InheritedInWorkspace s) t h seven = is_other t 11 refl h.0 seven
-resolving_is_not_seven unresolved.MixedLints t h seven = is_other t 12 refl h.0 seven
-resolving_is_not_seven unresolved.ToolNamedWorkspace t h seven = is_other t 13 refl h.0 seven
-resolving_is_not_seven (unresolved.Memory e) t h seven = is_other t 6 refl h.0 seven
+resolving_is_not_seven (Refused (unresolved.NotInWorkspace s)) t h seven = is_other t 10 refl h.0 seven
+resolving_is_not_seven (Refused (unresolved.InheritedInWorkspace s)) t h seven = is_other t 11 refl h.0 seven
+resolving_is_not_seven (Refused unresolved.MixedLints) t h seven = is_other t 12 refl h.0 seven
+resolving_is_not_seven (Refused unresolved.ToolNamedWorkspace) t h seven = is_other t 13 refl h.0 seven
+resolving_is_not_seven (NoMemory e) t h seven = is_other t 6 refl h.0 seven
 
 finishing_is_not_seven : (e : FinishError) (t : Told) → TellsFinishing e t → t.status ≡ 7 → ⊥
 finishing_is_not_seven (unfinished.Manifest e) t h seven = error_is_not_seven false e t h seven

@@ -9,7 +9,8 @@ use Rattle.manifest_value.specs.declared.error.Error.{Error}
 use Rattle.manifest_value.specs.declared.error.Error.TheVariants as fault
 use Rattle.manifest_value.specs.declared.error.ParseFault.TheVariants.{Toml, Schema}
 use Rattle.manifest_inherit.specs.declared.error.ResolveError.{ResolveError}
-use Rattle.manifest_inherit.specs.declared.error.ResolveError.TheVariants as unresolved
+use Rattle.manifest_inherit.specs.declared.error.ResolveError.TheVariants.{Refused, Memory as NoMemory}
+use Rattle.manifest_inherit.specs.declared.error.Refusal.TheVariants as unresolved
 use Rattle.manifest_ffi.specs.declared.refusal.Refusal.{Refusal}
 use Rattle.manifest_inherit.specs.declared.error.FinishError.{FinishError}
 use Rattle.manifest_inherit.specs.declared.error.FinishError.TheVariants as unfinished
@@ -77,11 +78,11 @@ TellsPrinting e t = TellsError false e t
 
 -- why it is not resolved
 abbrev pub TellsResolving : ResolveError → Told → Type 0
-TellsResolving (unresolved.NotInWorkspace s) t = IsTold t 10 0 (string_bytes s)
-TellsResolving (unresolved.InheritedInWorkspace s) t = IsTold t 11 0 (string_bytes s)
-TellsResolving unresolved.MixedLints t = IsTold t 12 0 []
-TellsResolving unresolved.ToolNamedWorkspace t = IsTold t 13 0 []
-TellsResolving (unresolved.Memory e) t = TellsMemory t
+TellsResolving (Refused (unresolved.NotInWorkspace s)) t = IsTold t 10 0 (string_bytes s)
+TellsResolving (Refused (unresolved.InheritedInWorkspace s)) t = IsTold t 11 0 (string_bytes s)
+TellsResolving (Refused unresolved.MixedLints) t = IsTold t 12 0 []
+TellsResolving (Refused unresolved.ToolNamedWorkspace) t = IsTold t 13 0 []
+TellsResolving (NoMemory e) t = TellsMemory t
 
 -- why bytes are no manifest
 abbrev pub TellsInput : Bool → InputError → Told → Type 0

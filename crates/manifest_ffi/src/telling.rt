@@ -8,7 +8,7 @@ ghost use Rattle.manifest_ffi.specs.Told.{cause_number, kind_number, at_root, Is
 
 use crate::refusal::{InputError, Refusal};
 use cargo_manifest::{Cause, Error, ParseFault, SchemaFault};
-use manifest_inherit::{FinishError, ResolveError};
+use manifest_inherit::{FinishError, Refusal as Unresolved, ResolveError};
 use std::alloc::{AllocError, Global};
 use std::io;
 use std::io::ErrorKind;
@@ -163,10 +163,10 @@ fn tell_resolving(alloc: Global, error: ResolveError) -> Told
     ensures utf8 { IsUtf8 result.text.items }
 {
     match error {
-        ResolveError::NotInWorkspace(key) => with_string(10, 0, key),
-        ResolveError::InheritedInWorkspace(name) => with_string(11, 0, name),
-        ResolveError::MixedLints => with_text(12, 0, Vec::new(alloc)),
-        ResolveError::ToolNamedWorkspace => with_text(13, 0, Vec::new(alloc)),
+        ResolveError::Refused(Unresolved::NotInWorkspace(key)) => with_string(10, 0, key),
+        ResolveError::Refused(Unresolved::InheritedInWorkspace(name)) => with_string(11, 0, name),
+        ResolveError::Refused(Unresolved::MixedLints) => with_text(12, 0, Vec::new(alloc)),
+        ResolveError::Refused(Unresolved::ToolNamedWorkspace) => with_text(13, 0, Vec::new(alloc)),
         ResolveError::Memory(refused) => memory(alloc, refused),
     }
 }

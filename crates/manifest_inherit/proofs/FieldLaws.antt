@@ -1,11 +1,12 @@
 -- The fields of a package that may be inherited from a workspace, by their table.
 use Rattle.manifest_schema.specs.Prelude.{table, no_members, Text, form, workspace_package_rows, Inheritable, inherited, local, Package, WorkspacePackage}
-use Rattle.std.proofs.Common.{rules, ◌≡◌, ℕ, zero, suc, inl, inr, refl, sym, subst, Option, Some, None}
+use Rattle.std.proofs.Common.{rules, arith, ◌≡◌, ◌<◌, ℕ, zero, suc, [], ◌++◌, inl, inr, refl, sym, subst, Option, Some, None}
 use Rattle.manifest_inherit.specs.Fields.{Fields, no_more, ◌⨾◌, lendable}
 use Rattle.manifest_inherit.specs.Resolved.{resolved_field, resolved_fields, resolved_package}
-use Rattle.manifest_inherit.specs.Refused.{Refusal, NoneHolds, not_in_workspace, refuses_field, refuses_fields}
+use Rattle.manifest_inherit.specs.Refused.{NoneHolds, not_in_workspace, refuses_field, refuses_fields}
+use Rattle.manifest_inherit.specs.AllRefused.{fields_refusals}
 use Rattle.manifest_inherit.specs.Own.{IsOwn, AreOwn}
-use Rattle.manifest_inherit.specs.ForProofs.{how_many, refuses_at, IsLent, lent_at}
+use Rattle.manifest_inherit.specs.ForProofs.{how_many, refusals_at, refusals_from}
 
 -- A FIELD
 field_own : {A : Type 0} (key : Text) (own : Option (Inheritable A)) (lent : Option A) → NoneHolds (refuses_field key own lent) → IsOwn (resolved_field own lent)
@@ -66,36 +67,17 @@ package_same = fields_same lendable all_kept
 pub package_accepted : (w : Option WorkspacePackage) (p : Package) → AreOwn lendable p → NoneHolds (refuses_fields lendable w p)
 package_accepted = fields_accepted lendable
 
--- WHAT THE WORKSPACE HAS
--- of the first n fields the workspace has those that are inherited
-abbrev pub first_lent : ℕ → Fields → Option WorkspacePackage → Package → Type 0
-first_lent (suc n) (f ⨾ fs) w p = IsLent (f.own p) (f.lent w) × first_lent n fs w p
-first_lent _ _ w p = Unit {0}
-
+-- ALL REFUSALS, field by field
 -- one more field
-pub one_lent : (fs : Fields) (i : ℕ) (w : Option WorkspacePackage) (p : Package) → first_lent i fs w p → lent_at i fs w p → first_lent (suc i) fs w p
-one_lent no_more i w p h n = tt
-one_lent (f ⨾ fs) zero w p h n = (n, tt)
-one_lent (f ⨾ fs) (suc i) w p h n = (h.0, one_lent fs i w p h.1 n)
+pub one_refused : (fs : Fields) (i : ℕ) (w : Option WorkspacePackage) (p : Package) → i < how_many fs → refusals_from i fs w p ≡ refusals_at i fs w p ++ refusals_from (suc i) fs w p
+one_refused no_more i w p h = absurd (omega (arith, h))
+one_refused (f ⨾ fs) zero w p h = refl
+one_refused (f ⨾ fs) (suc i) w p h = one_refused fs i w p (omega (arith, h))
 
--- where the workspace has all fields that are inherited, nothing is refused
-field_lent : {A : Type 0} (key : Text) (own : Option (Inheritable A)) (lent : Option A) → IsLent own lent → NoneHolds (refuses_field key own lent)
-field_lent key None lent h r x = x
-field_lent key (Some (local y)) lent h r x = x
-field_lent key (Some inherited) (Some y) h r x = x
-field_lent key (Some inherited) None h r x = h
-
-pub none_refused : (fs : Fields) (w : Option WorkspacePackage) (p : Package) → first_lent (how_many fs) fs w p → NoneHolds (refuses_fields fs w p)
-none_refused no_more w p h r x = x
-none_refused (f ⨾ fs) w p h r (inl x) = field_lent f.key (f.own p) (f.lent w) h.0 r x
-none_refused (f ⨾ fs) w p h r (inr x) = none_refused fs w p h.1 r x
-
--- what refuses a field refuses the package
-pub field_refused : (fs : Fields) (i : ℕ) (w : Option WorkspacePackage) (p : Package) (r : Refusal) → refuses_at i fs w p r → refuses_fields fs w p r
-field_refused no_more zero w p r x = x
-field_refused no_more (suc i) w p r x = x
-field_refused (f ⨾ fs) zero w p r x = inl x
-field_refused (f ⨾ fs) (suc i) w p r x = inr (field_refused fs i w p r x)
+-- no field is left
+pub none_left : (fs : Fields) (w : Option WorkspacePackage) (p : Package) → refusals_from (how_many fs) fs w p ≡ []
+none_left no_more w p = refl
+none_left (f ⨾ fs) w p = none_left fs w p
 
 -- TWO WORKSPACES WITH THE SAME FIELDS
 abbrev LendSame : Fields → Option WorkspacePackage → Option WorkspacePackage → Type 0
@@ -106,14 +88,9 @@ same_resolved : (fs : Fields) (v w : Option WorkspacePackage) (p : Package) → 
 same_resolved no_more v w p h = refl
 same_resolved (f ⨾ fs) v w p h = rw (same_resolved fs v w p h.1, h.0) refl
 
-same_refused : (fs : Fields) (v w : Option WorkspacePackage) (p : Package) (r : Refusal) → LendSame fs v w → refuses_fields fs v p r → refuses_fields fs w p r
-same_refused no_more v w p r h x = x
-same_refused (f ⨾ fs) v w p r h (inl x) = inl (subst (λ l. refuses_field f.key (f.own p) l r) h.0 x)
-same_refused (f ⨾ fs) v w p r h (inr x) = inr (same_refused fs v w p r h.1 x)
-
-same_back : (fs : Fields) (v w : Option WorkspacePackage) → LendSame fs v w → LendSame fs w v
-same_back no_more v w h = tt
-same_back (f ⨾ fs) v w h = (sym h.0, same_back fs v w h.1)
+same_refusals : (fs : Fields) (v w : Option WorkspacePackage) (p : Package) → LendSame fs v w → fields_refusals fs v p ≡ fields_refusals fs w p
+same_refusals no_more v w p h = refl
+same_refusals (f ⨾ fs) v w p h = rw (same_refusals fs v w p h.1, h.0) refl
 
 -- what the empty table means has no field to inherit
 abbrev IsAbsent : {B : Type 0} → Option B → Type 0
@@ -133,8 +110,5 @@ module _ (w : WorkspacePackage) (h : (form workspace_package_rows).reads (table 
   unfolding resolved_package
   nothing_resolved = same_resolved lendable (Some w) None p (lends_nothing w h)
 
-  pub nothing_refused : (r : Refusal) → refuses_fields lendable (Some w) p r → refuses_fields lendable None p r
-  nothing_refused r = same_refused lendable (Some w) None p r (lends_nothing w h)
-
-  pub none_holds : NoneHolds (refuses_fields lendable (Some w) p) → NoneHolds (refuses_fields lendable None p)
-  none_holds k r x = k r (same_refused lendable None (Some w) p r (same_back lendable (Some w) None (lends_nothing w h)) x)
+  pub nothing_listed : fields_refusals lendable (Some w) p ≡ fields_refusals lendable None p
+  nothing_listed = same_refusals lendable (Some w) None p (lends_nothing w h)

@@ -6,3 +6,5 @@ pub mod FeatureLemmas
 pub mod EntryLemmas
 pub mod MadeLemmas
 pub mod KeptLemmas
+pub mod RefusalLaws
+pub mod FirstLemmas

@@ -1,10 +1,25 @@
--- What resolving a manifest answers.
+-- What resolving a manifest answers, and the refusals of the code as the definitions see them.
+use Rattle.manifest_schema.specs.Prelude.{Path, Workspace, Manifest}
 use Rattle.std.specs.Prelude.{◌≡◌, Result, Ok, Err, string_bytes}
-use Rattle.manifest_schema.specs.Contents.{Workspace, Manifest}
+use Rattle.manifest_value.specs.Faults.{path_of}
 use Rattle.manifest_inherit.specs.Resolved.{resolved}
-use Rattle.manifest_inherit.specs.Refused.{Refusals, NoneHolds, not_in_workspace, inherited_in_workspace, mixed_lints, tool_named_workspace, refuses}
+use Rattle.manifest_inherit.specs.Refused.{Refusal, Refusals, NoneHolds, not_in_workspace, inherited_in_workspace, mixed_lints, tool_named_workspace, refuses}
+use Rattle.manifest_inherit.specs.declared.error.Refusal.{Refusal as RefusalOfCode}
+use Rattle.manifest_inherit.specs.declared.error.Refusal.TheVariants.{NotInWorkspace, InheritedInWorkspace, MixedLints, ToolNamedWorkspace}
+use Rattle.manifest_inherit.specs.declared.error.ResolveFault.{ResolveFault}
 use Rattle.manifest_inherit.specs.declared.error.ResolveError.{ResolveError}
-use Rattle.manifest_inherit.specs.declared.error.ResolveError.TheVariants.{NotInWorkspace, InheritedInWorkspace, MixedLints, ToolNamedWorkspace, Memory}
+use Rattle.manifest_inherit.specs.declared.error.ResolveError.TheVariants.{Refused, Memory}
+
+-- a refusal
+abbrev pub refusal_of : RefusalOfCode → Refusal
+refusal_of (NotInWorkspace s) = not_in_workspace (string_bytes s)
+refusal_of (InheritedInWorkspace s) = inherited_in_workspace (string_bytes s)
+refusal_of MixedLints = mixed_lints
+refusal_of ToolNamedWorkspace = tool_named_workspace
+
+-- a refusal, by its path and what it is
+abbrev pub fault_of : ResolveFault → Path × Refusal
+fault_of f = (path_of f.path, refusal_of f.refusal)
 
 -- THE MANIFEST IS RESOLVED over the workspace to the other one: nothing refuses it, and that is what it becomes
 pub record ResolvesTo (m : Manifest) (w : Workspace) (n : Manifest) : Type 0 where
@@ -13,11 +28,7 @@ pub record ResolvesTo (m : Manifest) (w : Workspace) (n : Manifest) : Type 0 whe
 
 -- the error is one of these refusals, or out of memory
 abbrev pub ResolveRefusedIn : Refusals → ResolveError → Type 0
-ResolveRefusedIn refuses (NotInWorkspace s) = refuses (not_in_workspace (string_bytes s))
-ResolveRefusedIn refuses (InheritedInWorkspace s) =
-    refuses (inherited_in_workspace (string_bytes s))
-ResolveRefusedIn refuses MixedLints = refuses mixed_lints
-ResolveRefusedIn refuses ToolNamedWorkspace = refuses tool_named_workspace
+ResolveRefusedIn refuses (Refused r) = refuses (refusal_of r)
 ResolveRefusedIn refuses (Memory e) = Unit {0}
 
 -- out of memory

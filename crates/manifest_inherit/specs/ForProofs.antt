@@ -1,6 +1,6 @@
 -- What the contracts of single steps cite. It is not needed to read what a manifest becomes.
-use Rattle.manifest_schema.specs.Prelude.{Global, BTreeMap, Entries, Inheritable, inherited, Dependency, Lint, Package, WorkspacePackage, Manifest}
-use Rattle.std.specs.Prelude.{◌≡◌, ℕ, zero, suc, [], Option, Some, None, option_map, unwrap_or, String}
+use Rattle.manifest_schema.specs.Prelude.{Global, BTreeMap, Entries, Dependency, Lint, Package, WorkspacePackage, Manifest}
+use Rattle.std.specs.Prelude.{◌≡◌, ℕ, zero, suc, [], Option, Some, option_map, unwrap_or, String}
 use Rattle.manifest_value.specs.Entries.{entries_content}
 use Rattle.manifest_parts.specs.Records.{platform_content, lint_content}
 use Rattle.manifest_parts.specs.declared.dependency.Dependency.{Dependency as DependencyOfCode}
@@ -8,12 +8,12 @@ use Rattle.manifest_parts.specs.declared.lints.Lint.{Lint as LintOfCode}
 use Rattle.cargo_manifest.specs.Tables.{dependencies_content, workspace_package_content}
 use Rattle.manifest_inherit.specs.Fields.{Fields, no_more, ◌⨾◌}
 use Rattle.manifest_inherit.specs.Resolved.{resolved_package, resolved_lints}
-use Rattle.manifest_inherit.specs.Refused.{Refusals, NoneHolds, refuses_field}
+use Rattle.manifest_inherit.specs.AllRefused.{PlacedRefusals, field_refusals, fields_refusals}
 use Rattle.manifest_inherit.specs.declared.resolution.Made.{Made}
 
--- none of these refusals holds, and what is made is what it has to become
-abbrev pub Accepted : {A : Type 0} → Refusals → A → A → Type 0
-Accepted refuses becomes made = NoneHolds refuses × (made ≡ becomes)
+-- there is no refusal, and what is made is what it has to become
+abbrev pub Accepted : {A : Type 0} → PlacedRefusals → A → A → Type 0
+Accepted refusals becomes made = (refusals ≡ []) × (made ≡ becomes)
 
 -- the workspace's dependencies that can be inherited, where there is a map of them
 abbrev pub lent_by_map : Option (BTreeMap (String Global) DependencyOfCode) → Entries Dependency
@@ -29,22 +29,17 @@ abbrev pub how_many : Fields → ℕ
 how_many no_more = zero
 how_many (f ⨾ fs) = suc (how_many fs)
 
--- the field at this place is inherited, and the workspace does not have it
-abbrev pub refuses_at : ℕ → Fields → Option WorkspacePackage → Package → Refusals
-refuses_at zero (f ⨾ fs) w p r = refuses_field f.key (f.own p) (f.lent w) r
-refuses_at (suc i) (f ⨾ fs) w p r = refuses_at i fs w p r
-refuses_at _ _ w p r = ⊥
+-- the refusals of the field at this place
+abbrev pub refusals_at : ℕ → Fields → Option WorkspacePackage → Package → PlacedRefusals
+refusals_at zero (f ⨾ fs) w p = field_refusals f.key (f.own p) (f.lent w)
+refusals_at (suc i) (f ⨾ fs) w p = refusals_at i fs w p
+refusals_at _ _ w p = []
 
--- if the field is inherited, the workspace has it
-abbrev pub IsLent : {A : Type 0} → Option (Inheritable A) → Option A → Type 0
-IsLent (Some inherited) None = ⊥
-IsLent own lent = Unit {0}
-
--- if the field at this place is inherited, the workspace has it
-abbrev pub lent_at : ℕ → Fields → Option WorkspacePackage → Package → Type 0
-lent_at zero (f ⨾ fs) w p = IsLent (f.own p) (f.lent w)
-lent_at (suc i) (f ⨾ fs) w p = lent_at i fs w p
-lent_at _ _ w p = Unit {0}
+-- those of the fields from this place on
+abbrev pub refusals_from : ℕ → Fields → Option WorkspacePackage → Package → PlacedRefusals
+refusals_from zero fs w p = fields_refusals fs w p
+refusals_from (suc i) (f ⨾ fs) w p = refusals_from i fs w p
+refusals_from (suc i) no_more w p = []
 
 -- a manifest with what is made in the place of what it inherits
 abbrev pub with_made : Made → Manifest → Manifest

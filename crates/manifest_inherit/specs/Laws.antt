@@ -1,8 +1,10 @@
 -- What is promised of resolving.
 use Rattle.manifest_schema.specs.Prelude.{Data, Kind, form, Workspace, Manifest, workspace_rows, well_formed, KeepsValidDates}
-use Rattle.std.specs.Prelude.{◌≡◌}
+use Rattle.std.specs.Prelude.{◌≡◌, ◌↔◌, []}
 use Rattle.manifest_completion.specs.Listings.{ListingMap}
 use Rattle.manifest_completion.specs.Completed.{completed_to, completed}
+use Rattle.manifest_inherit.specs.Refused.{Refusal, NoneHolds, refuses}
+use Rattle.manifest_inherit.specs.AllRefused.{has_refusal, all_refusals}
 use Rattle.manifest_inherit.specs.Own.{InheritsNothing}
 use Rattle.manifest_inherit.specs.Answers.{ResolvesTo}
 
@@ -36,3 +38,13 @@ CompletedStaysResolved K W V =
 abbrev pub ResolvedDatesAreValid : Type 0
 ResolvedDatesAreValid =
     (m n : Manifest) (w : Workspace) → KeepsValidDates m → ResolvesTo m w n → KeepsValidDates n
+
+-- the list of all refusals has those that hold, and no others
+abbrev pub ListsEachRefusal : Type 0
+ListsEachRefusal =
+    (m : Manifest) (w : Workspace) (r : Refusal) → refuses m w r ↔ has_refusal (all_refusals m w) r
+
+-- so it is empty exactly if none holds
+abbrev pub EmptyIfNoneHolds : Type 0
+EmptyIfNoneHolds =
+    (m : Manifest) (w : Workspace) → (all_refusals m w ≡ []) ↔ NoneHolds (refuses m w)

@@ -1,15 +1,16 @@
 //! What an inherited dependency becomes.
 
 ghost use Rattle.manifest_schema.specs.Prelude.{option_or, detailed};
-ghost use Rattle.std.specs.Prelude.{◌≡◌, IfOk, IfErr, option_map, string_bytes};
+ghost use Rattle.std.specs.Prelude.{◌≡◌, IfOk, IfErr, map, option_map, string_bytes};
 ghost use Rattle.manifest_parts.specs.Records.{inherited_content, detail_content, dependency_content};
 ghost use Rattle.manifest_parts.specs.Queries.{simplify};
 ghost use Rattle.manifest_inherit.specs.Resolved.{workspace_dependency, version_alone, joined, resolved_dependency};
-ghost use Rattle.manifest_inherit.specs.Refused.{refuses_dependency};
-ghost use Rattle.manifest_inherit.specs.Answers.{ResolveRefusedIn};
+ghost use Rattle.manifest_inherit.specs.AllRefused.{first_refusal, dependency_refusals};
+ghost use Rattle.manifest_inherit.specs.Answers.{fault_of, ResolveRefusedIn};
 ghost use Rattle.manifest_inherit.specs.ForProofs.{Accepted, lent_by_map};
 
 use crate::error::{ResolveError, inherited_in_workspace, not_in_workspace};
+use crate::faults::{Faults, refused_here};
 use crate::features::join_features;
 use manifest_parts::{Dependency, DependencyDetail, DepsSet, InheritedDependencyDetail};
 use manifest_value::copy_of;
@@ -73,23 +74,50 @@ pub(crate) fn resolved_dependency(
     own: &Dependency,
 ) -> Result<Dependency, ResolveError>
     ensures ok { let all = lent_by_map lent.now in let d = dependency_content own.now in
-        IfOk result (λ x. Accepted (refuses_dependency all name.now d)
+        IfOk result (λ x. Accepted (dependency_refusals all name.now d)
         (resolved_dependency all name.now d) (dependency_content x)) }
-    ensures refused { IfErr result (ResolveRefusedIn
-        (refuses_dependency (lent_by_map lent.now) name.now (dependency_content own.now))) }
+    ensures refused { let all = lent_by_map lent.now in let d = dependency_content own.now in
+        IfErr result (ResolveRefusedIn (first_refusal (dependency_refusals all name.now d))) }
 {
     match own {
         Dependency::Simple(version) => Ok(Dependency::Simple(copy_of(version)?)),
         Dependency::Detailed(detail) => Ok(Dependency::Detailed(copy_of(detail)?)),
         Dependency::Inherited(own) => match workspace_dependency(lent, name) {
-            None => Err(not_in_workspace(alloc, name)),
-            Some(Dependency::Inherited(_)) => Err(inherited_in_workspace(alloc, name)),
+            None => Err(ResolveError::Refused(not_in_workspace(alloc, name)?)),
+            Some(Dependency::Inherited(_)) => {
+                Err(ResolveError::Refused(inherited_in_workspace(alloc, name)?))
+            }
             Some(Dependency::Simple(version)) => {
                 Ok(join_dependency(alloc, own, version_alone(version)?)?)
             }
             Some(Dependency::Detailed(detail)) => {
                 Ok(join_dependency(alloc, own, copy_of(detail)?)?)
             }
+        },
+    }
+}
+
+/// Why a member's dependency of this name is not resolved: it is inherited, and the workspace has none of the name, or
+/// itself inherits it.
+pub(crate) fn dependency_refusals(
+    alloc: Global,
+    lent: &Option<DepsSet>,
+    name: &str,
+    own: &Dependency,
+) -> Faults
+    ensures { let d = dependency_content own.now in IfOk result
+        (λ v. map fault_of v.items ≡ dependency_refusals (lent_by_map lent.now) name.now d) }
+{
+    match own {
+        Dependency::Simple(_) => Ok(Vec::new(alloc)),
+        Dependency::Detailed(_) => Ok(Vec::new(alloc)),
+        Dependency::Inherited(_) => match workspace_dependency(lent, name) {
+            None => refused_here(alloc, not_in_workspace(alloc, name)?),
+            Some(Dependency::Inherited(_)) => {
+                refused_here(alloc, inherited_in_workspace(alloc, name)?)
+            }
+            Some(Dependency::Simple(_)) => Ok(Vec::new(alloc)),
+            Some(Dependency::Detailed(_)) => Ok(Vec::new(alloc)),
         },
     }
 }

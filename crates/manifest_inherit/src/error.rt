@@ -1,15 +1,16 @@
 //! Why a manifest is not resolved.
 
-ghost use Rattle.std.specs.Prelude.{◌≡◌};
+ghost use Rattle.std.specs.Prelude.{◌≡◌, IfOk};
 ghost use Rattle.manifest_inherit.specs.Refused.{not_in_workspace, inherited_in_workspace};
-ghost use Rattle.manifest_inherit.specs.Answers.{ResolveRefusedIn};
+ghost use Rattle.manifest_inherit.specs.Answers.{refusal_of};
 
+use manifest_value::KeyPath;
 use std::alloc::{AllocError, AllocFailed, Global};
 use thiserror::Error;
 
-/// What [`resolve`](crate::resolve) refuses with.
-#[derive(Debug, Drop, Error)]
-pub enum ResolveError {
+/// Why a manifest is not resolved over a workspace.
+#[derive(Debug, PartialEq, Eq, Drop, Error)]
+pub enum Refusal {
     /// The manifest inherits a package field or a dependency of this name, as it stands in the file, or `lints`, and
     /// the workspace has none.
     #[error("not in workspace: {0}")]
@@ -23,6 +24,22 @@ pub enum ResolveError {
     /// The lints are inherited, and the workspace has lints of a tool named `workspace`.
     #[error("tool named workspace")]
     ToolNamedWorkspace,
+}
+
+/// One refusal, at the key path in the manifest of what is inherited: `not in workspace: version at package.version`.
+#[derive(Debug, PartialEq, Eq, Drop, Error)]
+#[error("{refusal} at {path}")]
+pub struct ResolveFault {
+    pub path: KeyPath,
+    pub refusal: Refusal,
+}
+
+/// What [`resolve`](crate::resolve) refuses with.
+#[derive(Debug, Drop, Error)]
+pub enum ResolveError {
+    /// What the manifest inherits is refused.
+    #[error("{0}")]
+    Refused(Refusal),
     /// No memory was left.
     #[error("memory")]
     Memory(AllocError),
@@ -78,22 +95,16 @@ impl<T: Drop> From<AllocFailed<T>> for ResolveError {
     }
 }
 
-/// `NotInWorkspace` of a copy of the name; `Memory` where there is none for the copy.
-pub(crate) fn not_in_workspace(alloc: Global, name: &str) -> ResolveError
-    ensures { ResolveRefusedIn (λ r. r ≡ not_in_workspace name.now) result }
+/// `NotInWorkspace` of a copy of the name.
+pub(crate) fn not_in_workspace(alloc: Global, name: &str) -> Result<Refusal, AllocError>
+    ensures { IfOk result (λ r. refusal_of r ≡ not_in_workspace name.now) }
 {
-    match String::from_str(alloc, name) {
-        Ok(name) => ResolveError::NotInWorkspace(name),
-        Err(refused) => ResolveError::Memory(refused),
-    }
+    Ok(Refusal::NotInWorkspace(String::from_str(alloc, name)?))
 }
 
-/// `InheritedInWorkspace` of a copy of the dependency's name; `Memory` where there is none for the copy.
-pub(crate) fn inherited_in_workspace(alloc: Global, name: &str) -> ResolveError
-    ensures { ResolveRefusedIn (λ r. r ≡ inherited_in_workspace name.now) result }
+/// `InheritedInWorkspace` of a copy of the dependency's name.
+pub(crate) fn inherited_in_workspace(alloc: Global, name: &str) -> Result<Refusal, AllocError>
+    ensures { IfOk result (λ r. refusal_of r ≡ inherited_in_workspace name.now) }
 {
-    match String::from_str(alloc, name) {
-        Ok(name) => ResolveError::InheritedInWorkspace(name),
-        Err(refused) => ResolveError::Memory(refused),
-    }
+    Ok(Refusal::InheritedInWorkspace(String::from_str(alloc, name)?))
 }

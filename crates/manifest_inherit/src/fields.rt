@@ -1,36 +1,39 @@
 //! The fields of a package that may be inherited from a workspace.
 
-ghost use Rattle.std.specs.Prelude.{◌≡◌, ◌<◌, Some, OnOk, IfErr, length, option_map};
+ghost use Rattle.std.specs.Prelude.{◌≡◌, ◌<◌, Some, IfOk, length, map, option_map};
 ghost use Rattle.manifest_parts.specs.Parts.{inh_content};
 ghost use Rattle.cargo_manifest.specs.Tables.{workspace_package_content, package_of};
 ghost use Rattle.manifest_inherit.specs.Fields.{lendable};
 ghost use Rattle.manifest_inherit.specs.Resolved.{resolved_field, resolved_package};
-ghost use Rattle.manifest_inherit.specs.Refused.{NoneHolds, refuses_field, refuses_fields};
-ghost use Rattle.manifest_inherit.specs.Answers.{ResolveRefusedIn};
-ghost use Rattle.manifest_inherit.specs.ForProofs.{how_many, refuses_at, IsLent, lent_at};
+ghost use Rattle.manifest_inherit.specs.AllRefused.{field_refusals, fields_refusals, some_refusals};
+ghost use Rattle.manifest_inherit.specs.Answers.{fault_of};
+ghost use Rattle.manifest_inherit.specs.ForProofs.{how_many, refusals_at};
 
-use crate::error::{ResolveError, not_in_workspace};
+use crate::error::not_in_workspace;
+use crate::faults::{Faults, and, refused_here, refused_under};
 use cargo_manifest::{Package, WorkspacePackage};
 use manifest_parts::MaybeInherited;
 use manifest_value::{Metadata, Schema, at_place};
 use std::alloc::Global;
 
-/// Refuses with `NotInWorkspace` of `key` a field that the package inherits (`own`) and the workspace does not have
+/// Why a field is not resolved, under its key: the package inherits it (`own`), and the workspace does not have it
 /// (`lent`).
-fn check_field<T: Schema>(
+fn field_refusals<T: Schema>(
     alloc: Global,
     key: &str,
     own: &Option<MaybeInherited<T>>,
     lent: &Option<T>,
-) -> Result<(), ResolveError>
-    ensures ok { let o = option_map (inh_content T.content) own.now in
-        OnOk result (IsLent o (option_map T.content lent.now)) }
-    ensures refused { let o = option_map (inh_content T.content) own.now in
-        IfErr result (ResolveRefusedIn (refuses_field key.now o (option_map T.content lent.now))) }
+) -> Faults
+    ensures { let o = option_map (inh_content T.content) own.now in
+        let l = option_map T.content lent.now in
+        IfOk result (λ v. map fault_of v.items ≡ field_refusals key.now o l) }
 {
     match (own, lent) {
-        (Some(MaybeInherited::Inherited { .. }), None) => Err(not_in_workspace(alloc, key)),
-        _ => Ok(()),
+        (Some(MaybeInherited::Inherited { .. }), None) => {
+            let here = refused_here(alloc, not_in_workspace(alloc, key)?)?;
+            refused_under(alloc, key, here)
+        }
+        _ => Ok(Vec::new(alloc)),
     }
 }
 
@@ -64,10 +67,11 @@ macro_rules! keys_of {
     (() $($field:ident: $key:literal;)*) => { &[$($key),*] };
 }
 
-/// The body of `check_at` by the list, a `match` on `i`.
-macro_rules! check_of {
+/// The body of `refusals_at` by the list, a `match` on `i`.
+macro_rules! refusals_of {
     (($alloc:ident, $own:ident, $lent:ident, $i:ident) $($field:ident: $key:literal;)*) => {
-        at_place!($i; Ok(()); $({ check_field($alloc, $key, &$own.$field, &$lent.$field) })*)
+        at_place!($i; Ok(Vec::new($alloc));
+            $({ field_refusals($alloc, $key, &$own.$field, &$lent.$field) })*)
     };
 }
 
@@ -90,43 +94,72 @@ fn keys() -> &'static [&'static str]
     KEYS
 }
 
-/// Refuses as [`check_field`] does of field `i` of the list: if the package inherits it and the workspace does not have
-/// it. The macro makes a `match` on `i`, with a call of `check_field` for each field.
+/// Why field `i` of the list is not resolved, as [`field_refusals`] says. The macro makes a `match` on `i`, with a call
+/// of `field_refusals` for each field.
 #[tactic(auto, unfolding(crate::specs::Fields::lendable))]
-fn check_at<M: Metadata>(
+fn refusals_at<M: Metadata>(
     alloc: Global,
     own: &Package<M>,
     lent: &WorkspacePackage,
     i: usize,
-) -> Result<(), ResolveError>
+) -> Faults
     requires { i < how_many lendable }
-    ensures ok { let p = package_of M.kind M.content own.now in
+    ensures { let p = package_of M.kind M.content own.now in
         let w = Some (workspace_package_content lent.now) in
-        OnOk result (lent_at i lendable w p) }
-    ensures refused { let p = package_of M.kind M.content own.now in
-        let w = Some (workspace_package_content lent.now) in
-        IfErr result (ResolveRefusedIn (refuses_at i lendable w p)) }
+        IfOk result (λ v. map fault_of v.items ≡ refusals_at i lendable w p) }
 {
-    lendable!(check_of(alloc, own, lent, i))
+    lendable!(refusals_of(alloc, own, lent, i))
 }
 
-/// Refuses a package that inherits a field which the workspace does not have, with the key of the field.
-pub(crate) fn check_fields<M: Metadata>(
+/// All refusals of the fields of a package (`own`): each that it inherits and the workspace (`lent`) does not have,
+/// under its key.
+fn fields_refusals<M: Metadata>(alloc: Global, own: &Package<M>, lent: &WorkspacePackage) -> Faults
+    ensures { let p = package_of M.kind M.content own.now in
+        let w = Some (workspace_package_content lent.now) in
+        IfOk result (λ v. map fault_of v.items ≡ fields_refusals lendable w p) }
+{
+    let mut list = Vec::new(alloc);
+    for i in 0..keys().len() {
+        list = and(list, refusals_at(alloc, own, lent, i)?)?;
+    }
+    Ok(list)
+}
+
+/// The same over the workspace's fields where it may have none (`lent`): then each field that is inherited is refused.
+pub(crate) fn package_refusals<M: Metadata>(
     alloc: Global,
     own: &Package<M>,
-    lent: &WorkspacePackage,
-) -> Result<(), ResolveError>
-    ensures ok { let p = package_of M.kind M.content own.now in
-        let w = Some (workspace_package_content lent.now) in
-        OnOk result (NoneHolds (refuses_fields lendable w p)) }
-    ensures refused { let p = package_of M.kind M.content own.now in
-        let w = Some (workspace_package_content lent.now) in
-        IfErr result (ResolveRefusedIn (refuses_fields lendable w p)) }
+    lent: &Option<WorkspacePackage>,
+) -> Faults
+    ensures { let w = option_map workspace_package_content lent.now in
+        let p = package_of M.kind M.content own.now in
+        IfOk result (λ v. map fault_of v.items ≡ fields_refusals lendable w p) }
 {
-    for i in 0..keys().len() {
-        check_at(alloc, own, lent, i)?;
+    match lent {
+        Some(lent) => fields_refusals(alloc, own, lent),
+        None => {
+            let nothing = WorkspacePackage::default();
+            let answer = fields_refusals(alloc, own, &nothing);
+            drop(nothing);
+            answer
+        }
     }
-    Ok(())
+}
+
+/// All refusals of the package, where there is one, as [`package_refusals`] has them.
+pub(crate) fn optional_package_refusals<M: Metadata>(
+    alloc: Global,
+    own: &Option<Package<M>>,
+    lent: &Option<WorkspacePackage>,
+) -> Faults
+    ensures { let w = option_map workspace_package_content lent.now in
+        let o = option_map (package_of M.kind M.content) own.now in
+        IfOk result (λ v. map fault_of v.items ≡ some_refusals (fields_refusals lendable w) o) }
+{
+    match own {
+        Some(own) => package_refusals(alloc, own, lent),
+        None => Ok(Vec::new(alloc)),
+    }
 }
 
 /// Sets `place`, a field of the package, to the workspace's value, if the field is inherited and the workspace has one

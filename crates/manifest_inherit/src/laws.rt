@@ -4,7 +4,7 @@
 //! Each function returns at once: it is there for its contract, a law of the definitions.
 
 ghost use Rattle.manifest_schema.specs.Kinds.{tree_of};
-ghost use Rattle.manifest_inherit.specs.Laws.{ResolvedIsSettled, OwnIsSettled, ResolvedIsWellFormed, CompletedStaysResolved, ResolvedDatesAreValid};
+ghost use Rattle.manifest_inherit.specs.Laws.{ResolvedIsSettled, OwnIsSettled, ResolvedIsWellFormed, CompletedStaysResolved, ResolvedDatesAreValid, ListsEachRefusal, EmptyIfNoneHolds};
 
 use cargo_manifest::Metadata;
 
@@ -22,4 +22,11 @@ pub fn resolved_is_fixed<P: Metadata, W: Metadata, V: Metadata>()
 /// none.
 pub fn resolved_dates_are_valid()
     ensures { ResolvedDatesAreValid }
+{}
+
+/// The list of all refusals, which [`refusals`](crate::refusals) returns, has a refusal at some path exactly if it
+/// holds; so the list is empty exactly where none holds, as where [`resolve`](crate::resolve) succeeds.
+pub fn each_refusal_is_listed()
+    ensures listed { ListsEachRefusal }
+    ensures empty { EmptyIfNoneHolds }
 {}

@@ -4,6 +4,7 @@
 
 mod dependency;
 mod error;
+mod faults;
 mod features;
 mod fields;
 pub mod laws;
@@ -11,7 +12,9 @@ mod lints;
 mod maps;
 mod pipeline;
 mod resolution;
+mod unresolved;
 
-pub use error::{FinishError, ResolveError};
+pub use error::{FinishError, Refusal, ResolveError, ResolveFault};
 pub use pipeline::finish;
 pub use resolution::resolve;
+pub use unresolved::refusals;

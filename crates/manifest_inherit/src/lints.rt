@@ -1,21 +1,95 @@
 //! The lints inherited from a workspace.
 
-ghost use Rattle.std.specs.Prelude.{◌≡◌, OnOk, IfErr, option_map};
+ghost use Rattle.std.specs.Prelude.{◌≡◌, OnOk, IfOk, IfErr, map, option_map};
 ghost use Rattle.manifest_parts.specs.Records.{lints_content};
 ghost use Rattle.manifest_inherit.specs.Resolved.{resolved_lints};
-ghost use Rattle.manifest_inherit.specs.Refused.{refuses_lints, refuses_some};
-ghost use Rattle.manifest_inherit.specs.Answers.{ResolveRefusedIn};
+ghost use Rattle.manifest_inherit.specs.AllRefused.{first_refusal, tools_refusals, lent_lints_refusals, lints_refusals, some_refusals};
+ghost use Rattle.manifest_inherit.specs.Answers.{fault_of, ResolveRefusedIn};
 ghost use Rattle.manifest_inherit.specs.ForProofs.{Accepted, tools_content};
 
-use crate::error::{ResolveError, not_in_workspace};
+use crate::error::{Refusal, ResolveError, not_in_workspace};
+use crate::faults::{Faults, and, refuse_first, refused_here};
 use manifest_parts::{LintsSet, MaybeInheritedLintsSet};
 use manifest_value::well_formed::none_is_named;
 use manifest_value::{copy_of, spelled};
-use std::alloc::Global;
+use std::alloc::{AllocError, Global};
 
-/// Puts a copy of the workspace's lints (`lent`) into `place`, if the manifest's lints (`own`) are inherited; else
-/// `place` stays as it is. Refuses with `MixedLints`, `NotInWorkspace`, `ToolNamedWorkspace`, as
-/// [`resolve`](crate::resolve) says, and with `Memory`.
+/// Why the workspace's lints (`lent`) cannot be inherited: there are none, or there is a tool named `workspace`.
+fn lent_lints_refusals(alloc: Global, lent: &Option<LintsSet>) -> Faults
+    ensures { let all = option_map tools_content lent.now in
+        IfOk result (λ v. map fault_of v.items ≡ lent_lints_refusals all) }
+{
+    match lent {
+        None => refused_here(alloc, not_in_workspace(alloc, "lints")?),
+        Some(lent) => {
+            if none_is_named(lent, &spelled!["workspace"]) {
+                Ok(Vec::new(alloc))
+            } else {
+                refused_here(alloc, Refusal::ToolNamedWorkspace)
+            }
+        }
+    }
+}
+
+/// Why lints that are inherited may not have tools of their own (`own`): there is one.
+fn tools_refusals(alloc: Global, own: &LintsSet) -> Faults
+    ensures { IfOk result (λ v. map fault_of v.items ≡ tools_refusals (tools_content own.now)) }
+{
+    if own.is_empty() {
+        Ok(Vec::new(alloc))
+    } else {
+        refused_here(alloc, Refusal::MixedLints)
+    }
+}
+
+/// All refusals of a manifest's lints (`own`) over those of the workspace (`lent`).
+fn lints_refusals(alloc: Global, own: &MaybeInheritedLintsSet, lent: &Option<LintsSet>) -> Faults
+    ensures { let all = option_map tools_content lent.now in IfOk result
+        (λ v. map fault_of v.items ≡ lints_refusals all (lints_content own.now)) }
+{
+    match own.workspace {
+        None => Ok(Vec::new(alloc)),
+        Some(_) => {
+            let list = tools_refusals(alloc, &own.lints)?;
+            and(list, lent_lints_refusals(alloc, lent)?)
+        }
+    }
+}
+
+/// All refusals of lints that may be absent, as [`lints_refusals`] has them.
+pub(crate) fn optional_lints_refusals(
+    alloc: Global,
+    own: &Option<MaybeInheritedLintsSet>,
+    lent: &Option<LintsSet>,
+) -> Faults
+    ensures { let all = option_map tools_content lent.now in
+        let o = option_map lints_content own.now in
+        IfOk result (λ v. map fault_of v.items ≡ some_refusals (lints_refusals all) o) }
+{
+    match own {
+        Some(own) => lints_refusals(alloc, own, lent),
+        None => Ok(Vec::new(alloc)),
+    }
+}
+
+/// Sets `place` to a copy of the workspace's lints (`lent`), if the manifest's lints (`own`) are inherited.
+fn copy_lent(
+    own: &MaybeInheritedLintsSet,
+    lent: &Option<LintsSet>,
+    place: &mut Option<LintsSet>,
+) -> Result<(), AllocError>
+    ensures { let all = option_map tools_content lent.now in let l = lints_content own.now in
+        OnOk result
+        (resolved_lints (option_map tools_content place.new) l ≡ resolved_lints all l) }
+{
+    if own.is_inherited() {
+        *place = copy_of(lent)?;
+    }
+    Ok(())
+}
+
+/// Sets `place` to a copy of the workspace's lints (`lent`), if the manifest's lints (`own`) are inherited; else it stays
+/// as it is. Refuses with the first refusal of the lints, and with `Memory`.
 pub(crate) fn make_lints(
     alloc: Global,
     own: &Option<MaybeInheritedLintsSet>,
@@ -24,31 +98,20 @@ pub(crate) fn make_lints(
 ) -> Result<(), ResolveError>
     ensures ok { let all = option_map tools_content lent.now in
         let o = option_map lints_content own.now in
-        OnOk result (Accepted (refuses_some (refuses_lints all) o)
+        OnOk result (Accepted (some_refusals (lints_refusals all) o)
         (option_map (resolved_lints all) o)
         (option_map (resolved_lints (option_map tools_content place.new)) o)) }
     ensures refused { let all = option_map tools_content lent.now in
         let o = option_map lints_content own.now in
-        IfErr result (ResolveRefusedIn (refuses_some (refuses_lints all) o)) }
+        IfErr result (ResolveRefusedIn (first_refusal (some_refusals (lints_refusals all) o))) }
 {
-    let Some(own) = own else {
-        return Ok(());
-    };
-    if !own.is_inherited() {
-        return Ok(());
-    }
-    if !own.lints.is_empty() {
-        return Err(ResolveError::MixedLints);
-    }
-    match lent {
-        None => Err(not_in_workspace(alloc, "lints")),
-        Some(lent) => {
-            if !none_is_named(lent, &spelled!["workspace"]) {
-                return Err(ResolveError::ToolNamedWorkspace);
-            }
-            *place = Some(copy_of(lent)?);
+    match own {
+        Some(own) => {
+            refuse_first(lints_refusals(alloc, own, lent)?)?;
+            copy_lent(own, lent, place)?;
             Ok(())
         }
+        None => Ok(()),
     }
 }
 

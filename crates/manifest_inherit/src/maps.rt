@@ -1,17 +1,20 @@
 //! Maps whose values are resolved by their names: dependencies, and platforms with their three maps of dependencies.
 
-ghost use Rattle.std.specs.Prelude.{◌≡◌, OnOk, IfOk, IfErr, List, ℕ, option_map};
+ghost use Rattle.std.specs.Prelude.{◌≡◌, ◌++◌, OnOk, IfOk, IfErr, List, ℕ, map, option_map};
 ghost use Rattle.manifest_schema.specs.Contents;
+ghost use Rattle.manifest_schema.specs.Paths.{Step};
 ghost use Rattle.manifest_schema.specs.Kinds.{Entries};
 ghost use Rattle.manifest_value.specs.Entries.{entries_content};
 ghost use Rattle.manifest_parts.specs.Records.{dependency_content, platform_content};
 ghost use Rattle.manifest_inherit.specs.Resolved.{resolved_entries, resolved_dependency, resolved_platform};
-ghost use Rattle.manifest_inherit.specs.Refused.{Refusal, refuses_entries, refuses_dependency, refuses_platform, refuses_some};
-ghost use Rattle.manifest_inherit.specs.Answers.{ResolveRefusedIn};
+ghost use Rattle.manifest_inherit.specs.Refused.{Refusal};
+ghost use Rattle.manifest_inherit.specs.AllRefused.{first_refusal, refused_under, dependency_refusals, entries_refusals, platform_refusals, some_refusals};
+ghost use Rattle.manifest_inherit.specs.Answers.{fault_of, ResolveRefusedIn};
 ghost use Rattle.manifest_inherit.specs.ForProofs.{Accepted, lent_by_map};
 
-use crate::dependency::resolved_dependency;
-use crate::error::ResolveError;
+use crate::dependency::{dependency_refusals, resolved_dependency};
+use crate::error::{ResolveError, ResolveFault};
+use crate::faults::{Faults, and_under};
 use manifest_parts::{Dependency, DepsSet, Target};
 use manifest_value::maps::map_of_list;
 use std::alloc::Global;
@@ -26,7 +29,8 @@ pub(crate) trait Heir: Sized + Drop {
 
     ghost resolved: { Entries Contents.Dependency → List ℕ → Content → Content };
 
-    ghost refuses: { Entries Contents.Dependency → List ℕ → Content → Refusal → Type 0 };
+    ghost refusals: { Entries Contents.Dependency → List ℕ → Content →
+        List (List Step × Refusal) };
 
     /// A copy of the value, which stands under the key `name`, with what it inherits from the workspace's dependencies
     /// (`lent`). Refuses where the workspace does not have what is inherited, or itself inherits it.
@@ -37,10 +41,17 @@ pub(crate) trait Heir: Sized + Drop {
         name: &str,
     ) -> Result<Self, ResolveError>
         ensures ok { let all = lent_by_map lent.now in let x = content self.now in
-            IfOk result (λ y. Accepted (refuses all name.now x)
+            IfOk result (λ y. Accepted (refusals all name.now x)
             (resolved all name.now x) (content y)) }
         ensures refused { let all = lent_by_map lent.now in
-            IfErr result (ResolveRefusedIn (refuses all name.now (content self.now))) };
+            IfErr result (ResolveRefusedIn
+            (first_refusal (refusals all name.now (content self.now)))) };
+
+    /// All refusals of the value, which stands under the key `name`: each of what the workspace's dependencies (`lent`)
+    /// do not have, or themselves inherit.
+    fn refusals_under_name(&self, alloc: Global, lent: &Option<DepsSet>, name: &str) -> Faults
+        ensures { let told = refusals (lent_by_map lent.now) name.now (content self.now) in
+            IfOk result (λ v. map fault_of v.items ≡ told) };
 }
 
 /// A dependency becomes what [`resolved_dependency`] makes of it under its name.
@@ -51,7 +62,7 @@ impl Heir for Dependency {
 
     ghost resolved = { resolved_dependency };
 
-    ghost refuses = { refuses_dependency };
+    ghost refusals = { dependency_refusals };
 
     fn resolve_under_name(
         &self,
@@ -60,6 +71,10 @@ impl Heir for Dependency {
         name: &str,
     ) -> Result<Dependency, ResolveError> {
         resolved_dependency(alloc, lent, name, self)
+    }
+
+    fn refusals_under_name(&self, alloc: Global, lent: &Option<DepsSet>, name: &str) -> Faults {
+        dependency_refusals(alloc, lent, name, self)
     }
 }
 
@@ -71,7 +86,7 @@ impl Heir for Target {
 
     ghost resolved = { λ lent name. resolved_platform lent };
 
-    ghost refuses = { λ lent name. refuses_platform lent };
+    ghost refusals = { λ lent name. platform_refusals lent };
 
     fn resolve_under_name(
         &self,
@@ -88,6 +103,25 @@ impl Heir for Target {
             build_dependencies,
         })
     }
+
+    fn refusals_under_name(&self, alloc: Global, lent: &Option<DepsSet>, _name: &str) -> Faults {
+        let list = Vec::new(alloc);
+        let list = and_map(alloc, list, "dependencies", lent, &self.dependencies)?;
+        let list = and_map(
+            alloc,
+            list,
+            "dev-dependencies",
+            lent,
+            &self.dev_dependencies,
+        )?;
+        and_map(
+            alloc,
+            list,
+            "build-dependencies",
+            lent,
+            &self.build_dependencies,
+        )
+    }
 }
 
 /// Copies of the entries of a map (`own`), in their order, each value as [`Heir::resolve_under_name`] makes it by the
@@ -99,11 +133,12 @@ fn resolved_list<T: Heir>(
 ) -> Result<Vec<(String, T)>, ResolveError>
     ensures ok { let all = lent_by_map lent.now in
         let es = entries_content T.content own.now.entries in
-        IfOk result (λ v. Accepted (refuses_entries (T.refuses all) es)
+        IfOk result (λ v. Accepted (entries_refusals (T.refusals all) es)
         (resolved_entries (T.resolved all) es) (entries_content T.content v.items)) }
     ensures refused { let all = lent_by_map lent.now in
         let es = entries_content T.content own.now.entries in
-        IfErr result (ResolveRefusedIn (refuses_entries (T.refuses all) es)) }
+        IfErr result (ResolveRefusedIn
+        (first_refusal (entries_refusals (T.refusals all) es))) }
 {
     let mut list = Vec::new(alloc);
     for (key, x) in own.iter() {
@@ -125,11 +160,12 @@ fn resolved_map<T: Heir>(
 ) -> Result<BTreeMap<String, T>, ResolveError>
     ensures ok { let all = lent_by_map lent.now in
         let es = entries_content T.content own.now.entries in
-        IfOk result (λ m. Accepted (refuses_entries (T.refuses all) es)
+        IfOk result (λ m. Accepted (entries_refusals (T.refusals all) es)
         (resolved_entries (T.resolved all) es) (entries_content T.content m.entries)) }
     ensures refused { let all = lent_by_map lent.now in
         let es = entries_content T.content own.now.entries in
-        IfErr result (ResolveRefusedIn (refuses_entries (T.refuses all) es)) }
+        IfErr result (ResolveRefusedIn
+        (first_refusal (entries_refusals (T.refusals all) es))) }
 {
     // (the keys of the map ascend)
     let _in_order = own.len();
@@ -146,12 +182,13 @@ pub(crate) fn make_map<T: Heir>(
 ) -> Result<(), ResolveError>
     ensures ok { let all = lent_by_map lent.now in
         let o = option_map (λ m. entries_content T.content m.entries) own.now in
-        OnOk result (Accepted (refuses_some (refuses_entries (T.refuses all)) o)
+        OnOk result (Accepted (some_refusals (entries_refusals (T.refusals all)) o)
         (option_map (resolved_entries (T.resolved all)) o)
         (option_map (λ m. entries_content T.content m.entries) place.new)) }
     ensures refused { let all = lent_by_map lent.now in
         let o = option_map (λ m. entries_content T.content m.entries) own.now in
-        IfErr result (ResolveRefusedIn (refuses_some (refuses_entries (T.refuses all)) o)) }
+        IfErr result (ResolveRefusedIn
+        (first_refusal (some_refusals (entries_refusals (T.refusals all)) o))) }
 {
     match own {
         Some(own) => {
@@ -163,4 +200,69 @@ pub(crate) fn make_map<T: Heir>(
             Ok(())
         }
     }
+}
+
+/// All refusals of the values of a map (`own`), as [`Heir::refusals_under_name`] has them by the workspace's
+/// dependencies (`lent`), each with the key of its value before the path.
+fn map_refusals<T: Heir>(alloc: Global, lent: &Option<DepsSet>, own: &BTreeMap<String, T>) -> Faults
+    ensures { let told = T.refusals (lent_by_map lent.now) in
+        let es = entries_content T.content own.now.entries in
+        IfOk result (λ v. map fault_of v.items ≡ entries_refusals told es) }
+{
+    let mut list = Vec::new(alloc);
+    for (key, x) in own.iter() {
+        let inside = x.refusals_under_name(alloc, lent, key.as_str())?;
+        list = and_under(alloc, list, key.as_str(), inside)?;
+    }
+    Ok(list)
+}
+
+/// The list, and then all refusals of the map that stands under this key, as [`map_refusals`] has them.
+fn and_map<T: Heir>(
+    alloc: Global,
+    list: Vec<ResolveFault>,
+    word: &str,
+    lent: &Option<DepsSet>,
+    own: &BTreeMap<String, T>,
+) -> Faults
+    ensures { let told = T.refusals (lent_by_map lent.now) in
+        let es = entries_content T.content own.now.entries in
+        IfOk result (λ v. map fault_of v.items
+        ≡ map fault_of list.items ++ refused_under word.now (entries_refusals told es)) }
+{
+    let inside = map_refusals(alloc, lent, own)?;
+    and_under(alloc, list, word, inside)
+}
+
+/// All refusals of a map that may be absent, as [`map_refusals`] has them.
+fn optional_map_refusals<T: Heir>(
+    alloc: Global,
+    lent: &Option<DepsSet>,
+    own: &Option<BTreeMap<String, T>>,
+) -> Faults
+    ensures { let told = entries_refusals (T.refusals (lent_by_map lent.now)) in
+        let o = option_map (λ m. entries_content T.content m.entries) own.now in
+        IfOk result (λ v. map fault_of v.items ≡ some_refusals told o) }
+{
+    match own {
+        Some(own) => map_refusals(alloc, lent, own),
+        None => Ok(Vec::new(alloc)),
+    }
+}
+
+/// The list, and then all refusals of the map that stands under this key, where there is one.
+pub(crate) fn and_optional_map<T: Heir>(
+    alloc: Global,
+    list: Vec<ResolveFault>,
+    word: &str,
+    lent: &Option<DepsSet>,
+    own: &Option<BTreeMap<String, T>>,
+) -> Faults
+    ensures { let told = entries_refusals (T.refusals (lent_by_map lent.now)) in
+        let o = option_map (λ m. entries_content T.content m.entries) own.now in
+        IfOk result (λ v. map fault_of v.items
+        ≡ map fault_of list.items ++ refused_under word.now (some_refusals told o)) }
+{
+    let inside = optional_map_refusals(alloc, lent, own)?;
+    and_under(alloc, list, word, inside)
 }

@@ -1,23 +1,25 @@
 //! Resolving a manifest over the workspace that it belongs to.
 
 ghost use Rattle.std.specs.Prelude.{◌≡◌, OnOk, OnErr, IfOk, IfErr, Some, option_map};
+ghost use Rattle.manifest_schema.specs.Contents;
 ghost use Rattle.cargo_manifest.specs.Tables.{workspace_package_content, package_of, workspace_of};
 ghost use Rattle.cargo_manifest.specs.Whole.{manifest_of};
 ghost use Rattle.manifest_inherit.specs.Fields.{lendable};
 ghost use Rattle.manifest_inherit.specs.Resolved.{resolved_package, resolved};
-ghost use Rattle.manifest_inherit.specs.Refused.{refuses_fields, refuses_some, refuses};
+ghost use Rattle.manifest_inherit.specs.AllRefused.{first_refusal, fields_refusals, some_refusals, all_refusals};
 ghost use Rattle.manifest_inherit.specs.Answers.{ResolveRefusedIn, Resolves};
 ghost use Rattle.manifest_inherit.specs.ForProofs.{Accepted, with_made};
 
 use crate::error::ResolveError;
-use crate::fields::{check_fields, put_fields};
+use crate::faults::refuse_first;
+use crate::fields::{package_refusals, put_fields};
 use crate::lints::{make_lints, put_lints};
 use crate::maps::make_map;
 use cargo_manifest::{
     DepsSet, LintsSet, Manifest, Metadata, Package, TargetDepsSet, Workspace, WorkspacePackage,
 };
 use manifest_value::copy_of;
-use std::alloc::Global;
+use std::alloc::{AllocError, Global};
 use std::mem;
 
 /// What is made apart from a manifest, to be put into it when nothing can fail any more: copies of the workspace's
@@ -46,9 +48,26 @@ impl Made {
     }
 }
 
-/// Sets `made` to a copy of the workspace's fields (`lent`), or to one without fields where the workspace has none, of
-/// which [`put_fields`] takes those that the package `own` inherits. Without a package `made` stays as it is. Refuses a
-/// field that the package inherits and the workspace does not have.
+/// Sets `made` to a copy of the workspace's fields (`lent`), or to one without fields where the workspace has none.
+#[tactic(auto, using(crate::proofs::FieldLaws::nothing_resolved))]
+fn copy_fields(
+    lent: &Option<WorkspacePackage>,
+    made: &mut WorkspacePackage,
+) -> Result<(), AllocError>
+    ensures { let w = option_map workspace_package_content lent.now in
+        (p : Contents.Package) → OnOk result
+        (resolved_package (Some (workspace_package_content made.new)) p ≡ resolved_package w p) }
+{
+    let fields = match lent {
+        Some(lent) => copy_of(lent)?,
+        None => WorkspacePackage::default(),
+    };
+    drop(mem::replace(made, fields));
+    Ok(())
+}
+
+/// Sets `made` to a copy of the workspace's fields (`lent`), of which [`put_fields`] takes those that the package `own`
+/// inherits. Without a package `made` stays as it is. Refuses with the first refusal of the package's fields.
 fn make_package<M: Metadata>(
     alloc: Global,
     own: &Option<Package<M>>,
@@ -57,34 +76,26 @@ fn make_package<M: Metadata>(
 ) -> Result<(), ResolveError>
     ensures ok { let w = option_map workspace_package_content lent.now in
         let o = option_map (package_of M.kind M.content) own.now in
-        OnOk result (Accepted (refuses_some (refuses_fields lendable w) o)
+        OnOk result (Accepted (some_refusals (fields_refusals lendable w) o)
         (option_map (resolved_package w) o)
         (option_map (resolved_package (Some (workspace_package_content made.new))) o)) }
     ensures refused { let w = option_map workspace_package_content lent.now in
         let o = option_map (package_of M.kind M.content) own.now in
-        IfErr result (ResolveRefusedIn (refuses_some (refuses_fields lendable w) o)) }
+        IfErr result (ResolveRefusedIn
+        (first_refusal (some_refusals (fields_refusals lendable w) o))) }
 {
     match own {
-        Some(own) => match lent {
-            Some(lent) => {
-                check_fields(alloc, own, lent)?;
-                drop(mem::replace(made, copy_of(lent)?));
-                Ok(())
-            }
-            None => {
-                let nothing = WorkspacePackage::default();
-                let answer = check_fields(alloc, own, &nothing);
-                drop(mem::replace(made, nothing));
-                answer
-            }
-        },
+        Some(own) => {
+            refuse_first(package_refusals(alloc, own, lent)?)?;
+            copy_fields(lent, made)?;
+            Ok(())
+        }
         None => Ok(()),
     }
 }
 
 /// Fills the fields of `made`, each of which is empty before, with what [`put_made`] is to put into the manifest.
 /// Refuses as [`resolve`] does.
-#[tactic(auto, unfolding(crate::specs::Refused::refuses))]
 fn make_all<P: Metadata, W: Metadata, V: Metadata>(
     alloc: Global,
     manifest: &Manifest<P, W>,
@@ -93,9 +104,10 @@ fn make_all<P: Metadata, W: Metadata, V: Metadata>(
 ) -> Result<(), ResolveError>
     ensures ok { let m = manifest_of P.kind W.kind P.content W.content manifest.now in
         let w = workspace_of V.kind V.content workspace.now in
-        OnOk result (Accepted (refuses m w) (resolved m w) (with_made made.new m)) }
+        OnOk result (Accepted (all_refusals m w) (resolved m w) (with_made made.new m)) }
     ensures refused { let m = manifest_of P.kind W.kind P.content W.content manifest.now in
-        IfErr result (ResolveRefusedIn (refuses m (workspace_of V.kind V.content workspace.now))) }
+        let w = workspace_of V.kind V.content workspace.now in
+        IfErr result (ResolveRefusedIn (first_refusal (all_refusals m w))) }
 {
     let lent = &workspace.dependencies;
     make_package(
@@ -131,9 +143,10 @@ fn make<P: Metadata, W: Metadata, V: Metadata>(
 ) -> Result<Made, ResolveError>
     ensures ok { let m = manifest_of P.kind W.kind P.content W.content manifest.now in
         let w = workspace_of V.kind V.content workspace.now in
-        IfOk result (λ made. Accepted (refuses m w) (resolved m w) (with_made made m)) }
+        IfOk result (λ made. Accepted (all_refusals m w) (resolved m w) (with_made made m)) }
     ensures refused { let m = manifest_of P.kind W.kind P.content W.content manifest.now in
-        IfErr result (ResolveRefusedIn (refuses m (workspace_of V.kind V.content workspace.now))) }
+        let w = workspace_of V.kind V.content workspace.now in
+        IfErr result (ResolveRefusedIn (first_refusal (all_refusals m w))) }
 {
     let mut made = Made::new();
     match make_all(alloc, manifest, workspace, &mut made) {
@@ -178,11 +191,11 @@ fn put_made<P: Metadata, W: Metadata>(manifest: &mut Manifest<P, W>, made: Made)
 /// dependency of its name, with the features of both; whether it is optional the member alone says, and whether it has
 /// its default features the member, or else the workspace. Inherited lints become the workspace's.
 ///
-/// Refuses with [`ResolveError::NotInWorkspace`] of a field's key, of a dependency's name, or of `lints`, where the
-/// workspace has none; with [`ResolveError::InheritedInWorkspace`] of the name of a dependency that the workspace
-/// itself inherits; with [`ResolveError::MixedLints`] where lints are inherited and have a tool as well; with
-/// [`ResolveError::ToolNamedWorkspace`] where the lints of the workspace that are inherited have a tool of that name;
-/// and with [`ResolveError::Memory`] when out of memory. After a refusal the manifest is what it was.
+/// Refuses with the first of the [`refusals`](crate::refusals): with [`Refusal::NotInWorkspace`](crate::Refusal) of a
+/// field's key, of a dependency's name, or of `lints`, where the workspace has none; with `InheritedInWorkspace` of the
+/// name of a dependency that the workspace itself inherits; with `MixedLints` where lints are inherited and have a tool
+/// as well; and with `ToolNamedWorkspace` where the lints of the workspace that are inherited have a tool of that name.
+/// Or it refuses with [`ResolveError::Memory`], when out of memory. After a refusal the manifest is what it was.
 ///
 /// ```ignore
 /// resolve(alloc, manifest, workspace)?; // `version.workspace = true` becomes the workspace's `version = '2.0.0'`
@@ -195,6 +208,9 @@ pub fn resolve<P: Metadata, W: Metadata, V: Metadata>(
     ensures answers { Resolves (manifest_of P.kind W.kind P.content W.content manifest.old)
         (workspace_of V.kind V.content workspace.now)
         (manifest_of P.kind W.kind P.content W.content manifest.new) result }
+    ensures first { let m = manifest_of P.kind W.kind P.content W.content manifest.old in
+        let w = workspace_of V.kind V.content workspace.now in
+        IfErr result (ResolveRefusedIn (first_refusal (all_refusals m w))) }
     ensures refused { OnErr result (manifest.new ≡ manifest.old) }
 {
     let made = make(alloc, manifest, workspace)?;

@@ -58,6 +58,8 @@ mod queries;
 #[cfg(test)]
 mod questions;
 #[cfg(test)]
+mod refusals;
+#[cfg(test)]
 mod refused;
 #[cfg(test)]
 mod resolved;

@@ -1,20 +1,20 @@
 use Rattle.std.proofs.Common.{◌≡◌, [], ◌∷◌, ◌++◌, String, Global, string_bytes, sym, ap, ◌∙◌, subst, append_assoc}
 use Rattle.manifest_value.specs.Entries.{entries_content}
-use Rattle.manifest_inherit.specs.Refused.{refuses_entries}
+use Rattle.manifest_inherit.specs.AllRefused.{first_refusal, entries_refusals}
 use Rattle.manifest_inherit.specs.Answers.{ResolveRefusedIn}
 use Rattle.manifest_inherit.specs.ForProofs.{lent_by_map}
-use Rattle.manifest_inherit.proofs.EntryLemmas.{refused_weaker, refuses_within, accepted_last}
+use Rattle.manifest_inherit.proofs.EntryLemmas.{refused_weaker, first_within, accepted_last}
 use Rattle.manifest_inherit.proofs.maps.resolved_list.Goals as goal
 
 pub returns-in-Err-clause-refused : goal.returns-in-Err-clause-refused
 returns-in-Err-clause-refused g c =
     let l = c.loop-key in
     let f = g.T.Heir.content in
-    let R = g.T.Heir.refuses (lent_by_map c.args.lent.now) in
+    let R = g.T.Heir.refusals (lent_by_map c.args.lent.now) in
     let e : String Global × g.row.T.Denot = (c.in-Some.key.now, c.in-Some.x.now) in
     let all = l.invariant.1 ∙ ap (λ es. l.invariant.0 ++ es) c.in-Some.ensures.steps in
-    let named = subst (λ n. ResolveRefusedIn (R n (f e.1)) c.in-Err.refusal) c.as_str.ensures.value c.in-Err.ensures.refused in
-    refused_weaker _ (refuses_entries R (entries_content f c.args.own.now.entries)) c.in-Err.refusal (λ r h. rw all (refuses_within R f l.invariant.0 e c.next.new.self r h)) named
+    let named = subst (λ n. ResolveRefusedIn (first_refusal (R n (f e.1))) c.in-Err.refusal) c.as_str.ensures.value c.in-Err.ensures.refused in
+    refused_weaker _ (first_refusal (entries_refusals R (entries_content f c.args.own.now.entries))) c.in-Err.refusal (λ r h. rw all (first_within R f l.invariant.0 e c.next.new.self r l.invariant.2.0 h)) named
 
 pub loop-key-preserved : goal.loop-key-preserved
 loop-key-preserved g c =
@@ -29,5 +29,5 @@ loop-key-preserved g c =
     let named : string_bytes x.0 ≡ string_bytes e.0 = c.in_ok-from_str.ensures.ok ∙ c.as_str-in-loop-key.ensures.value in (
       done ++ e ∷ [],
       all ∙ sym (append_assoc done (e ∷ []) left),
-      rw c.in_ok-push.ensures.items (accepted_last (g.T.Heir.refuses lent) (g.T.Heir.resolved lent) f l.list.items done x e l.invariant.2 named (rw c.as_str.ensures.value at c.in-Ok.ensures.ok)),
+      rw c.in_ok-push.ensures.items (accepted_last (g.T.Heir.refusals lent) (g.T.Heir.resolved lent) f l.list.items done x e l.invariant.2 named (rw c.as_str.ensures.value at c.in-Ok.ensures.ok)),
     )

@@ -1,7 +1,7 @@
 use Rattle.std.proofs.Common.{◌≡◌, List, ◌++◌, String, Global}
 use Rattle.manifest_value.specs.Entries.{entries_content}
 use Rattle.manifest_inherit.specs.Resolved.{resolved_entries}
-use Rattle.manifest_inherit.specs.Refused.{refuses_entries}
+use Rattle.manifest_inherit.specs.AllRefused.{entries_refusals}
 use Rattle.manifest_inherit.specs.ForProofs.{Accepted, lent_by_map}
 use Rattle.manifest_inherit.proofs.maps.resolved_list.Given as goal
 
@@ -10,5 +10,5 @@ abbrev pub invariant-loop-key : goal.invariant-loop-key
 invariant-loop-key g l =
     let lent = lent_by_map l.lent in
     (done : List (String Global × g.row.T.Denot)) × (l.own.entries ≡ done ++ l.key-iterator)
-    × Accepted (refuses_entries (g.T.Heir.refuses lent) (entries_content g.T.Heir.content done))
+    × Accepted (entries_refusals (g.T.Heir.refusals lent) (entries_content g.T.Heir.content done))
     (resolved_entries (g.T.Heir.resolved lent) (entries_content g.T.Heir.content done)) (entries_content g.T.Heir.content l.list.items)

@@ -1,0 +1,10 @@
+use Rattle.std.proofs.Common.{◌≡◌, ◌++◌, map}
+use Rattle.std.specs.Vec.Iter.{into_iter_items}
+use Rattle.manifest_inherit.specs.AllRefused.{refused_under}
+use Rattle.manifest_inherit.specs.Answers.{fault_of}
+use Rattle.manifest_inherit.proofs.faults.and_under.Given as goal
+
+-- the refusals so far, and those that are to come, with the key before their paths
+abbrev pub invariant-loop-fault : goal.invariant-loop-fault
+invariant-loop-fault l =
+    map fault_of l.list.items ++ refused_under l.word (map fault_of (into_iter_items l.fault-iterator)) ≡ map fault_of l.fn.list.items ++ refused_under l.word (map fault_of l.fn.more.items)

@@ -1,0 +1,8 @@
+use Rattle.manifest_inherit.proofs.RefusalLaws.{each_refusal_is_listed, none_is_listed}
+use Rattle.manifest_inherit.proofs.laws.each_refusal_is_listed.Goals as goal
+
+pub returns-clause-listed : goal.returns-clause-listed
+returns-clause-listed c = each_refusal_is_listed
+
+pub returns-clause-empty : goal.returns-clause-empty
+returns-clause-empty c = none_is_listed

@@ -1,0 +1,109 @@
+-- Every refusal of a manifest over a workspace, each at the key path in the manifest of what is inherited there.
+use Rattle.manifest_schema.specs.Prelude.{Text, Path, key, Inheritable, inherited, Entries, none_named, Dependency, by_workspace, Lint, MaybeInheritedLintsSet, Target, Package, WorkspacePackage, Workspace, Manifest}
+use Rattle.std.specs.Prelude.{◌≡◌, ◌⊎◌, List, [], ◌∷◌, ◌++◌, if◌then◌else◌, codes, Option, Some, None}
+use Rattle.manifest_inherit.specs.Fields.{Fields, no_more, ◌⨾◌, lendable}
+use Rattle.manifest_inherit.specs.Resolved.{workspace_dependency, lent_dependencies}
+use Rattle.manifest_inherit.specs.Refused.{Refusal, Refusals, not_in_workspace, inherited_in_workspace, mixed_lints, tool_named_workspace}
+
+-- refusals in their order, each at its path from the value that is looked at
+abbrev pub PlacedRefusals : Type 0
+PlacedRefusals = List (Path × Refusal)
+
+-- the list has this refusal, at some path
+abbrev pub has_refusal : PlacedRefusals → Refusals
+has_refusal [] r = ⊥
+has_refusal (f ∷ fs) r = (r ≡ f.1) ⊎ has_refusal fs r
+
+-- this refusal is the first of the list
+abbrev pub first_refusal : PlacedRefusals → Refusals
+first_refusal [] r = ⊥
+first_refusal (f ∷ fs) r = r ≡ f.1
+
+-- this refusal at the value itself, alone
+abbrev pub refused_here : Refusal → PlacedRefusals
+refused_here r = ([], r) ∷ []
+
+-- the refusals of the value under a key
+abbrev pub refused_under : Text → PlacedRefusals → PlacedRefusals
+refused_under name [] = []
+refused_under name (f ∷ fs) = (key name ∷ f.0, f.1) ∷ refused_under name fs
+
+-- A FIELD, under its key: it is inherited, and the workspace does not have it
+abbrev pub field_refusals :
+    {A : Type 0} → Text → Option (Inheritable A) → Option A → PlacedRefusals
+field_refusals name (Some inherited) None =
+    refused_under name (refused_here (not_in_workspace name))
+field_refusals name own lent = []
+
+abbrev pub fields_refusals : Fields → Option WorkspacePackage → Package → PlacedRefusals
+fields_refusals no_more w p = []
+fields_refusals (f ⨾ fs) w p =
+    field_refusals f.key (f.own p) (f.lent w) ++ fields_refusals fs w p
+
+-- A DEPENDENCY: it is inherited, and the workspace has none of the name, or inherits its own
+abbrev pub lender_refusals : Text → Option Dependency → PlacedRefusals
+lender_refusals name None = refused_here (not_in_workspace name)
+lender_refusals name (Some (by_workspace d)) = refused_here (inherited_in_workspace name)
+lender_refusals name (Some d) = []
+
+abbrev pub dependency_refusals : Entries Dependency → Text → Dependency → PlacedRefusals
+dependency_refusals lent name (by_workspace own) =
+    lender_refusals name (workspace_dependency lent name)
+dependency_refusals lent name d = []
+
+-- A MAP: those of each entry, under its key
+abbrev pub entries_refusals :
+    {A : Type 0} → (Text → A → PlacedRefusals) → Entries A → PlacedRefusals
+entries_refusals refusals [] = []
+entries_refusals refusals (e ∷ es) =
+    refused_under e.0 (refusals e.0 e.1) ++ entries_refusals refusals es
+
+abbrev pub dependencies_refusals : Entries Dependency → Entries Dependency → PlacedRefusals
+dependencies_refusals lent = entries_refusals (dependency_refusals lent)
+
+-- A PLATFORM: those of its three maps
+abbrev pub platform_refusals : Entries Dependency → Target → PlacedRefusals
+platform_refusals lent p =
+    refused_under (codes "dependencies") (dependencies_refusals lent p.dependencies)
+    ++ refused_under (codes "dev-dependencies") (dependencies_refusals lent p.dev_dependencies)
+    ++ refused_under (codes "build-dependencies") (dependencies_refusals lent p.build_dependencies)
+
+abbrev pub platforms_refusals : Entries Dependency → Entries Target → PlacedRefusals
+platforms_refusals lent = entries_refusals (λ name. platform_refusals lent)
+
+-- LINTS: they are inherited, and have a tool as well; and the workspace has none, or has a tool `workspace`
+abbrev pub tools_refusals : Entries (Entries Lint) → PlacedRefusals
+tools_refusals [] = []
+tools_refusals (tool ∷ tools) = refused_here mixed_lints
+
+abbrev pub lent_lints_refusals : Option (Entries (Entries Lint)) → PlacedRefusals
+lent_lints_refusals None = refused_here (not_in_workspace (codes "lints"))
+lent_lints_refusals (Some tools) =
+    if none_named (codes "workspace" ∷ []) tools then [] else refused_here tool_named_workspace
+
+abbrev pub lints_refusals_by :
+    Option (Unit {0}) → Option (Entries (Entries Lint)) → MaybeInheritedLintsSet → PlacedRefusals
+lints_refusals_by None lent own = []
+lints_refusals_by (Some u) lent own = tools_refusals own.lints ++ lent_lints_refusals lent
+
+abbrev pub lints_refusals :
+    Option (Entries (Entries Lint)) → MaybeInheritedLintsSet → PlacedRefusals
+lints_refusals lent own = lints_refusals_by own.workspace lent own
+
+-- WHAT MAY BE ABSENT
+abbrev pub some_refusals : {A : Type 0} → (A → PlacedRefusals) → Option A → PlacedRefusals
+some_refusals refusals None = []
+some_refusals refusals (Some x) = refusals x
+
+-- EVERY REFUSAL OF A MANIFEST over a workspace, in the order in which they are reported
+unfoldable pub all_refusals : Manifest → Workspace → PlacedRefusals
+all_refusals m w =
+    let in_map = some_refusals (dependencies_refusals (lent_dependencies w)) in
+    refused_under (codes "package")
+    (some_refusals (fields_refusals lendable w.«package») m.«package»)
+    ++ refused_under (codes "dependencies") (in_map m.dependencies)
+    ++ refused_under (codes "dev-dependencies") (in_map m.dev_dependencies)
+    ++ refused_under (codes "build-dependencies") (in_map m.build_dependencies)
+    ++ refused_under (codes "target")
+    (some_refusals (platforms_refusals (lent_dependencies w)) m.target)
+    ++ refused_under (codes "lints") (some_refusals (lints_refusals w.lints) m.lints)
