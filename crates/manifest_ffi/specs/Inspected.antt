@@ -9,7 +9,7 @@ use Rattle.manifest_value.specs.declared.findings.FindingNode.{FindingNode, fold
 use Rattle.manifest_value.specs.declared.findings.FindingNode.TheOpen.{FindingNode-F}
 use Rattle.manifest_ffi.specs.Told.{cause_number}
 use Rattle.manifest_ffi.specs.Read.{IsDocument, IsNoDocument}
-use Rattle.manifest_ffi.specs.Made.{Refusals, OfBytes, AreWithin, RefusesTagged}
+use Rattle.manifest_ffi.specs.Made.{Refusals, IsOutOfMemory, OfBytes, AreWithin, RefusesTagged}
 
 -- arrays of two and of three values
 abbrev pub pair_data : Data → Data → Data
@@ -63,11 +63,12 @@ GivesFound most document text =
     (nodes : List FindingNode) × SayAllFound document nodes
     × AreWithin most (encoded (nodes_data nodes)) text
 
--- the tagged bytes of such nodes are refused as they are made
+-- memory ran out, or the tagged bytes of such nodes are refused as they are made
 abbrev pub RefusesFound : ℕ → Members → Refusals
 RefusesFound most document e =
-    (nodes : List FindingNode) × SayAllFound document nodes
-    × RefusesTagged most (encoded (nodes_data nodes)) e
+    IsOutOfMemory e
+    ⊎ ((nodes : List FindingNode) × SayAllFound document nodes
+    × RefusesTagged most (encoded (nodes_data nodes)) e)
 
 -- THE TEXT says what is found in the table that the bytes are
 abbrev pub GivesFindings : ℕ → List ℕ → Text → Type 0
