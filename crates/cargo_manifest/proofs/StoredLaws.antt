@@ -5,7 +5,9 @@ use Rattle.manifest_value.specs.declared.error.Error.TheVariants.{Parse, Io, Utf
 use Rattle.manifest_completion.specs.Completed.{completed_to, refused, no_library, completed}
 use Rattle.manifest_completion.specs.Stored.{stored_map}
 use Rattle.manifest_completion.proofs.StoredLaws.{manifest_settled, by_stored}
-use Rattle.cargo_manifest.specs.Completes.{StoredDecides}
+use Rattle.manifest_completion.specs.Unfound.{manifest_unfound, manifest_asked_unfound}
+use Rattle.manifest_completion.proofs.UnfoundDecides.{manifest_settled as unfound_settled, is_outcome}
+use Rattle.cargo_manifest.specs.Completes.{StoredDecides, StoredDecidesUnfound}
 
 pub stored_decides : StoredDecides
 stored_decides stored old new (Ok u) h =
@@ -20,3 +22,6 @@ stored_decides stored old new (Err (Other s)) h =
 stored_decides stored old new (Err (Memory e)) h = tt
 stored_decides stored old new (Err (Parse e)) h = absurd h
 stored_decides stored old new (Err (Utf8 e)) h = absurd h
+
+pub stored_decides_unfound : StoredDecidesUnfound
+stored_decides_unfound stored m r h = is_outcome stored (manifest_asked_unfound m) (manifest_unfound m) (unfound_settled stored m) r h

@@ -7,7 +7,7 @@ use Rattle.manifest_completion.specs.Listings.{Answer}
 use Rattle.manifest_completion.specs.Completed.{Completion, completed_to, refused, no_library, completed, asked, ByOneMap}
 use Rattle.manifest_completion.specs.Stored.{AnswersAsStored, stored_map}
 use Rattle.manifest_completion.specs.Outcome.{library_text, IsRefusalOf}
-use Rattle.manifest_completion.specs.Unfound.{manifest_unfound, manifest_asked_unfound, IsAnswer}
+use Rattle.manifest_completion.specs.Unfound.{manifest_unfound, manifest_asked_unfound, IsAnswer, IsOutcome}
 use Rattle.manifest_value.specs.declared.fault.KeyPath.{KeyPath}
 
 -- the manifest becomes this by one map of listings, whose answer at each place that is asked the filesystem allows
@@ -43,3 +43,9 @@ StoredDecides =
 abbrev pub IsUnfound :
     (Text → Answer → Type 0) → Manifest → Result (Vec KeyPath Global) Error → Type 0
 IsUnfound allows m = IsAnswer (ByOneMap allows (manifest_asked_unfound m) (manifest_unfound m))
+
+-- over one stored answer for each path text, what is stored decides that answer
+abbrev pub StoredDecidesUnfound : Type 0
+StoredDecidesUnfound =
+    (stored : Text → Answer) (m : Manifest) (r : Result (Vec KeyPath Global) Error) →
+    IsUnfound (AnswersAsStored stored) m r → IsOutcome (manifest_unfound m (stored_map stored)) r

@@ -179,8 +179,8 @@ impl<P: Metadata> Manifest<P, Value> {
 
     /// Where the declared targets stand for which the filesystem has no file: `lib`, where the completion of the
     /// manifest is refused for the library, and as `bin[1]` each binary, example, test or bench that the completion
-    /// leaves without a path. Cargo refuses them. A path that is declared is not looked up. The library is first, and
-    /// then each list is in order; without a package nothing is unfound. The manifest is not changed.
+    /// leaves without a path. The library is first, and then each list is in order; without a package nothing is
+    /// unfound. A path that is declared is not looked up, and the manifest is not changed.
     ///
     /// It asks for `src`; `src/bin` and each of its entries; and `examples`, `tests`, `benches`, each with its entries.
     /// Without a package nothing is asked. Refuses with [`Error::Io`] where `src` has another fault than that it is not

@@ -5,14 +5,14 @@
 
 ghost use Rattle.manifest_schema.specs.Prelude.{kept, tree_of, MeansOne, WrittenIsRead, AcceptedIsWellFormed, WrittenMeansTheSame, RewrittenMeansTheSame, RewrittenTwiceIsOnce, SameExactly, SameWrittenIsSame, FaultyMeansNothing, AcceptedOrFaulty, FindsEveryFault, FaultlessIfMeant, SameWithoutUnlisted, RewrittenWithoutUnlisted, FindsEachOnce, FindsNothingWritten, FindsNothingRewritten, IsClean, WritesEachRow, form, manifest_rows, OldWrittenIsRead, MeantDatesAreValid, WrittenDatesAreValid};
 ghost use Rattle.manifest_completion.specs.Laws.{CompletedIsFixed};
-ghost use Rattle.cargo_manifest.specs.Completes.{StoredDecides};
+ghost use Rattle.cargo_manifest.specs.Completes.{StoredDecides, StoredDecidesUnfound};
 ghost use Rattle.cargo_manifest.specs.Dates.{ParsedDatesAreValid, ReadDatesAreValid, CompletedDatesAreValid};
 ghost use Rattle.cargo_manifest.specs.Printed.{PrintedIsBounded};
 ghost use Rattle.cargo_manifest.specs.WellFormed.{PackageByMetadata, WorkspaceByParts, ManifestByParts};
 
 pub use manifest_completion::laws::{
-    ascending_differ, asked_decides, asked_differ, declared_stays, others_change_nothing,
-    refused_if_unfound, unfound_are_left,
+    ascending_differ, asked_decides, asked_decides_unfound, asked_differ, declared_stays,
+    others_change_nothing, refused_if_unfound, unfound_are_left,
 };
 use manifest_value::Metadata;
 
@@ -134,6 +134,13 @@ pub fn old_written_is_read<P: Metadata, W: Metadata>()
 #[tactic(auto, using(crate::proofs::StoredLaws::stored_decides))]
 pub fn stored_decides()
     ensures { StoredDecides }
+{}
+
+/// Over such a filesystem the answer of [`Manifest::unfound_targets`](crate::Manifest::unfound_targets) is the outcome by
+/// the map of what is stored, unless memory runs out, for a listing or otherwise.
+#[tactic(auto, using(crate::proofs::StoredLaws::stored_decides_unfound))]
+pub fn stored_decides_unfound()
+    ensures { StoredDecidesUnfound }
 {}
 
 /// Completing a well-formed manifest, writing it, reading it and completing it again over the same listings changes

@@ -21,7 +21,7 @@ stops_or P true ps h = tt
 stops_or P false ps h = h refl
 
 -- a place for which memory ran out is among those up to the first
-memory_seen : (f : Place → Answer) (ps : List Place) → has_memory_fault f (up_to_memory_fault f ps) ≡ has_memory_fault f ps
+pub memory_seen : (f : Place → Answer) (ps : List Place) → has_memory_fault f (up_to_memory_fault f ps) ≡ has_memory_fault f ps
 memory_seen f [] = refl
 memory_seen f (p ∷ ps) = one (is_memory_fault (f p)) (memory_seen f ps)
   where
@@ -41,7 +41,7 @@ with_library t l lib none got = rw (none, got) refl
 
 module _ (l k : ListingMap) where
   -- the maps agree at these places, up to the first for which memory ran out
-  abbrev AgreeUpTo : List Place → Type 0
+  abbrev pub AgreeUpTo : List Place → Type 0
   AgreeUpTo ps = AgreeAt l k (up_to_memory_fault (at l) ps)
 
   asked_after : (ps xs ys : List Place) → AgreeUpTo (ps ++ xs) → (AgreeUpTo xs → up_to_memory_fault (at l) xs ≡ up_to_memory_fault (at k) ys)
@@ -78,14 +78,14 @@ module _ (l k : ListingMap) where
   root_asked true h = rw (sym h.0) (ap (λ (qs : List Place). root ∷ qs) (stopped_same (is_memory_fault l.root) [] [] (λ e. refl)))
   root_asked false h = refl
 
-  targets_alone : AgreeUpTo (target_places l) → up_to_memory_fault (at l) (target_places l) ≡ up_to_memory_fault (at k) (target_places k)
+  pub targets_alone : AgreeUpTo (target_places l) → up_to_memory_fault (at l) (target_places l) ≡ up_to_memory_fault (at k) (target_places k)
   targets_alone h =
       ap (up_to_memory_fault (at l)) (sym (append-nil (target_places l)))
       ∙ targets_asked [] (λ u. refl) (subst AgreeUpTo (sym (append-nil (target_places l))) h)
       ∙ ap (up_to_memory_fault (at k)) (append-nil (target_places k))
 
   -- OUT OF MEMORY
-  memory_agrees : (ps : List Place) → AgreeAt l k ps → has_memory_fault (at l) ps ≡ has_memory_fault (at k) ps
+  pub memory_agrees : (ps : List Place) → AgreeAt l k ps → has_memory_fault (at l) ps ≡ has_memory_fault (at k) ps
   memory_agrees [] h = refl
   memory_agrees (p ∷ ps) h = rw h.0 (ap (λ b. is_memory_fault (at k p) || b) (memory_agrees ps h.1))
 
@@ -98,7 +98,7 @@ module _ (l k : ListingMap) where
   )
 
   -- where memory did not run out at the first places, all of them were asked, and those after them
-  all_asked : (ps xs : List Place) → has_memory_fault (at l) ps ≡ false → AgreeUpTo (ps ++ xs) → AgreeAt l k ps × AgreeUpTo xs
+  pub all_asked : (ps xs : List Place) → has_memory_fault (at l) ps ≡ false → AgreeUpTo (ps ++ xs) → AgreeAt l k ps × AgreeUpTo xs
   all_asked [] xs e h = (tt, h)
   all_asked (p ∷ ps) xs e h =
       let calm = or_parts (is_memory_fault (at l p)) (has_memory_fault (at l) ps) e in
@@ -111,12 +111,12 @@ module _ (l k : ListingMap) where
   same_entries d [] h = refl
   same_entries d (n ∷ ns) h = rw h.0 (ap (λ (fs : List Find). entry_finds (folder_text d) n (at k (entry d n)) ++ fs) (same_entries d ns h.1))
 
-  same_finds : (d : TargetFolder) → AgreeAt l k (folder_places l d) → finds l d ≡ finds k d
+  pub same_finds : (d : TargetFolder) → AgreeAt l k (folder_places l d) → finds l d ≡ finds k d
   same_finds d h =
       same_entries d (names_of (at l (folder d))) h.1
       ∙ ap (λ a. flat_map (λ n. entry_finds (folder_text d) n (at k (entry d n))) (names_of a)) h.0
 
-  agree_front : (ps qs : List Place) → AgreeAt l k (ps ++ qs) → AgreeAt l k ps × AgreeAt l k qs
+  pub agree_front : (ps qs : List Place) → AgreeAt l k (ps ++ qs) → AgreeAt l k ps × AgreeAt l k qs
   agree_front [] qs h = (tt, h)
   agree_front (p ∷ ps) qs h = let more = agree_front ps qs h.1 in ((h.0, more.0), more.1)
 

@@ -13,3 +13,4 @@ pub mod AnswerLemmas
 pub mod CompleteLemmas
 pub mod UnfoundLaws
 pub mod UnfoundLemmas
+pub mod UnfoundDecides

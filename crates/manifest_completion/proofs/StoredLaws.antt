@@ -70,11 +70,11 @@ module _ (stored : Text → Answer) where
       over (n ∷ ns) h = (h.0, over ns h.1)
 
   module _ (l : ListingMap) where
-    abbrev IsAllowed : Place → Type 0
+    abbrev pub IsAllowed : Place → Type 0
     IsAllowed p = AnswersAsStored stored (path_text p) (at l p)
 
     -- the answers of these places, up to the first for which memory ran out, are those that are stored; or there is one
-    abbrev Settles : List Place → Type 0
+    abbrev pub Settles : List Place → Type 0
     Settles ps = AgreeAt l (stored_map stored) (up_to_memory_fault (at l) ps) ⊎ (has_memory_fault (at l) ps ≡ true)
 
     settle : (p : Place) (qs : List Place) → at l p ≡ at (stored_map stored) p → (is_memory_fault (at l p) ≡ false → Settles qs) → Settles (p ∷ qs)
@@ -107,7 +107,7 @@ module _ (stored : Text → Answer) where
     root_walk true h = ⊎_elim (λ same. settle root [] same (λ e. inl tt)) (λ lost. inr (rw lost refl)) h.0
     root_walk false h = inl tt
 
-    targets_walk : (asks : Bool) → AllByRecursion IsAllowed (up_to_memory_fault (at l) (target_places l ++ root_places asks)) → Settles (target_places l ++ root_places asks)
+    pub targets_walk : (asks : Bool) → AllByRecursion IsAllowed (up_to_memory_fault (at l) (target_places l ++ root_places asks)) → Settles (target_places l ++ root_places asks)
     targets_walk asks h =
         let r = root_places asks in
         let n = folder_places l benches ++ r in let t = folder_places l tests ++ n in let e = folder_places l examples ++ t in

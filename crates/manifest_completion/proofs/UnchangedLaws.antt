@@ -1,10 +1,10 @@
 -- What is declared stays, and entries that are no targets change nothing.
-use Rattle.manifest_schema.specs.Prelude.{option_or, filter, flat_map, append-nil, ErrorKind, OutOfMemory, Text, underscored, Product, Package, Manifest}
+use Rattle.manifest_schema.specs.Prelude.{option_or, filter, flat_map, ErrorKind, OutOfMemory, Text, underscored, Product, Package, Manifest}
 use Rattle.std.proofs.Common.{◌≡◌, List, [], ◌∷◌, ◌++◌, Bool, true, false, refl, ap, ap₂, sym, ◌∙◌, map, Option, Some, None, if◌then◌else◌, ◌||◌, subst, codes, is_some}
 use Rattle.manifest_completion.specs.Listings.{Answer, lists, names_of, TargetFolder, bins, examples, tests, benches, folder, entry, folder_text, ListingMap, at}
 use Rattle.manifest_completion.specs.Finds.{Find, stem, file_find_of, entry_finds, finds}
 use Rattle.manifest_completion.specs.Targets.{path_by_name, pathed, Defaults, with_defaults, targets}
-use Rattle.manifest_completion.specs.Completed.{PackageTargets, own_edition, library_type, Library, no_file, known, library_path, declared_library, library_of, library, source_fault, after_root, after_library, after_source, root_fault, filled, refused, completed_to, completed_targets, target_places, has_memory_fault, targets_of, with_targets, completion_with, completed_by, completed}
+use Rattle.manifest_completion.specs.Completed.{PackageTargets, own_edition, library_type, Library, no_file, known, library_path, declared_library, library_of, library, source_fault, after_root, after_library, after_source, root_fault, filled, refused, completed_to, completed_targets, target_places, has_memory_fault, targets_of, with_targets, completion_with, completed_by}
 use Rattle.manifest_completion.specs.Unchanged.{Stays, IsKept, AreKept, DeclaredLibraryIsKept, DeclaredAreKept, DeclaredStays, is_target, target_names, HaveSameTargets, OthersChangeNothing}
 use Rattle.manifest_completion.proofs.CompletedLaws.{IsCalm, done_calm, completed_once}
 

@@ -1,13 +1,13 @@
 -- The targets for which no file is found are those that completion leaves without a path.
-use Rattle.manifest_schema.specs.Prelude.{is_some, Contains, append-nil, AllByRecursion, ErrorKind, Text, Path, Product, Package, Manifest}
-use Rattle.std.proofs.Common.{◌≡◌, ◌↔◌, ℕ, suc, List, [], ◌∷◌, ◌++◌, Bool, true, false, refl, ap, sym, ◌∙◌, map, length, drop, codes, Option, Some, None, if◌then◌else◌, subst, Ok, Err, ⊎_elim}
-use Rattle.std.proofs.lemmas.List.Elements.{All-from_recursion, All-append, All-nil, All-contains, Contains-push, Contains-append_left}
+use Rattle.manifest_schema.specs.Prelude.{is_some, Contains, AllByRecursion, ErrorKind, Text, Path, Product, Package, Manifest}
+use Rattle.std.proofs.Common.{◌≡◌, ◌↔◌, ℕ, suc, List, [], ◌∷◌, ◌++◌, Bool, true, false, refl, ap, sym, ◌∙◌, map, length, drop, codes, Option, Some, None, if◌then◌else◌, subst, Ok}
+use Rattle.std.proofs.lemmas.List.Elements.{All-from_recursion, All-append, All-contains, Contains-push, Contains-append_left}
 use Rattle.std.specs.List.{All}
 use Rattle.manifest_completion.specs.Listings.{examples, tests, benches, ListingMap, at}
 use Rattle.manifest_completion.specs.Finds.{Find, finds, bin_finds}
 use Rattle.manifest_completion.specs.Targets.{pathed, has_path, added, found, paths_of, Defaults, with_defaults, targets}
-use Rattle.manifest_completion.specs.Completed.{PackageTargets, Library, no_file, known, library, bin_defaults, example_defaults, test_defaults, filled, completed_to, refused, no_library, Completion, completed_targets, completed, after_library, after_root, root_fault, target_places, has_memory_fault, source_fault, targets_of, with_targets, completion_with, completed_by}
-use Rattle.manifest_completion.specs.Unfound.{as_completed, place_in, without_path, library_place, unfound_library, unfound, unfound_targets, manifest_unfound, unfound_by, all_without_path, HavePaths, AreLeftWithoutPath, UnfoundAreLeft, RefusedIfUnfound}
+use Rattle.manifest_completion.specs.Completed.{Library, no_file, known, library, bin_defaults, example_defaults, test_defaults, filled, completed_to, refused, no_library, completed_targets, after_library, after_root, root_fault, target_places, has_memory_fault, targets_of, with_targets, completion_with, completed_by}
+use Rattle.manifest_completion.specs.Unfound.{as_completed, place_in, without_path, library_place, unfound_library, unfound, HavePaths, AreLeftWithoutPath, UnfoundAreLeft, RefusedIfUnfound}
 use Rattle.manifest_completion.proofs.CompletedLaws.{IsCalm, done_calm, completed_once}
 
 -- WHAT IS ADDED has a path

@@ -1,14 +1,13 @@
 -- What the steps of looking for targets without a file give, by the definitions.
-use Rattle.manifest_schema.specs.Prelude.{error_kind, append-nil, or_parts, Global, ErrorKind, NotFound, OutOfMemory, Text, Path, Manifest}
-use Rattle.std.proofs.Common.{◌≡◌, List, [], ◌∷◌, ◌++◌, Bool, true, false, refl, ap, sym, ◌∙◌, subst, Option, Some, None, if◌then◌else◌, Result, Ok, Err, Vec}
+use Rattle.manifest_schema.specs.Prelude.{append-nil, or_parts, Global, NotFound, OutOfMemory, Text, Path, Manifest}
+use Rattle.std.proofs.Common.{◌≡◌, List, [], ◌∷◌, Bool, true, false, refl, ap, sym, ◌∙◌, subst, None, if◌then◌else◌, Result, Ok, Err, Vec}
 use Rattle.std.specs.Result.{IsErrAnd}
 use Rattle.manifest_value.specs.declared.error.Error.{Error}
-use Rattle.manifest_value.specs.declared.error.Error.TheVariants.{Io, Other, Memory}
+use Rattle.manifest_value.specs.declared.error.Error.TheVariants.{Io, Memory}
 use Rattle.manifest_value.specs.declared.fault.KeyPath.{KeyPath}
-use Rattle.manifest_value.specs.Faults.{path_of}
 use Rattle.manifest_completion.specs.declared.ask.Answers.{Answers}
-use Rattle.manifest_completion.specs.Listings.{Answer, fault, bins, examples, tests, benches, Place, source, path_text, ListingMap, at}
-use Rattle.manifest_completion.specs.Completed.{PackageTargets, Explains, AllAllowed, ByOneMap, target_places, has_memory_fault, source_fault, up_to_memory_fault}
+use Rattle.manifest_completion.specs.Listings.{Answer, fault, bins, examples, tests, benches, Place, source, path_text, at}
+use Rattle.manifest_completion.specs.Completed.{PackageTargets, Explains, ByOneMap, target_places, source_fault, up_to_memory_fault}
 use Rattle.manifest_completion.specs.Answered.{answer_of}
 use Rattle.manifest_completion.specs.Asking.{IsAllowedAnswer, listing_map, AllIsAnswered, ran_out_of_memory, some_ran_out_of_memory}
 use Rattle.manifest_completion.specs.Steps.{IsFault, unfound_by_answers, AnswersUnfound}

@@ -1,6 +1,6 @@
 -- The declared targets for which completion finds no file, by where they stand in the manifest.
 use Rattle.manifest_schema.specs.Prelude.{error_kind, ErrorKind, OutOfMemory, is_some, AllByRecursion, Contains, Text, Path, key, index, Product, Package, Manifest}
-use Rattle.std.specs.Prelude.{◌≡◌, ◌↔◌, ℕ, suc, List, [], ◌∷◌, ◌++◌, map, length, drop, codes, if◌then◌else◌, Option, Some, None, true, Result, Ok, Err, Vec}
+use Rattle.std.specs.Prelude.{◌≡◌, ◌⊎◌, ◌↔◌, ℕ, suc, List, [], ◌∷◌, ◌++◌, map, length, drop, codes, if◌then◌else◌, Option, Some, None, true, Result, Ok, Err, Vec}
 use Rattle.manifest_value.specs.declared.error.Error.{Error}
 use Rattle.manifest_value.specs.declared.error.Error.TheVariants.{Io, Memory}
 use Rattle.manifest_value.specs.declared.fault.KeyPath.{KeyPath}
@@ -10,6 +10,8 @@ use Rattle.manifest_completion.specs.Listings.{Answer, examples, tests, benches,
 use Rattle.manifest_completion.specs.Finds.{Find, finds, bin_finds}
 use Rattle.manifest_completion.specs.Targets.{pathed, Defaults, with_defaults}
 use Rattle.manifest_completion.specs.Completed.{PackageTargets, Library, no_file, known, library, bin_defaults, example_defaults, test_defaults, completed_to, no_library, completed, target_places, has_memory_fault, source_fault, up_to_memory_fault, targets_of, ByOneMap}
+use Rattle.manifest_completion.specs.Stored.{AnswersAsStored, stored_map}
+use Rattle.manifest_completion.specs.Laws.{AgreeAt}
 
 -- the declared targets of a list as they stand in the completed list: filled in, and with their defaults
 abbrev pub as_completed : Defaults → List Find → List Product → List Product
@@ -122,3 +124,24 @@ RefusedIfUnfound =
     (p : Package) (m : Manifest) (l : ListingMap) → m.«package» ≡ Some p →
     source_fault l.source ≡ None →
     (completed m l ≡ no_library) ↔ Contains (unfound (targets_of p m) l) library_place
+
+-- what is asked for them and the outcome depend on the answers at the places that are asked alone
+abbrev pub AskedDecidesUnfound : Type 0
+AskedDecidesUnfound =
+    (m : Manifest) (l k : ListingMap) → AgreeAt l k (manifest_asked_unfound m l) →
+    (manifest_asked_unfound m l ≡ manifest_asked_unfound m k)
+    × (manifest_unfound m l ≡ manifest_unfound m k)
+
+-- the answer is this outcome; or memory ran out, for a listing or for what is made
+abbrev pub IsOutcome :
+    Result (List Path) ErrorKind → Result (Vec KeyPath Global) Error → Type 0
+IsOutcome o (Ok v) = o ≡ Ok (map path_of v.items)
+IsOutcome o (Err (Io e)) = (o ≡ Err (error_kind e)) ⊎ (error_kind e ≡ OutOfMemory)
+IsOutcome o (Err (Memory e)) = Unit {0}
+IsOutcome o (Err _) = ⊥
+
+-- where one answer is stored for each path text, what is stored decides the answer
+abbrev pub StoredDecidesUnfound : Type 0
+StoredDecidesUnfound =
+    (stored : Text → Answer) (t : PackageTargets) (r : Result (Vec KeyPath Global) Error) →
+    AreUnfound (AnswersAsStored stored) t r → IsOutcome (unfound_targets t (stored_map stored)) r

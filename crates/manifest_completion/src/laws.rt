@@ -4,7 +4,7 @@
 ghost use Rattle.manifest_schema.specs.Kinds.{tree_of};
 ghost use Rattle.manifest_completion.specs.Laws.{AskedDiffer, AscendingDiffer, AskedDecides, StoredDecidesTargets, CompletedIsFixed};
 ghost use Rattle.manifest_completion.specs.Unchanged.{DeclaredStays, OthersChangeNothing};
-ghost use Rattle.manifest_completion.specs.Unfound.{UnfoundAreLeft, RefusedIfUnfound};
+ghost use Rattle.manifest_completion.specs.Unfound.{UnfoundAreLeft, RefusedIfUnfound, AskedDecidesUnfound, StoredDecidesUnfound};
 
 use manifest_schema::kinds::LawfulKind;
 
@@ -65,4 +65,19 @@ pub fn unfound_are_left()
 #[tactic(auto, using(crate::proofs::UnfoundLaws::refused_if_unfound))]
 pub fn refused_if_unfound()
     ensures { RefusedIfUnfound }
+{}
+
+/// Two maps of listings that agree at every place that is asked over one of them for the unfound targets of a manifest
+/// have the same places asked, and have the same outcome.
+#[tactic(auto, using(crate::proofs::UnfoundDecides::asked_decides))]
+pub fn asked_decides_unfound()
+    ensures { AskedDecidesUnfound }
+{}
+
+/// Over a filesystem that has one answer stored for each path text, as [`Listings`](crate::Listings) has, the answer of
+/// [`unfound_targets`](crate::unfound_targets) is the outcome by the map of what is stored, unless memory runs out, for
+/// a listing or otherwise.
+#[tactic(auto, using(crate::proofs::UnfoundDecides::stored_decides))]
+pub fn stored_decides_unfound()
+    ensures { StoredDecidesUnfound }
 {}
