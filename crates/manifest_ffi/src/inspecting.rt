@@ -27,12 +27,7 @@ fn pair(alloc: Global, first: Value, second: Value) -> Result<Value, AllocError>
 }
 
 /// An array of three values.
-fn triple(
-    alloc: Global,
-    first: Value,
-    second: Value,
-    third: Value,
-) -> Result<Value, AllocError>
+fn triple(alloc: Global, first: Value, second: Value, third: Value) -> Result<Value, AllocError>
     ensures { IfOk result (λ v. view v ≡ triple_data (view first) (view second) (view third)) }
 {
     let mut values = Vec::new(alloc);
@@ -75,12 +70,7 @@ fn words_value(alloc: Global, choices: Choices) -> Result<Value, AllocError>
 }
 
 /// A cause as a value, after the number of what is found: its own number, and of a choice the words that there are.
-fn cause_value(
-    alloc: Global,
-    what: u8,
-    cause: Cause,
-    choices: Choices,
-) -> Result<Value, AllocError>
+fn cause_value(alloc: Global, what: u8, cause: Cause, choices: Choices) -> Result<Value, AllocError>
     ensures { IfOk result
         (λ v. view v ≡ cause_data what (cause_of cause) (choices_of choices.entry)) }
 {

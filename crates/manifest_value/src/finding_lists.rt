@@ -46,12 +46,24 @@ fn push_node(
     match node {
         FindingNode::Fault(cause, choices) => {
             let path = path.clone(alloc)?;
-            out.push(Finding::Fault(SchemaFault { path, cause: *cause }, *choices))?;
+            out.push(Finding::Fault(
+                SchemaFault {
+                    path,
+                    cause: *cause,
+                },
+                *choices,
+            ))?;
             Ok(out)
         }
         FindingNode::Ignored(cause, choices) => {
             let path = path.clone(alloc)?;
-            out.push(Finding::Ignored(SchemaFault { path, cause: *cause }, *choices))?;
+            out.push(Finding::Ignored(
+                SchemaFault {
+                    path,
+                    cause: *cause,
+                },
+                *choices,
+            ))?;
             Ok(out)
         }
         FindingNode::Unlisted(key) => {

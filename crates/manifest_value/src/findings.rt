@@ -48,17 +48,17 @@ fn node_leniently(alloc: Global, node: FindingNode) -> Result<FindingNode, Alloc
 {
     match node {
         FindingNode::Fault(cause, choices) => Ok(FindingNode::Ignored(cause, choices)),
-        FindingNode::Within(step, nodes) => Ok(FindingNode::Within(step, nodes_leniently(alloc, nodes)?)),
+        FindingNode::Within(step, nodes) => Ok(FindingNode::Within(
+            step,
+            nodes_leniently(alloc, nodes)?,
+        )),
         other => Ok(other),
     }
 }
 
 /// The nodes where they are of a value whose faults are ignored.
 #[cycle(lenient)]
-fn nodes_leniently(
-    alloc: Global,
-    nodes: Vec<FindingNode>,
-) -> Result<Vec<FindingNode>, AllocError>
+fn nodes_leniently(alloc: Global, nodes: Vec<FindingNode>) -> Result<Vec<FindingNode>, AllocError>
     ensures { IfOk result (λ v. found_among v.items ≡ leniently (found_among nodes.items)) }
 {
     let mut out = Vec::new(alloc);
