@@ -89,7 +89,8 @@ fn read_table<P: Metadata, W: Metadata>(
         (manifest_of P.kind W.kind P.content W.content manifest.new)) }
     ensures fault { IfErr result
         (FaultIn (unmeant (tree_of P.kind) (tree_of W.kind) (table_view table))) }
-    ensures first { let all = manifest_faults (tree_of P.kind) (tree_of W.kind) (table_view table) in
+    ensures first { let ms = table_view table in
+        let all = manifest_faults (tree_of P.kind) (tree_of W.kind) ms in
         IfErr result (FaultIn (foremost all)) }
 {
     if has_package_or_workspace(&table) {
@@ -109,7 +110,8 @@ fn read_document<P: Metadata, W: Metadata>(
         (manifest_of P.kind W.kind P.content W.content manifest.new)) }
     ensures refused { IfErr result
         (RefusesTable (tree_of P.kind) (tree_of W.kind) (table_view table)) }
-    ensures first { let all = manifest_faults (tree_of P.kind) (tree_of W.kind) (table_view table) in
+    ensures first { let ms = table_view table in
+        let all = manifest_faults (tree_of P.kind) (tree_of W.kind) ms in
         IfErr result (RefusedIn (foremost all)) }
 {
     match read_table(manifest, alloc, table) {
@@ -215,7 +217,8 @@ impl<P: Metadata, W: Metadata> Manifest<P, W> {
             (manifest_of P.kind W.kind P.content W.content m)) }
         ensures refused { IfErr result
             (RefusesTable (tree_of P.kind) (tree_of W.kind) (table_view table)) }
-        ensures first { let all = manifest_faults (tree_of P.kind) (tree_of W.kind) (table_view table) in
+        ensures first { let ms = table_view table in
+            let all = manifest_faults (tree_of P.kind) (tree_of W.kind) ms in
             IfErr result (RefusedIn (foremost all)) }
     {
         manifest_by!(read_document, alloc, table)

@@ -16,7 +16,7 @@ pub first-under : (name : Text) (fs : PlacedRefusals) (r : Refusal) → first_re
 first-under name [] r h = h
 first-under name (f ∷ fs) r h = h
 
--- behind lists without a refusal
+-- after lists without a refusal
 pub first_behind : (fs gs : PlacedRefusals) (r : Refusal) → fs ≡ [] → first_refusal gs r → first_refusal (fs ++ gs) r
 first_behind fs gs r e h = subst (λ x. first_refusal (x ++ gs) r) (sym e) h
 

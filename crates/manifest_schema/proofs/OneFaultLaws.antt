@@ -1,6 +1,6 @@
 -- Choices and whole numbers have at most one fault.
-use Rattle.manifest_schema.specs.Prelude.{Data, string, integer, Path, Cause, choice, choice_findings, not_choice, whole, within, Text}
-use Rattle.std.proofs.Common.{◌≡◌, ℤ, List, [], Option, Some, None, refl, sym, ap₂}
+use Rattle.manifest_schema.specs.Prelude.{Data, string, integer, Path, Cause, choice, choice_findings, not_choice, whole, Text}
+use Rattle.std.proofs.Common.{◌≡◌, ℤ, List, [], Option, refl}
 use Rattle.manifest_schema.specs.Kinds.{reads_choice, reads_whole, not_whole, whole_findings}
 use Rattle.manifest_schema.specs.OneFault.{HasOneFault, fault_here}
 

@@ -1,7 +1,6 @@
 use Rattle.std.proofs.Common.{◌++◌, sym, ap, ◌∙◌, append_assoc}
 use Rattle.std.specs.Vec.Iter.{into_iter_items}
 use Rattle.manifest_schema.specs.Prelude.{found_behind, leniently}
-use Rattle.manifest_value.specs.declared.findings.FindingNode.{Within}
 use Rattle.manifest_value.specs.Faults.{step_of}
 use Rattle.manifest_value.specs.Found.{found_in, found_among}
 use Rattle.manifest_value.proofs.FindingTrees.{among_pushed, in-Within, lenient-append, lenient-behind}
