@@ -1,6 +1,6 @@
 -- No table that is written of a well-formed manifest has a float, where none is written of metadata.
 use Rattle.manifest_schema.specs.Prelude.{IfSome, Data, array, table, Items, no_items, item, Members, no_members, member, Kind, plain, kept, tree_of, good_some, form, profiles_rows, package_rows, workspace_rows, written_manifest}
-use Rattle.std.proofs.Common.{◌≡◌, true, ◌&&◌, Option, Some, None, refl, sym, ap, ◌∙◌}
+use Rattle.std.proofs.Common.{◌≡◌, true, Option, Some, None, refl, sym, ap, ◌∙◌}
 use Rattle.manifest_schema.specs.Contents.{Profiles}
 use Rattle.manifest_schema.proofs.PartLaws.{profiles_form}
 use Rattle.manifest_schema.proofs.GoodLaws.{package_metadata_good, workspace_metadata_good, manifest_parts_good}

@@ -1,4 +1,4 @@
-use Rattle.std.proofs.Common.{ℕ, ◌+◌, ◌*◌}
+use Rattle.std.proofs.Common.{◌+◌, ◌*◌}
 use Rattle.manifest_bytes.proofs.reading.+reading.Given as goal
 
 abbrev pub decreases-read_items : goal.decreases-read_items
