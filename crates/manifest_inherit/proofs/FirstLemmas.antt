@@ -16,9 +16,9 @@ pub first-under : (name : Text) (fs : PlacedRefusals) (r : Refusal) → first_re
 first-under name [] r h = h
 first-under name (f ∷ fs) r h = h
 
--- after lists without a refusal
-pub first_behind : (fs gs : PlacedRefusals) (r : Refusal) → fs ≡ [] → first_refusal gs r → first_refusal (fs ++ gs) r
-first_behind fs gs r e h = subst (λ x. first_refusal (x ++ gs) r) (sym e) h
+-- after a list without a refusal
+pub first_after : (fs gs : PlacedRefusals) (r : Refusal) → fs ≡ [] → first_refusal gs r → first_refusal (fs ++ gs) r
+first_after fs gs r e h = subst (λ x. first_refusal (x ++ gs) r) (sym e) h
 
 none-under : (name : Text) (fs : PlacedRefusals) → fs ≡ [] → refused_under name fs ≡ []
 none-under name fs e = ap (refused_under name) e
@@ -49,20 +49,20 @@ module _ (m : Manifest) (w : Workspace) where
   unfolding all_refusals
   first_of_dependencies a r h =
       let none = none-under (codes "package") of_package a in
-      first-append _ _ r (first-append _ _ r (first-append _ _ r (first-append _ _ r (first_behind _ _ r none (first-under (codes "dependencies") _ r h)))))
+      first-append _ _ r (first-append _ _ r (first-append _ _ r (first-append _ _ r (first_after _ _ r none (first-under (codes "dependencies") _ r h)))))
 
   pub first_of_dev_dependencies : of_package ≡ [] → of_map m.dependencies ≡ [] → (r : Refusal) → first_refusal (of_map m.dev_dependencies) r → first_refusal (all_refusals m w) r
   unfolding all_refusals
   first_of_dev_dependencies a b r h =
       let none = none-append _ _ (none-under (codes "package") of_package a) (none-under (codes "dependencies") _ b) in
-      first-append _ _ r (first-append _ _ r (first-append _ _ r (first_behind _ _ r none (first-under (codes "dev-dependencies") _ r h))))
+      first-append _ _ r (first-append _ _ r (first-append _ _ r (first_after _ _ r none (first-under (codes "dev-dependencies") _ r h))))
 
   pub first_of_build_dependencies : of_package ≡ [] → of_map m.dependencies ≡ [] → of_map m.dev_dependencies ≡ []
       → (r : Refusal) → first_refusal (of_map m.build_dependencies) r → first_refusal (all_refusals m w) r
   unfolding all_refusals
   first_of_build_dependencies a b c r h =
       let none = none-append _ _ (none-append _ _ (none-under (codes "package") of_package a) (none-under (codes "dependencies") _ b)) (none-under (codes "dev-dependencies") _ c) in
-      first-append _ _ r (first-append _ _ r (first_behind _ _ r none (first-under (codes "build-dependencies") _ r h)))
+      first-append _ _ r (first-append _ _ r (first_after _ _ r none (first-under (codes "build-dependencies") _ r h)))
 
   pub first_of_platforms : of_package ≡ [] → of_map m.dependencies ≡ [] → of_map m.dev_dependencies ≡ [] → of_map m.build_dependencies ≡ []
       → (r : Refusal) → first_refusal of_platforms r → first_refusal (all_refusals m w) r
@@ -70,7 +70,7 @@ module _ (m : Manifest) (w : Workspace) where
   first_of_platforms a b c d r h =
       let none = none-append _ _ (none-append _ _ (none-append _ _ (none-under (codes "package") of_package a) (none-under (codes "dependencies") _ b)) (none-under (codes "dev-dependencies") _ c))
       (none-under (codes "build-dependencies") _ d) in
-      first-append _ _ r (first_behind _ _ r none (first-under (codes "target") _ r h))
+      first-append _ _ r (first_after _ _ r none (first-under (codes "target") _ r h))
 
   pub first_of_lints : of_package ≡ [] → of_map m.dependencies ≡ [] → of_map m.dev_dependencies ≡ [] → of_map m.build_dependencies ≡ [] → of_platforms ≡ []
       → (r : Refusal) → first_refusal of_lints r → first_refusal (all_refusals m w) r
@@ -78,7 +78,7 @@ module _ (m : Manifest) (w : Workspace) where
   first_of_lints a b c d e r h =
       let none = none-append _ _ (none-append _ _ (none-append _ _ (none-append _ _ (none-under (codes "package") of_package a) (none-under (codes "dependencies") _ b)) (none-under (codes "dev-dependencies") _ c))
       (none-under (codes "build-dependencies") _ d)) (none-under (codes "target") _ e) in
-      first_behind _ _ r none (first-under (codes "lints") _ r h)
+      first_after _ _ r none (first-under (codes "lints") _ r h)
 
 -- what is first in the list of all refusals holds
 pub first_holds : (m : Manifest) (w : Workspace) (r : Refusal) → first_refusal (all_refusals m w) r → refuses m w r
