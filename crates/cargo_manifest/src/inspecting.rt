@@ -76,6 +76,9 @@ pub fn inspect(alloc: Global, table: &Table) -> Found
 /// Every fault of the table of a document, in order: none exactly where [`Manifest::from_slice`] reads it, and else the
 /// first is the one with which that refuses it. It fails only when out of memory.
 ///
+/// Each path has a copy of its keys, so the list can be as long as the square of the document, where a long key stands
+/// above many faults; [`inspect`] answers a tree, in which each key stands once.
+///
 /// ```ignore
 /// let table = toml::table_from_str(alloc, "[package]\nname = 1\nauthors = [2]")?;
 /// let all = faults(alloc, &table)?; // `wrong kind` at `package.name` and at `package.authors[0]`
@@ -88,7 +91,7 @@ pub fn faults(alloc: Global, table: &Table) -> Result<Vec<SchemaFault>, AllocErr
 }
 
 /// What does not fit in the table of a document where that is no fault, since the field counts as absent: an invalid
-/// badge. In order; it fails only when out of memory.
+/// badge. In order; it fails only when out of memory. The list can be long, as that of [`faults`].
 ///
 /// ```ignore
 /// let table = toml::table_from_str(alloc, "package.name = 'a'\nbadges.gitlab = 1")?;
@@ -102,7 +105,8 @@ pub fn ignored(alloc: Global, table: &Table) -> Result<Vec<SchemaFault>, AllocEr
 }
 
 /// The paths of the keys of the table of a document that nothing reads: a manifest does not hold them, and they are
-/// dropped where it is written. In order, and none below another; it fails only when out of memory.
+/// dropped where it is written. In order, and none below another; it fails only when out of memory. The list can be
+/// long, as that of [`faults`].
 ///
 /// ```ignore
 /// let table = toml::table_from_str(alloc, "[package]\nname = 'a'\nedtion = '2021'")?;

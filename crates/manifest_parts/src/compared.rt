@@ -23,12 +23,10 @@ pub trait Compared: Copied + PartialEq {
     ghost succeeds: { (x : Self) → Self.is_infallible x };
 }
 
-/// Whether two values are equal by `==`: it is proved that they are if and only if they hold the same.
-pub fn is_same<T: Compared>(x: &T, y: &T) -> bool
-    ensures { IsTrue result ↔ (T.held x.now ≡ T.held y.now) }
-{
-    x == y
-}
+/// The law of comparisons: `==` answers that two values are equal if and only if they hold the same.
+pub fn equal_exactly_if_same<T: Compared>()
+    ensures { (x y : T) → IsTrue (T.eq x y) ↔ (T.held x ≡ T.held y) }
+{}
 
 /// A copy of a value whose copies need no memory: it is never an `Err`.
 pub fn small_copy<T: Compared>(x: &T) -> Result<T, AllocError>
