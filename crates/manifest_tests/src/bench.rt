@@ -442,6 +442,26 @@ fn inherited_dependencies(rt: HostRuntime) -> Result<(), Fail> {
             "dependencies.a.",
         ),
         inherited_place(
+            "package.name = 'p'\n[dev-dependencies.a]\nworkspace = true\n",
+            "dev-dependencies.a.",
+        ),
+        inherited_place(
+            "package.name = 'p'\n[build-dependencies.a]\nworkspace = true\n",
+            "build-dependencies.a.",
+        ),
+        inherited_place(
+            "package.name = 'p'\n[target.x]\ndev-dependencies = {}\nbuild-dependencies = {}\n[target.x.dependencies.a]\nworkspace = true\n",
+            "target.x.dependencies.a.",
+        ),
+        inherited_place(
+            "package.name = 'p'\n[target.x]\ndependencies = {}\nbuild-dependencies = {}\n[target.x.dev-dependencies.a]\nworkspace = true\n",
+            "target.x.dev-dependencies.a.",
+        ),
+        inherited_place(
+            "package.name = 'p'\n[target.x]\ndependencies = {}\ndev-dependencies = {}\n[target.x.build-dependencies.a]\nworkspace = true\n",
+            "target.x.build-dependencies.a.",
+        ),
+        inherited_place(
             "package.name = 'p'\n[patch.x.a]\nworkspace = true\n",
             "patch.x.a.",
         ),
@@ -519,6 +539,24 @@ fn badges(rt: HostRuntime) -> Result<(), Fail> {
     let badges = [
         lenient_place(
             "package.name = 'p'\n[badges]\nmaintenance = { status = 'none' }\n[badges.appveyor]\n",
+        ),
+        lenient_place(
+            "package.name = 'p'\n[badges]\nmaintenance = { status = 'none' }\n[badges.circle-ci]\n",
+        ),
+        lenient_place(
+            "package.name = 'p'\n[badges]\nmaintenance = { status = 'none' }\n[badges.gitlab]\n",
+        ),
+        lenient_place(
+            "package.name = 'p'\n[badges]\nmaintenance = { status = 'none' }\n[badges.travis-ci]\n",
+        ),
+        lenient_place(
+            "package.name = 'p'\n[badges]\nmaintenance = { status = 'none' }\n[badges.codecov]\n",
+        ),
+        lenient_place(
+            "package.name = 'p'\n[badges]\nmaintenance = { status = 'none' }\n[badges.coveralls]\n",
+        ),
+        lenient_place(
+            "package.name = 'p'\n[badges]\nmaintenance = { status = 'none' }\n[badges.is-it-maintained-issue-resolution]\n",
         ),
         lenient_place(
             "package.name = 'p'\n[badges]\nmaintenance = { status = 'none' }\n[badges.is-it-maintained-open-issues]\n",
