@@ -22,6 +22,9 @@ use std::alloc::{AllocError, Global};
 /// `target."cfg(unix)".dependencies.serde`; and `lints`. Lints can have two refusals, and everything else has at most
 /// one. A map is gone through in the order of its keys. It fails only when out of memory.
 ///
+/// Each refusal has a copy of its path, so the list can take as much memory as the square of the manifest, where a
+/// platform with a long name has many dependencies.
+///
 /// ```ignore
 /// let faults = refusals(alloc, manifest, workspace)?; // as `not in workspace: version at package.version`
 /// ```
