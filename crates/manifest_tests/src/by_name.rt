@@ -11,7 +11,7 @@ use manifest_value::fault::{fault_behind_step, fault_here, fault_under_key};
 use manifest_value::maps::{entries_table, map_of_list};
 use manifest_value::metadata::put_tree;
 use manifest_value::rows::{at_key, put_nonempty, put_optional, put_row, put_unless, read_under};
-use std::alloc::Global;
+use std::alloc::{AllocError, Global};
 use std::collections::BTreeMap;
 use std::process::Abort;
 use std::test::Fail;
@@ -77,22 +77,43 @@ fn values_under_a_key(rt: HostRuntime) -> Result<(), Fail> {
     assert_written(&rt, alloc, Ok(()), "{}")
 }
 
-/// A table of rows that are written: one key twice, and three rows that are left out.
-fn written_rows(alloc: Global) -> Result<Table, Fail> {
+/// Writes a row twice, and a number that is left out and one that is not.
+fn put_numbers(alloc: Global, table: &mut Table) -> Result<(), AllocError> {
+    put_row(alloc, table, "row", &true)?;
+    put_row(alloc, table, "row", &false)?;
+    put_unless(alloc, table, "unless", false, &1_u16)?;
+    put_unless(alloc, table, "skipped", true, &1_u16)
+}
+
+/// Writes a text, and none.
+fn put_texts(alloc: Global, table: &mut Table) -> Result<(), AllocError> {
     let text = Some(String::from_str(alloc, "a")?);
-    let tree = Some(value(alloc, "{ a = [1] }")?);
+    put_optional(alloc, table, "optional", &text)?;
+    put_optional(alloc, table, "absent", &None::<String>)
+}
+
+/// Writes a list, and an empty one.
+fn put_lists(alloc: Global, table: &mut Table) -> Result<(), AllocError> {
+    put_nonempty(alloc, table, "empty", &Vec::<u16>::new(alloc))?;
     let list = Vec::<u16>::from_array(alloc, [65535])?;
+    put_nonempty(alloc, table, "list", &list)
+}
+
+/// Writes a tree, and none.
+fn put_trees(alloc: Global, table: &mut Table) -> Result<(), Fail> {
+    let tree = Some(value(alloc, "{ a = [1] }")?);
+    put_tree(alloc, table, "tree", &tree)?;
+    put_tree(alloc, table, "no-tree", &None::<Value>)?;
+    Ok(())
+}
+
+/// A table of rows that are written: one key twice, and four rows that are left out.
+fn written_rows(alloc: Global) -> Result<Table, Fail> {
     let mut table = Table::new(alloc);
-    put_row(alloc, &mut table, "row", &true)?;
-    put_row(alloc, &mut table, "row", &false)?;
-    put_optional(alloc, &mut table, "optional", &text)?;
-    put_optional(alloc, &mut table, "absent", &None::<String>)?;
-    put_unless(alloc, &mut table, "unless", false, &1_u16)?;
-    put_unless(alloc, &mut table, "skipped", true, &1_u16)?;
-    put_nonempty(alloc, &mut table, "list", &list)?;
-    put_nonempty(alloc, &mut table, "empty", &Vec::<u16>::new(alloc))?;
-    put_tree(alloc, &mut table, "tree", &tree)?;
-    put_tree(alloc, &mut table, "no-tree", &None::<Value>)?;
+    put_numbers(alloc, &mut table)?;
+    put_texts(alloc, &mut table)?;
+    put_lists(alloc, &mut table)?;
+    put_trees(alloc, &mut table)?;
     Ok(table)
 }
 

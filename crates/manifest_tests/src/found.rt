@@ -5,6 +5,7 @@ use cargo_manifest::{
     inspect_with_metadata, unlisted_keys,
 };
 use std::alloc::{AllocError, Global};
+use std::fmt::Display;
 use std::test::Fail;
 
 /// A document, and what is found in it: each finding as a line.
@@ -114,6 +115,14 @@ fn everything_is_found_in_order(rt: HostRuntime) -> Result<(), Fail> {
     Ok(())
 }
 
+/// Adds a line for each item of a list.
+fn add_lines<T: Display>(alloc: Global, list: &[T], text: &mut String) -> Result<(), AllocError> {
+    for item in list {
+        text.push_str(format!(in alloc; "{item}\n")?.as_str())?;
+    }
+    Ok(())
+}
+
 /// What is found in a document by the three calls, and with metadata that is not looked at.
 fn apart(alloc: Global) -> Result<String, Fail> {
     let table = toml::table_from_str(
@@ -121,15 +130,9 @@ fn apart(alloc: Global) -> Result<String, Fail> {
         "[package]\nname = 1\nmetadata = 0.5\n[badges]\ngitlab = 1\nx = 2",
     )?;
     let mut text = String::new(alloc);
-    for fault in &faults(alloc, &table)? {
-        text.push_str(format!(in alloc; "{fault}\n")?.as_str())?;
-    }
-    for fault in &ignored(alloc, &table)? {
-        text.push_str(format!(in alloc; "{fault}\n")?.as_str())?;
-    }
-    for path in &unlisted_keys(alloc, &table)? {
-        text.push_str(format!(in alloc; "{path}\n")?.as_str())?;
-    }
+    add_lines(alloc, faults(alloc, &table)?.as_slice(), &mut text)?;
+    add_lines(alloc, ignored(alloc, &table)?.as_slice(), &mut text)?;
+    add_lines(alloc, unlisted_keys(alloc, &table)?.as_slice(), &mut text)?;
     let found = inspect_with_metadata::<Unread, Unread>(alloc, &table)?; // metadata is not looked at
     text.push_str(lines(alloc, &found)?.as_str())?;
     Ok(text)
@@ -182,15 +185,13 @@ fn misspelled_key(alloc: Global) -> Result<Vec<KeyPath>, Fail> {
 #[test]
 fn examples_of_the_calls(rt: HostRuntime) -> Result<(), Fail> {
     let mut text = String::new(rt.alloc());
-    for fault in all_faults(rt.alloc())? {
-        text.push_str(format!(in rt.alloc(); "{fault}\n")?.as_str())?;
-    }
-    for fault in dropped_badge(rt.alloc())? {
-        text.push_str(format!(in rt.alloc(); "{fault}\n")?.as_str())?;
-    }
-    for path in misspelled_key(rt.alloc())? {
-        text.push_str(format!(in rt.alloc(); "{path}\n")?.as_str())?;
-    }
+    add_lines(rt.alloc(), all_faults(rt.alloc())?.as_slice(), &mut text)?;
+    add_lines(rt.alloc(), dropped_badge(rt.alloc())?.as_slice(), &mut text)?;
+    add_lines(
+        rt.alloc(),
+        misspelled_key(rt.alloc())?.as_slice(),
+        &mut text,
+    )?;
     let expected =
         "wrong kind at package.name\nwrong kind at package.authors[0]\nwrong kind at badges.gitlab\npackage.edtion\n";
     assert_is(&rt, Ok(text), expected, "the examples")

@@ -127,6 +127,17 @@ const REFUSALS: &[[(&str, Result<&str, &str>); 2]] = &[
     [(ALL, COMPLETED), (ALL, COMPLETED)],
 ];
 
+/// How an error is told: an I/O fault as `io`, if it has the kind of the question that is refused.
+fn refusal_text(alloc: Global, recorder: &Recorder<'_>, refused: &Error) -> Result<String, Fail> {
+    match refused {
+        Error::Io(fault) => match recorder.refused {
+            Some((_, kind)) if kind != fault.kind() => Err(Fail::from("another kind")),
+            _ => Ok(String::from_str(alloc, "io")?),
+        },
+        error => Ok(error_text(alloc, error)?),
+    }
+}
+
 /// What completing the manifest of a row gives, where it asks the paths that are expected, in their order; an I/O fault
 /// has the kind of the question that is refused, and a refusal leaves the manifest as it was.
 fn answer(
@@ -145,11 +156,7 @@ fn answer(
     match &refused {
         None => Ok(after),
         Some(_) if after != before => Err(Fail::from("a refusal changes it")),
-        Some(Error::Io(fault)) => match recorder.refused {
-            Some((_, kind)) if kind != fault.kind() => Err(Fail::from("another kind")),
-            _ => Ok(String::from_str(alloc, "io")?),
-        },
-        Some(error) => Ok(error_text(alloc, error)?),
+        Some(error) => refusal_text(alloc, recorder, error),
     }
 }
 
