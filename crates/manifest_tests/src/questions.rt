@@ -127,7 +127,7 @@ const REFUSALS: &[[(&str, Result<&str, &str>); 2]] = &[
     [(ALL, COMPLETED), (ALL, COMPLETED)],
 ];
 
-/// How an error is told: an I/O fault as `io`, if it has the kind of the question that is refused.
+/// The text of an error: `io` of an I/O fault, if it has the kind of the question that is refused.
 fn refusal_text(alloc: Global, recorder: &Recorder<'_>, refused: &Error) -> Result<String, Fail> {
     match refused {
         Error::Io(fault) => match recorder.refused {
