@@ -83,28 +83,18 @@ const AUTHORS: &[u8] = b"[package]\nname = 'p'\nauthors = ['a', 1]";
 /// The error's text for this document.
 const AUTHORS_FAULT: &str = "wrong kind at package.authors[1]";
 
-/// Asserts that a copy has three steps, and the path, the cause and the text of what it is copied from.
-fn assert_copy_of_fault(
-    rt: &impl Abort,
-    alloc: Global,
-    fault: &SchemaFault,
-    copy: &SchemaFault,
-) -> Result<(), Fail> {
-    assert_eq!(rt; copy.path.steps.len(), 3);
-    assert!(rt;
-        copy.path == fault.path && copy.cause == fault.cause,
-        "a copy"
-    );
-    let text = format!(in alloc; "{copy}")?;
-    assert_is(rt, Ok(text), AUTHORS_FAULT, "a copy")
-}
-
 #[test]
 fn copies_of_faults(rt: HostRuntime) -> Result<(), Fail> {
     let error = refusal(rt.alloc(), AUTHORS)?;
     let fault = schema_fault(&error)?;
     let copy = fault.clone(rt.alloc())?;
-    assert_copy_of_fault(&rt, rt.alloc(), fault, &copy)
+    assert_eq!(rt; copy.path.steps.len(), 3);
+    assert!(rt;
+        copy.path == fault.path && copy.cause == fault.cause,
+        "a copy"
+    );
+    let text = format!(in rt.alloc(); "{copy}")?;
+    assert_is(&rt, Ok(text), AUTHORS_FAULT, "a copy")
 }
 
 #[test]

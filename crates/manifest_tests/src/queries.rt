@@ -133,28 +133,16 @@ fn answers_of(alloc: Global, dependency: &Dependency) -> Result<String, Fail> {
     )?)
 }
 
-/// What a dependency is written as once it is simplified.
-fn simplified_answer(alloc: Global, text: &str) -> Result<String, Fail> {
-    let dependency: Dependency = read_as(alloc, text)?;
-    let dependency = dependency.simplify(); // of `{ workspace = false, version = '1' }`, `Simple` of this version
-    answer_of(alloc, Ok(dependency))
-}
-
-#[test]
-fn simplified_dependencies(rt: HostRuntime) -> Result<(), Fail> {
-    for (text, simplified, _) in DEPENDENCIES {
-        let expected = expected_answer(rt.alloc(), Ok(simplified))?;
-        let got = simplified_answer(rt.alloc(), text);
-        assert_is(&rt, got, expected.as_str(), text)?;
-    }
-    Ok(())
-}
-
 #[test]
 fn dependencies(rt: HostRuntime) -> Result<(), Fail> {
-    for (text, _, answers) in DEPENDENCIES {
-        let dependency: Dependency = read_as(rt.alloc(), text)?;
-        assert_is(&rt, answers_of(rt.alloc(), &dependency), answers, text)?;
+    let alloc = rt.alloc();
+    for (text, simplified, answers) in DEPENDENCIES {
+        let dependency: Dependency = read_as(alloc, text)?;
+        assert_is(&rt, answers_of(alloc, &dependency), answers, text)?;
+        let expected = expected_answer(alloc, Ok(simplified))?;
+        let dependency = dependency.simplify(); // of `{ workspace = false, version = '1' }`, `Simple` of this version
+        let got = answer_of(alloc, Ok(dependency));
+        assert_is(&rt, got, expected.as_str(), text)?;
     }
     Ok(())
 }

@@ -58,17 +58,6 @@ fn resolve_and_complete(
     Ok(manifest.to_toml_string(alloc)?)
 }
 
-/// Resolves a manifest and completes it, twice: whether the second time changes nothing.
-fn is_completed_once(
-    alloc: Global,
-    manifest: &mut Manifest<Value, Value>,
-    workspace: &Workspace<Value>,
-) -> Result<bool, Fail> {
-    let listings = listings(alloc, "src|lib.rs|main.rs;tests|t.rs;.|build.rs")?;
-    let once = resolve_and_complete(alloc, manifest, workspace, &listings)?;
-    Ok(once == resolve_and_complete(alloc, manifest, workspace, &listings)?)
-}
-
 /// Resolves a manifest twice: its table, or what was reported. A refusal has to leave it as it was; resolving it again
 /// has to answer the same and change nothing; and so has resolving and completing it again, once it is completed.
 fn resolve_twice(
@@ -89,7 +78,9 @@ fn resolve_twice(
             Err(Fail::from("a refusal changes it"))
         };
     }
-    if is_completed_once(alloc, manifest, workspace)? {
+    let listings = listings(alloc, "src|lib.rs|main.rs;tests|t.rs;.|build.rs")?;
+    let once = resolve_and_complete(alloc, manifest, workspace, &listings)?;
+    if once == resolve_and_complete(alloc, manifest, workspace, &listings)? {
         Ok(after)
     } else {
         Err(Fail::from("resolving and completing again changes it"))

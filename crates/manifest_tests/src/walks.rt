@@ -69,49 +69,42 @@ fn a_key_that_is_lent_or_taken(rt: HostRuntime) -> Result<(), Fail> {
     Ok(())
 }
 
-/// Asserts the text that is read of a source.
-fn assert_read(rt: &impl Abort, alloc: Global, source: Source<'_>) -> Result<(), Fail> {
-    match String::read(alloc, source) {
-        Ok(name) => assert_eq!(rt; name.as_str(), "serde"),
-        Err(_) => assert!(rt; false),
-    }
-    Ok(())
-}
-
 #[test]
-fn a_text_that_is_taken_or_lent(rt: HostRuntime) -> Result<(), Fail> {
-    let value = Value::string(rt.alloc(), "serde")?;
+fn sources_that_are_taken_or_lent(rt: HostRuntime) -> Result<(), Fail> {
+    let alloc = rt.alloc();
+    let value = Value::string(alloc, "serde")?;
     assert!(rt; matches!(Source::Lent(&value).value(), Value::String(_)));
-    assert_read(&rt, rt.alloc(), Source::Lent(&value))?;
-    assert_read(&rt, rt.alloc(), Source::Taken(value))
-}
-
-#[test]
-fn a_boolean_that_is_taken(rt: HostRuntime) -> Result<(), Fail> {
-    let source = Source::Taken(Value::Boolean(true));
-    assert!(rt; matches!(bool::read(rt.alloc(), source), Ok(true)));
-    Ok(())
-}
-
-#[test]
-fn a_text_is_no_table(rt: HostRuntime) -> Result<(), Fail> {
-    let source = Source::Taken(Value::string(rt.alloc(), "serde")?);
-    let told = match source.into_table(rt.alloc()) {
-        Ok(_) => String::from_str(rt.alloc(), "accepted")?,
-        Err(fault) => error_text(rt.alloc(), &refusal(fault))?,
+    for name in [
+        String::read(alloc, Source::Lent(&value)),
+        String::read(alloc, Source::Taken(value.clone()?)),
+    ] {
+        match name {
+            Ok(name) => assert_eq!(rt; name.as_str(), "serde"),
+            Err(_) => assert!(rt; false),
+        }
+    }
+    assert!(rt;
+        matches!(
+            bool::read(alloc, Source::Taken(Value::Boolean(true))),
+            Ok(true)
+        )
+    );
+    let told = match Source::Taken(value).into_table(alloc) {
+        Ok(_) => String::from_str(alloc, "accepted")?,
+        Err(fault) => error_text(alloc, &refusal(fault))?,
     };
-    assert_is(&rt, Ok(told), "wrong kind at (top)", "a text")
-}
-
-#[test]
-fn a_table_that_is_taken_or_lent(rt: HostRuntime) -> Result<(), Fail> {
-    let table = Value::Table(toml::table_from_str(rt.alloc(), ENTRIES)?);
-    match Source::Lent(&table).into_table(rt.alloc()) {
+    assert_is(&rt, Ok(told), "wrong kind at (top)", "a text")?;
+    let table = Value::Table(toml::table_from_str(alloc, ENTRIES)?);
+    match Source::Lent(&table).into_table(alloc) {
         Ok(found) => assert_eq!(rt; found.table().len(), 4),
         Err(_) => assert!(rt; false),
     }
-    let taken = Source::Taken(table).into_table(rt.alloc());
-    assert!(rt; matches!(taken, Ok(TableSource::Taken(_))));
+    assert!(rt;
+        matches!(
+            Source::Taken(table).into_table(alloc),
+            Ok(TableSource::Taken(_))
+        )
+    );
     Ok(())
 }
 
@@ -130,55 +123,36 @@ fn slot_of(value: Value) -> RowSlot<'static> {
 }
 
 #[test]
-fn a_needed_row_is_read(rt: HostRuntime) -> Result<(), Fail> {
+fn each_reader_reads_its_row(rt: HostRuntime) -> Result<(), Fail> {
+    let alloc = rt.alloc();
     let mut flag = false;
     let mut there = slot_of(Value::Boolean(true));
-    assert!(rt; read_required(rt.alloc(), "a", &mut there, &mut flag).is_ok());
+    assert!(rt; read_required(alloc, "a", &mut there, &mut flag).is_ok());
     assert!(rt; flag);
-    Ok(())
-}
-
-#[test]
-fn an_optional_row_is_read(rt: HostRuntime) -> Result<(), Fail> {
     let mut place: Option<bool> = None;
     let mut there = slot_of(Value::Boolean(true));
-    assert!(rt; read_optional(rt.alloc(), "a", &mut there, &mut place).is_ok());
+    assert!(rt; read_optional(alloc, "a", &mut there, &mut place).is_ok());
     assert_eq!(rt; place, Some(true));
-    Ok(())
-}
-
-#[test]
-fn a_row_with_a_default_is_read(rt: HostRuntime) -> Result<(), Fail> {
-    let mut flag = true;
     let mut there = slot_of(Value::Boolean(false));
-    assert!(rt; read_default(rt.alloc(), "a", &mut there, &mut flag, true).is_ok());
+    assert!(rt; read_default(alloc, "a", &mut there, &mut flag, true).is_ok());
     assert!(rt; !flag);
-    Ok(())
-}
-
-#[test]
-fn a_row_of_metadata_is_read(rt: HostRuntime) -> Result<(), Fail> {
     let mut tree: Option<Value> = None;
     let mut there = slot_of(Value::Integer(6));
-    assert!(rt; read_tree(rt.alloc(), "a", &mut there, &mut tree).is_ok());
+    assert!(rt; read_tree(alloc, "a", &mut there, &mut tree).is_ok());
     assert!(rt; matches!(tree, Some(Value::Integer(6))));
     Ok(())
 }
 
 #[test]
-fn what_does_not_fit_counts_as_absent(rt: HostRuntime) -> Result<(), Fail> {
+fn each_lenient_reader_passes_over_what_does_not_fit(rt: HostRuntime) -> Result<(), Fail> {
+    let alloc = rt.alloc();
     let mut place: Option<bool> = Some(true);
     let mut unfit = slot_of(Value::Integer(1));
-    assert!(rt; read_lenient(rt.alloc(), &mut unfit, &mut place).is_ok());
+    assert!(rt; read_lenient(alloc, &mut unfit, &mut place).is_ok());
     assert_eq!(rt; place, None);
-    Ok(())
-}
-
-#[test]
-fn what_does_not_fit_has_the_default(rt: HostRuntime) -> Result<(), Fail> {
     let mut flag = false;
     let mut unfit = slot_of(Value::Integer(1));
-    assert!(rt; read_lenient_default(rt.alloc(), &mut unfit, &mut flag, true).is_ok());
+    assert!(rt; read_lenient_default(alloc, &mut unfit, &mut flag, true).is_ok());
     assert!(rt; flag);
     Ok(())
 }
@@ -196,20 +170,22 @@ fn a_missing_row_is_refused_and_leaves_its_place(rt: HostRuntime) -> Result<(), 
     assert_is(&rt, Ok(told), "missing at a", "nothing")
 }
 
-/// What the map of a walk's rest has under `other`, and how many entries.
-fn rest_of_a_walk(alloc: Global) -> Result<(Option<bool>, usize), Fail> {
+#[test]
+fn the_rest_of_a_walk_is_read_as_a_map(rt: HostRuntime) -> Result<(), Fail> {
+    let alloc = rt.alloc();
     let table = toml::table_from_str(alloc, READ_FROM)?;
     let walk = walk(alloc, TableSource::Lent(&table), &READ)?;
     match map_of_entries::<bool>(alloc, walk.rest) {
-        Ok(map) => Ok((map.get("other").copied(), map.len())),
-        Err(_) => Err(Fail::from("the rest is refused")),
+        Ok(map) => {
+            assert_eq!(rt; map.len(), 1);
+            assert_eq!(rt; map.get("other").copied(), Some(true));
+            Ok(())
+        }
+        Err(fault) => assert_is(
+            &rt,
+            Ok(error_text(alloc, &refusal(fault))?),
+            "accepted",
+            READ_FROM,
+        ),
     }
-}
-
-#[test]
-fn the_rest_of_a_walk_is_read_as_a_map(rt: HostRuntime) -> Result<(), Fail> {
-    let (other, count) = rest_of_a_walk(rt.alloc())?;
-    assert_eq!(rt; other, Some(true));
-    assert_eq!(rt; count, 1);
-    Ok(())
 }
