@@ -131,7 +131,10 @@ fn profiles_from(alloc: Global, table: TableSource<'_>) -> Result<Profiles, Read
             x.custom = custom;
             Ok(x)
         }
-        Err(fault) => Err(fault),
+        Err(fault) => {
+            drop(x);
+            Err(fault)
+        }
     }
 }
 

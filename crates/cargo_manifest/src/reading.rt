@@ -71,7 +71,7 @@ fn read_headless<P: Metadata, W: Metadata>(
     read_form_into(manifest, alloc, TableSource::Lent(table))?;
     match read_old_package(alloc, table) {
         Ok(package) => {
-            manifest.package = Some(package);
+            drop(manifest.package.replace(package));
             Ok(())
         }
         Err(fault) => Err(fault),

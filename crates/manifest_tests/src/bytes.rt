@@ -1,6 +1,6 @@
 //! Values as tagged bytes. The bytes that are expected come from the table of docs/LIBRARY.md.
-use crate::answers::value;
 use manifest_bytes::{DecodeError, value_bytes, value_of_bytes};
+use manifest_test_support::answers::value;
 use std::alloc::Global;
 use std::test::Fail;
 use toml::Value;

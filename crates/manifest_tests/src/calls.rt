@@ -1,6 +1,6 @@
 //! Each reader and writer of values, by its name.
-use crate::answers::{answer_of, assert_is, error_text, expected_answer, value};
 use cargo_manifest::{ReadFault, Schema};
+use manifest_test_support::answers::{answer_of, assert_is, error_text, expected_answer, value};
 use manifest_value::error::refusal;
 use manifest_value::{
     boolean, field, list_of, map_of, table, text, texts, whole, write_list, write_map, write_text,
@@ -69,7 +69,6 @@ fn readers_of_one_value(rt: HostRuntime) -> Result<(), Fail> {
     for (reader, shown, answer) in READERS {
         let expected = expected_answer(rt.alloc(), *answer)?;
         assert_is(
-            &rt,
             answer_by(rt.alloc(), *reader, shown),
             expected.as_str(),
             shown,
@@ -98,7 +97,7 @@ fn tables(rt: HostRuntime) -> Result<(), Fail> {
         ("'a'", WRONG_KIND),
         ("[{ a = 1 }]", WRONG_KIND),
     ] {
-        assert_is(&rt, entries_of(rt.alloc(), shown), answer, shown)?;
+        assert_is(entries_of(rt.alloc(), shown), answer, shown)?;
     }
     Ok(())
 }
@@ -116,7 +115,7 @@ const NUMBERS: &[(&str, i64, i64, &str)] = &[
 fn whole_numbers_between_limits(rt: HostRuntime) -> Result<(), Fail> {
     for (shown, low, high, answer) in NUMBERS {
         let read = whole(rt.alloc(), &value(rt.alloc(), shown)?, *low, *high);
-        assert_is(&rt, answer_of_reader(rt.alloc(), read), answer, shown)?;
+        assert_is(answer_of_reader(rt.alloc(), read), answer, shown)?;
     }
     Ok(())
 }
@@ -148,13 +147,8 @@ const FIELDS: &[(&str, &str, &str)] = &[
 fn fields_of_one_spelling_or_two(rt: HostRuntime) -> Result<(), Fail> {
     for (document, by_both, by_first) in FIELDS {
         let got = number_of(rt.alloc(), document, Some("crate_type"));
-        assert_is(&rt, got, by_both, document)?;
-        assert_is(
-            &rt,
-            number_of(rt.alloc(), document, None),
-            by_first,
-            document,
-        )?;
+        assert_is(got, by_both, document)?;
+        assert_is(number_of(rt.alloc(), document, None), by_first, document)?;
     }
     Ok(())
 }
@@ -178,13 +172,11 @@ fn lists_and_maps_by_closures(rt: HostRuntime) -> Result<(), Fail> {
     for (shown, as_list, as_map) in LEVELS {
         let value = value(alloc, shown)?;
         assert_is(
-            &rt,
             answer_of_reader(alloc, list_of(alloc, &value, level)),
             as_list,
             shown,
         )?;
         assert_is(
-            &rt,
             answer_of_reader(alloc, map_of(alloc, &value, level)),
             as_map,
             shown,
@@ -216,18 +208,12 @@ fn levels_by_closures(rt: HostRuntime) -> Result<(), Fail> {
 
 /// Asserts that a value was written as the value of the text.
 fn assert_shown(
-    rt: &impl Abort,
     alloc: Global,
     written: Result<Value, AllocError>,
     expected: &str,
 ) -> Result<(), Fail> {
     let wanted = expected_answer(alloc, Ok(expected))?;
-    assert_is(
-        rt,
-        answer_of(alloc, Ok(written?)),
-        wanted.as_str(),
-        expected,
-    )
+    assert_is(answer_of(alloc, Ok(written?)), wanted.as_str(), expected)
 }
 
 /// Texts in a list.
@@ -242,16 +228,11 @@ fn owned_texts(alloc: Global, texts: &[&str]) -> Result<Vec<String>, Fail> {
 #[test]
 fn writers_of_texts(rt: HostRuntime) -> Result<(), Fail> {
     let alloc = rt.alloc();
-    assert_shown(&rt, alloc, write_text(alloc, "a"), "'a'")?;
+    assert_shown(alloc, write_text(alloc, "a"), "'a'")?;
     let none = owned_texts(alloc, &[])?;
-    assert_shown(&rt, alloc, write_texts(alloc, none.as_slice()), "[]")?;
+    assert_shown(alloc, write_texts(alloc, none.as_slice()), "[]")?;
     let names = owned_texts(alloc, &["b", "a"])?;
-    assert_shown(
-        &rt,
-        alloc,
-        write_texts(alloc, names.as_slice()),
-        "['b', 'a']",
-    )
+    assert_shown(alloc, write_texts(alloc, names.as_slice()), "['b', 'a']")
 }
 
 #[test]
@@ -262,10 +243,10 @@ fn writers_of_lists_and_maps(rt: HostRuntime) -> Result<(), Fail> {
         [true, false].as_slice(),
         |flag| Ok(Value::Boolean(*flag)),
     );
-    assert_shown(&rt, alloc, flags, "[true, false]")?;
+    assert_shown(alloc, flags, "[true, false]")?;
     let mut levels: BTreeMap<String, i64> = BTreeMap::new(alloc);
     levels.insert(String::from_str(alloc, "b")?, 2)?;
     levels.insert(String::from_str(alloc, "a")?, 1)?;
     let written = write_map(alloc, &levels, |level| Ok(Value::Integer(*level)));
-    assert_shown(&rt, alloc, written, "{ a = 1, b = 2 }")
+    assert_shown(alloc, written, "{ a = 1, b = 2 }")
 }

@@ -1,6 +1,6 @@
 //! Copies of errors and their texts, errors that `?` makes, and the second way to read what is stripped.
-use crate::answers::{assert_is, error_text};
 use cargo_manifest::{Error, Manifest, ParseFault, SchemaFault, StripSetting};
+use manifest_test_support::answers::{assert_is, error_text};
 use manifest_value::text;
 use std::alloc::{AllocError, Global};
 use std::io;
@@ -45,7 +45,7 @@ fn assert_copied(
     let error = error?;
     let copy = error.clone(alloc)?;
     assert!(rt; says_the_same(&error, &copy), "at {text}");
-    assert_is(rt, Ok(error_text(alloc, &copy)?), text, text)
+    assert_is(Ok(error_text(alloc, &copy)?), text, text)
 }
 
 const REFUSED: &[(&[u8], &str)] = &[
@@ -94,7 +94,7 @@ fn copies_of_faults(rt: HostRuntime) -> Result<(), Fail> {
         "a copy"
     );
     let text = format!(in rt.alloc(); "{copy}")?;
-    assert_is(&rt, Ok(text), AUTHORS_FAULT, "a copy")
+    assert_is(Ok(text), AUTHORS_FAULT, "a copy")
 }
 
 #[test]
@@ -108,7 +108,7 @@ fn texts_of_errors(rt: HostRuntime) -> Result<(), Fail> {
         (format!(in rt.alloc(); "{cause}")?, "wrong kind"),
         (format!(in rt.alloc(); "{path}")?, "package.authors[1]"),
     ] {
-        assert_is(&rt, Ok(text), expected, expected)?;
+        assert_is(Ok(text), expected, expected)?;
     }
     Ok(())
 }
@@ -129,7 +129,7 @@ fn faults_of_readers_are_errors_by_a_question_mark(rt: HostRuntime) -> Result<()
         Some(error) => error_text(rt.alloc(), &error)?,
         None => return Err(Fail::from("accepted")),
     };
-    assert_is(&rt, Ok(told), "wrong kind at (top)", "a list")
+    assert_is(Ok(told), "wrong kind at (top)", "a list")
 }
 
 /// The setting that a value stands for, or the text of its refusal.
@@ -154,7 +154,7 @@ fn strip_settings(rt: HostRuntime) -> Result<(), Fail> {
         ("'all'", "other: 'all' is not a valid value for 'strip'"),
         ("1", "other: wrong data type for strip setting"),
     ] {
-        assert_is(&rt, setting(rt.alloc(), text), answer, text)?;
+        assert_is(setting(rt.alloc(), text), answer, text)?;
     }
     Ok(())
 }

@@ -1,6 +1,4 @@
 //! The example at the head of `cargo_manifest`, which is the README's last one: a manifest, completed and written.
-use crate::answers::{assert_is, toml_layout};
-use crate::folders::listings;
 use cargo_manifest::{Error, Listings, Manifest};
 use std::alloc::Global;
 
@@ -13,7 +11,8 @@ fn completed(alloc: Global, text: &str, listings: &Listings) -> Result<String, E
 
 #[test]
 fn a_manifest_is_completed(rt: HostRuntime) -> Result<(), std::test::Fail> {
-    let listings = listings(rt.alloc(), "src|lib.rs;.|build.rs")?;
+    use manifest_test_support::answers;
+    let listings = manifest_test_support::folders::listings(rt.alloc(), "src|lib.rs;.|build.rs")?;
     let text = completed(
         rt.alloc(),
         "[package]\nname = 'p'\nedition = '2024'",
@@ -21,6 +20,6 @@ fn a_manifest_is_completed(rt: HostRuntime) -> Result<(), std::test::Fail> {
     )?;
     let expected =
         "[package]\nname = 'p'\nedition = '2024'\nbuild = 'build.rs'\n[lib]\nname = 'p'\npath = 'src/lib.rs'\nedition = '2024'\nrequired-features = []\ncrate-type = ['lib']";
-    let expected = toml_layout(rt.alloc(), expected)?;
-    assert_is(&rt, Ok(text), expected.as_str(), "a package")
+    let expected = answers::toml_layout(rt.alloc(), expected)?;
+    answers::assert_is(Ok(text), expected.as_str(), "a package")
 }

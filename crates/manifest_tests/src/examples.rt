@@ -1,7 +1,7 @@
 //! The first examples of the README, over a real manifest: a workspace with inherited fields, profiles, lints and
 //! tables of a platform.
-use crate::answers::{assert_is, toml_layout};
 use cargo_manifest::{Error, Manifest, ParseFault};
+use manifest_test_support::answers::{assert_is, toml_layout};
 use std::alloc::{AllocError, Global};
 use std::test::Fail;
 
@@ -119,10 +119,10 @@ fn a_manifest_of_a_workspace(rt: HostRuntime) -> Result<(), Fail> {
     let alloc = rt.alloc();
     let written = toml_layout(alloc, WRITTEN)?;
     let text = canonical(alloc, MANIFEST.as_bytes())?;
-    assert_is(&rt, Ok(text), written.as_str(), "the manifest")?;
+    assert_is(Ok(text), written.as_str(), "the manifest")?;
     // the written text is a manifest, and is written again as it is
     let again = canonical(alloc, written.as_bytes())?;
-    assert_is(&rt, Ok(again), written.as_str(), "the written manifest")?;
+    assert_is(Ok(again), written.as_str(), "the written manifest")?;
     assert!(rt; complaint(alloc, MANIFEST.as_bytes())?.is_none());
     Ok(())
 }

@@ -1,7 +1,7 @@
 //! The examples of the calls of `cargo_manifest`, each as it stands in the call's comment, and their answers.
-use crate::answers::{assert_is, assert_written, written};
-use crate::score::Score;
 use cargo_manifest::{Error, Listing, Listings, Manifest, Package, Schema};
+use manifest_test_support::answers::{assert_is, assert_written, written};
+use manifest_test_support::score::Score;
 use std::alloc::Global;
 use std::collections::BTreeSet;
 use std::process::Abort;
@@ -59,7 +59,6 @@ fn completed_manifest(alloc: Global) -> Result<Manifest, Fail> {
 #[test]
 fn a_manifest_is_completed(rt: HostRuntime) -> Result<(), Fail> {
     assert_written(
-        &rt,
         rt.alloc(),
         completed_manifest(rt.alloc()),
         "{ package = { name = 'a', edition = '2024' }, bin = [{ name = 'a', path = 'src/main.rs', edition = '2024', required-features = [] }] }",
@@ -91,8 +90,8 @@ fn manifest_read_back(alloc: Global) -> Result<Manifest, Fail> {
 #[test]
 fn a_manifest_of_a_value(rt: HostRuntime) -> Result<(), Fail> {
     let written = "{ package = { name = 'a' } }";
-    assert_written(&rt, rt.alloc(), manifest_of_a_value(rt.alloc()), written)?;
-    assert_written(&rt, rt.alloc(), manifest_read_back(rt.alloc()), written)
+    assert_written(rt.alloc(), manifest_of_a_value(rt.alloc()), written)?;
+    assert_written(rt.alloc(), manifest_read_back(rt.alloc()), written)
 }
 
 fn manifest_of_a_package(alloc: Global, package: Package<Value>) -> Manifest {
@@ -110,7 +109,6 @@ fn manifest_of_a_new_package(alloc: Global) -> Result<Manifest, Fail> {
 #[test]
 fn a_manifest_that_is_built(rt: HostRuntime) -> Result<(), Fail> {
     assert_written(
-        &rt,
         rt.alloc(),
         manifest_of_a_new_package(rt.alloc()),
         "{ package = { name = 'a', version = '1.0.0' } }",
@@ -145,10 +143,10 @@ fn manifests_of_bytes_are_read_or_refused(rt: HostRuntime) -> Result<(), Fail> {
     let alloc = rt.alloc();
     let (manifest, refused) = manifests_of_bytes(alloc)?;
     let expected = "{ package = { name = 'a', version = '1.0.0' } }";
-    let asserted = assert_written(&rt, alloc, Ok(manifest), expected);
+    let asserted = assert_written(alloc, Ok(manifest), expected);
     let told = written(alloc, refused);
     asserted?;
-    assert_is(&rt, Ok(told?), "wrong kind at package.name", "a name")
+    assert_is(Ok(told?), "wrong kind at package.name", "a name")
 }
 
 #[test]
@@ -156,13 +154,12 @@ fn other_manifests_are_read(rt: HostRuntime) -> Result<(), Fail> {
     let alloc = rt.alloc();
     let document = b"[package]\nname = 'a'\nmetadata = { level = 3 }";
     assert_written(
-        &rt,
         alloc,
         manifest_with_metadata(alloc, document),
         "{ package = { name = 'a', metadata = { level = 3 } } }",
     )?;
     let workspace = "{ workspace = { members = ['a'] } }";
-    assert_written(&rt, alloc, manifest_of_a_text(alloc), workspace)?;
+    assert_written(alloc, manifest_of_a_text(alloc), workspace)?;
     let text = text_of_an_old_header(alloc);
-    assert_is(&rt, text, "[package]\nname = \"a\"\n", "an old header")
+    assert_is(text, "[package]\nname = \"a\"\n", "an old header")
 }

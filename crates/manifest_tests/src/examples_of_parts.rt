@@ -1,11 +1,11 @@
 //! The examples of the calls of `manifest_parts` that read, each as it stands in the call's comment, and their answers.
-use crate::answers::{assert_is, assert_written, error_text};
 use cargo_manifest::{
     Badge, Badges, Dependency, DependencyDetail, Edition, Error, InheritedDependencyDetail, Lint,
     LintConfig, LintLevel, Maintenance, MaintenanceStatus, MaybeInherited, MaybeInheritedLintsSet,
     Product, Profile, Publish, Resolver, StringOrBool, StripSetting, Target, True,
 };
 use manifest_parts::inherited::{has_workspace, says_workspace};
+use manifest_test_support::answers::{assert_is, assert_written, error_text};
 use manifest_value::error::refusal;
 use manifest_value::{Schema, text};
 use std::alloc::Global;
@@ -35,14 +35,12 @@ fn badges(alloc: Global) -> Result<Badges, Fail> {
 fn badges_are_read(rt: HostRuntime) -> Result<(), Fail> {
     let alloc = rt.alloc();
     assert_written(
-        &rt,
         alloc,
         badge(alloc),
         "{ repository = 'a/b', branch = 'master' }",
     )?;
-    assert_written(&rt, alloc, maintenance(alloc), "{ status = 'as-is' }")?;
+    assert_written(alloc, maintenance(alloc), "{ status = 'as-is' }")?;
     assert_written(
-        &rt,
         alloc,
         badges(alloc),
         "{ codecov = { repository = 'a/b', branch = 'master' }, maintenance = { status = 'none' } }",
@@ -113,18 +111,16 @@ fn dependency(alloc: Global) -> Result<Dependency, Fail> {
 fn dependencies_are_read(rt: HostRuntime) -> Result<(), Fail> {
     let alloc = rt.alloc();
     assert_written(
-        &rt,
         alloc,
         inherited_dependency(alloc),
         "{ workspace = true, optional = true }",
     )?;
     assert_written(
-        &rt,
         alloc,
         dependency_detail(alloc),
         "{ version = '1', default-features = false }",
     )?;
-    assert_written(&rt, alloc, dependency(alloc), "{ version = '1' }")
+    assert_written(alloc, dependency(alloc), "{ version = '1' }")
 }
 
 fn edition_by_its_kind(alloc: Global) -> Result<Edition, Fail> {
@@ -153,7 +149,7 @@ fn refusal_text(alloc: Global, value: &Value) -> Result<String, Fail> {
 fn values_are_read_or_refused(rt: HostRuntime) -> Result<(), Fail> {
     assert!(rt; edition_by_its_kind(rt.alloc())? == Edition::E2021);
     let told = refusal_text(rt.alloc(), &Value::Boolean(true));
-    assert_is(&rt, told, "wrong kind at (top)", "a boolean")
+    assert_is(told, "wrong kind at (top)", "a boolean")
 }
 
 fn word(alloc: Global) -> Result<True, Fail> {
@@ -182,8 +178,8 @@ fn table_says_workspace(table: &Table) -> bool {
 #[test]
 fn inherited_values_are_read(rt: HostRuntime) -> Result<(), Fail> {
     let alloc = rt.alloc();
-    assert_written(&rt, alloc, word(alloc), "true")?;
-    assert_written(&rt, alloc, inherited_edition(alloc), "{ workspace = true }")?;
+    assert_written(alloc, word(alloc), "true")?;
+    assert_written(alloc, inherited_edition(alloc), "{ workspace = true }")?;
     assert!(rt; value_says_workspace(alloc)?);
     for document in ["workspace = false", "version = '1'"] {
         let table = toml::table_from_str(alloc, document)?;
@@ -214,18 +210,12 @@ fn lints(alloc: Global) -> Result<MaybeInheritedLintsSet, Fail> {
 fn lints_are_read(rt: HostRuntime) -> Result<(), Fail> {
     let alloc = rt.alloc();
     assert_written(
-        &rt,
         alloc,
         lint_config(alloc),
         "{ level = 'deny', priority = -1 }",
     )?;
-    assert_written(&rt, alloc, lint(alloc), "'deny'")?;
-    assert_written(
-        &rt,
-        alloc,
-        lints(alloc),
-        "{ rust = { unsafe_code = 'forbid' } }",
-    )
+    assert_written(alloc, lint(alloc), "'deny'")?;
+    assert_written(alloc, lints(alloc), "{ rust = { unsafe_code = 'forbid' } }")
 }
 
 fn product(alloc: Global) -> Result<Product, Fail> {
@@ -243,13 +233,11 @@ fn product_by_default(alloc: Global) -> Product {
 fn products_are_read(rt: HostRuntime) -> Result<(), Fail> {
     let alloc = rt.alloc();
     assert_written(
-        &rt,
         alloc,
         product(alloc),
         "{ name = 'a', test = false, required-features = [] }",
     )?;
     assert_written(
-        &rt,
         alloc,
         Ok(product_by_default(alloc)),
         "{ edition = '2015', required-features = [] }",
@@ -287,15 +275,13 @@ fn target(alloc: Global) -> Result<Target, Fail> {
 fn other_parts_are_read(rt: HostRuntime) -> Result<(), Fail> {
     let alloc = rt.alloc();
     assert_written(
-        &rt,
         alloc,
         profile(&rt, alloc),
         "{ opt-level = 's', codegen-units = 1, package = {} }",
     )?;
-    assert_written(&rt, alloc, build(alloc), "'build.rs'")?;
-    assert_written(&rt, alloc, publish(alloc), "['crates-io']")?;
+    assert_written(alloc, build(alloc), "'build.rs'")?;
+    assert_written(alloc, publish(alloc), "['crates-io']")?;
     assert_written(
-        &rt,
         alloc,
         target(alloc),
         "{ dependencies = { libc = '0.2' }, dev-dependencies = {}, build-dependencies = {} }",

@@ -1,8 +1,8 @@
 //! The examples of the calls of packages, workspaces and profiles, each as it stands in the call's comment, and their
 //! answers.
-use crate::answers::assert_written;
 use cargo_manifest::package::package_from;
 use cargo_manifest::{Package, Profiles, Schema, Workspace, WorkspacePackage};
+use manifest_test_support::answers::assert_written;
 use std::alloc::Global;
 use std::process::Abort;
 use std::test::Fail;
@@ -33,18 +33,16 @@ fn package_of_a_table(alloc: Global) -> Result<Package<Value>, Fail> {
 fn packages(rt: HostRuntime) -> Result<(), Fail> {
     let alloc = rt.alloc();
     assert_written(
-        &rt,
         alloc,
         package(&rt, alloc),
         "{ name = 'a', version = '1.0.0', edition = '2021' }",
     )?;
     assert_written(
-        &rt,
         alloc,
         package_by_its_name(alloc),
         "{ name = 'a', version = '1.0.0' }",
     )?;
-    assert_written(&rt, alloc, package_of_a_table(alloc), "{ name = 'a' }")
+    assert_written(alloc, package_of_a_table(alloc), "{ name = 'a' }")
 }
 
 fn profiles_by_default(alloc: Global) -> Profiles {
@@ -61,9 +59,8 @@ fn profiles(alloc: Global) -> Result<Profiles, Fail> {
 #[test]
 fn all_profiles(rt: HostRuntime) -> Result<(), Fail> {
     let alloc = rt.alloc();
-    assert_written(&rt, alloc, Ok(profiles_by_default(alloc)), "{}")?;
+    assert_written(alloc, Ok(profiles_by_default(alloc)), "{}")?;
     assert_written(
-        &rt,
         alloc,
         profiles(alloc),
         "{ release = { package = {} }, tiny = { inherits = 'release', package = {} } }",
@@ -94,19 +91,12 @@ fn workspace(rt: &impl Abort, alloc: Global) -> Result<Workspace<Value>, Fail> {
 fn workspaces(rt: HostRuntime) -> Result<(), Fail> {
     let alloc = rt.alloc();
     assert_written(
-        &rt,
         alloc,
         workspace_package(alloc),
         "{ version = '1.0.0', edition = '2021' }",
     )?;
+    assert_written(alloc, Ok(workspace_by_default(alloc)), "{ members = [] }")?;
     assert_written(
-        &rt,
-        alloc,
-        Ok(workspace_by_default(alloc)),
-        "{ members = [] }",
-    )?;
-    assert_written(
-        &rt,
         alloc,
         workspace(&rt, alloc),
         "{ members = ['crates/a'], resolver = '2' }",

@@ -1,7 +1,7 @@
 //! Manifests of files, completed by the folders that these stand in: real ones, which the tests make and remove.
-use crate::answers::{assert_is, toml_layout, written};
-use crate::score::Score;
 use cargo_manifest::{AbstractFilesystem, Error, Filesystem, Manifest};
+use manifest_test_support::answers::{assert_is, toml_layout, written};
+use manifest_test_support::score::Score;
 use std::io::ErrorKind;
 use std::path::{Path, PathBuf};
 use std::process::Abort;
@@ -101,7 +101,7 @@ fn assert_found<R: Abort + Files + AllocGlobal>(
         rt.alloc(),
         format!(in rt.alloc(); "{PACKAGE}{FOUND}")?.as_str(),
     )?;
-    assert_is(rt, Ok(got), expected.as_str(), at)
+    assert_is(Ok(got), expected.as_str(), at)
 }
 
 /// (A completion that takes each folder for empty finds neither.)
@@ -147,7 +147,6 @@ fn names_of_real_folders(rt: HostRuntime) -> Result<(), Fail> {
     let got = got?;
     removed?;
     assert_is(
-        &rt,
         Ok(got),
         "Cargo.toml|src| lib.rs|main.rs| not found",
         "a package",

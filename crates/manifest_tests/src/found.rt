@@ -1,9 +1,9 @@
 //! What is found in the table of a document: faults, what is ignored, and the keys that nothing reads.
-use crate::answers::assert_is;
 use cargo_manifest::{
     Choices, Finding, Findings, KeyPath, SchemaFault, Unread, faults, ignored, inspect,
     inspect_with_metadata, unlisted_keys,
 };
+use manifest_test_support::answers::assert_is;
 use std::alloc::{AllocError, Global};
 use std::fmt::Display;
 use std::test::Fail;
@@ -110,7 +110,7 @@ const DOCUMENTS: &[Row] = &[
 #[test]
 fn everything_is_found_in_order(rt: HostRuntime) -> Result<(), Fail> {
     for (document, expected) in DOCUMENTS {
-        assert_is(&rt, found_text(rt.alloc(), document), expected, document)?;
+        assert_is(found_text(rt.alloc(), document), expected, document)?;
     }
     Ok(())
 }
@@ -142,7 +142,7 @@ fn apart(alloc: Global) -> Result<String, Fail> {
 fn each_call_gives_its_own(rt: HostRuntime) -> Result<(), Fail> {
     let expected =
         "wrong kind at package.name\nholds a float at package.metadata\nwrong kind at badges.gitlab\nbadges.x\nwrong kind at package.name\nignored: wrong kind at badges.gitlab\nunlisted: badges.x\n";
-    assert_is(&rt, apart(rt.alloc()), expected, "the three calls")
+    assert_is(apart(rt.alloc()), expected, "the three calls")
 }
 
 /// The findings of two keys of a package.
@@ -157,7 +157,6 @@ fn findings_of_an_example(rt: HostRuntime) -> Result<(), Fail> {
     let found = findings_of_a_package(rt.alloc())?;
     let text = lines(rt.alloc(), &found)?;
     assert_is(
-        &rt,
         Ok(text),
         "wrong kind at package.name\nunlisted: package.edtion\n",
         "a package",
@@ -194,5 +193,5 @@ fn examples_of_the_calls(rt: HostRuntime) -> Result<(), Fail> {
     )?;
     let expected =
         "wrong kind at package.name\nwrong kind at package.authors[0]\nwrong kind at badges.gitlab\npackage.edtion\n";
-    assert_is(&rt, Ok(text), expected, "the examples")
+    assert_is(Ok(text), expected, "the examples")
 }

@@ -1,9 +1,10 @@
 //! Documents that are cut short, also within a character, and documents that are nested deep.
-use crate::answers::{PACKAGE, assert_is, document_answer, expected_behind, written};
 use crate::printed::nested_document;
 use cargo_manifest::{Error, Manifest};
+use manifest_test_support::answers::{
+    PACKAGE, assert_is, document_answer, expected_behind, written,
+};
 use std::alloc::Global;
-use std::process::Abort;
 use std::test::Fail;
 
 const DOCUMENT: &str = "[package]\nname = \"foo-bar\"\nedition = \"2021\"\n";
@@ -20,10 +21,10 @@ fn answer_of_front(bytes: usize) -> Result<&'static str, &'static str> {
 }
 
 /// Asserts how a prefix of the document is answered.
-fn assert_front(rt: &impl Abort, alloc: Global, front: &str) -> Result<(), Fail> {
+fn assert_front(alloc: Global, front: &str) -> Result<(), Fail> {
     let expected = expected_behind(alloc, "", answer_of_front(front.len()))?;
     let got = document_answer(alloc, front);
-    assert_is(rt, got, expected.as_str(), front)
+    assert_is(got, expected.as_str(), front)
 }
 
 /// Every prefix of a document, cut at each byte.
@@ -31,10 +32,10 @@ fn assert_front(rt: &impl Abort, alloc: Global, front: &str) -> Result<(), Fail>
 fn every_front_of_a_document(rt: HostRuntime) -> Result<(), Fail> {
     let alloc = rt.alloc();
     let mut front = String::new(alloc);
-    assert_front(&rt, alloc, front.as_str())?;
+    assert_front(alloc, front.as_str())?;
     for letter in DOCUMENT.chars() {
         front.push(letter)?;
-        assert_front(&rt, alloc, front.as_str())?;
+        assert_front(alloc, front.as_str())?;
     }
     assert_eq!(rt; front.as_str(), DOCUMENT);
     Ok(())
@@ -56,10 +57,10 @@ fn answer_of_characters(bytes: usize) -> Result<&'static str, &'static str> {
 }
 
 /// Asserts how a prefix of it is answered that ends after a character.
-fn assert_characters(rt: &impl Abort, alloc: Global, front: &[u8]) -> Result<(), Fail> {
+fn assert_characters(alloc: Global, front: &[u8]) -> Result<(), Fail> {
     let expected = expected_behind(alloc, "", answer_of_characters(front.len()))?;
     let got = Ok(written(alloc, Manifest::from_slice(alloc, front))?);
-    assert_is(rt, got, expected.as_str(), "a front")
+    assert_is(got, expected.as_str(), "a front")
 }
 
 /// How many of the bytes are whole characters, and how many after them are invalid (none where they end too early), as
@@ -85,13 +86,13 @@ fn every_front_within_a_character(rt: HostRuntime) -> Result<(), Fail> {
                 "at {whole}"
             );
         } else {
-            assert_characters(&rt, alloc, front.as_slice())?;
+            assert_characters(alloc, front.as_slice())?;
             whole = front.len();
         }
         front.push(byte)?;
     }
     assert_eq!(rt; front.as_slice(), CHARACTERS.as_bytes());
-    assert_characters(&rt, alloc, front.as_slice())
+    assert_characters(alloc, front.as_slice())
 }
 
 /// Bytes that are not UTF-8, and how they are refused.
@@ -141,7 +142,6 @@ const SHAPES: &[Shape] = &[
 
 /// Asserts how a document is answered that is nested this deep in this shape, under a key that is not listed.
 fn assert_nested(
-    rt: &impl Abort,
     alloc: Global,
     shape: &Shape,
     depth: usize,
@@ -152,16 +152,16 @@ fn assert_nested(
     let document = nested_document(alloc, head.as_str(), (*opening, *inner, *closing), depth)?;
     let expected = expected_behind(alloc, PACKAGE, answer)?;
     let got = document_answer(alloc, document.as_str());
-    assert_is(rt, got, expected.as_str(), head.as_str())
+    assert_is(got, expected.as_str(), head.as_str())
 }
 
 #[test]
 fn documents_that_are_nested_deep(rt: HostRuntime) -> Result<(), Fail> {
     for shape in SHAPES {
         let most = shape.4;
-        assert_nested(&rt, rt.alloc(), shape, most, Ok(""))?;
+        assert_nested(rt.alloc(), shape, most, Ok(""))?;
         for depth in [most.saturating_add(1), 1_000, 20_000] {
-            assert_nested(&rt, rt.alloc(), shape, depth, Err("toml"))?;
+            assert_nested(rt.alloc(), shape, depth, Err("toml"))?;
         }
     }
     Ok(())
@@ -171,7 +171,7 @@ fn documents_that_are_nested_deep(rt: HostRuntime) -> Result<(), Fail> {
 #[test]
 fn documents_that_are_nested_a_million_deep(rt: HostRuntime) -> Result<(), Fail> {
     for shape in &SHAPES[..2] {
-        assert_nested(&rt, rt.alloc(), shape, 1_000_000, Err("toml"))?;
+        assert_nested(rt.alloc(), shape, 1_000_000, Err("toml"))?;
     }
     Ok(())
 }

@@ -1,26 +1,12 @@
-//! Tests of the public calls that read, resolve, complete and write manifests, and the metadata type of these tests.
+//! Tests of the public calls that read, compare, question and write manifests, and the examples of their comments.
 #![tactic(auto)]
 
 #[cfg(test)]
-mod answers;
-#[cfg(test)]
-mod bench;
-#[cfg(test)]
-mod bench_keys;
-#[cfg(test)]
-mod bench_kinds;
-#[cfg(test)]
 mod bounds;
-#[cfg(test)]
-mod by_name;
 #[cfg(test)]
 mod bytes;
 #[cfg(test)]
 mod calls;
-#[cfg(test)]
-mod completed;
-#[cfg(test)]
-mod copied;
 #[cfg(test)]
 mod equal;
 #[cfg(test)]
@@ -38,12 +24,6 @@ mod examples_of_tables;
 #[cfg(test)]
 mod files;
 #[cfg(test)]
-mod finished;
-#[cfg(test)]
-mod folders;
-#[cfg(test)]
-mod forms;
-#[cfg(test)]
 mod found;
 #[cfg(test)]
 mod hostile;
@@ -55,22 +35,5 @@ mod paths;
 mod printed;
 #[cfg(test)]
 mod queries;
-#[cfg(test)]
-mod questions;
-#[cfg(test)]
-mod refusals;
-#[cfg(test)]
-mod refused;
-#[cfg(test)]
-mod resolved;
-#[cfg(test)]
-mod rewritten;
-pub mod score;
-#[cfg(test)]
-mod unfound;
-#[cfg(test)]
-mod values;
-#[cfg(test)]
-mod walks;
 #[cfg(test)]
 mod well_formed;

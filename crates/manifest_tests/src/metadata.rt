@@ -1,9 +1,10 @@
 //! Manifests whose package has metadata of a type.
-use crate::answers::{PACKAGE, Row, assert_is, assert_written, expected_behind, written};
-use crate::score::{Level, Score};
 use cargo_manifest::{Manifest, Metadata, Schema, Unread};
+use manifest_test_support::answers::{
+    PACKAGE, Row, assert_is, assert_written, expected_behind, written,
+};
+use manifest_test_support::score::{Level, Score};
 use std::alloc::Global;
-use std::process::Abort;
 use std::test::Fail;
 use toml::Value;
 
@@ -14,12 +15,12 @@ fn answer_with<P: Metadata>(alloc: Global, document: &str) -> Result<String, Fai
 }
 
 /// Asserts of each row how the document after the head of a package is answered with metadata of the type.
-fn assert_metadata<P: Metadata>(rt: &impl Abort, alloc: Global, rows: &[Row]) -> Result<(), Fail> {
+fn assert_metadata<P: Metadata>(alloc: Global, rows: &[Row]) -> Result<(), Fail> {
     for (rest, answer) in rows {
         let document = format!(in alloc; "{PACKAGE}{rest}")?;
         let expected = expected_behind(alloc, PACKAGE, *answer)?;
         let got = answer_with::<P>(alloc, document.as_str());
-        assert_is(rt, got, expected.as_str(), rest)?;
+        assert_is(got, expected.as_str(), rest)?;
     }
     Ok(())
 }
@@ -58,7 +59,7 @@ const SCORES: &[Row] = &[
 
 #[test]
 fn a_score(rt: HostRuntime) -> Result<(), Fail> {
-    assert_metadata::<Score>(&rt, rt.alloc(), SCORES)?;
+    assert_metadata::<Score>(rt.alloc(), SCORES)?;
     for (number, is_well_formed) in [(0, true), (9, true), (12, false)] {
         let score = Score {
             level: Level { number },
@@ -79,7 +80,7 @@ const NOTHING: &[Row] = &[
 
 #[test]
 fn none_at_all(rt: HostRuntime) -> Result<(), Fail> {
-    assert_metadata::<()>(&rt, rt.alloc(), NOTHING)
+    assert_metadata::<()>(rt.alloc(), NOTHING)
 }
 
 const UNREAD: &[Row] = &[
@@ -98,7 +99,7 @@ const UNREAD: &[Row] = &[
 
 #[test]
 fn not_looked_at(rt: HostRuntime) -> Result<(), Fail> {
-    assert_metadata::<Unread>(&rt, rt.alloc(), UNREAD)?;
+    assert_metadata::<Unread>(rt.alloc(), UNREAD)?;
     assert!(rt; Unread.is_well_formed());
     Ok(())
 }
@@ -112,7 +113,6 @@ fn manifest_of_both(alloc: Global, bytes: &[u8]) -> Result<Manifest<Unread, Unre
 fn neither_is_looked_at(rt: HostRuntime) -> Result<(), Fail> {
     let document = b"[package]\nname = 'a'\nmetadata = inf\n[workspace.metadata]\nx = 0.5";
     assert_written(
-        &rt,
         rt.alloc(),
         manifest_of_both(rt.alloc(), document),
         "{ package = { name = 'a', metadata = {} }, workspace = { members = [], metadata = {} } }",

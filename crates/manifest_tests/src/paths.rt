@@ -1,6 +1,6 @@
 //! The texts of key paths and causes.
-use crate::answers::assert_is;
 use cargo_manifest::{Cause, KeyPath, Step};
+use manifest_test_support::answers::assert_is;
 use std::alloc::{AllocError, Global};
 use std::test::Fail;
 
@@ -56,13 +56,12 @@ fn path_text(alloc: Global, keys: &[&str], index: Option<usize>) -> Result<Strin
 #[test]
 fn paths_are_told_by_dots_brackets_and_quotes(rt: HostRuntime) -> Result<(), Fail> {
     for (keys, index, text) in PATHS {
-        assert_is(&rt, path_text(rt.alloc(), keys, *index), text, text)?;
+        assert_is(path_text(rt.alloc(), keys, *index), text, text)?;
     }
     let mut path = path(rt.alloc(), &["bin"], Some(2))?;
     path.steps
         .push(Step::Key(String::from_str(rt.alloc(), "test")?))?;
     assert_is(
-        &rt,
         Ok(path.to_text(rt.alloc())?),
         "bin[2].test",
         "a key behind an index",

@@ -1,6 +1,6 @@
 //! Manifests that are built, and printed or not.
-use crate::answers::{assert_is, toml_layout, written};
 use cargo_manifest::{Error, Manifest};
+use manifest_test_support::answers::{assert_is, toml_layout, written};
 use std::alloc::Global;
 use std::test::Fail;
 use toml::Value;
@@ -77,5 +77,5 @@ fn a_deep_list(rt: HostRuntime) -> Result<(), Fail> {
     let document = nested_document(rt.alloc(), head, ("[", "1", "]"), 20)?;
     let expected = toml_layout(rt.alloc(), document.as_str())?;
     let got = printed_twice(rt.alloc(), document.as_str());
-    assert_is(&rt, got, expected.as_str(), "20 lists")
+    assert_is(got, expected.as_str(), "20 lists")
 }

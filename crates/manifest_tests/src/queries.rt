@@ -1,21 +1,15 @@
 //! What is asked of dependencies, lints, packages and of what may be inherited from the workspace.
-use crate::answers::{answer_of, assert_is, error_text, expected_answer, value};
 use cargo_manifest::{
     Dependency, Edition, Lint, LintLevel, MaybeInherited, MaybeInheritedLintsSet, Package, Publish,
     True,
+};
+use manifest_test_support::answers::{
+    answer_of, assert_is, error_text, expected_answer, read_as, value,
 };
 use manifest_value::Schema;
 use std::alloc::Global;
 use std::test::Fail;
 use toml::Value;
-
-/// The value of a text, read as a `T`.
-pub fn read_as<T: Schema>(alloc: Global, text: &str) -> Result<T, Fail> {
-    match T::from_value(alloc, &value(alloc, text)?) {
-        Ok(x) => Ok(x),
-        Err(error) => Err(Fail::from(error_text(alloc, &error)?.as_str())),
-    }
-}
 
 /// A dependency, what it is simplified to, and its requirement, features, whether it is optional, its package, its
 /// repository, whether it is from crates.io, and whether it has a detail.
@@ -138,11 +132,11 @@ fn dependencies(rt: HostRuntime) -> Result<(), Fail> {
     let alloc = rt.alloc();
     for (text, simplified, answers) in DEPENDENCIES {
         let dependency: Dependency = read_as(alloc, text)?;
-        assert_is(&rt, answers_of(alloc, &dependency), answers, text)?;
+        assert_is(answers_of(alloc, &dependency), answers, text)?;
         let expected = expected_answer(alloc, Ok(simplified))?;
         let dependency = dependency.simplify(); // of `{ workspace = false, version = '1' }`, `Simple` of this version
         let got = answer_of(alloc, Ok(dependency));
-        assert_is(&rt, got, expected.as_str(), text)?;
+        assert_is(got, expected.as_str(), text)?;
     }
     Ok(())
 }

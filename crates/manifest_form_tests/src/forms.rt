@@ -1,11 +1,11 @@
 //! Each type, read from a value by its own call and written.
-use crate::answers::{Row, assert_told_in_order, assert_values};
 use cargo_manifest::{
     Badge, Badges, Dependency, DependencyDetail, Edition, Error, InheritedDependencyDetail, Lint,
     LintConfig, LintLevel, Maintenance, MaintenanceStatus, Manifest, MaybeInherited,
     MaybeInheritedLintsSet, Metadata, Package, Plain, Product, Profile, Profiles, Publish,
     Resolver, StringOrBool, StripSetting, Target, True, Workspace, WorkspacePackage,
 };
+use manifest_test_support::answers::{Row, assert_told_in_order, assert_values};
 use std::alloc::Global;
 use std::test::Fail;
 use toml::Value;
@@ -83,14 +83,14 @@ const TRUTHS: &[Row] = &[
 
 #[test]
 fn choices_and_texts(rt: HostRuntime) -> Result<(), Fail> {
-    assert_values::<Edition>(&rt, rt.alloc(), EDITIONS)?;
-    assert_values::<Resolver>(&rt, rt.alloc(), RESOLVERS)?;
-    assert_values::<LintLevel>(&rt, rt.alloc(), LEVELS)?;
-    assert_values::<MaintenanceStatus>(&rt, rt.alloc(), STATUSES)?;
-    assert_values::<StripSetting>(&rt, rt.alloc(), STRIPS)?;
-    assert_values::<StringOrBool>(&rt, rt.alloc(), TEXTS_OR_BOOLEANS)?;
-    assert_values::<Publish>(&rt, rt.alloc(), PUBLISHED)?;
-    assert_values::<True>(&rt, rt.alloc(), TRUTHS)
+    assert_values::<Edition>(rt.alloc(), EDITIONS)?;
+    assert_values::<Resolver>(rt.alloc(), RESOLVERS)?;
+    assert_values::<LintLevel>(rt.alloc(), LEVELS)?;
+    assert_values::<MaintenanceStatus>(rt.alloc(), STATUSES)?;
+    assert_values::<StripSetting>(rt.alloc(), STRIPS)?;
+    assert_values::<StringOrBool>(rt.alloc(), TEXTS_OR_BOOLEANS)?;
+    assert_values::<Publish>(rt.alloc(), PUBLISHED)?;
+    assert_values::<True>(rt.alloc(), TRUTHS)
 }
 
 const LENT: Row = ("{ workspace = true, x = 1 }", Ok("{ workspace = true }"));
@@ -105,11 +105,11 @@ const LENT_LISTS: &[Row] = &[LENT, ("['a']", Ok("['a']"))];
 
 #[test]
 fn what_may_be_inherited(rt: HostRuntime) -> Result<(), Fail> {
-    assert_values::<MaybeInherited<String>>(&rt, rt.alloc(), LENT_TEXTS)?;
-    assert_values::<MaybeInherited<Edition>>(&rt, rt.alloc(), LENT_TEXTS)?;
-    assert_values::<MaybeInherited<StringOrBool>>(&rt, rt.alloc(), LENT_TEXTS)?;
-    assert_values::<MaybeInherited<Vec<String>>>(&rt, rt.alloc(), LENT_LISTS)?;
-    assert_values::<MaybeInherited<Publish>>(&rt, rt.alloc(), LENT_LISTS)
+    assert_values::<MaybeInherited<String>>(rt.alloc(), LENT_TEXTS)?;
+    assert_values::<MaybeInherited<Edition>>(rt.alloc(), LENT_TEXTS)?;
+    assert_values::<MaybeInherited<StringOrBool>>(rt.alloc(), LENT_TEXTS)?;
+    assert_values::<MaybeInherited<Vec<String>>>(rt.alloc(), LENT_LISTS)?;
+    assert_values::<MaybeInherited<Publish>>(rt.alloc(), LENT_LISTS)
 }
 
 const BY_WORKSPACE: &str =
@@ -151,13 +151,13 @@ const LINT_SETS: &[Row] = &[(LINTS, Ok(LINTS))];
 
 #[test]
 fn dependencies_and_lints(rt: HostRuntime) -> Result<(), Fail> {
-    assert_values::<InheritedDependencyDetail>(&rt, rt.alloc(), INHERITED)?;
-    assert_values::<DependencyDetail>(&rt, rt.alloc(), DETAILS)?;
-    assert_values::<Dependency>(&rt, rt.alloc(), DEPENDENCIES)?;
-    assert_values::<Target>(&rt, rt.alloc(), PLATFORMS)?;
-    assert_values::<LintConfig>(&rt, rt.alloc(), CONFIGS)?;
-    assert_values::<Lint>(&rt, rt.alloc(), LEVELS_AND_CONFIGS)?;
-    assert_values::<MaybeInheritedLintsSet>(&rt, rt.alloc(), LINT_SETS)
+    assert_values::<InheritedDependencyDetail>(rt.alloc(), INHERITED)?;
+    assert_values::<DependencyDetail>(rt.alloc(), DETAILS)?;
+    assert_values::<Dependency>(rt.alloc(), DEPENDENCIES)?;
+    assert_values::<Target>(rt.alloc(), PLATFORMS)?;
+    assert_values::<LintConfig>(rt.alloc(), CONFIGS)?;
+    assert_values::<Lint>(rt.alloc(), LEVELS_AND_CONFIGS)?;
+    assert_values::<MaybeInheritedLintsSet>(rt.alloc(), LINT_SETS)
 }
 
 const DETAIL_KEYS: &[&str] = &[
@@ -181,9 +181,9 @@ const OTHER_BADGE_KEYS: &[&str] = &["branch", "service", "id", "project-name"];
 
 #[test]
 fn neighbouring_rows(rt: HostRuntime) -> Result<(), Fail> {
-    assert_told_in_order::<DependencyDetail>(&rt, rt.alloc(), "", DETAIL_KEYS)?;
-    assert_told_in_order::<Badge>(&rt, rt.alloc(), "", FIRST_BADGE_KEYS)?;
-    assert_told_in_order::<Badge>(&rt, rt.alloc(), "repository = 'r', ", OTHER_BADGE_KEYS)
+    assert_told_in_order::<DependencyDetail>(rt.alloc(), "", DETAIL_KEYS)?;
+    assert_told_in_order::<Badge>(rt.alloc(), "", FIRST_BADGE_KEYS)?;
+    assert_told_in_order::<Badge>(rt.alloc(), "repository = 'r', ", OTHER_BADGE_KEYS)
 }
 
 const PRODUCT: &str =
@@ -227,12 +227,12 @@ const BADGES_ROWS: &[Row] = &[
 
 #[test]
 fn products_profiles_and_badges(rt: HostRuntime) -> Result<(), Fail> {
-    assert_values::<Product>(&rt, rt.alloc(), PRODUCTS)?;
-    assert_values::<Profile>(&rt, rt.alloc(), PROFILE_ROWS)?;
-    assert_values::<Profiles>(&rt, rt.alloc(), PROFILES_ROWS)?;
-    assert_values::<Badge>(&rt, rt.alloc(), BADGE_ROWS)?;
-    assert_values::<Maintenance>(&rt, rt.alloc(), MAINTENANCES)?;
-    assert_values::<Badges>(&rt, rt.alloc(), BADGES_ROWS)
+    assert_values::<Product>(rt.alloc(), PRODUCTS)?;
+    assert_values::<Profile>(rt.alloc(), PROFILE_ROWS)?;
+    assert_values::<Profiles>(rt.alloc(), PROFILES_ROWS)?;
+    assert_values::<Badge>(rt.alloc(), BADGE_ROWS)?;
+    assert_values::<Maintenance>(rt.alloc(), MAINTENANCES)?;
+    assert_values::<Badges>(rt.alloc(), BADGES_ROWS)
 }
 
 const PACKAGE: &str =
@@ -263,8 +263,8 @@ const MANIFESTS: &[Row] = &[
 
 #[test]
 fn packages_and_workspaces(rt: HostRuntime) -> Result<(), Fail> {
-    assert_values::<Package<Value>>(&rt, rt.alloc(), PACKAGES)?;
-    assert_values::<WorkspacePackage>(&rt, rt.alloc(), PACKAGES_OF_WORKSPACE)?;
-    assert_values::<Workspace<Value>>(&rt, rt.alloc(), WORKSPACES)?;
-    assert_values::<Manifest<Value, Value>>(&rt, rt.alloc(), MANIFESTS)
+    assert_values::<Package<Value>>(rt.alloc(), PACKAGES)?;
+    assert_values::<WorkspacePackage>(rt.alloc(), PACKAGES_OF_WORKSPACE)?;
+    assert_values::<Workspace<Value>>(rt.alloc(), WORKSPACES)?;
+    assert_values::<Manifest<Value, Value>>(rt.alloc(), MANIFESTS)
 }

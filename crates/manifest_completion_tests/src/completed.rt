@@ -1,15 +1,14 @@
 //! Manifests completed from listings, and the tables that are written of them.
-use crate::answers::{PACKAGE, assert_is, error_text, expected_behind};
-use crate::folders::listings;
 use cargo_manifest::{
     AbstractFilesystem, Edition, Error, Listings, Manifest, MaybeInherited, Package, Product, True,
     Value,
 };
 use manifest_completion::is_legacy;
+use manifest_test_support::answers::{PACKAGE, assert_is, error_text, expected_behind};
+use manifest_test_support::folders::listings;
 use std::alloc::Global;
 use std::fmt::Write;
 use std::io::ErrorKind;
-use std::process::Abort;
 use std::test::Fail;
 
 /// A document, the folders that are listed, and the answer: the text that is written of the completed manifest, or the
@@ -64,11 +63,11 @@ fn complete_document(alloc: Global, document: &str, folders: &str) -> Result<Str
 }
 
 /// Asserts of each row what completing its document over its folders gives.
-fn assert_completed(rt: &impl Abort, alloc: Global, rows: &[Row]) -> Result<(), Fail> {
+fn assert_completed(alloc: Global, rows: &[Row]) -> Result<(), Fail> {
     for (document, folders, answer) in rows {
         let expected = expected_behind(alloc, "", *answer)?;
         let got = complete_document(alloc, document, folders);
-        assert_is(rt, got, expected.as_str(), document)?;
+        assert_is(got, expected.as_str(), document)?;
     }
     Ok(())
 }
@@ -304,10 +303,10 @@ const REFUSED: &[Row] = &[
 
 #[test]
 fn listed_targets(rt: HostRuntime) -> Result<(), Fail> {
-    assert_completed(&rt, rt.alloc(), LIBRARY_AND_MAIN)?;
-    assert_completed(&rt, rt.alloc(), BINARIES)?;
-    assert_completed(&rt, rt.alloc(), OTHER_TARGETS)?;
-    assert_completed(&rt, rt.alloc(), REFUSED)
+    assert_completed(rt.alloc(), LIBRARY_AND_MAIN)?;
+    assert_completed(rt.alloc(), BINARIES)?;
+    assert_completed(rt.alloc(), OTHER_TARGETS)?;
+    assert_completed(rt.alloc(), REFUSED)
 }
 
 /// The folders of a package whose `src/bin` lists a given number of files, `f000.rs` and so on.
@@ -342,7 +341,7 @@ fn binaries_of_each_number(rt: HostRuntime) -> Result<(), Fail> {
         let document = package_of_binaries(rt.alloc(), count)?;
         let expected = expected_behind(rt.alloc(), "", Ok(document.as_str()))?;
         let got = complete_document(rt.alloc(), package, folders.as_str());
-        assert_is(&rt, got, expected.as_str(), folders.as_str())?;
+        assert_is(got, expected.as_str(), folders.as_str())?;
     }
     Ok(())
 }

@@ -1,11 +1,13 @@
 //! The calls that take memory and that no other test names: faults, rows that are written, and targets that are
 //! completed.
-use crate::answers::{answer_of, assert_is, assert_written, error_text, toml_layout, value};
-use crate::folders::listings;
 use cargo_manifest::{
     Cause, Edition, MaybeInherited, Product, ReadFault, Schema, Step, StringOrBool,
 };
 use manifest_completion::{CompletedTargets, DeclaredTargets, complete};
+use manifest_test_support::answers::{
+    answer_of, assert_is, assert_written, error_text, toml_layout, value,
+};
+use manifest_test_support::folders::listings;
 use manifest_value::error::refusal;
 use manifest_value::fault::{fault_behind_step, fault_here, fault_under_key};
 use manifest_value::maps::{entries_table, map_of_list};
@@ -13,7 +15,6 @@ use manifest_value::metadata::put_tree;
 use manifest_value::rows::{at_key, put_nonempty, put_optional, put_row, put_unless, read_under};
 use std::alloc::{AllocError, Global};
 use std::collections::BTreeMap;
-use std::process::Abort;
 use std::test::Fail;
 use toml::{Table, Value};
 
@@ -38,7 +39,7 @@ fn faults_behind_steps(rt: HostRuntime) -> Result<(), Fail> {
             "not true at [3].\"a b\"",
         ),
     ] {
-        assert_is(&rt, fault_text(alloc, fault), expected, expected)?;
+        assert_is(fault_text(alloc, fault), expected, expected)?;
     }
     Ok(())
 }
@@ -55,26 +56,15 @@ fn answer_under<T: Schema>(alloc: Global, text: &str) -> Result<String, Fail> {
 fn values_under_a_key(rt: HostRuntime) -> Result<(), Fail> {
     let alloc = rt.alloc();
     assert_is(
-        &rt,
         answer_under::<bool>(alloc, "true"),
         "value = true\n",
         "true",
     )?;
-    assert_is(
-        &rt,
-        answer_under::<bool>(alloc, "1"),
-        "wrong kind at k",
-        "1",
-    )?;
+    assert_is(answer_under::<bool>(alloc, "1"), "wrong kind at k", "1")?;
     let numbers = answer_under::<Vec<u16>>(alloc, "[1, 65536]");
-    assert_is(&rt, numbers, "out of range at k[1]", "numbers")?;
-    assert_is(
-        &rt,
-        answer_under::<()>(alloc, "{}"),
-        "metadata at k",
-        "nothing",
-    )?;
-    assert_written(&rt, alloc, Ok(()), "{}")
+    assert_is(numbers, "out of range at k[1]", "numbers")?;
+    assert_is(answer_under::<()>(alloc, "{}"), "metadata at k", "nothing")?;
+    assert_written(alloc, Ok(()), "{}")
 }
 
 /// Writes a row twice, and a number that is left out and one that is not.
@@ -123,7 +113,7 @@ fn rows_that_are_written(rt: HostRuntime) -> Result<(), Fail> {
     let rows = "row = false\noptional = 'a'\nunless = 1\nlist = [65535]\ntree = { a = [1] }";
     let expected = toml_layout(alloc, rows)?;
     let got = toml::table_to_string(alloc, &written_rows(alloc)?)?;
-    assert_is(&rt, Ok(got), expected.as_str(), rows)
+    assert_is(Ok(got), expected.as_str(), rows)
 }
 
 /// The text of the table of a map.
@@ -135,17 +125,16 @@ fn map_text(alloc: Global, map: &BTreeMap<String, i8>) -> Result<String, Fail> {
 fn maps_that_are_written(rt: HostRuntime) -> Result<(), Fail> {
     let alloc = rt.alloc();
     let mut levels: BTreeMap<String, i8> = BTreeMap::new(alloc);
-    assert_is(&rt, map_text(alloc, &levels), "", "no entry")?;
+    assert_is(map_text(alloc, &levels), "", "no entry")?;
     levels.insert(String::from_str(alloc, "b")?, 127)?;
     levels.insert(String::from_str(alloc, "a")?, -128)?;
     assert_is(
-        &rt,
         map_text(alloc, &levels),
         "a = -128\nb = 127\n",
         "two entries",
     )?;
     let none: BTreeMap<String, i8> = map_of_list(alloc, Vec::new(alloc))?;
-    assert_is(&rt, map_text(alloc, &none), "", "a map of no list")
+    assert_is(map_text(alloc, &none), "", "a map of no list")
 }
 
 /// What has to be there.
@@ -157,7 +146,7 @@ fn value_or_fail<T: Schema>(value: Option<T>) -> Result<T, Fail> {
 }
 
 /// Asserts what a package's targets are completed to.
-fn assert_targets(rt: &impl Abort, alloc: Global, completed: CompletedTargets) -> Result<(), Fail> {
+fn assert_targets(alloc: Global, completed: CompletedTargets) -> Result<(), Fail> {
     let CompletedTargets {
         build,
         lib,
@@ -166,18 +155,18 @@ fn assert_targets(rt: &impl Abort, alloc: Global, completed: CompletedTargets) -
         test,
         bench,
     } = completed;
-    assert_written(rt, alloc, value_or_fail(build), "'build.rs'")?;
+    assert_written(alloc, value_or_fail(build), "'build.rs'")?;
     let expected =
         "{ name = 'a_b', path = 'src/lib.rs', edition = '2021', required-features = [], crate-type = ['lib'] }";
-    assert_written(rt, alloc, value_or_fail(lib), expected)?;
+    assert_written(alloc, value_or_fail(lib), expected)?;
     let expected =
         "[{ name = 'c', path = 'src/bin/c.rs', edition = '2021', required-features = [] }]";
-    assert_written(rt, alloc, Ok(bin), expected)?;
+    assert_written(alloc, Ok(bin), expected)?;
     let expected =
         "[{ edition = '2015', required-features = [], crate-type = ['bin'] }, { name = 'e', path = 'examples/e.rs', edition = '2021', required-features = [], crate-type = ['bin'] }]";
-    assert_written(rt, alloc, Ok(example), expected)?;
-    assert_written(rt, alloc, Ok(test), "[]")?;
-    assert_written(rt, alloc, Ok(bench), "[]")
+    assert_written(alloc, Ok(example), expected)?;
+    assert_written(alloc, Ok(test), "[]")?;
+    assert_written(alloc, Ok(bench), "[]")
 }
 
 #[test]
@@ -201,5 +190,5 @@ fn targets_of_a_package(rt: HostRuntime) -> Result<(), Fail> {
         bench: &[],
     };
     let completed = complete(alloc, &listings(alloc, folders)?, &declared)?;
-    assert_targets(&rt, alloc, completed)
+    assert_targets(alloc, completed)
 }

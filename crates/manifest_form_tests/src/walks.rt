@@ -1,5 +1,5 @@
 //! A walk over a table, and the readers of its rows, by their names.
-use crate::answers::{assert_is, error_text};
+use manifest_test_support::answers::{assert_is, error_text};
 use manifest_value::entries::Key;
 use manifest_value::error::refusal;
 use manifest_value::maps::map_of_entries;
@@ -40,7 +40,7 @@ fn slots_text(alloc: Global, slots: &[RowSlot<'_>]) -> Result<String, Fail> {
 
 /// Asserts what a walk finds of `ENTRIES`.
 fn assert_found(rt: &impl Abort, alloc: Global, walk: &Walk<'_>, slots: &str) -> Result<(), Fail> {
-    assert_is(rt, slots_text(alloc, walk.slots.as_slice()), slots, ENTRIES)?;
+    assert_is(slots_text(alloc, walk.slots.as_slice()), slots, ENTRIES)?;
     assert_eq!(rt; walk.rest.len(), 1);
     let (key, value) = &walk.rest[0];
     assert_eq!(rt; key.as_str(), "z");
@@ -93,7 +93,7 @@ fn sources_that_are_taken_or_lent(rt: HostRuntime) -> Result<(), Fail> {
         Ok(_) => String::from_str(alloc, "accepted")?,
         Err(fault) => error_text(alloc, &refusal(fault))?,
     };
-    assert_is(&rt, Ok(told), "wrong kind at (top)", "a text")?;
+    assert_is(Ok(told), "wrong kind at (top)", "a text")?;
     let table = Value::Table(toml::table_from_str(alloc, ENTRIES)?);
     match Source::Lent(&table).into_table(alloc) {
         Ok(found) => assert_eq!(rt; found.table().len(), 4),
@@ -167,7 +167,7 @@ fn a_missing_row_is_refused_and_leaves_its_place(rt: HostRuntime) -> Result<(), 
         Err(fault) => error_text(alloc, &refusal(fault))?,
     };
     assert!(rt; flag);
-    assert_is(&rt, Ok(told), "missing at a", "nothing")
+    assert_is(Ok(told), "missing at a", "nothing")
 }
 
 #[test]
@@ -182,7 +182,6 @@ fn the_rest_of_a_walk_is_read_as_a_map(rt: HostRuntime) -> Result<(), Fail> {
             Ok(())
         }
         Err(fault) => assert_is(
-            &rt,
             Ok(error_text(alloc, &refusal(fault))?),
             "accepted",
             READ_FROM,

@@ -1,12 +1,11 @@
 //! Which folders are asked while a manifest is completed, and what comes of a filesystem that refuses one question or
 //! changes.
-use crate::answers::{assert_is, error_text, expected_behind};
 use crate::completed::{NO_LIBRARY, ODD_NAMES, WITH_ODD_NAMES, completion};
-use crate::folders::{Changing, Recorder, listings};
 use cargo_manifest::{Error, Manifest, Value};
+use manifest_test_support::answers::{assert_is, error_text, expected_behind};
+use manifest_test_support::folders::{Changing, Recorder, listings};
 use std::alloc::Global;
 use std::io::ErrorKind;
-use std::process::Abort;
 use std::test::Fail;
 
 /// A document, the folders that are listed, the question that is refused and with which kind of fault, the paths that
@@ -171,15 +170,15 @@ fn answer_to(alloc: Global, row: &Row) -> Result<String, Fail> {
     got
 }
 
-fn assert_row(rt: &impl Abort, alloc: Global, row: &Row) -> Result<(), Fail> {
+fn assert_row(alloc: Global, row: &Row) -> Result<(), Fail> {
     let expected = expected_behind(alloc, "", row.4)?;
-    assert_is(rt, answer_to(alloc, row), expected.as_str(), row.3)
+    assert_is(answer_to(alloc, row), expected.as_str(), row.3)
 }
 
 #[test]
 fn the_order_of_questions(rt: HostRuntime) -> Result<(), Fail> {
     for row in QUESTIONS {
-        assert_row(&rt, rt.alloc(), row)?;
+        assert_row(rt.alloc(), row)?;
     }
     Ok(())
 }
@@ -190,7 +189,7 @@ fn each_question_refused(rt: HostRuntime) -> Result<(), Fail> {
     for (question, answers) in (1..).zip(REFUSALS) {
         for (kind, (asked, answer)) in kinds.iter().zip(answers) {
             let row = (PACKAGE, EXAMPLE, Some((question, *kind)), *asked, *answer);
-            assert_row(&rt, rt.alloc(), &row)?;
+            assert_row(rt.alloc(), &row)?;
         }
     }
     Ok(())
@@ -247,7 +246,7 @@ fn folders_that_change(rt: HostRuntime) -> Result<(), Fail> {
     for row in CHANGED {
         let expected = expected_thrice(rt.alloc(), row)?;
         let got = complete_row_thrice(rt.alloc(), row);
-        assert_is(&rt, got, expected.as_str(), row[1])?;
+        assert_is(got, expected.as_str(), row[1])?;
     }
     Ok(())
 }

@@ -1,11 +1,10 @@
 //! The declared targets for which no file is found, and which folders are asked for them.
-use crate::answers::{assert_is, error_text};
-use crate::folders::{Recorder, listings};
 use cargo_manifest::{Edition, Error, KeyPath, Listings, Manifest, MaybeInherited, Product, Value};
 use manifest_completion::{DeclaredTargets, unfound_targets};
+use manifest_test_support::answers::{assert_is, error_text};
+use manifest_test_support::folders::{Recorder, listings};
 use std::alloc::{AllocError, Global};
 use std::io::ErrorKind;
-use std::process::Abort;
 use std::test::Fail;
 
 /// A document, the folders that are listed, and the answer: the paths of the targets, with a blank after each, or the
@@ -143,7 +142,7 @@ fn targets_with_and_without_a_file(rt: HostRuntime) -> Result<(), Fail> {
     for (targets, folders, expected) in FOUND_AND_NOT {
         let document = format!(in alloc; "[package]\nname = 'p'\nedition = '2021'\n{targets}")?;
         let got = answer_to(alloc, document.as_str(), folders);
-        assert_is(&rt, got, expected, document.as_str())?;
+        assert_is(got, expected, document.as_str())?;
     }
     Ok(())
 }
@@ -152,7 +151,7 @@ fn targets_with_and_without_a_file(rt: HostRuntime) -> Result<(), Fail> {
 fn editions_flags_and_packages(rt: HostRuntime) -> Result<(), Fail> {
     for (document, folders, expected) in DOCUMENTS {
         let got = answer_to(rt.alloc(), document, folders);
-        assert_is(&rt, got, expected, document)?;
+        assert_is(got, expected, document)?;
     }
     Ok(())
 }
@@ -212,7 +211,6 @@ fn recorded(
 }
 
 fn assert_recorded(
-    rt: &impl Abort,
     alloc: Global,
     document: &str,
     refused: (usize, ErrorKind),
@@ -223,7 +221,7 @@ fn assert_recorded(
     let recorder = Recorder::new(&listings, expected.0, Some(refused));
     let got = recorded(alloc, &manifest, &recorder);
     drop(manifest);
-    assert_is(rt, got, expected.1, expected.0)
+    assert_is(got, expected.1, expected.0)
 }
 
 #[test]
@@ -231,7 +229,7 @@ fn each_question_refused(rt: HostRuntime) -> Result<(), Fail> {
     let kinds = [ErrorKind::Other, ErrorKind::OutOfMemory];
     for (question, answers) in (1..).zip(REFUSALS) {
         for (kind, expected) in kinds.iter().zip(answers) {
-            assert_recorded(&rt, rt.alloc(), DECLARED, (question, *kind), *expected)?;
+            assert_recorded(rt.alloc(), DECLARED, (question, *kind), *expected)?;
         }
     }
     Ok(())
@@ -240,7 +238,7 @@ fn each_question_refused(rt: HostRuntime) -> Result<(), Fail> {
 #[test]
 fn nothing_is_asked_without_a_package(rt: HostRuntime) -> Result<(), Fail> {
     let document = "[workspace]\n[[bin]]\nname = 'b'";
-    assert_recorded(&rt, rt.alloc(), document, (1, ErrorKind::Other), ("", ""))
+    assert_recorded(rt.alloc(), document, (1, ErrorKind::Other), ("", ""))
 }
 
 #[test]
@@ -263,12 +261,7 @@ fn targets_of_no_manifest(rt: HostRuntime) -> Result<(), Fail> {
         bench: &[],
     };
     let paths = unfound_targets(alloc, &Listings::new(alloc), &declared);
-    assert_is(
-        &rt,
-        answer(alloc, paths),
-        "lib test[0] ",
-        "a library and a test",
-    )
+    assert_is(answer(alloc, paths), "lib test[0] ", "a library and a test")
 }
 
 /// The example of the call.
@@ -282,5 +275,5 @@ fn of_an_empty_folder(alloc: Global) -> Result<Vec<KeyPath>, Fail> {
 fn example_of_the_call(rt: HostRuntime) -> Result<(), Fail> {
     let paths = of_an_empty_folder(rt.alloc())?;
     let text = texts_of(rt.alloc(), &paths)?;
-    assert_is(&rt, Ok(text), "lib bin[0] ", "an empty folder")
+    assert_is(Ok(text), "lib bin[0] ", "an empty folder")
 }

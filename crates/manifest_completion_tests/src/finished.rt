@@ -1,7 +1,7 @@
 //! Manifests that are finished by a root and by listings, where there are any.
-use crate::folders::listings;
 use cargo_manifest::{Listings, Manifest};
 use manifest_inherit::{FinishError, finish};
+use manifest_test_support::folders::listings;
 use std::test::Fail;
 
 const ROOT: &str = "[workspace.package]\nversion = '2.0.0'";

@@ -1,9 +1,8 @@
 //! All refusals of a member over its workspace, each at its key path.
-use crate::answers::{PACKAGE, assert_is};
 use cargo_manifest::{Manifest, Value, Workspace};
 use manifest_inherit::{ResolveFault, refusals};
+use manifest_test_support::answers::{PACKAGE, assert_is};
 use std::alloc::{AllocError, Global};
-use std::process::Abort;
 use std::test::Fail;
 
 /// The text of a workspace; what stands in its member after the head of a package; and the refusals, a line each.
@@ -56,11 +55,11 @@ fn lines_of_document(alloc: Global, root: &str, member: &str) -> Result<String, 
 }
 
 /// Asserts of each row the refusals of its member over its workspace.
-fn assert_refusals(rt: &impl Abort, alloc: Global, rows: &[Row]) -> Result<(), Fail> {
+fn assert_refusals(alloc: Global, rows: &[Row]) -> Result<(), Fail> {
     for (root, rest, expected) in rows {
         let member = format!(in alloc; "{PACKAGE}{rest}")?;
         let got = lines_of_document(alloc, root, member.as_str());
-        assert_is(rt, got, expected, rest)?;
+        assert_is(got, expected, rest)?;
     }
     Ok(())
 }
@@ -114,5 +113,5 @@ const MEMBERS: &[Row] = &[
 
 #[test]
 fn refusals_of_members(rt: HostRuntime) -> Result<(), Fail> {
-    assert_refusals(&rt, rt.alloc(), MEMBERS)
+    assert_refusals(rt.alloc(), MEMBERS)
 }

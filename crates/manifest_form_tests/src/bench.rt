@@ -2,7 +2,6 @@
 //! together, the row without its key where it is needed, all rows filled, and keys that no row has; and one table in
 //! which all rows of all forms are filled. The answers come from the tables of docs/KEYS.md.
 
-use crate::answers::{answer_of, assert_is, document_answer, text_of_value, toml_layout};
 use crate::bench_keys;
 use crate::bench_kinds::{Answer, VALUES, cases_of, fitting_value};
 use cargo_manifest::{
@@ -10,9 +9,11 @@ use cargo_manifest::{
     MaybeInheritedLintsSet, Package, Product, Profile, Profiles, Target, Workspace,
     WorkspacePackage,
 };
+use manifest_test_support::answers::{
+    answer_of, assert_is, document_answer, text_of_value, toml_layout,
+};
 use manifest_value::Schema;
 use std::alloc::{AllocError, Global};
-use std::process::Abort;
 use std::test::Fail;
 use toml::Value;
 
@@ -251,7 +252,6 @@ impl Form<'_> {
     /// Asserts the answer to entries: what is expected where these are written, or this is refused.
     fn assert_answer<T: Schema>(
         &self,
-        rt: &impl Abort,
         alloc: Global,
         entries: &Entries,
         refusal: Option<Refusal<'_>>,
@@ -263,13 +263,12 @@ impl Form<'_> {
             None => expected_by_call(alloc, written, refusal)?,
         };
         let got = answer::<T>(alloc, self.place, read);
-        assert_is(rt, got, expected.as_str(), read)
+        assert_is(got, expected.as_str(), read)
     }
 
     /// A value under one spelling of a row.
     fn assert_value<T: Schema>(
         &self,
-        rt: &impl Abort,
         alloc: Global,
         row: &Row,
         spelling: &str,
@@ -294,42 +293,37 @@ impl Form<'_> {
                 }
             }
         };
-        self.assert_answer::<T>(rt, alloc, &entries, refusal)
+        self.assert_answer::<T>(alloc, &entries, refusal)
     }
 
     /// The row with both spellings, or without its key where it is needed.
-    fn assert_faults<T: Schema>(
-        &self,
-        rt: &impl Abort,
-        alloc: Global,
-        row: &Row,
-    ) -> Result<(), Fail> {
+    fn assert_faults<T: Schema>(&self, alloc: Global, row: &Row) -> Result<(), Fail> {
         let mut entries = other_entries(alloc, self.rows, row.key, self.besides())?;
         if row.is_needed {
-            self.assert_answer::<T>(rt, alloc, &entries, Some(("missing", row.key, "")))?;
+            self.assert_answer::<T>(alloc, &entries, Some(("missing", row.key, "")))?;
         }
         if !row.second.is_empty() {
             entries.read(row.key, "1")?;
             entries.read(row.second, "1")?;
             let refusal = Some(("two spellings", row.key, ""));
-            self.assert_answer::<T>(rt, alloc, &entries, refusal)?;
+            self.assert_answer::<T>(alloc, &entries, refusal)?;
         }
         Ok(())
     }
 
     /// Every trial of a row.
-    fn assert_row<T: Schema>(&self, rt: &impl Abort, alloc: Global, row: &Row) -> Result<(), Fail> {
+    fn assert_row<T: Schema>(&self, alloc: Global, row: &Row) -> Result<(), Fail> {
         for (value, answer) in &cases_of(alloc, row.holds)? {
-            self.assert_value::<T>(rt, alloc, row, row.key, value, *answer)?;
+            self.assert_value::<T>(alloc, row, row.key, value, *answer)?;
             if !row.second.is_empty() {
-                self.assert_value::<T>(rt, alloc, row, row.second, value, *answer)?;
+                self.assert_value::<T>(alloc, row, row.second, value, *answer)?;
             }
         }
-        self.assert_faults::<T>(rt, alloc, row)
+        self.assert_faults::<T>(alloc, row)
     }
 
     /// All rows, each with a value that is written.
-    fn assert_filled<T: Schema>(&self, rt: &impl Abort, alloc: Global) -> Result<(), Fail> {
+    fn assert_filled<T: Schema>(&self, alloc: Global) -> Result<(), Fail> {
         let mut entries = Entries::new(alloc);
         for line in self.rows {
             let row = row_of(line);
@@ -343,49 +337,48 @@ impl Form<'_> {
                 }
             }
         }
-        self.assert_answer::<T>(rt, alloc, &entries, None)
+        self.assert_answer::<T>(alloc, &entries, None)
     }
 
     /// Keys that no row has, with a value of each kind: they are ignored.
-    fn assert_ignored<T: Schema>(&self, rt: &impl Abort, alloc: Global) -> Result<(), Fail> {
+    fn assert_ignored<T: Schema>(&self, alloc: Global) -> Result<(), Fail> {
         for value in VALUES {
             let mut entries = other_entries(alloc, self.rows, "", self.besides())?;
             for line in self.rows {
                 add_unlisted(alloc, &mut entries, &row_of(line), value)?;
             }
-            self.assert_answer::<T>(rt, alloc, &entries, None)?;
+            self.assert_answer::<T>(alloc, &entries, None)?;
         }
         Ok(())
     }
 
-    fn assert_all<T: Schema>(&self, rt: &impl Abort, alloc: Global) -> Result<(), Fail> {
+    fn assert_all<T: Schema>(&self, alloc: Global) -> Result<(), Fail> {
         let mut has_map = false;
         for line in self.rows {
             let row = row_of(line);
             has_map = has_map | (row.key == OWN);
             if row.key != self.besides() {
-                self.assert_row::<T>(rt, alloc, &row)?;
+                self.assert_row::<T>(alloc, &row)?;
             }
         }
         // (a map of all other keys has each key that no row names)
         if !has_map {
-            self.assert_ignored::<T>(rt, alloc)?;
+            self.assert_ignored::<T>(alloc)?;
         }
-        self.assert_filled::<T>(rt, alloc)
+        self.assert_filled::<T>(alloc)
     }
 }
 
 /// Every trial of a form by the call of its type, and at each of these places.
 fn assert_form<T: Schema>(
-    rt: &impl Abort,
     alloc: Global,
     rows: &[&'static str],
     places: &[Place],
 ) -> Result<(), Fail> {
-    Form { rows, place: None }.assert_all::<T>(rt, alloc)?;
+    Form { rows, place: None }.assert_all::<T>(alloc)?;
     for place in places {
         let place = Some(place);
-        Form { rows, place }.assert_all::<T>(rt, alloc)?;
+        Form { rows, place }.assert_all::<T>(alloc)?;
     }
     Ok(())
 }
@@ -423,7 +416,7 @@ fn dependencies_in_detail(rt: HostRuntime) -> Result<(), Fail> {
             "workspace.dependencies.a.",
         ),
     ];
-    assert_form::<DependencyDetail>(&rt, rt.alloc(), bench_keys::DETAILED, &places)
+    assert_form::<DependencyDetail>(rt.alloc(), bench_keys::DETAILED, &places)
 }
 
 /// A place of an inherited dependency, whose row `workspace` decides that it is one.
@@ -470,7 +463,7 @@ fn inherited_dependencies(rt: HostRuntime) -> Result<(), Fail> {
             "workspace.dependencies.a.",
         ),
     ];
-    assert_form::<InheritedDependencyDetail>(&rt, rt.alloc(), bench_keys::INHERITED, &places)
+    assert_form::<InheritedDependencyDetail>(rt.alloc(), bench_keys::INHERITED, &places)
 }
 
 #[test]
@@ -479,7 +472,7 @@ fn platforms_and_lints(rt: HostRuntime) -> Result<(), Fail> {
         "package.name = 'p'\n[target.'cfg(unix)']\n",
         "target.\"cfg(unix)\".",
     )];
-    assert_form::<Target>(&rt, rt.alloc(), bench_keys::PLATFORM, &platforms)?;
+    assert_form::<Target>(rt.alloc(), bench_keys::PLATFORM, &platforms)?;
     let lints = [
         at("package.name = 'p'\n[lints.rust.x]\n", "lints.rust.x."),
         at(
@@ -487,9 +480,9 @@ fn platforms_and_lints(rt: HostRuntime) -> Result<(), Fail> {
             "workspace.lints.workspace.x.",
         ),
     ];
-    assert_form::<LintConfig>(&rt, rt.alloc(), bench_keys::LINT, &lints)?;
+    assert_form::<LintConfig>(rt.alloc(), bench_keys::LINT, &lints)?;
     let sets = [at("package.name = 'p'\n[lints]\n", "lints.")];
-    assert_form::<MaybeInheritedLintsSet>(&rt, rt.alloc(), bench_keys::LINTS, &sets)
+    assert_form::<MaybeInheritedLintsSet>(rt.alloc(), bench_keys::LINTS, &sets)
 }
 
 #[test]
@@ -505,7 +498,7 @@ fn products(rt: HostRuntime) -> Result<(), Fail> {
         at("package.name = 'p'\n[[test]]\n", "test[0]."),
         at("package.name = 'p'\n[[example]]\n", "example[0]."),
     ];
-    assert_form::<Product>(&rt, rt.alloc(), bench_keys::PRODUCT, &places)
+    assert_form::<Product>(rt.alloc(), bench_keys::PRODUCT, &places)
 }
 
 #[test]
@@ -521,9 +514,9 @@ fn profiles(rt: HostRuntime) -> Result<(), Fail> {
         at("package.name = 'p'\n[profile.doc]\n", "profile.doc."),
         at("package.name = 'p'\n[profile.'a b']\n", "profile.\"a b\"."),
     ];
-    assert_form::<Profile>(&rt, rt.alloc(), bench_keys::PROFILE, &places)?;
+    assert_form::<Profile>(rt.alloc(), bench_keys::PROFILE, &places)?;
     let sets = [at("package.name = 'p'\n[profile]\n", "profile.")];
-    assert_form::<Profiles>(&rt, rt.alloc(), bench_keys::PROFILES, &sets)
+    assert_form::<Profiles>(rt.alloc(), bench_keys::PROFILES, &sets)
 }
 
 /// A place where a form that does not fit refuses nothing.
@@ -562,11 +555,11 @@ fn badges(rt: HostRuntime) -> Result<(), Fail> {
             "package.name = 'p'\n[badges]\nmaintenance = { status = 'none' }\n[badges.is-it-maintained-open-issues]\n",
         ),
     ];
-    assert_form::<Badge>(&rt, rt.alloc(), bench_keys::BADGE, &badges)?;
+    assert_form::<Badge>(rt.alloc(), bench_keys::BADGE, &badges)?;
     let maintenances = [lenient_place("package.name = 'p'\n[badges.maintenance]\n")];
-    assert_form::<Maintenance>(&rt, rt.alloc(), bench_keys::MAINTENANCE, &maintenances)?;
+    assert_form::<Maintenance>(rt.alloc(), bench_keys::MAINTENANCE, &maintenances)?;
     let sets = [at("package.name = 'p'\n[badges]\n", "badges.")];
-    assert_form::<Badges>(&rt, rt.alloc(), bench_keys::BADGES, &sets)
+    assert_form::<Badges>(rt.alloc(), bench_keys::BADGES, &sets)
 }
 
 #[test]
@@ -583,7 +576,7 @@ fn packages(rt: HostRuntime) -> Result<(), Fail> {
             ..inherited_place("[package]\n", "")
         },
     ];
-    assert_form::<Package<Value>>(&rt, rt.alloc(), bench_keys::PACKAGE, &places)
+    assert_form::<Package<Value>>(rt.alloc(), bench_keys::PACKAGE, &places)
 }
 
 #[test]
@@ -592,9 +585,9 @@ fn workspaces(rt: HostRuntime) -> Result<(), Fail> {
         "workspace.members = []\n[workspace.package]\n",
         "workspace.package.",
     )];
-    assert_form::<WorkspacePackage>(&rt, rt.alloc(), bench_keys::WORKSPACE_PACKAGE, &packages)?;
+    assert_form::<WorkspacePackage>(rt.alloc(), bench_keys::WORKSPACE_PACKAGE, &packages)?;
     let workspaces = [at("[workspace]\n", "workspace.")];
-    assert_form::<Workspace<Value>>(&rt, rt.alloc(), bench_keys::WORKSPACE, &workspaces)
+    assert_form::<Workspace<Value>>(rt.alloc(), bench_keys::WORKSPACE, &workspaces)
 }
 
 #[test]
@@ -606,7 +599,7 @@ fn manifests(rt: HostRuntime) -> Result<(), Fail> {
         },
         inherited_place("workspace = { members = [] }\n", ""),
     ];
-    assert_form::<Manifest<Value, Value>>(&rt, rt.alloc(), bench_keys::MANIFEST, &places)
+    assert_form::<Manifest<Value, Value>>(rt.alloc(), bench_keys::MANIFEST, &places)
 }
 
 /// A value with a table of each form that a kind of many values holds; a form stands there as `table` and a name.
@@ -713,11 +706,11 @@ fn all_forms_at_once(rt: HostRuntime) -> Result<(), Fail> {
     let entries = Entries { read, written };
     let rows = bench_keys::MANIFEST;
     let by_call = Form { rows, place: None };
-    by_call.assert_answer::<Manifest<Value, Value>>(&rt, rt.alloc(), &entries, None)?;
+    by_call.assert_answer::<Manifest<Value, Value>>(rt.alloc(), &entries, None)?;
     let place = at("", "");
     let of_a_document = Form {
         rows,
         place: Some(&place),
     };
-    of_a_document.assert_answer::<Manifest<Value, Value>>(&rt, rt.alloc(), &entries, None)
+    of_a_document.assert_answer::<Manifest<Value, Value>>(rt.alloc(), &entries, None)
 }

@@ -1,5 +1,5 @@
 //! Manifests that are accepted, and the tables that are written of them.
-use crate::answers::{PACKAGE, Row, assert_documents};
+use manifest_test_support::answers::{PACKAGE, Row, assert_documents};
 use std::test::Fail;
 
 const DOCUMENTS: &[Row] = &[
@@ -228,11 +228,11 @@ const BEHIND_A_PACKAGE: &[Row] = &[
 
 #[test]
 fn whole_documents(rt: HostRuntime) -> Result<(), Fail> {
-    assert_documents(&rt, rt.alloc(), "", DOCUMENTS)?;
-    assert_documents(&rt, rt.alloc(), "", OTHER_TEXTS)
+    assert_documents(rt.alloc(), "", DOCUMENTS)?;
+    assert_documents(rt.alloc(), "", OTHER_TEXTS)
 }
 
 #[test]
 fn behind_a_package(rt: HostRuntime) -> Result<(), Fail> {
-    assert_documents(&rt, rt.alloc(), PACKAGE, BEHIND_A_PACKAGE)
+    assert_documents(rt.alloc(), PACKAGE, BEHIND_A_PACKAGE)
 }

@@ -1,6 +1,8 @@
 //! Values of plain types and of std's, read by the trait and written.
-use crate::answers::{Row, answer_of, assert_is, assert_values, expected_answer, value};
 use cargo_manifest::Error;
+use manifest_test_support::answers::{
+    Row, answer_of, assert_is, assert_values, expected_answer, value,
+};
 use manifest_value::error::refusal;
 use manifest_value::{holds_float, kept};
 use std::alloc::Global;
@@ -42,12 +44,12 @@ const MAPS: &[Row] = &[(MAP, Ok(MAP))];
 
 #[test]
 fn plain_values(rt: HostRuntime) -> Result<(), Fail> {
-    assert_values::<String>(&rt, rt.alloc(), TEXTS)?;
-    assert_values::<bool>(&rt, rt.alloc(), BOOLEANS)?;
-    assert_values::<Vec<String>>(&rt, rt.alloc(), LISTS)?;
-    assert_values::<u16>(&rt, rt.alloc(), UNITS)?;
-    assert_values::<i8>(&rt, rt.alloc(), PRIORITIES)?;
-    assert_values::<BTreeMap<String, Vec<String>>>(&rt, rt.alloc(), MAPS)
+    assert_values::<String>(rt.alloc(), TEXTS)?;
+    assert_values::<bool>(rt.alloc(), BOOLEANS)?;
+    assert_values::<Vec<String>>(rt.alloc(), LISTS)?;
+    assert_values::<u16>(rt.alloc(), UNITS)?;
+    assert_values::<i8>(rt.alloc(), PRIORITIES)?;
+    assert_values::<BTreeMap<String, Vec<String>>>(rt.alloc(), MAPS)
 }
 
 const KEPT: &[Row] = &[
@@ -63,13 +65,13 @@ const KEPT: &[Row] = &[
 
 #[test]
 fn kept_values(rt: HostRuntime) -> Result<(), Fail> {
-    assert_values::<Value>(&rt, rt.alloc(), KEPT)?;
+    assert_values::<Value>(rt.alloc(), KEPT)?;
     for (text, answer) in KEPT {
         let value = value(rt.alloc(), text)?;
         assert_eq!(rt; holds_float(&value), answer.is_err(), "at {text}");
         let expected = expected_answer(rt.alloc(), *answer)?;
         let copy = kept(rt.alloc(), &value).map_err(refusal);
-        assert_is(&rt, answer_of(rt.alloc(), copy), expected.as_str(), text)?;
+        assert_is(answer_of(rt.alloc(), copy), expected.as_str(), text)?;
     }
     Ok(())
 }

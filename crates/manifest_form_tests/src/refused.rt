@@ -1,6 +1,6 @@
 //! Manifests that are refused, and the causes and paths that are reported.
-use crate::answers::{PACKAGE, Row, assert_documents, written};
 use cargo_manifest::Manifest;
+use manifest_test_support::answers::{PACKAGE, Row, assert_documents, written};
 use std::test::Fail;
 
 /// Bytes that are no text.
@@ -254,16 +254,16 @@ const SEVERAL_FAULTS: &[Row] = &[
 
 #[test]
 fn whole_documents(rt: HostRuntime) -> Result<(), Fail> {
-    assert_documents(&rt, rt.alloc(), "", DOCUMENTS)
+    assert_documents(rt.alloc(), "", DOCUMENTS)
 }
 
 #[test]
 fn behind_a_package(rt: HostRuntime) -> Result<(), Fail> {
-    assert_documents(&rt, rt.alloc(), PACKAGE, BEHIND_A_PACKAGE)
+    assert_documents(rt.alloc(), PACKAGE, BEHIND_A_PACKAGE)
 }
 
 /// Of several faults the one is reported that comes first in the order of the rows.
 #[test]
 fn the_first_of_several_faults(rt: HostRuntime) -> Result<(), Fail> {
-    assert_documents(&rt, rt.alloc(), PACKAGE, SEVERAL_FAULTS)
+    assert_documents(rt.alloc(), PACKAGE, SEVERAL_FAULTS)
 }

@@ -1,11 +1,10 @@
 //! Copies: each is equal to what it is copied from, and is written as it is.
-use crate::answers::{assert_is, text_of_value};
 use crate::bench::manifest_of_all_rows;
-use crate::queries::read_as;
 use cargo_manifest::{
     Dependency, Edition, Lint, Manifest, MaybeInherited, MaybeInheritedLintsSet, Publish,
     StringOrBool,
 };
+use manifest_test_support::answers::{assert_is, read_as, text_of_value};
 use manifest_value::{Copied, Schema, copy_of};
 use std::alloc::Global;
 use std::process::Abort;
@@ -23,7 +22,7 @@ fn assert_copied<T: Schema + Copied + PartialEq>(
     assert!(rt; copy == *x, "at {at}");
     let written = text_of_value(alloc, x.to_value(alloc)?)?;
     let got = text_of_value(alloc, copy.to_value(alloc)?);
-    assert_is(rt, got, written.as_str(), at)
+    assert_is(got, written.as_str(), at)
 }
 
 /// Every row of every form, in one manifest.

@@ -1,7 +1,6 @@
 //! Answers of the calls as texts, and the loops that try rows of them.
 use cargo_manifest::{Error, Manifest, Metadata, ParseFault, Schema};
 use std::alloc::{AllocError, Global};
-use std::process::Abort;
 use std::test::Fail;
 use toml::{Table, Value};
 
@@ -76,27 +75,24 @@ pub fn expected_answer(alloc: Global, answer: Result<&str, &str>) -> Result<Stri
 }
 
 /// Asserts that a text is this one, for the row of this text.
-pub fn assert_is(
-    rt: &impl Abort,
-    got: Result<String, Fail>,
-    expected: &str,
-    at: &str,
-) -> Result<(), Fail> {
+pub fn assert_is(got: Result<String, Fail>, expected: &str, at: &str) -> Result<(), Fail> {
     let got = got?;
-    assert_eq!(rt; got.as_str(), expected, "at {at}");
-    Ok(())
+    if got.as_str() == expected {
+        Ok(())
+    } else {
+        Err(Fail::new(format_args!("at {at}: {got:?} in place of {expected:?}")))
+    }
 }
 
 /// Asserts what is written of a value that was read: the value of this text.
 pub fn assert_written<T: Schema>(
-    rt: &impl Abort,
     alloc: Global,
     read: Result<T, Fail>,
     text: &str,
 ) -> Result<(), Fail> {
     let got = answer_of(alloc, Ok(read?))?;
     let expected = expected_answer(alloc, Ok(text))?;
-    assert_is(rt, Ok(got), expected.as_str(), text)
+    assert_is(Ok(got), expected.as_str(), text)
 }
 
 /// What is written of the manifest of a document, or the text of its refusal: one answer for its bytes and its text.
@@ -123,17 +119,12 @@ pub fn expected_behind(
 }
 
 /// Asserts of each row how the document after the head is answered.
-pub fn assert_documents(
-    rt: &impl Abort,
-    alloc: Global,
-    head: &str,
-    rows: &[Row],
-) -> Result<(), Fail> {
+pub fn assert_documents(alloc: Global, head: &str, rows: &[Row]) -> Result<(), Fail> {
     for (rest, answer) in rows {
         let document = format!(in alloc; "{head}{rest}")?;
         let expected = expected_behind(alloc, head, *answer)?;
         let got = document_answer(alloc, document.as_str());
-        assert_is(rt, got, expected.as_str(), rest)?;
+        assert_is(got, expected.as_str(), rest)?;
     }
     Ok(())
 }
@@ -144,10 +135,10 @@ fn value_answer<T: Schema>(alloc: Global, text: &str) -> Result<String, Fail> {
 }
 
 /// Asserts of each row how its text is answered as a `T`.
-pub fn assert_values<T: Schema>(rt: &impl Abort, alloc: Global, rows: &[Row]) -> Result<(), Fail> {
+pub fn assert_values<T: Schema>(alloc: Global, rows: &[Row]) -> Result<(), Fail> {
     for (text, answer) in rows {
         let expected = expected_answer(alloc, *answer)?;
-        assert_is(rt, value_answer::<T>(alloc, text), expected.as_str(), text)?;
+        assert_is(value_answer::<T>(alloc, text), expected.as_str(), text)?;
     }
     Ok(())
 }
@@ -155,7 +146,6 @@ pub fn assert_values<T: Schema>(rt: &impl Abort, alloc: Global, rows: &[Row]) ->
 /// Asserts that the first of two keys is reported, where a number stands under both and fits neither, after these
 /// entries.
 fn assert_told_first<T: Schema>(
-    rt: &impl Abort,
     alloc: Global,
     entries: &str,
     first: &str,
@@ -164,7 +154,6 @@ fn assert_told_first<T: Schema>(
     let text = format!(in alloc; "{{ {entries}{second} = 1, {first} = 1 }}")?;
     let expected = format!(in alloc; "wrong kind at {first}")?;
     assert_is(
-        rt,
         value_answer::<T>(alloc, text.as_str()),
         expected.as_str(),
         text.as_str(),
@@ -173,13 +162,20 @@ fn assert_told_first<T: Schema>(
 
 /// The same for each two neighbouring keys.
 pub fn assert_told_in_order<T: Schema>(
-    rt: &impl Abort,
     alloc: Global,
     entries: &str,
     keys: &[&str],
 ) -> Result<(), Fail> {
     for (first, second) in keys.iter().zip(keys.iter().skip(1)) {
-        assert_told_first::<T>(rt, alloc, entries, first, second)?;
+        assert_told_first::<T>(alloc, entries, first, second)?;
     }
     Ok(())
+}
+
+/// The value of a text, read as a `T`.
+pub fn read_as<T: Schema>(alloc: Global, text: &str) -> Result<T, Fail> {
+    match T::from_value(alloc, &value(alloc, text)?) {
+        Ok(x) => Ok(x),
+        Err(error) => Err(Fail::from(error_text(alloc, &error)?.as_str())),
+    }
 }

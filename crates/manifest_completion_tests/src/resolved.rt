@@ -1,10 +1,9 @@
 //! Members of a workspace, with what they inherit put in, and the tables that are written of them.
-use crate::answers::{PACKAGE, assert_is, expected_behind};
-use crate::folders::listings;
 use cargo_manifest::{Listings, Manifest, Value, Workspace};
 use manifest_inherit::{ResolveError, resolve};
+use manifest_test_support::answers::{PACKAGE, assert_is, expected_behind};
+use manifest_test_support::folders::listings;
 use std::alloc::Global;
-use std::process::Abort;
 use std::test::Fail;
 
 /// What is inherited from a workspace.
@@ -111,12 +110,12 @@ fn resolve_document(alloc: Global, root: &str, member: &str) -> Result<String, F
 }
 
 /// Asserts of each row what its member becomes over its workspace.
-fn assert_resolved(rt: &impl Abort, alloc: Global, rows: &[Row]) -> Result<(), Fail> {
+fn assert_resolved(alloc: Global, rows: &[Row]) -> Result<(), Fail> {
     for (root, rest, answer) in rows {
         let member = format!(in alloc; "{PACKAGE}{rest}")?;
         let expected = expected_behind(alloc, PACKAGE, *answer)?;
         let got = resolve_document(alloc, root, member.as_str());
-        assert_is(rt, got, expected.as_str(), rest)?;
+        assert_is(got, expected.as_str(), rest)?;
     }
     Ok(())
 }
@@ -234,7 +233,7 @@ const MEMBERS: &[Row] = &[
 
 #[test]
 fn members_of_a_workspace(rt: HostRuntime) -> Result<(), Fail> {
-    assert_resolved(&rt, rt.alloc(), MEMBERS)
+    assert_resolved(rt.alloc(), MEMBERS)
 }
 
 /// Resolves and completes the manifest of a member over the workspace of a document: the text that is then written of
@@ -277,5 +276,5 @@ fn an_inherited_edition(rt: HostRuntime) -> Result<(), Fail> {
         ),
     )?;
     let got = completed_in_the_old_way(rt.alloc());
-    assert_is(&rt, got, expected.as_str(), "an edition of 2015")
+    assert_is(got, expected.as_str(), "an edition of 2015")
 }
