@@ -6,7 +6,7 @@ use Rattle.manifest_value.specs.declared.error.Error.{Error}
 use Rattle.manifest_value.specs.declared.error.Error.TheVariants.{Parse, Io, Utf8, Other, Memory}
 use Rattle.cargo_manifest.specs.Answers.{Refuses, RefusesToPrint}
 use Rattle.cargo_manifest.specs.Canonical.{rewritten, Means}
-use Rattle.manifest_canon.specs.Run.{Begins, FailsToPrint, IsRefused}
+use Rattle.manifest_command.specs.Run.{Begins, FailsToPrint, IsRefused}
 
 -- a flush keeps what was written
 pub appends_kept : (old mid new : Option (List ℕ)) (text : List ℕ) → Appends old mid text → Keeps mid new → Appends old new text

@@ -1,9 +1,9 @@
 -- What the code takes the words for, and what it does then.
 use Rattle.manifest_schema.specs.Prelude.{Bor, Global}
 use Rattle.std.specs.Prelude.{◌≡◌, ℕ, List, Option, Some, None, IfSome, String, codes}
-use Rattle.manifest_canon.specs.declared.words.Request.{Request}
-use Rattle.manifest_canon.specs.declared.words.Request.TheVariants.{CanonInput, CanonFile, CompleteFile, CompleteMember}
-use Rattle.manifest_canon.specs.Run.{IsCanonInput, Asked, canon_file, complete_file, complete_member, IsFile, Asks, AreWrong, MayPrint, PrintsOne, BeginsOne, IsPrinted, IsBegun}
+use Rattle.manifest_command.specs.declared.words.Request.{Request}
+use Rattle.manifest_command.specs.declared.words.Request.TheVariants.{CanonInput, CanonFile, CompleteFile, CompleteMember}
+use Rattle.manifest_command.specs.Run.{IsCanonInput, Asked, canon_file, complete_file, complete_member, IsFile, Asks, AreWrong, MayPrint, PrintsOne, BeginsOne, IsPrinted, IsBegun}
 
 -- what is asked for with a file
 abbrev pub asked_by : Request → Option Asked

@@ -1,5 +1,5 @@
-use Rattle.manifest_canon.proofs.Served.{not_wrong, served_file, failed_file}
-use Rattle.manifest_canon.proofs.run.run.Goals as goal
+use Rattle.manifest_command.proofs.Served.{not_wrong, served_file, failed_file}
+use Rattle.manifest_command.proofs.run.run.Goals as goal
 
 pub returns-in-None-clause-file_status : goal.returns-in-None-clause-file_status
 returns-in-None-clause-file_status g c = λ a q. absurd (c.in-None.ensures.1 a q)

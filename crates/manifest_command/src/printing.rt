@@ -3,7 +3,7 @@
 ghost use Rattle.manifest_schema.specs.Prelude.{Appends, view};
 ghost use Rattle.std.specs.Prelude.{OnOk, OnErr, IfErr};
 ghost use Rattle.cargo_manifest.specs.Whole.{manifest_content};
-ghost use Rattle.manifest_canon.specs.Run.{Begins, Prints, FailsToPrint};
+ghost use Rattle.manifest_command.specs.Run.{Begins, Prints, FailsToPrint};
 
 use cargo_manifest::{Error, Manifest};
 use std::alloc::Global;

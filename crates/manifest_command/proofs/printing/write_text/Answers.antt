@@ -2,9 +2,9 @@ use Rattle.std.proofs.Common.{◌≡◌, ℕ, ◌-◌, List, [], ◌++◌, rules
 use Rattle.std.proofs.lemmas.List.{take_rest}
 use Rattle.std.specs.Io.KnownBytes.{Appends}
 use Rattle.std.proofs.KnownBytes.{Appends-trans}
-use Rattle.manifest_canon.proofs.Printed.{appends_kept}
-use Rattle.manifest_canon.proofs.printing.write_text.Goals as goal
-use Rattle.manifest_canon.proofs.printing.write_text.Goals.{in-Ok, in-Err+else-ne}
+use Rattle.manifest_command.proofs.Printed.{appends_kept}
+use Rattle.manifest_command.proofs.printing.write_text.Goals as goal
+use Rattle.manifest_command.proofs.printing.write_text.Goals.{in-Ok, in-Err+else-ne}
 
 moves_front : (all done rest : List ℕ) (n : ℕ) → all ≡ done ++ rest → all ≡ (done ++ take n rest) ++ take (length rest - n) (drop n rest)
 moves_front all done rest n e =

@@ -1,7 +1,7 @@
 //! The words of the program: its command-line arguments.
 
 ghost use Rattle.std.specs.Prelude.{◌≡◌};
-ghost use Rattle.manifest_canon.specs.Words.{IsRequestOf, IsPairOf, IsFourOf};
+ghost use Rattle.manifest_command.specs.Words.{IsRequestOf, IsPairOf, IsFourOf};
 
 use std::io::Write;
 

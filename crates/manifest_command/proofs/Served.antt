@@ -2,10 +2,10 @@
 use Rattle.manifest_schema.specs.Prelude.{Global, Text}
 use Rattle.std.proofs.Common.{◌≡◌, ℕ, List, [], ◌∷◌, Option, Some, None, ◌∙◌, sym, ap, subst, refl, length, get_or, arith}
 use Rattle.std.specs.Prelude.{String, string_bytes, codes}
-use Rattle.manifest_canon.specs.declared.words.Request.{Request}
-use Rattle.manifest_canon.specs.declared.words.Request.TheVariants.{CanonInput, CanonFile, CompleteFile, CompleteMember}
-use Rattle.manifest_canon.specs.Run.{IsCanonInput, Asked, canon_file, complete_file, complete_member, Asks, AreWrong, MayPrint, PrintsOne, BeginsOne}
-use Rattle.manifest_canon.specs.Words.{AskFor, IsRequestOf, AskForMember, IsFourOf, Serves, Fails}
+use Rattle.manifest_command.specs.declared.words.Request.{Request}
+use Rattle.manifest_command.specs.declared.words.Request.TheVariants.{CanonInput, CanonFile, CompleteFile, CompleteMember}
+use Rattle.manifest_command.specs.Run.{IsCanonInput, Asked, canon_file, complete_file, complete_member, Asks, AreWrong, MayPrint, PrintsOne, BeginsOne}
+use Rattle.manifest_command.specs.Words.{AskFor, IsRequestOf, AskForMember, IsFourOf, Serves, Fails}
 
 -- what words there can be
 abbrev canon_words : Text → List Text

@@ -4,8 +4,8 @@ ghost use Rattle.std.specs.Prelude.{IfOk, OnOk, OnErr};
 ghost use Rattle.toml.specs.View.{view};
 ghost use Rattle.cargo_manifest.specs.Whole.{manifest_content};
 ghost use Rattle.manifest_inherit.specs.Finished.{root_of};
-ghost use Rattle.manifest_canon.specs.Run.{canon_file, MayPrint, IsFileOf, IsFinished, IsFinishedBy, PrintsOne, BeginsOne};
-ghost use Rattle.manifest_canon.specs.Words.{completes_by};
+ghost use Rattle.manifest_command.specs.Run.{canon_file, MayPrint, IsFileOf, IsFinished, IsFinishedBy, PrintsOne, BeginsOne};
+ghost use Rattle.manifest_command.specs.Words.{completes_by};
 
 use crate::printing::print_manifest;
 use cargo_manifest::{Error, Filesystem, Manifest};

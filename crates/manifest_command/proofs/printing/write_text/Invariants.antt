@@ -1,6 +1,6 @@
 use Rattle.std.proofs.Common.{◌≡◌, ℕ, List, ◌++◌}
 use Rattle.std.specs.Io.KnownBytes.{Appends}
-use Rattle.manifest_canon.proofs.printing.write_text.Given as goal
+use Rattle.manifest_command.proofs.printing.write_text.Given as goal
 
 -- what is gone from the rest was written
 abbrev pub invariant-loop : goal.invariant-loop

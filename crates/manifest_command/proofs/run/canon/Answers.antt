@@ -1,7 +1,7 @@
 use Rattle.std.proofs.lemmas.Result.{on_ok_weaker, IfErr-weaker}
-use Rattle.manifest_canon.specs.Run.{IsPrinted, IsRefused}
-use Rattle.manifest_canon.proofs.Printed.{at_known}
-use Rattle.manifest_canon.proofs.run.canon.Goals as goal
+use Rattle.manifest_command.specs.Run.{IsPrinted, IsRefused}
+use Rattle.manifest_command.proofs.Printed.{at_known}
+use Rattle.manifest_command.proofs.run.canon.Goals as goal
 
 pub returns-clause-ok : goal.returns-clause-ok
 returns-clause-ok g c =

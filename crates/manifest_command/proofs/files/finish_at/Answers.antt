@@ -1,8 +1,8 @@
 use Rattle.manifest_schema.specs.Prelude.{on_ok_weaker, view}
 use Rattle.std.proofs.Common.{Some}
 use Rattle.cargo_manifest.specs.Whole.{manifest_content}
-use Rattle.manifest_canon.specs.Run.{IsFinished, IsFinishedBy}
-use Rattle.manifest_canon.proofs.files.finish_at.Goals as goal
+use Rattle.manifest_command.specs.Run.{IsFinished, IsFinishedBy}
+use Rattle.manifest_command.proofs.files.finish_at.Goals as goal
 
 pub returns-in-Ok : goal.returns-in-Ok
 returns-in-Ok g c =

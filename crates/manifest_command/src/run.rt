@@ -3,8 +3,8 @@
 ghost use Rattle.std.specs.Prelude.{◌≡◌, ◌⊎◌, IfOk, IfErr, OnOk, OnErr, IfSome};
 ghost use Rattle.std.specs.Io.KnownBytes.{Keeps};
 ghost use Rattle.cargo_manifest.specs.Canonical.{IsAccepted};
-ghost use Rattle.manifest_canon.specs.Run.{IsCanonInput, Asked, Asks, AreWrong, MayPrint, PrintsOne, BeginsOne, IsPrinted, IsBegun, IsRefused};
-ghost use Rattle.manifest_canon.specs.Words.{asked_by, Serves, Fails};
+ghost use Rattle.manifest_command.specs.Run.{IsCanonInput, Asked, Asks, AreWrong, MayPrint, PrintsOne, BeginsOne, IsPrinted, IsBegun, IsRefused};
+ghost use Rattle.manifest_command.specs.Words.{asked_by, Serves, Fails};
 
 use crate::files::{canon_at, complete_at};
 use crate::printing::print_manifest;

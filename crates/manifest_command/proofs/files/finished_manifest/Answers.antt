@@ -1,9 +1,9 @@
 use Rattle.manifest_schema.specs.Prelude.{Bor, view, Text, Manifest}
 use Rattle.std.proofs.Common.{Option, Some, None}
 use Rattle.cargo_manifest.specs.Whole.{manifest_content}
-use Rattle.manifest_canon.specs.Run.{MayPrint, IsFileOf, IsFinishedBy}
-use Rattle.manifest_canon.specs.Words.{completes_by}
-use Rattle.manifest_canon.proofs.files.finished_manifest.Goals as goal
+use Rattle.manifest_command.specs.Run.{MayPrint, IsFileOf, IsFinishedBy}
+use Rattle.manifest_command.specs.Words.{completes_by}
+use Rattle.manifest_command.proofs.files.finished_manifest.Goals as goal
 
 given : (root : Option (Bor Text)) (m n : Manifest) → IsFileOf m → IsFinishedBy root m n → MayPrint (completes_by root) n
 given None m n is h = (m, is, h)

@@ -1,7 +1,7 @@
 use Rattle.std.proofs.Common.{rules, ◌≡◌, [], ◌∷◌}
-use Rattle.manifest_canon.proofs.Elements.{four_elements}
-use Rattle.manifest_canon.proofs.Served.{four_taken}
-use Rattle.manifest_canon.proofs.words.request_from_words.Goals as goal
+use Rattle.manifest_command.proofs.Elements.{four_elements}
+use Rattle.manifest_command.proofs.Served.{four_taken}
+use Rattle.manifest_command.proofs.words.request_from_words.Goals as goal
 
 pub returns-in-len4 : goal.returns-in-len4
 returns-in-len4 c =
