@@ -6,7 +6,7 @@ import sys
 from pathlib import Path
 
 TOP = Path(__file__).resolve().parent.parent
-CRATE = TOP / "crates" / "manifest_ffi"
+CRATE = TOP / "crates" / "manifest_answers"
 BINDINGS = TOP / "bindings"
 X86 = "x86_64-unknown-linux-gnu"
 ARM = "aarch64-unknown-linux-gnu"

@@ -1,4 +1,4 @@
-// Takes the time, and the memory, of the steps of crates/manifest_speed:
+// Takes the time, and the memory, of the steps of scripts/speed_steps:
 //
 //     speed time FILE CALLS TURNS              toml alone, from_slice, from_slice with a text, and toml with inspect
 //     speed complete FILE NAMES CALLS TURNS    a completion, with `src/bin` listing the lines of NAMES

@@ -6,29 +6,18 @@
 //! call keeps what it is given. `alloc` takes no place in a C call.
 #![tactic(auto)]
 
-mod answer;
-mod folders;
-mod inspecting;
-mod making;
-mod nesting;
-mod reading;
-mod refusal;
-mod telling;
-mod unread;
-
-ghost use Rattle.manifest_ffi.specs.declared.reading.Input.TheVariants.{Toml, Tagged};
-ghost use Rattle.manifest_ffi.specs.declared.making.Output.TheVariants.{CanonicalText, TaggedTable};
+ghost use Rattle.manifest_answers.specs.declared.reading.Input.TheVariants.{Toml, Tagged};
+ghost use Rattle.manifest_answers.specs.declared.making.Output.TheVariants.{CanonicalText, TaggedTable};
 ghost use Rattle.std.specs.Prelude.{◌≡◌, Some, None};
-ghost use Rattle.manifest_ffi.specs.Made.{Makes, RefusesToMake};
-ghost use Rattle.manifest_ffi.specs.Answered.{Answers, IsAnswered};
-ghost use Rattle.manifest_ffi.specs.Unread.{GivesUnread, RefusesUnread, GivesDocument, RefusesDocument};
-ghost use Rattle.manifest_ffi.specs.Inspected.{GivesFindings, RefusesFindings};
+ghost use Rattle.manifest_answers.specs.Made.{Makes, RefusesToMake};
+ghost use Rattle.manifest_answers.specs.Answered.{Answers, IsAnswered};
+ghost use Rattle.manifest_answers.specs.Unread.{GivesUnread, RefusesUnread, GivesDocument, RefusesDocument};
+ghost use Rattle.manifest_answers.specs.Inspected.{GivesFindings, RefusesFindings};
 
-pub use answer::Answer;
-use answer::{Asked, outcome, respond, write_answer};
-pub use folders::Folder;
-use making::Output;
-use reading::Input;
+use manifest_answers::{
+    Answer, Asked, Folder, Input, Output, respond, respond_document, respond_findings,
+    respond_unread,
+};
 use std::alloc::Global;
 
 /// Reads the bytes of a `Cargo.toml`, and writes the canonical text of its manifest.
@@ -246,9 +235,7 @@ pub extern "C" fn manifest_table_without_metadata(
     ensures { IsAnswered (GivesUnread most bytes.now) (RefusesUnread most bytes.now)
         out.old out.new result }
 {
-    let table = unread::unread_table(alloc, bytes, most);
-    let told = outcome(alloc, table);
-    write_answer(&told, out)
+    respond_unread(alloc, bytes, most, out)
 }
 
 /// Reads bytes as a TOML document, whatever it means as a manifest, and writes it as tagged bytes. It may have floats,
@@ -267,9 +254,7 @@ pub extern "C" fn manifest_document(
     ensures { IsAnswered (GivesDocument most bytes.now) (RefusesDocument most bytes.now)
         out.old out.new result }
 {
-    let document = unread::document_table(alloc, bytes, most);
-    let told = outcome(alloc, document);
-    write_answer(&told, out)
+    respond_document(alloc, bytes, most, out)
 }
 
 /// Reads bytes as a TOML document, and writes what is found in it as in a manifest, as tagged bytes: every fault, what
@@ -294,9 +279,7 @@ pub extern "C" fn manifest_findings(
     ensures { IsAnswered (GivesFindings most bytes.now) (RefusesFindings most bytes.now)
         out.old out.new result }
 {
-    let findings = inspecting::document_findings(alloc, bytes, most);
-    let told = outcome(alloc, findings);
-    write_answer(&told, out)
+    respond_findings(alloc, bytes, most, out)
 }
 
 /// Reads a table as tagged bytes, those that [`manifest_table`] writes or those of another table, as a manifest, and

@@ -36,4 +36,6 @@ mod printed;
 #[cfg(test)]
 mod queries;
 #[cfg(test)]
+mod runs;
+#[cfg(test)]
 mod well_formed;

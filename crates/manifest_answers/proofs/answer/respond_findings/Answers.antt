@@ -1,0 +1,10 @@
+use Rattle.manifest_answers.proofs.answer.respond_findings.Goals as goal
+
+pub returns : goal.returns
+returns c = record {
+  made = c.document_findings-findings.result;
+  told = c.outcome-told.result;
+  is_made = c.document_findings-findings.ensures;
+  outcome = c.outcome-told.ensures;
+  hands = c.write_answer.ensures;
+}

@@ -1,0 +1,10 @@
+use Rattle.manifest_answers.proofs.answer.respond_unread.Goals as goal
+
+pub returns : goal.returns
+returns c = record {
+  made = c.unread_table-table.result;
+  told = c.outcome-told.result;
+  is_made = c.unread_table-table.ensures;
+  outcome = c.outcome-told.ensures;
+  hands = c.write_answer.ensures;
+}

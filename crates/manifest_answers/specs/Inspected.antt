@@ -1,0 +1,82 @@
+-- What is found in the table of a document, as a value and as its tagged bytes: a tree in which each step stands once.
+use Rattle.manifest_schema.specs.Prelude.{Data, Members, string, integer, array, no_items, item, Text, Step, key, index, Cause, not_a_choice, manifest_findings, kept_metadata}
+use Rattle.std.specs.Prelude.{◌≡◌, ◌⊎◌, ℕ, ℤ, pos, min, List, map, string_bytes}
+use Rattle.toml.specs.View.{items_of}
+use Rattle.manifest_bytes.specs.Encoded.{encoded}
+use Rattle.manifest_value.specs.Faults.{step_of, cause_of}
+use Rattle.manifest_value.specs.Found.{choices_of, found_among}
+use Rattle.manifest_value.specs.declared.findings.FindingNode.{FindingNode, fold-FindingNode}
+use Rattle.manifest_value.specs.declared.findings.FindingNode.TheOpen.{FindingNode-F}
+use Rattle.manifest_answers.specs.Told.{cause_number}
+use Rattle.manifest_answers.specs.Read.{IsDocument, IsNoDocument}
+use Rattle.manifest_answers.specs.Made.{Refusals, IsOutOfMemory, OfBytes, AreWithin, RefusesTagged}
+
+-- arrays of two and of three values
+abbrev pub pair_data : Data → Data → Data
+pair_data a b = array (item a (item b no_items))
+
+abbrev pub triple_data : Data → Data → Data → Data
+triple_data a b c = array (item a (item b (item c no_items)))
+
+-- AN INDEX as a whole number: itself, or the largest one that a value can be
+abbrev pub index_number : ℕ → ℤ
+index_number i = pos (min i 9223372036854775807)
+
+-- A STEP: the text of a key, or the number of an index
+abbrev pub step_data : Step → Data
+step_data (key k) = string k
+step_data (index i) = integer (index_number i)
+
+-- THE WORDS of a choice: the array of their texts
+abbrev pub words_data : List Text → Data
+words_data words = array (items_of (map string words))
+
+-- A CAUSE: after the number of what is found its own, and of a choice the words that there are
+abbrev pub cause_data : ℕ → Cause → List Text → Data
+cause_data what not_a_choice words =
+    triple_data (integer (pos what)) (integer (pos (cause_number not_a_choice))) (words_data words)
+cause_data what c words = pair_data (integer (pos what)) (integer (pos (cause_number c)))
+
+-- A NODE: 0 is a fault, 1 is ignored, 2 is a key that nothing reads, and 3 is what is found in the value of a step
+abbrev pub node_data_step : FindingNode-F Data → Data
+node_data_step (FindingNode-F.Fault c words) = cause_data 0 (cause_of c) (choices_of words)
+node_data_step (FindingNode-F.Ignored c words) = cause_data 1 (cause_of c) (choices_of words)
+node_data_step (FindingNode-F.Unlisted k) = pair_data (integer (pos 2)) (string (string_bytes k))
+node_data_step (FindingNode-F.Within s inside) =
+    triple_data (integer (pos 3)) (step_data (step_of s)) (array (items_of inside.items))
+
+abbrev pub node_data : FindingNode → Data
+node_data = fold-FindingNode Data node_data_step
+
+-- NODES: the array of them, in their order
+abbrev pub nodes_data : List FindingNode → Data
+nodes_data nodes = array (items_of (map node_data nodes))
+
+-- the nodes say all that is found in the table of a document, its metadata kept as it is, and no more
+abbrev pub SayAllFound : Members → List FindingNode → Type 0
+SayAllFound document nodes =
+    found_among nodes ≡ manifest_findings kept_metadata kept_metadata document
+
+-- THE TEXT is the tagged bytes of nodes that say all that is found in the table
+abbrev pub GivesFound : ℕ → Members → Text → Type 0
+GivesFound most document text =
+    (nodes : List FindingNode) × SayAllFound document nodes
+    × AreWithin most (encoded (nodes_data nodes)) text
+
+-- memory ran out, or the tagged bytes of such nodes are refused as they are made
+abbrev pub RefusesFound : ℕ → Members → Refusals
+RefusesFound most document e =
+    IsOutOfMemory e
+    ⊎ ((nodes : List FindingNode) × SayAllFound document nodes
+    × RefusesTagged most (encoded (nodes_data nodes)) e)
+
+-- THE TEXT says what is found in the table that the bytes are
+abbrev pub GivesFindings : ℕ → List ℕ → Text → Type 0
+GivesFindings most bytes text =
+    (document : Members) × IsDocument bytes document × GivesFound most document text
+
+-- the bytes are refused as they are read, or the tagged bytes as they are made
+abbrev pub RefusesFindings : ℕ → List ℕ → Refusals
+RefusesFindings most bytes e =
+    OfBytes (IsNoDocument bytes) e
+    ⊎ ((document : Members) × IsDocument bytes document × RefusesFound most document e)

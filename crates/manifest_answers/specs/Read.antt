@@ -1,0 +1,86 @@
+-- What the bytes of a call are, and why they are refused.
+use Rattle.manifest_schema.specs.Prelude.{AllocError, Data, Members, members_depth, IsMemory, IsWithin, Text, Kind, Manifest, means, reads_manifest, kept_metadata}
+use Rattle.std.specs.Prelude.{◌≡◌, ◌⊎◌, ◌<◌, ◌≤◌, Some, None, true, false, IsUtf8}
+use Rattle.toml.specs.Parse.{parse_document}
+use Rattle.manifest_schema.specs.Meaning.{faulty_manifest}
+use Rattle.manifest_value.specs.Refusals.{RefusedIn, IsOutOfMemory}
+use Rattle.manifest_value.specs.declared.error.Error.{Error}
+use Rattle.manifest_value.specs.declared.error.Error.TheVariants.{Parse, Utf8, Memory}
+use Rattle.manifest_value.specs.declared.error.ParseFault.TheVariants.{Toml as NoToml, Schema}
+use Rattle.cargo_manifest.specs.Answers.{IsFaulty}
+use Rattle.manifest_bytes.specs.Encoded.{encoded}
+use Rattle.manifest_answers.specs.declared.reading.Input.{Input}
+use Rattle.manifest_answers.specs.declared.reading.Input.TheVariants.{Toml, Tagged}
+use Rattle.manifest_answers.specs.declared.refusal.InputError.{InputError}
+use Rattle.manifest_answers.specs.declared.refusal.InputError.TheVariants.{Manifest as NoManifest, TooDeep}
+use Rattle.manifest_answers.specs.Nesting.{nests_densely}
+
+-- memory ran out
+abbrev pub ReadingRanOut : InputError → Type 0
+ReadingRanOut e = (refused : AllocError) × (e ≡ NoManifest (Memory refused))
+
+-- THE BYTES ARE THE DOCUMENT of the table: it does not nest densely, and its table nests at most 128 deep
+pub record IsDocument (bytes : Text) (document : Members) : Type 0 where
+  pub utf8 : IsUtf8 bytes
+  pub sparse : nests_densely bytes ≡ false
+  pub parsed : parse_document bytes ≡ Some document
+  pub shallow : members_depth document ≤ 128
+
+-- the bytes nest too deep: densely, or they are a document of a table that nests deeper
+abbrev pub AreTooDeep : Text → Type 0
+AreTooDeep bytes =
+    (nests_densely bytes ≡ true)
+    ⊎ ((document : Members) × (parse_document bytes ≡ Some document)
+    × (128 < members_depth document))
+
+-- the text is no such document: it nests too deep; it is no TOML, at a place in it (where that is said because memory ran
+-- out, it may be TOML); or memory ran out
+abbrev pub RefusesToParse : Text → InputError → Type 0
+RefusesToParse text TooDeep = AreTooDeep text
+RefusesToParse text (NoManifest (Parse (NoToml e))) =
+    IsWithin text e.value × (¬ IsMemory e.value → parse_document text ≡ None)
+RefusesToParse text (NoManifest (Memory e)) = Unit {0}
+RefusesToParse text _ = ⊥
+
+-- the bytes are no such document: they are not UTF-8, or as above
+abbrev pub IsNoDocument : Text → InputError → Type 0
+IsNoDocument bytes (NoManifest (Utf8 e)) = ¬ IsUtf8 bytes
+IsNoDocument bytes e = RefusesToParse bytes e
+
+-- THE BYTES ARE A TEXT OF THE MANIFEST: a document of a table that means it. K and W are the kinds of metadata
+pub record IsSourceOf (K W : Kind Data) (bytes : Text) (m : Manifest) : Type 0 where
+  pub document : Members
+  pub is_document : IsDocument bytes document
+  pub meant : means K W document m
+
+-- they are not: they are a document of a table with this fault, or no document
+abbrev pub RefusesSource : Kind Data → Kind Data → Text → InputError → Type 0
+RefusesSource K W bytes (NoManifest (Parse (Schema f))) =
+    (document : Members) × IsDocument bytes document × IsFaulty K W document f
+RefusesSource K W bytes e = IsNoDocument bytes e
+
+-- THE BYTES ARE TAGGED BYTES OF THE MANIFEST: those of a table that the form of a manifest reads as it
+pub record IsTaggedOf (bytes : Text) (m : Manifest) : Type 0 where
+  pub value : Data
+  pub tagged : bytes ≡ encoded value
+  pub read : reads_manifest kept_metadata kept_metadata value m
+
+-- the bytes are those of a value that has this fault
+abbrev pub HoldFault : Text → Error → Type 0
+HoldFault bytes e =
+    (value : Data) × (bytes ≡ encoded value)
+    × RefusedIn (faulty_manifest kept_metadata kept_metadata value) e
+
+-- they are not: they are the bytes of a value with this fault, or memory ran out; the other refusals promise nothing
+abbrev pub RefusesTaggedInput : Text → InputError → Type 0
+RefusesTaggedInput bytes (NoManifest e) = IsOutOfMemory e ⊎ HoldFault bytes e
+RefusesTaggedInput bytes _ = Unit {0}
+
+-- THE BYTES ARE THE MANIFEST, one way or the other
+abbrev pub Are : Input → Text → Manifest → Type 0
+Are Toml = IsSourceOf kept_metadata kept_metadata
+Are Tagged = IsTaggedOf
+
+abbrev pub RefusesToRead : Input → Text → InputError → Type 0
+RefusesToRead Toml = RefusesSource kept_metadata kept_metadata
+RefusesToRead Tagged = RefusesTaggedInput

@@ -1,0 +1,154 @@
+//! What a call answers, and how its text comes into the caller's memory.
+
+ghost use Rattle.std.specs.Prelude.{◌≡◌, option_copied};
+ghost use Rattle.manifest_answers.specs.declared.reading.Input.TheVariants.{Toml};
+ghost use Rattle.manifest_answers.specs.Answered.{IsHanded, Outcome, Hands, Answers, IsAnswered};
+ghost use Rattle.manifest_answers.specs.Made.{Makes, RefusesToMake};
+ghost use Rattle.manifest_answers.specs.Unread.{GivesUnread, RefusesUnread, GivesDocument, RefusesDocument};
+ghost use Rattle.manifest_answers.specs.Inspected.{GivesFindings, RefusesFindings};
+
+use crate::folders::Folder;
+use crate::inspecting::document_findings;
+use crate::making::{Output, make, output_or_refusal};
+use crate::reading::Input;
+use crate::refusal::Refusal;
+use crate::telling::{Told, tell, with_text};
+use crate::unread::{document_table, unread_table};
+use std::alloc::Global;
+
+/// What a call answers. `docs/LIBRARY.md` has the statuses and the causes.
+#[repr(C)]
+#[derive(Debug, Clone, Copy)]
+pub struct Answer {
+    /// 0 where the text is what was asked for, else why it is not.
+    pub status: u8,
+    /// More of the status: the cause of a fault of the schema, or the number of a listing's fault; else 0.
+    pub cause: u8,
+    /// How many bytes the text takes. It stands in `out` where that is as long or longer.
+    pub length: usize,
+    /// Where in the bytes the fault of a text that is no TOML begins.
+    pub start: usize,
+    /// Where it ends.
+    pub end: usize,
+}
+
+// as the other languages declare it: `scripts/library` compares the number
+const _: () = prove!(size_of::<Answer>() == 32);
+
+/// Copies a text to the beginning of `out`, where there is room for all of it. Returns how long the text is in either
+/// case.
+fn copy_to_front(text: &[u8], out: &mut [u8]) -> usize
+    ensures { IsHanded text.now result out.old out.new }
+{
+    let length = text.len();
+    if length <= out.len() {
+        out[..length].copy_from_slice(text);
+    }
+    length
+}
+
+/// The report (numbers and text) of what was made: status 0 and the text that was made, or the numbers and the text of
+/// the refusal.
+fn outcome(alloc: Global, made: Result<Vec<u8>, Refusal>) -> Told
+    ensures { Outcome made result }
+{
+    match made {
+        Ok(text) => with_text(0, 0, text),
+        Err(refusal) => tell(alloc, refusal),
+    }
+}
+
+/// Copies the text of a report to the beginning of `out`, if there is room for all of it, and returns its numbers and
+/// the length of the text.
+fn write_answer(told: &Told, out: &mut [u8]) -> Answer
+    ensures { Hands told.now out.old out.new result }
+{
+    let length = copy_to_front(told.text.as_slice(), out);
+    Answer {
+        status: told.status,
+        cause: told.cause,
+        length,
+        start: told.start,
+        end: told.end,
+    }
+}
+
+/// What the bytes of a call are, what is asked for of the manifest that is made of them, and the most bytes that it may
+/// take.
+#[derive(Debug, Clone, Copy)]
+pub struct Asked {
+    pub input: Input,
+    pub output: Output,
+    pub most: usize,
+}
+
+/// Answers a call: makes a manifest of the bytes, the root and the folders, and writes what is asked for of it, or the
+/// text of the refusal, to the beginning of `out`, if there is room for all of it. Returns the numbers of the answer.
+/// Clause `dates`: for the input `Toml` the status is never 7 (a date-time that `toml` counts as invalid).
+///
+/// ```ignore
+/// let asked = Asked { input: Input::Toml, output: Output::CanonicalText, most: usize::MAX };
+/// let answer = respond(alloc, asked, b"name = 'a'", None, None, &mut out); // status 0, and 21 bytes in `out`
+/// ```
+pub fn respond(
+    alloc: Global,
+    asked: Asked,
+    bytes: &[u8],
+    root: Option<&[u8]>,
+    folders: Option<&[Folder<'_>]>,
+    out: &mut [u8],
+) -> Answer
+    ensures answers { Answers asked.output asked.most
+        (Makes asked.input bytes.now (option_copied root.entry) (option_copied folders.entry))
+        (RefusesToMake asked.input bytes.now
+        (option_copied root.entry) (option_copied folders.entry))
+        out.old out.new result }
+    ensures dates { asked.input ≡ Toml → ¬ (result.status ≡ 7) }
+{
+    let made = make(alloc, asked.input, bytes, root, folders);
+    let text = output_or_refusal(alloc, asked.output, asked.most, made);
+    let told = outcome(alloc, text);
+    write_answer(&told, out)
+}
+
+/// Answers a call for the table of a manifest whose metadata is not looked at, in the way of [`respond`].
+///
+/// ```ignore
+/// let answer = respond_unread(alloc, b"name = 'a'", usize::MAX, &mut out); // status 0, and 20 bytes in `out`
+/// ```
+pub fn respond_unread(alloc: Global, bytes: &[u8], most: usize, out: &mut [u8]) -> Answer
+    ensures { IsAnswered (GivesUnread most bytes.now) (RefusesUnread most bytes.now)
+        out.old out.new result }
+{
+    let table = unread_table(alloc, bytes, most);
+    let told = outcome(alloc, table);
+    write_answer(&told, out)
+}
+
+/// Answers a call for a TOML document as tagged bytes, whatever it means as a manifest, in the way of [`respond`].
+///
+/// ```ignore
+/// let answer = respond_document(alloc, b"x = 0.5", usize::MAX, &mut out);
+/// ```
+pub fn respond_document(alloc: Global, bytes: &[u8], most: usize, out: &mut [u8]) -> Answer
+    ensures { IsAnswered (GivesDocument most bytes.now) (RefusesDocument most bytes.now)
+        out.old out.new result }
+{
+    let document = document_table(alloc, bytes, most);
+    let told = outcome(alloc, document);
+    write_answer(&told, out)
+}
+
+/// Answers a call for what is found in a TOML document as in a manifest, in the way of [`respond`].
+///
+/// ```ignore
+/// let answer = respond_findings(alloc, b"name = 1", usize::MAX, &mut out); // status 0, and `[[0, 1, ['name']]]`
+/// ```
+pub fn respond_findings(alloc: Global, bytes: &[u8], most: usize, out: &mut [u8]) -> Answer
+    ensures { IsAnswered (GivesFindings most bytes.now) (RefusesFindings most bytes.now)
+        out.old out.new result }
+{
+    let findings = document_findings(alloc, bytes, most);
+    let told = outcome(alloc, findings);
+    write_answer(&told, out)
+}

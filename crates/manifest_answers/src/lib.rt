@@ -1,0 +1,18 @@
+//! What each call of the library for programs in C, Rust and Python answers. The calls themselves, by the names and in the
+//! form that such programs call, are those of `manifest_ffi`, and each is one call of a function of this crate.
+#![tactic(auto)]
+
+mod answer;
+mod folders;
+mod inspecting;
+mod making;
+mod nesting;
+mod reading;
+mod refusal;
+mod telling;
+mod unread;
+
+pub use answer::{Answer, Asked, respond, respond_document, respond_findings, respond_unread};
+pub use folders::Folder;
+pub use making::Output;
+pub use reading::Input;

@@ -1,0 +1,199 @@
+//! The manifest that a call makes, and what is written of it.
+
+ghost use Rattle.manifest_schema.specs.Prelude.{table, view};
+ghost use Rattle.std.specs.Prelude.{◌≡◌, Err, IfOk, IfErr, OnOk, option_copied, option_map};
+ghost use Rattle.manifest_bytes.specs.Encoded.{encoded};
+ghost use Rattle.cargo_manifest.specs.Whole.{manifest_content};
+ghost use Rattle.cargo_manifest.specs.Canonical.{rewritten};
+ghost use Rattle.manifest_inherit.specs.Finished.{root_of};
+ghost use Rattle.manifest_answers.specs.declared.making.Output.TheVariants.{CanonicalText};
+ghost use Rattle.manifest_answers.specs.Made.{stored_by, FinishesStored, RefusesToFinishStored, FinishesByBytes, RefusesByBytes, MakesOver, RefusesOver, Makes, RefusesToMake, AreWithin, RefusesTagged, Writes, RefusesOutput, IsMade};
+
+use crate::folders::{Folder, GivenFolders};
+use crate::reading::{Input, read};
+use crate::refusal::Refusal;
+use cargo_manifest::laws::stored_decides;
+use cargo_manifest::{Manifest, Schema, Value};
+use manifest_bytes::value_bytes;
+use manifest_inherit::finish;
+use std::alloc::Global;
+
+/// What is asked for of a manifest.
+#[derive(Debug, Clone, Copy)]
+pub enum Output {
+    /// Its canonical text.
+    CanonicalText,
+    /// The tagged bytes of its table.
+    TaggedTable,
+}
+
+/// Puts into a manifest what it inherits from the workspace of the root, where there is one, and then completes it over
+/// the folders, where there are any.
+fn finish_by(
+    alloc: Global,
+    manifest: &mut Manifest,
+    root: Option<&Manifest>,
+    folders: Option<&GivenFolders<'_>>,
+) -> Result<(), Refusal>
+    ensures ok { OnOk result (FinishesStored (root_of root.entry) (stored_by folders.entry)
+        (manifest_content view view manifest.old) (manifest_content view view manifest.new)) }
+    ensures refused { IfErr result
+        (RefusesToFinishStored (root_of root.entry) (stored_by folders.entry)
+        (manifest_content view view manifest.old)) }
+{
+    stored_decides();
+    match finish(alloc, manifest, root, folders) {
+        Ok(()) => Ok(()),
+        Err(refused) => Err(Refusal::Finishing(refused)),
+    }
+}
+
+/// Finishes a manifest as [`finish_by`] does, with a root that is still bytes: it is read first.
+fn finish_by_bytes(
+    alloc: Global,
+    input: Input,
+    manifest: &mut Manifest,
+    root: Option<&[u8]>,
+    folders: Option<&GivenFolders<'_>>,
+) -> Result<(), Refusal>
+    ensures ok { OnOk result
+        (FinishesByBytes input (option_copied root.entry) (stored_by folders.entry)
+        (manifest_content view view manifest.old) (manifest_content view view manifest.new)) }
+    ensures refused { IfErr result
+        (RefusesByBytes input (option_copied root.entry) (stored_by folders.entry)
+        (manifest_content view view manifest.old)) }
+{
+    match root {
+        Some(bytes) => match read(alloc, input, bytes) {
+            Ok(root) => {
+                let finished = finish_by(alloc, manifest, Some(&root), folders);
+                drop(root);
+                finished
+            }
+            Err(refused) => Err(Refusal::Root(refused)),
+        },
+        None => finish_by(alloc, manifest, None, folders),
+    }
+}
+
+/// Reads a manifest from the bytes, and finishes it as [`finish_by_bytes`] does, by the bytes of the root and over the
+/// folders, where they are passed in. Refuses as the reading or the finishing does.
+fn make_over(
+    alloc: Global,
+    input: Input,
+    bytes: &[u8],
+    root: Option<&[u8]>,
+    folders: Option<&GivenFolders<'_>>,
+) -> Result<Manifest, Refusal>
+    ensures ok { IfOk result (λ m.
+        MakesOver input bytes.now (option_copied root.entry) (stored_by folders.entry)
+        (manifest_content view view m)) }
+    ensures refused { IfErr result
+        (RefusesOver input bytes.now (option_copied root.entry) (stored_by folders.entry)) }
+{
+    let mut manifest = match read(alloc, input, bytes) {
+        Ok(manifest) => manifest,
+        Err(refused) => return Err(Refusal::Bytes(refused)),
+    };
+    match finish_by_bytes(alloc, input, &mut manifest, root, folders) {
+        Ok(()) => Ok(manifest),
+        Err(refusal) => {
+            drop(manifest);
+            Err(refusal)
+        }
+    }
+}
+
+/// The manifest that the bytes are; with what it inherits from the workspace of the root's bytes, where there is a
+/// root; and completed over the folders, where there are any.
+pub(crate) fn make(
+    alloc: Global,
+    input: Input,
+    bytes: &[u8],
+    root: Option<&[u8]>,
+    folders: Option<&[Folder<'_>]>,
+) -> Result<Manifest, Refusal>
+    ensures ok { IfOk result (λ m.
+        Makes input bytes.now (option_copied root.entry) (option_copied folders.entry)
+        (manifest_content view view m)) }
+    ensures refused { IfErr result
+        (RefusesToMake input bytes.now (option_copied root.entry) (option_copied folders.entry)) }
+{
+    match folders {
+        Some(folders) => match GivenFolders::new(alloc, folders) {
+            Ok(given) => make_over(alloc, input, bytes, root, Some(&given)),
+            Err(refusal) => Err(refusal),
+        },
+        None => make_over(alloc, input, bytes, root, None),
+    }
+}
+
+/// The canonical text of a manifest; refused with `TooLong` where its bound is more than `most`.
+fn text_of(alloc: Global, manifest: &Manifest, most: usize) -> Result<Vec<u8>, Refusal>
+    ensures { let m = manifest_content view view manifest.now in
+        IsMade (Writes CanonicalText most m) (RefusesOutput CanonicalText most m) result }
+{
+    match manifest.to_toml_string_within(alloc, most) {
+        Ok(Some(text)) => Ok(text.into_bytes()),
+        Ok(None) => Err(Refusal::TooLong),
+        Err(error) => Err(Refusal::Printing(error)),
+    }
+}
+
+/// The tagged bytes of a value; refused with `TooLong` where they are more than `most`.
+pub(crate) fn tagged_bytes(alloc: Global, value: &Value, most: usize) -> Result<Vec<u8>, Refusal>
+    ensures { let tagged = encoded (view value.now) in
+        IsMade (AreWithin most tagged) (RefusesTagged most tagged) result }
+{
+    let bytes = value_bytes(alloc, value)?;
+    if bytes.len() > most {
+        return Err(Refusal::TooLong);
+    }
+    Ok(bytes)
+}
+
+/// The tagged bytes of a manifest's canonical table; refused with `TooLong` where they are more than `most`.
+fn table_of(alloc: Global, manifest: &Manifest, most: usize) -> Result<Vec<u8>, Refusal>
+    ensures { let bytes = encoded (table (rewritten (manifest_content view view manifest.now))) in
+        IsMade (AreWithin most bytes) (RefusesTagged most bytes) result }
+{
+    let value = manifest.to_value(alloc)?;
+    tagged_bytes(alloc, &value, most)
+}
+
+/// The canonical text of a manifest, or its table as tagged bytes, as `output` says; `TooLong` above `most` bytes.
+fn output_of(
+    alloc: Global,
+    output: Output,
+    most: usize,
+    manifest: &Manifest,
+) -> Result<Vec<u8>, Refusal>
+    ensures { let m = manifest_content view view manifest.now in
+        IsMade (Writes output most m) (RefusesOutput output most m) result }
+{
+    match output {
+        Output::CanonicalText => text_of(alloc, manifest, most),
+        Output::TaggedTable => table_of(alloc, manifest, most),
+    }
+}
+
+/// The text or the tagged bytes of the manifest that was made, as [`output_of`] makes them; or the refusal with which
+/// none was made, unchanged.
+pub(crate) fn output_or_refusal(
+    alloc: Global,
+    output: Output,
+    most: usize,
+    made: Result<Manifest, Refusal>,
+) -> Result<Vec<u8>, Refusal>
+    ensures made { IfOk made (λ m. let m = manifest_content view view m in
+        IsMade (Writes output most m) (RefusesOutput output most m) result) }
+    ensures refused { IfErr made (λ refusal. result ≡ Err refusal) }
+{
+    let manifest = match made {
+        Ok(manifest) => manifest,
+        Err(refusal) => return Err(refusal),
+    };
+    let text = output_of(alloc, output, most, &manifest);
+    drop(manifest);
+    text
+}

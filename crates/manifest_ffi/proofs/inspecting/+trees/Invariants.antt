@@ -1,8 +1,0 @@
-use Rattle.manifest_schema.specs.Prelude.{view}
-use Rattle.std.proofs.Common.{◌≡◌, map, take}
-use Rattle.manifest_ffi.specs.Inspected.{node_data}
-use Rattle.manifest_ffi.proofs.inspecting.+trees.Given as goal
-
--- the values so far are those of the nodes so far
-abbrev pub invariant-nodes_value-loop-node : goal.invariant-nodes_value-loop-node
-invariant-nodes_value-loop-node l = map view l.all.items ≡ map node_data (take l.node-index l.nodes)
