@@ -1,9 +1,8 @@
 //! What is asked of parts of a manifest.
 
 use crate::answers::{error_text, value_line};
-use anyhow::bail;
 use cargo_manifest::{
-    Dependency, Error, Lint, MaybeInherited, MaybeInheritedLintsSet, Package, Publish, Schema,
+    Dependency, Error, Lint, MaybeInheritedLintsSet, Package, Publish, Schema,
     StripSetting, Value,
 };
 use std::alloc::{AllocError, Global};
@@ -16,15 +15,15 @@ fn read_as<T: Schema>(alloc: Global, text: &str) -> anyhow::Result<T> {
 
 /// What a dependency says.
 fn words_of_dependency(alloc: Global, dependency: &Dependency) -> Result<String, AllocError> {
-    let req = dependency.req();
-    let features = dependency.req_features();
-    let optional = dependency.optional();
-    let package = dependency.package();
-    let git = dependency.git();
-    let is_crates_io = dependency.is_crates_io();
+    let req = dependency.req(); // of `{ path = '../a' }`, "*"
+    let features = dependency.req_features(); // of `{ version = '1', features = ['x'] }`, "x" alone
+    let is_optional = dependency.optional(); // of `{ workspace = true, optional = true }`, true
+    let package = dependency.package(); // of `{ version = '1', package = 'b' }`, "b"
+    let git = dependency.git(); // of `{ git = 'https://example.com/a' }`, this address
+    let is_crates_io = dependency.is_crates_io(); // of `{ version = '1', path = '../a' }`, false
     let has_detail = dependency.detail().is_some();
     format!(in alloc;
-        "requirement {req}, features {features:?}, optional {optional}, package {package:?}, git {git:?}, from crates.io {is_crates_io}, detail {has_detail}"
+        "requirement {req}, features {features:?}, optional {is_optional}, package {package:?}, git {git:?}, from crates.io {is_crates_io}, detail {has_detail}"
     )
 }
 
@@ -32,24 +31,24 @@ fn words_of_dependency(alloc: Global, dependency: &Dependency) -> Result<String,
 pub fn dependency(alloc: Global, text: &str) -> anyhow::Result<String> {
     let dependency: Dependency = read_as(alloc, text)?;
     let words = words_of_dependency(alloc, &dependency)?;
-    let simplified = value_line(alloc, &dependency.simplify().to_value(alloc)?)?;
+    let dependency = dependency.simplify(); // of `{ workspace = false, version = '1' }`, `Simple` of this version
+    let simplified = value_line(alloc, &dependency.to_value(alloc)?)?;
     Ok(format!(in alloc; "{words}\n{simplified}")?)
 }
 
 /// Whether it is as `true`, and as `false`, where a package may be published.
 pub fn publish(alloc: Global, text: &str) -> anyhow::Result<String> {
     let publish: Publish = read_as(alloc, text)?;
-    let (as_true, as_false) = (publish.eq_bool(true), publish.eq_bool(false));
-    Ok(format!(in alloc; "as true {as_true}, as false {as_false}")?)
+    let may_be_published = publish.eq_bool(true); // of `['crates-io']`, true
+    let may_not = publish.eq_bool(false);
+    Ok(format!(in alloc; "as true {may_be_published}, as false {may_not}")?)
 }
 
 /// The version of a package.
 pub fn version(alloc: Global, text: &str) -> anyhow::Result<String> {
     let package: Package<Value> = read_as(alloc, text)?;
-    let answer = match package.version() {
-        MaybeInherited::Local(version) => String::from_str(alloc, version),
-        MaybeInherited::Inherited { .. } => String::from_str(alloc, "inherited"),
-    };
+    let version = package.version(); // of `{ name = 'a' }`, `Local("0.0.0")`
+    let answer = String::from_str(alloc, version.as_local().unwrap_or("inherited"));
     drop(package);
     Ok(answer?)
 }
@@ -57,14 +56,16 @@ pub fn version(alloc: Global, text: &str) -> anyhow::Result<String> {
 /// The level and the priority of a lint.
 pub fn lint(alloc: Global, text: &str) -> anyhow::Result<String> {
     let lint: Lint = read_as(alloc, text)?;
-    let (level, priority) = (lint.level().as_str(), lint.priority());
+    let level = lint.level(); // of `{ level = 'deny', priority = -1 }`, `Deny`
+    let priority = lint.priority(); // of `'deny'`, 0
+    let level = level.as_str();
     Ok(format!(in alloc; "{level} {priority}")?)
 }
 
 /// Whether lints are inherited.
 pub fn lints(alloc: Global, text: &str) -> anyhow::Result<String> {
     let lints: MaybeInheritedLintsSet = read_as(alloc, text)?;
-    let is_inherited = lints.is_inherited();
+    let is_inherited = lints.is_inherited(); // of `{ workspace = true }`, true
     Ok(format!(in alloc; "inherited {is_inherited}")?)
 }
 

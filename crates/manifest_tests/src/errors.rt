@@ -1,6 +1,6 @@
-//! Copies of errors and their texts, errors that `?` makes, and the second way to read what is stripped.
-use cargo_manifest::{Error, Manifest, ParseFault, SchemaFault, StripSetting};
-use manifest_test_support::answers::{assert_is, error_text};
+//! Copies of errors and their texts, and errors that `?` makes.
+use crate::answers::{assert_is, error_text};
+use cargo_manifest::{Cause, Error, Manifest, ParseFault, SchemaFault};
 use manifest_value::text;
 use std::alloc::{AllocError, Global};
 use std::io;
@@ -132,29 +132,18 @@ fn faults_of_readers_are_errors_by_a_question_mark(rt: HostRuntime) -> Result<()
     assert_is(Ok(told), "wrong kind at (top)", "a list")
 }
 
-/// The setting that a value stands for, or the text of its refusal.
-fn setting(alloc: Global, text: &str) -> Result<String, Fail> {
-    let value = Value::from_str(alloc, text)?;
-    Ok(match StripSetting::try_from(alloc, value) {
-        Ok(StripSetting::None) => String::from_str(alloc, "None")?,
-        Ok(StripSetting::Debuginfo) => String::from_str(alloc, "Debuginfo")?,
-        Ok(StripSetting::Symbols) => String::from_str(alloc, "Symbols")?,
-        Err(error) => error_text(alloc, &error)?,
-    })
-}
-
 #[test]
-fn strip_settings(rt: HostRuntime) -> Result<(), Fail> {
-    for (text, answer) in [
-        ("'symbols'", "Symbols"),
-        ("true", "Symbols"),
-        ("'debuginfo'", "Debuginfo"),
-        ("'none'", "None"),
-        ("false", "None"),
-        ("'all'", "other: 'all' is not a valid value for 'strip'"),
-        ("1", "other: wrong data type for strip setting"),
+fn causes_are_told_in_plain_words(rt: HostRuntime) {
+    for (cause, text) in [
+        (Cause::WrongKind, "wrong kind"),
+        (Cause::Missing, "missing"),
+        (Cause::TwoSpellings, "two spellings"),
+        (Cause::NotAChoice, "not a choice"),
+        (Cause::OutOfRange, "out of range"),
+        (Cause::NotTrue, "not true"),
+        (Cause::HoldsFloat, "holds a float"),
+        (Cause::Metadata, "metadata"),
     ] {
-        assert_is(setting(rt.alloc(), text), answer, text)?;
+        assert_eq!(rt; cause.as_str(), text);
     }
-    Ok(())
 }

@@ -1,7 +1,7 @@
 //! The examples of the calls of `cargo_manifest`, each as it stands in the call's comment, and their answers.
+use crate::answers::{assert_is, assert_written, written};
+use crate::score::Score;
 use cargo_manifest::{Error, Listing, Listings, Manifest, Package, Schema};
-use manifest_test_support::answers::{assert_is, assert_written, written};
-use manifest_test_support::score::Score;
 use std::alloc::Global;
 use std::collections::BTreeSet;
 use std::process::Abort;

@@ -1,11 +1,11 @@
 //! The examples of the calls of `manifest_parts` that read, each as it stands in the call's comment, and their answers.
+use crate::answers::{assert_is, assert_written, error_text};
 use cargo_manifest::{
     Badge, Badges, Dependency, DependencyDetail, Edition, Error, InheritedDependencyDetail, Lint,
     LintConfig, LintLevel, Maintenance, MaintenanceStatus, MaybeInherited, MaybeInheritedLintsSet,
     Product, Profile, Publish, Resolver, StringOrBool, StripSetting, Target, True,
 };
 use manifest_parts::inherited::{has_workspace, says_workspace};
-use manifest_test_support::answers::{assert_is, assert_written, error_text};
 use manifest_value::error::refusal;
 use manifest_value::{Schema, text};
 use std::alloc::Global;

@@ -1,8 +1,8 @@
 //! The examples of the calls of packages, workspaces and profiles, each as it stands in the call's comment, and their
 //! answers.
+use crate::answers::assert_written;
 use cargo_manifest::package::package_from;
 use cargo_manifest::{Package, Profiles, Schema, Workspace, WorkspacePackage};
-use manifest_test_support::answers::assert_written;
 use std::alloc::Global;
 use std::process::Abort;
 use std::test::Fail;

@@ -1,9 +1,7 @@
 //! Manifests whose package has metadata of a type.
+use crate::answers::{PACKAGE, Row, assert_is, assert_written, expected_behind, written};
+use crate::score::{Level, Score};
 use cargo_manifest::{Manifest, Metadata, Schema, Unread};
-use manifest_test_support::answers::{
-    PACKAGE, Row, assert_is, assert_written, expected_behind, written,
-};
-use manifest_test_support::score::{Level, Score};
 use std::alloc::Global;
 use std::test::Fail;
 use toml::Value;

@@ -1,6 +1,6 @@
 //! What is well-formed, of values that no document gives.
+use crate::answers::value;
 use cargo_manifest::{MaybeInheritedLintsSet, Profiles, Schema};
-use manifest_test_support::answers::value;
 use std::alloc::Global;
 use std::collections::BTreeMap;
 use std::mem;

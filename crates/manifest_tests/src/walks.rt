@@ -1,5 +1,5 @@
 //! A walk over a table, and the readers of its rows, by their names.
-use manifest_test_support::answers::{assert_is, error_text};
+use crate::answers::{assert_is, error_text};
 use manifest_value::entries::Key;
 use manifest_value::error::refusal;
 use manifest_value::maps::map_of_entries;
