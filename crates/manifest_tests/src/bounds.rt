@@ -1,6 +1,7 @@
 //! The examples of the calls that say how long the text of a table is at most and how deep the table is, the manifest of a
 //! table, and a text within a bound.
 use cargo_manifest::{Manifest, depth, printed_bound};
+use std::alloc::Global;
 use std::test::Fail;
 
 #[test]
@@ -15,19 +16,20 @@ fn bounds_of_the_examples(rt: HostRuntime) -> Result<(), Fail> {
     Ok(())
 }
 
-#[test]
-fn manifest_of_a_table(rt: HostRuntime) -> Result<(), Fail> {
-    let alloc = rt.alloc();
+/// The text of the manifest of a table.
+fn text_of_a_table(alloc: Global) -> Result<String, Fail> {
     let table = toml::table_from_str(alloc, "name = 'a'")?;
     let manifest: Manifest = Manifest::from_table_with_both_metadata(alloc, table)?;
-    let text = manifest.to_toml_string(alloc)?;
-    assert_eq!(rt; text.as_str(), "[package]\nname = \"a\"\n");
-    Ok(())
+    Ok(manifest.to_toml_string(alloc)?)
 }
 
 #[test]
-fn text_within_a_bound(rt: HostRuntime) -> Result<(), Fail> {
+fn texts_of_a_table_and_within_a_bound(rt: HostRuntime) -> Result<(), Fail> {
     let alloc = rt.alloc();
+    assert_eq!(rt;
+        text_of_a_table(alloc)?.as_str(),
+        "[package]\nname = \"a\"\n"
+    );
     let manifest = Manifest::from_str(alloc, "name = 'a'")?;
     let text = manifest.to_toml_string_within(alloc, 8)?; // `None`
     assert!(rt; text.is_none());

@@ -47,9 +47,8 @@ fn owned_texts(alloc: Global, texts: &[&str]) -> Result<Vec<String>, Fail> {
     Ok(all)
 }
 
-#[test]
-fn writers_of_texts(rt: HostRuntime) -> Result<(), Fail> {
-    let alloc = rt.alloc();
+/// A text, no texts and two.
+fn assert_texts(alloc: Global) -> Result<(), Fail> {
     assert_shown(alloc, write_text(alloc, "a"), "'a'")?;
     let none = owned_texts(alloc, &[])?;
     assert_shown(alloc, write_texts(alloc, none.as_slice()), "[]")?;
@@ -58,8 +57,9 @@ fn writers_of_texts(rt: HostRuntime) -> Result<(), Fail> {
 }
 
 #[test]
-fn writers_of_lists_and_maps(rt: HostRuntime) -> Result<(), Fail> {
+fn writers_by_their_names(rt: HostRuntime) -> Result<(), Fail> {
     let alloc = rt.alloc();
+    assert_texts(alloc)?;
     let flags = write_list(
         alloc,
         [true, false].as_slice(),

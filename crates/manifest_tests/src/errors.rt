@@ -84,7 +84,7 @@ const AUTHORS: &[u8] = b"[package]\nname = 'p'\nauthors = ['a', 1]";
 const AUTHORS_FAULT: &str = "wrong kind at package.authors[1]";
 
 #[test]
-fn copies_of_faults(rt: HostRuntime) -> Result<(), Fail> {
+fn faults_and_their_texts(rt: HostRuntime) -> Result<(), Fail> {
     let error = refusal(rt.alloc(), AUTHORS)?;
     let fault = schema_fault(&error)?;
     let copy = fault.clone(rt.alloc())?;
@@ -93,16 +93,9 @@ fn copies_of_faults(rt: HostRuntime) -> Result<(), Fail> {
         copy.path == fault.path && copy.cause == fault.cause,
         "a copy"
     );
-    let text = format!(in rt.alloc(); "{copy}")?;
-    assert_is(Ok(text), AUTHORS_FAULT, "a copy")
-}
-
-#[test]
-fn texts_of_errors(rt: HostRuntime) -> Result<(), Fail> {
-    let error = refusal(rt.alloc(), AUTHORS)?;
-    let fault = schema_fault(&error)?;
     let (cause, path) = (&fault.cause, &fault.path);
     for (text, expected) in [
+        (format!(in rt.alloc(); "{copy}")?, AUTHORS_FAULT),
         (format!(in rt.alloc(); "{error}")?, AUTHORS_FAULT),
         (format!(in rt.alloc(); "{fault}")?, AUTHORS_FAULT),
         (format!(in rt.alloc(); "{cause}")?, "wrong kind"),

@@ -65,29 +65,11 @@ fn apart(alloc: Global) -> Result<String, Fail> {
     Ok(text)
 }
 
-#[test]
-fn each_call_gives_its_own(rt: HostRuntime) -> Result<(), Fail> {
-    let expected =
-        "wrong kind at package.name\nholds a float at package.metadata\nwrong kind at badges.gitlab\nbadges.x\nwrong kind at package.name\nignored: wrong kind at badges.gitlab\nunlisted: badges.x\n";
-    assert_is(apart(rt.alloc()), expected, "the three calls")
-}
-
 /// The findings of two keys of a package.
 fn findings_of_a_package(alloc: Global) -> Result<Findings, Fail> {
     let table = toml::table_from_str(alloc, "[package]\nname = 1\nedtion = '2021'")?;
     let found = inspect(alloc, &table)?; // `wrong kind at package.name`, and nothing reads `package.edtion`
     Ok(found)
-}
-
-#[test]
-fn findings_of_an_example(rt: HostRuntime) -> Result<(), Fail> {
-    let found = findings_of_a_package(rt.alloc())?;
-    let text = lines(rt.alloc(), &found)?;
-    assert_is(
-        Ok(text),
-        "wrong kind at package.name\nunlisted: package.edtion\n",
-        "a package",
-    )
 }
 
 fn all_faults(alloc: Global) -> Result<Vec<SchemaFault>, Fail> {
@@ -108,17 +90,21 @@ fn misspelled_key(alloc: Global) -> Result<Vec<KeyPath>, Fail> {
     Ok(keys)
 }
 
+/// What the examples find, a line each.
+fn found_by_examples(alloc: Global) -> Result<String, Fail> {
+    let mut text = lines(alloc, &findings_of_a_package(alloc)?)?;
+    add_lines(alloc, all_faults(alloc)?.as_slice(), &mut text)?;
+    add_lines(alloc, dropped_badge(alloc)?.as_slice(), &mut text)?;
+    add_lines(alloc, misspelled_key(alloc)?.as_slice(), &mut text)?;
+    Ok(text)
+}
+
 #[test]
-fn examples_of_the_calls(rt: HostRuntime) -> Result<(), Fail> {
-    let mut text = String::new(rt.alloc());
-    add_lines(rt.alloc(), all_faults(rt.alloc())?.as_slice(), &mut text)?;
-    add_lines(rt.alloc(), dropped_badge(rt.alloc())?.as_slice(), &mut text)?;
-    add_lines(
-        rt.alloc(),
-        misspelled_key(rt.alloc())?.as_slice(),
-        &mut text,
-    )?;
+fn each_call_finds_its_own(rt: HostRuntime) -> Result<(), Fail> {
     let expected =
-        "wrong kind at package.name\nwrong kind at package.authors[0]\nwrong kind at badges.gitlab\npackage.edtion\n";
-    assert_is(Ok(text), expected, "the examples")
+        "wrong kind at package.name\nholds a float at package.metadata\nwrong kind at badges.gitlab\nbadges.x\nwrong kind at package.name\nignored: wrong kind at badges.gitlab\nunlisted: badges.x\n";
+    assert_is(apart(rt.alloc()), expected, "the three calls")?;
+    let expected =
+        "wrong kind at package.name\nunlisted: package.edtion\nwrong kind at package.name\nwrong kind at package.authors[0]\nwrong kind at badges.gitlab\npackage.edtion\n";
+    assert_is(found_by_examples(rt.alloc()), expected, "the examples")
 }
