@@ -1,7 +1,7 @@
 """What each kind of docs/KEYS.md reads and what it refuses, for scripts/rows.
 
 A case is a value, as it stands in a manifest, with what is written of it, or with the cause with which it is refused and the
-rest of the path behind the value's own. The first case that is accepted is the one that stands for the kind.
+rest of the path after the value's own. The first case that is accepted is the one that stands for the kind.
 """
 
 WRONG_KIND = ("wrong kind", "")

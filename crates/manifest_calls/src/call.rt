@@ -6,7 +6,7 @@ use std::alloc::{AllocError, Global};
 #[derive(Drop)]
 pub struct Call<'a> {
     pub name: &'a str,
-    /// What stands behind the name, as the type of a value.
+    /// What stands after the name, as the type of a value.
     pub argument: &'a str,
     texts: Vec<&'a str>,
 }
@@ -37,13 +37,13 @@ impl<'a> Call<'a> {
     }
 }
 
-/// What stands before a mark and what behind it, or all of a text and nothing.
+/// What stands before a mark and what after it, or all of a text and nothing.
 fn halves<'a>(text: &'a str, mark: &str) -> (&'a str, &'a str) {
     text.split_once(mark).unwrap_or((text, ""))
 }
 
-/// A further text, behind its mark: it stands behind a blank, or on the lines below.
-fn further_text(behind: &str) -> &str {
-    let text = behind.strip_prefix(" ").or(behind.strip_prefix("\n"));
-    text.unwrap_or(behind)
+/// A further text, of what stands after its mark: a blank and the text, or a line feed and the text.
+fn further_text(rest: &str) -> &str {
+    let text = rest.strip_prefix(" ").or(rest.strip_prefix("\n"));
+    text.unwrap_or(rest)
 }

@@ -2,8 +2,7 @@
 
 use crate::answers::{error_text, value_line};
 use cargo_manifest::{
-    Dependency, Error, Lint, MaybeInheritedLintsSet, Package, Publish, Schema,
-    StripSetting, Value,
+    Dependency, Error, Lint, MaybeInheritedLintsSet, Package, Publish, Schema, StripSetting, Value,
 };
 use std::alloc::{AllocError, Global};
 

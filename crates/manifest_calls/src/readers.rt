@@ -18,7 +18,7 @@ fn answer_of<T: Schema>(alloc: Global, read: Result<T, ReadFault>) -> Result<Str
     }
 }
 
-/// How many entries a table has, or how a value is refused that is none.
+/// How many entries a table has, or how another value is refused.
 fn answer_of_table(alloc: Global, value: &Value) -> Result<String, AllocError> {
     match table(alloc, value) {
         Ok(entries) => {
