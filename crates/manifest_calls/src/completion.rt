@@ -50,11 +50,8 @@ pub fn line_of_endings(
 }
 
 /// Completes a manifest twice.
-fn complete_twice(
-    alloc: Global,
-    manifest: &mut Manifest,
-    folders: &Listings,
-) -> anyhow::Result<String> {
+fn complete_twice(alloc: Global, manifest: &mut Manifest, folders: &str) -> anyhow::Result<String> {
+    let folders = &listings(alloc, folders)?;
     let before = written_text(alloc, manifest)?;
     let once = ending_of_completion(alloc, manifest, folders)?;
     let twice = ending_of_completion(alloc, manifest, folders)?;
@@ -63,9 +60,8 @@ fn complete_twice(
 
 /// What is written of the manifest of a document that is completed from folders, or how that is refused.
 pub fn complete(alloc: Global, document: &str, folders: &str) -> anyhow::Result<String> {
-    let folders = listings(alloc, folders)?;
     let mut manifest = Manifest::from_str(alloc, document)?;
-    let line = complete_twice(alloc, &mut manifest, &folders);
+    let line = complete_twice(alloc, &mut manifest, folders);
     drop(manifest);
     line
 }

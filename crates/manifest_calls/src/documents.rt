@@ -5,11 +5,18 @@ use cargo_manifest::{Error, Manifest};
 use std::alloc::{AllocError, Global};
 
 /// What is written of a manifest that was read, or how it was refused.
-fn written(alloc: Global, read: Result<Manifest, Error>) -> Result<Written, AllocError> {
-    match &read {
+fn written_of(alloc: Global, read: &Result<Manifest, Error>) -> Result<Written, AllocError> {
+    match read {
         Ok(manifest) => written_text(alloc, manifest),
         Err(error) => Ok(Written::Refusal(error_text(alloc, error)?)),
     }
+}
+
+/// The same for a manifest that is needed no more.
+fn written(alloc: Global, read: Result<Manifest, Error>) -> Result<Written, AllocError> {
+    let written = written_of(alloc, &read);
+    drop(read);
+    written
 }
 
 /// The table that is written of a manifest; and a further line where the text is read as another manifest.

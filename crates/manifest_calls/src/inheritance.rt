@@ -50,9 +50,8 @@ fn ending_of_adoption(
     }
 }
 
-/// Resolves a manifest twice, and once it is resolved, completes it twice: the line of its resolving, and a further line
-/// where something of this changes it again or is answered otherwise.
-fn resolve_and_again(
+/// Resolves a manifest twice.
+fn line_of_resolution(
     alloc: Global,
     manifest: &mut Manifest,
     workspace: &Workspace<Value>,
@@ -60,28 +59,37 @@ fn resolve_and_again(
     let before = written_text(alloc, manifest)?;
     let once = ending_of_resolution(alloc, manifest, workspace)?;
     let twice = ending_of_resolution(alloc, manifest, workspace)?;
-    let line = line_of_endings(alloc, &before, &once, &twice)?;
-    let folders = listings(alloc, FOLDERS)?;
-    let adopted = ending_of_adoption(alloc, manifest, workspace, &folders)?;
-    let again = ending_of_adoption(alloc, manifest, workspace, &folders)?;
-    if adopted == again && adopted.refusal == once.refusal {
-        Ok(line)
-    } else {
-        Ok(format!(in alloc; "{line}\nwhich is completed otherwise the second time")?)
-    }
+    line_of_endings(alloc, &before, &once, &twice)
 }
 
-/// Resolves a manifest and completes it twice, and answers what is then written of it.
-fn adopt_twice(
+/// Resolves a manifest and completes it, twice.
+fn line_of_adoption(
     alloc: Global,
     manifest: &mut Manifest,
     workspace: &Workspace<Value>,
-    folders: &Listings,
+    folders: &str,
 ) -> anyhow::Result<String> {
+    let folders = &listings(alloc, folders)?;
     let before = written_text(alloc, manifest)?;
     let once = ending_of_adoption(alloc, manifest, workspace, folders)?;
     let twice = ending_of_adoption(alloc, manifest, workspace, folders)?;
     line_of_endings(alloc, &before, &once, &twice)
+}
+
+/// Resolves a manifest twice, and once it is resolved, completes it twice: the line of its resolving, and the line of its
+/// completion where something of that is answered otherwise the second time.
+fn resolve_and_complete(
+    alloc: Global,
+    manifest: &mut Manifest,
+    workspace: &Workspace<Value>,
+) -> anyhow::Result<String> {
+    let line = line_of_resolution(alloc, manifest, workspace)?;
+    let completed = line_of_adoption(alloc, manifest, workspace, FOLDERS)?;
+    if completed.contains("\n") {
+        Ok(format!(in alloc; "{line}\n{completed}")?)
+    } else {
+        Ok(line)
+    }
 }
 
 /// All refusals of a manifest, a line each.
@@ -101,7 +109,7 @@ fn lines_of_refusals(
 #[derive(Clone, Copy)]
 enum Request<'a> {
     Resolve,
-    Adopt(&'a Listings),
+    Adopt(&'a str),
     Refusals,
 }
 
@@ -113,8 +121,8 @@ fn answer_over(
     workspace: &Workspace<Value>,
 ) -> anyhow::Result<String> {
     match request {
-        Request::Resolve => resolve_and_again(alloc, manifest, workspace),
-        Request::Adopt(folders) => adopt_twice(alloc, manifest, workspace, folders),
+        Request::Resolve => resolve_and_complete(alloc, manifest, workspace),
+        Request::Adopt(folders) => line_of_adoption(alloc, manifest, workspace, folders),
         Request::Refusals => lines_of_refusals(alloc, manifest, workspace),
     }
 }
@@ -150,8 +158,7 @@ pub fn resolve_twice(alloc: Global, member: &str, root: &str) -> anyhow::Result<
 
 /// What is written of a member that is resolved and then completed from folders, or how that is refused.
 pub fn adopt(alloc: Global, member: &str, root: &str, folders: &str) -> anyhow::Result<String> {
-    let folders = listings(alloc, folders)?;
-    answer(alloc, Request::Adopt(&folders), member, root)
+    answer(alloc, Request::Adopt(folders), member, root)
 }
 
 /// All refusals of a member over the workspace of a root.
@@ -176,8 +183,14 @@ fn finish_by(
     alloc: Global,
     manifest: &mut Manifest,
     root: Option<&Manifest>,
-    folders: Option<&Listings>,
+    folders: &str,
 ) -> anyhow::Result<String> {
+    let listed = listings(alloc, folders)?;
+    let folders = if folders.is_empty() {
+        None
+    } else {
+        Some(&listed)
+    };
     let finished = manifest_inherit::finish(alloc, manifest, root, folders);
     let refusal = refusal_of_finishing(alloc, finished)?;
     let line = line_of_written(alloc, &written_text(alloc, manifest)?)?;
@@ -192,7 +205,7 @@ fn finish_by_root(
     alloc: Global,
     manifest: &mut Manifest,
     root: &str,
-    folders: Option<&Listings>,
+    folders: &str,
 ) -> anyhow::Result<String> {
     if root.is_empty() {
         return finish_by(alloc, manifest, None, folders);
@@ -206,12 +219,6 @@ fn finish_by_root(
 /// What is written of a document that is finished by a root and by folders, after the refusal if there is one. An empty
 /// text stands for no root, or for no folders.
 pub fn finish(alloc: Global, document: &str, root: &str, folders: &str) -> anyhow::Result<String> {
-    let listed = listings(alloc, folders)?;
-    let folders = if folders.is_empty() {
-        None
-    } else {
-        Some(&listed)
-    };
     let mut manifest = Manifest::from_str(alloc, document)?;
     let line = finish_by_root(alloc, &mut manifest, root, folders);
     drop(manifest);

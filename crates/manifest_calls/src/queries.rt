@@ -29,9 +29,11 @@ fn words_of_dependency(alloc: Global, dependency: &Dependency) -> Result<String,
 /// What a dependency says, and in a second line what it is simplified to.
 pub fn dependency(alloc: Global, text: &str) -> anyhow::Result<String> {
     let dependency: Dependency = read_as(alloc, text)?;
-    let words = words_of_dependency(alloc, &dependency)?;
+    let words = words_of_dependency(alloc, &dependency);
     let dependency = dependency.simplify(); // of `{ workspace = false, version = '1' }`, `Simple` of this version
-    let simplified = value_line(alloc, &dependency.to_value(alloc)?)?;
+    let simplified = dependency.to_value(alloc);
+    drop(dependency);
+    let (words, simplified) = (words?, value_line(alloc, &simplified?)?);
     Ok(format!(in alloc; "{words}\n{simplified}")?)
 }
 
@@ -65,6 +67,7 @@ pub fn lint(alloc: Global, text: &str) -> anyhow::Result<String> {
 pub fn lints(alloc: Global, text: &str) -> anyhow::Result<String> {
     let lints: MaybeInheritedLintsSet = read_as(alloc, text)?;
     let is_inherited = lints.is_inherited(); // of `{ workspace = true }`, true
+    drop(lints);
     Ok(format!(in alloc; "inherited {is_inherited}")?)
 }
 
