@@ -152,7 +152,7 @@ fn answer(alloc: Global, request: Request<'_>, member: &str, root: &str) -> anyh
 }
 
 /// What is written of a member that is resolved over the workspace of a root, or how that is refused.
-pub fn resolve_twice(alloc: Global, member: &str, root: &str) -> anyhow::Result<String> {
+pub fn resolve(alloc: Global, member: &str, root: &str) -> anyhow::Result<String> {
     answer(alloc, Request::Resolve, member, root)
 }
 

@@ -39,56 +39,43 @@ use std::alloc::Global;
 use std::io;
 use std::io::{BufWriter, Write};
 
-/// What a manifest or what is inherited is answered with; `None` for another call.
-fn answer_of_manifest(alloc: Global, call: &Call<'_>) -> anyhow::Result<Option<String>> {
-    let (first, second, third) = (call.text(0), call.text(1), call.text(2));
-    let answer = match call.name {
-        "document" => documents::answer(alloc, first)?,
-        "bytes" => documents::answer_of_bytes(alloc, first)?,
-        "complete" => completion::complete(alloc, first, second)?,
-        "unfound" => completion::unfound(alloc, first, second)?,
-        "resolve" => inheritance::resolve_twice(alloc, first, second)?,
-        "adopt" => inheritance::adopt(alloc, first, second, third)?,
-        "finish" => inheritance::finish(alloc, first, second, third)?,
-        "refusals" => inheritance::refusals(alloc, first, second)?,
-        "find" => findings::answer(alloc, first)?,
-        "clone" => copies::clone_of_manifest(alloc, first)?,
-        _ => return Ok(None),
-    };
-    Ok(Some(answer))
-}
-
-/// What a value or a part of a manifest is answered with; `None` for another call.
-fn answer_of_value(alloc: Global, call: &Call<'_>) -> anyhow::Result<Option<String>> {
+/// The lines of the answer to a call on a value or on a part of a manifest.
+fn answer_of_value(alloc: Global, call: &Call<'_>) -> anyhow::Result<String> {
     let (of, text) = (call.argument, call.text(0));
-    let answer = match call.name {
-        "value" => values::answer(alloc, of, text)?,
-        "copy" => copies::answer(alloc, of, text)?,
-        "read" => readers::answer(alloc, of, text)?,
-        "dependency" => queries::dependency(alloc, text)?,
-        "publish" => queries::publish(alloc, text)?,
-        "version" => queries::version(alloc, text)?,
-        "lint" => queries::lint(alloc, text)?,
-        "lints" => queries::lints(alloc, text)?,
-        "strip" => queries::strip(alloc, text)?,
-        "encode" => bytes::encode(alloc, text)?,
-        "decode" => bytes::decode(alloc, of, text)?,
-        "path" => tables::path(alloc, text)?,
-        "depth" => tables::depth_up_to(alloc, of, text)?,
-        "bound" => tables::bound(alloc, text)?,
-        _ => return Ok(None),
-    };
-    Ok(Some(answer))
+    match call.name {
+        "value" => values::answer(alloc, of, text),
+        "copy" => copies::answer(alloc, of, text),
+        "read" => readers::answer(alloc, of, text),
+        "dependency" => queries::dependency(alloc, text),
+        "publish" => queries::publish(alloc, text),
+        "version" => queries::version(alloc, text),
+        "lint" => queries::lint(alloc, text),
+        "lints" => queries::lints(alloc, text),
+        "strip" => queries::strip(alloc, text),
+        "encode" => bytes::encode(alloc, text),
+        "decode" => bytes::decode(alloc, of, text),
+        "path" => tables::path(alloc, text),
+        "depth" => tables::depth_up_to(alloc, of, text),
+        "bound" => tables::bound(alloc, text),
+        _ => bail!("there is no call of this name"),
+    }
 }
 
 /// The lines of the answer to a call.
 fn answer(alloc: Global, call: &Call<'_>) -> anyhow::Result<String> {
-    if let Some(answer) = answer_of_manifest(alloc, call)? {
-        return Ok(answer);
-    }
-    match answer_of_value(alloc, call)? {
-        Some(answer) => Ok(answer),
-        None => bail!("there is no call of this name"),
+    let (first, second, third) = (call.text(0), call.text(1), call.text(2));
+    match call.name {
+        "document" => documents::answer(alloc, first),
+        "bytes" => documents::answer_of_bytes(alloc, first),
+        "complete" => completion::complete(alloc, first, second),
+        "unfound" => completion::unfound(alloc, first, second),
+        "resolve" => inheritance::resolve(alloc, first, second),
+        "adopt" => inheritance::adopt(alloc, first, second, third),
+        "finish" => inheritance::finish(alloc, first, second, third),
+        "refusals" => inheritance::refusals(alloc, first, second),
+        "find" => findings::answer(alloc, first),
+        "clone" => copies::clone_of_manifest(alloc, first),
+        _ => answer_of_value(alloc, call),
     }
 }
 

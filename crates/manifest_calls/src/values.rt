@@ -32,52 +32,7 @@ fn answer_kept(alloc: Global, text: &str) -> anyhow::Result<String> {
     }
 }
 
-/// The answer for a plain type or a choice.
-fn answer_of_choice(alloc: Global, of: &str, text: &str) -> anyhow::Result<Option<String>> {
-    let answer = match of {
-        "String" => answer_as::<String>(alloc, text)?,
-        "bool" => answer_as::<bool>(alloc, text)?,
-        "u16" => answer_as::<u16>(alloc, text)?,
-        "i8" => answer_as::<i8>(alloc, text)?,
-        "Vec<String>" => answer_as::<Vec<String>>(alloc, text)?,
-        "BTreeMap<String, Vec<String>>" => {
-            answer_as::<BTreeMap<String, Vec<String>>>(alloc, text)?
-        }
-        "Value" => answer_kept(alloc, text)?,
-        "Edition" => answer_as::<Edition>(alloc, text)?,
-        "Resolver" => answer_as::<Resolver>(alloc, text)?,
-        "LintLevel" => answer_as::<LintLevel>(alloc, text)?,
-        "MaintenanceStatus" => answer_as::<MaintenanceStatus>(alloc, text)?,
-        "StripSetting" => answer_as::<StripSetting>(alloc, text)?,
-        "StringOrBool" => answer_as::<StringOrBool>(alloc, text)?,
-        "Publish" => answer_as::<Publish>(alloc, text)?,
-        "True" => answer_as::<True>(alloc, text)?,
-        _ => return Ok(None),
-    };
-    Ok(Some(answer))
-}
-
-/// The answer for a type of what may be inherited, of dependencies or of lints.
-fn answer_of_part(alloc: Global, of: &str, text: &str) -> anyhow::Result<Option<String>> {
-    let answer = match of {
-        "MaybeInherited<String>" => answer_as::<MaybeInherited<String>>(alloc, text)?,
-        "MaybeInherited<Edition>" => answer_as::<MaybeInherited<Edition>>(alloc, text)?,
-        "MaybeInherited<StringOrBool>" => answer_as::<MaybeInherited<StringOrBool>>(alloc, text)?,
-        "MaybeInherited<Vec<String>>" => answer_as::<MaybeInherited<Vec<String>>>(alloc, text)?,
-        "MaybeInherited<Publish>" => answer_as::<MaybeInherited<Publish>>(alloc, text)?,
-        "InheritedDependencyDetail" => answer_as::<InheritedDependencyDetail>(alloc, text)?,
-        "DependencyDetail" => answer_as::<DependencyDetail>(alloc, text)?,
-        "Dependency" => answer_as::<Dependency>(alloc, text)?,
-        "Target" => answer_as::<Target>(alloc, text)?,
-        "LintConfig" => answer_as::<LintConfig>(alloc, text)?,
-        "Lint" => answer_as::<Lint>(alloc, text)?,
-        "MaybeInheritedLintsSet" => answer_as::<MaybeInheritedLintsSet>(alloc, text)?,
-        _ => return Ok(None),
-    };
-    Ok(Some(answer))
-}
-
-/// The answer for the type of a wider form.
+/// The same for the type of a wider form.
 fn answer_of_form(alloc: Global, of: &str, text: &str) -> anyhow::Result<String> {
     match of {
         "Product" => answer_as::<Product>(alloc, text),
@@ -94,13 +49,45 @@ fn answer_of_form(alloc: Global, of: &str, text: &str) -> anyhow::Result<String>
     }
 }
 
+/// The same for a type of what may be inherited, of dependencies or of lints, or of a wider form.
+fn answer_of_part(alloc: Global, of: &str, text: &str) -> anyhow::Result<String> {
+    match of {
+        "MaybeInherited<String>" => answer_as::<MaybeInherited<String>>(alloc, text),
+        "MaybeInherited<Edition>" => answer_as::<MaybeInherited<Edition>>(alloc, text),
+        "MaybeInherited<StringOrBool>" => answer_as::<MaybeInherited<StringOrBool>>(alloc, text),
+        "MaybeInherited<Vec<String>>" => answer_as::<MaybeInherited<Vec<String>>>(alloc, text),
+        "MaybeInherited<Publish>" => answer_as::<MaybeInherited<Publish>>(alloc, text),
+        "InheritedDependencyDetail" => answer_as::<InheritedDependencyDetail>(alloc, text),
+        "DependencyDetail" => answer_as::<DependencyDetail>(alloc, text),
+        "Dependency" => answer_as::<Dependency>(alloc, text),
+        "Target" => answer_as::<Target>(alloc, text),
+        "LintConfig" => answer_as::<LintConfig>(alloc, text),
+        "Lint" => answer_as::<Lint>(alloc, text),
+        "MaybeInheritedLintsSet" => answer_as::<MaybeInheritedLintsSet>(alloc, text),
+        _ => answer_of_form(alloc, of, text),
+    }
+}
+
 /// What is written of a value, read as one of the type of this name, or how it is refused.
 pub fn answer(alloc: Global, of: &str, text: &str) -> anyhow::Result<String> {
-    if let Some(answer) = answer_of_choice(alloc, of, text)? {
-        return Ok(answer);
-    }
-    match answer_of_part(alloc, of, text)? {
-        Some(answer) => Ok(answer),
-        None => answer_of_form(alloc, of, text),
+    match of {
+        "String" => answer_as::<String>(alloc, text),
+        "bool" => answer_as::<bool>(alloc, text),
+        "u16" => answer_as::<u16>(alloc, text),
+        "i8" => answer_as::<i8>(alloc, text),
+        "Vec<String>" => answer_as::<Vec<String>>(alloc, text),
+        "BTreeMap<String, Vec<String>>" => {
+            answer_as::<BTreeMap<String, Vec<String>>>(alloc, text)
+        }
+        "Value" => answer_kept(alloc, text),
+        "Edition" => answer_as::<Edition>(alloc, text),
+        "Resolver" => answer_as::<Resolver>(alloc, text),
+        "LintLevel" => answer_as::<LintLevel>(alloc, text),
+        "MaintenanceStatus" => answer_as::<MaintenanceStatus>(alloc, text),
+        "StripSetting" => answer_as::<StripSetting>(alloc, text),
+        "StringOrBool" => answer_as::<StringOrBool>(alloc, text),
+        "Publish" => answer_as::<Publish>(alloc, text),
+        "True" => answer_as::<True>(alloc, text),
+        _ => answer_of_part(alloc, of, text),
     }
 }
