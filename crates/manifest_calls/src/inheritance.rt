@@ -76,8 +76,8 @@ fn line_of_adoption(
     line_of_endings(alloc, &before, &once, &twice)
 }
 
-/// Resolves a manifest twice, and once it is resolved, completes it twice: the line of its resolving, and the line of its
-/// completion where something of that is answered otherwise the second time.
+/// Resolves a manifest twice, and once it is resolved, completes it twice: the line of its resolving, and the line of
+/// its completion where that is refused alone, or answered otherwise the second time.
 fn resolve_and_complete(
     alloc: Global,
     manifest: &mut Manifest,
@@ -85,7 +85,8 @@ fn resolve_and_complete(
 ) -> anyhow::Result<String> {
     let line = line_of_resolution(alloc, manifest, workspace)?;
     let completed = line_of_adoption(alloc, manifest, workspace, FOLDERS)?;
-    if completed.contains("\n") {
+    let is_refused = completed.starts_with("error: ");
+    if is_refused != line.starts_with("error: ") || completed.contains("\n") {
         Ok(format!(in alloc; "{line}\n{completed}")?)
     } else {
         Ok(line)
@@ -177,8 +178,8 @@ fn refusal_of_finishing(
     }
 }
 
-/// Finishes a manifest by a root and by folders, where they are there: what is written of it, after the refusal if there
-/// is one.
+/// Finishes a manifest by a root and by folders, where they are there: what is written of it, after the refusal if
+/// there is one.
 fn finish_by(
     alloc: Global,
     manifest: &mut Manifest,

@@ -14,9 +14,9 @@
 //! -> { lib = { .. }, package = { name = "p" } }
 //! ```
 //!
-//! A call begins with `== ` and its name. What it takes other than texts stands after the name, and after `: ` may stand a
-//! note. The lines below are its first text. A line that begins with `++` begins a further text, which stands after `++ `
-//! or on the lines below. An empty line ends the call. Each line of the answer begins with `-> `.
+//! A call begins with `== ` and its name. What it takes other than texts stands after the name, and after `: ` may
+//! stand a note. The lines below are its first text. A line that begins with `++` begins a further text, which stands
+//! after `++ ` or on the lines below. An empty line ends the call. Each line of the answer begins with `-> `.
 #![tactic(auto)]
 
 mod answers;
