@@ -1,13 +1,9 @@
-//! Manifests completed from listings, and the tables that are written of them.
-use crate::answers::{PACKAGE, assert_is, error_text, expected_behind};
+//! A folder of a manifest that is not there, the flags of a manifest while it is changed, and legacy mode.
+use crate::answers::PACKAGE;
 use crate::folders::listings;
-use cargo_manifest::{
-    AbstractFilesystem, Edition, Error, Listings, Manifest, MaybeInherited, Package, Product, True,
-    Value,
-};
+use cargo_manifest::{Edition, Error, Manifest, MaybeInherited, Package, Product, True, Value};
 use manifest_completion::is_legacy;
 use std::alloc::Global;
-use std::fmt::Write;
 use std::io::ErrorKind;
 use std::test::Fail;
 
