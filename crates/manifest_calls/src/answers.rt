@@ -52,6 +52,16 @@ pub enum Written {
     Refusal(String),
 }
 
+impl Written {
+    /// Whether this text is written.
+    pub fn is_text(&self, text: &str) -> bool {
+        match self {
+            Written::Text(written) => written.as_str() == text,
+            Written::Refusal(_) => false,
+        }
+    }
+}
+
 /// What is written of a manifest.
 pub fn written_text<P: Metadata, W: Metadata>(
     alloc: Global,

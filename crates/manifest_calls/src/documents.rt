@@ -22,9 +22,11 @@ fn written(alloc: Global, read: Result<Manifest, Error>) -> Result<Written, Allo
 /// The table that is written of a manifest; and a further line where the text is read as another manifest.
 fn line_read_again(alloc: Global, text: &str) -> anyhow::Result<String> {
     let line = table_line(alloc, text)?;
-    match written(alloc, Manifest::from_str(alloc, text))? {
-        Written::Text(again) if again.as_str() == text => Ok(line),
-        _ => Ok(format!(in alloc; "{line}\nwhich is read as another manifest")?),
+    let again = written(alloc, Manifest::from_str(alloc, text))?;
+    if again.is_text(text) {
+        Ok(line)
+    } else {
+        Ok(format!(in alloc; "{line}\nwhich is read as another manifest")?)
     }
 }
 
