@@ -1,10 +1,10 @@
 //! Which values are equal, hash alike and stand before which.
+use crate::answers::read_as;
 use cargo_manifest::{
     Badge, Badges, Dependency, DependencyDetail, Edition, InheritedDependencyDetail, LintLevel,
     MaintenanceStatus, MaybeInherited, MaybeInheritedLintsSet, Product, Publish, Resolver,
     StringOrBool, StripSetting, Target, WorkspacePackage,
 };
-use manifest_test_support::answers::read_as;
 use manifest_value::Schema;
 use std::alloc::Global;
 use std::fmt::Debug;

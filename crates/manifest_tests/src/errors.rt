@@ -1,6 +1,6 @@
-//! Copies of errors and their texts, errors that `?` makes, and the second way to read what is stripped.
-use cargo_manifest::{Error, Manifest, ParseFault, SchemaFault, StripSetting};
-use manifest_test_support::answers::{assert_is, error_text};
+//! Copies of errors and their texts, and errors that `?` makes.
+use crate::answers::{assert_is, error_text};
+use cargo_manifest::{Cause, Error, Manifest, ParseFault, SchemaFault};
 use manifest_value::text;
 use std::alloc::{AllocError, Global};
 use std::io;
@@ -84,7 +84,7 @@ const AUTHORS: &[u8] = b"[package]\nname = 'p'\nauthors = ['a', 1]";
 const AUTHORS_FAULT: &str = "wrong kind at package.authors[1]";
 
 #[test]
-fn copies_of_faults(rt: HostRuntime) -> Result<(), Fail> {
+fn faults_and_their_texts(rt: HostRuntime) -> Result<(), Fail> {
     let error = refusal(rt.alloc(), AUTHORS)?;
     let fault = schema_fault(&error)?;
     let copy = fault.clone(rt.alloc())?;
@@ -93,16 +93,9 @@ fn copies_of_faults(rt: HostRuntime) -> Result<(), Fail> {
         copy.path == fault.path && copy.cause == fault.cause,
         "a copy"
     );
-    let text = format!(in rt.alloc(); "{copy}")?;
-    assert_is(Ok(text), AUTHORS_FAULT, "a copy")
-}
-
-#[test]
-fn texts_of_errors(rt: HostRuntime) -> Result<(), Fail> {
-    let error = refusal(rt.alloc(), AUTHORS)?;
-    let fault = schema_fault(&error)?;
     let (cause, path) = (&fault.cause, &fault.path);
     for (text, expected) in [
+        (format!(in rt.alloc(); "{copy}")?, AUTHORS_FAULT),
         (format!(in rt.alloc(); "{error}")?, AUTHORS_FAULT),
         (format!(in rt.alloc(); "{fault}")?, AUTHORS_FAULT),
         (format!(in rt.alloc(); "{cause}")?, "wrong kind"),
@@ -132,29 +125,18 @@ fn faults_of_readers_are_errors_by_a_question_mark(rt: HostRuntime) -> Result<()
     assert_is(Ok(told), "wrong kind at (top)", "a list")
 }
 
-/// The setting that a value stands for, or the text of its refusal.
-fn setting(alloc: Global, text: &str) -> Result<String, Fail> {
-    let value = Value::from_str(alloc, text)?;
-    Ok(match StripSetting::try_from(alloc, value) {
-        Ok(StripSetting::None) => String::from_str(alloc, "None")?,
-        Ok(StripSetting::Debuginfo) => String::from_str(alloc, "Debuginfo")?,
-        Ok(StripSetting::Symbols) => String::from_str(alloc, "Symbols")?,
-        Err(error) => error_text(alloc, &error)?,
-    })
-}
-
 #[test]
-fn strip_settings(rt: HostRuntime) -> Result<(), Fail> {
-    for (text, answer) in [
-        ("'symbols'", "Symbols"),
-        ("true", "Symbols"),
-        ("'debuginfo'", "Debuginfo"),
-        ("'none'", "None"),
-        ("false", "None"),
-        ("'all'", "other: 'all' is not a valid value for 'strip'"),
-        ("1", "other: wrong data type for strip setting"),
+fn causes_are_told_in_plain_words(rt: HostRuntime) {
+    for (cause, text) in [
+        (Cause::WrongKind, "wrong kind"),
+        (Cause::Missing, "missing"),
+        (Cause::TwoSpellings, "two spellings"),
+        (Cause::NotAChoice, "not a choice"),
+        (Cause::OutOfRange, "out of range"),
+        (Cause::NotTrue, "not true"),
+        (Cause::HoldsFloat, "holds a float"),
+        (Cause::Metadata, "metadata"),
     ] {
-        assert_is(setting(rt.alloc(), text), answer, text)?;
+        assert_eq!(rt; cause.as_str(), text);
     }
-    Ok(())
 }

@@ -11,8 +11,8 @@ fn completed(alloc: Global, text: &str, listings: &Listings) -> Result<String, E
 
 #[test]
 fn a_manifest_is_completed(rt: HostRuntime) -> Result<(), std::test::Fail> {
-    use manifest_test_support::answers;
-    let listings = manifest_test_support::folders::listings(rt.alloc(), "src|lib.rs;.|build.rs")?;
+    use crate::answers;
+    let listings = crate::folders::listings(rt.alloc(), "src|lib.rs;.|build.rs")?;
     let text = completed(
         rt.alloc(),
         "[package]\nname = 'p'\nedition = '2024'",

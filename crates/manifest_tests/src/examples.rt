@@ -1,7 +1,7 @@
 //! The first examples of the README, over a real manifest: a workspace with inherited fields, profiles, lints and
 //! tables of a platform.
+use crate::answers::{assert_is, toml_layout};
 use cargo_manifest::{Error, Manifest, ParseFault};
-use manifest_test_support::answers::{assert_is, toml_layout};
 use std::alloc::{AllocError, Global};
 use std::test::Fail;
 

@@ -1,7 +1,7 @@
 //! The examples of the calls of `cargo_manifest`, each as it stands in the call's comment, and their answers.
+use crate::answers::{assert_is, assert_written, written};
+use crate::score::Score;
 use cargo_manifest::{Error, Listing, Listings, Manifest, Package, Schema};
-use manifest_test_support::answers::{assert_is, assert_written, written};
-use manifest_test_support::score::Score;
 use std::alloc::Global;
 use std::collections::BTreeSet;
 use std::process::Abort;
@@ -56,15 +56,6 @@ fn completed_manifest(alloc: Global) -> Result<Manifest, Fail> {
     }
 }
 
-#[test]
-fn a_manifest_is_completed(rt: HostRuntime) -> Result<(), Fail> {
-    assert_written(
-        rt.alloc(),
-        completed_manifest(rt.alloc()),
-        "{ package = { name = 'a', edition = '2024' }, bin = [{ name = 'a', path = 'src/main.rs', edition = '2024', required-features = [] }] }",
-    )
-}
-
 fn manifest_of_a_value(alloc: Global) -> Result<Manifest, Fail> {
     let value = Value::from_str(alloc, "{ package = { name = 'a' } }")?;
     let manifest = Manifest::<Value, Value>::from_value(alloc, &value)?;
@@ -87,13 +78,6 @@ fn manifest_read_back(alloc: Global) -> Result<Manifest, Fail> {
     again
 }
 
-#[test]
-fn a_manifest_of_a_value(rt: HostRuntime) -> Result<(), Fail> {
-    let written = "{ package = { name = 'a' } }";
-    assert_written(rt.alloc(), manifest_of_a_value(rt.alloc()), written)?;
-    assert_written(rt.alloc(), manifest_read_back(rt.alloc()), written)
-}
-
 fn manifest_of_a_package(alloc: Global, package: Package<Value>) -> Manifest {
     let mut manifest = Manifest::<Value, Value>::default(alloc);
     manifest.package = Some(package);
@@ -104,15 +88,6 @@ fn manifest_of_a_new_package(alloc: Global) -> Result<Manifest, Fail> {
     let name = String::from_str(alloc, "a")?;
     let package = Package::new(name, String::from_str(alloc, "1.0.0")?);
     Ok(manifest_of_a_package(alloc, package))
-}
-
-#[test]
-fn a_manifest_that_is_built(rt: HostRuntime) -> Result<(), Fail> {
-    assert_written(
-        rt.alloc(),
-        manifest_of_a_new_package(rt.alloc()),
-        "{ package = { name = 'a', version = '1.0.0' } }",
-    )
 }
 
 fn manifest_with_metadata(alloc: Global, bytes: &[u8]) -> Result<Manifest<Score>, Fail> {
@@ -150,8 +125,21 @@ fn manifests_of_bytes_are_read_or_refused(rt: HostRuntime) -> Result<(), Fail> {
 }
 
 #[test]
-fn other_manifests_are_read(rt: HostRuntime) -> Result<(), Fail> {
+fn manifests_are_read_built_and_completed(rt: HostRuntime) -> Result<(), Fail> {
     let alloc = rt.alloc();
+    assert_written(
+        alloc,
+        completed_manifest(alloc),
+        "{ package = { name = 'a', edition = '2024' }, bin = [{ name = 'a', path = 'src/main.rs', edition = '2024', required-features = [] }] }",
+    )?;
+    let written = "{ package = { name = 'a' } }";
+    assert_written(alloc, manifest_of_a_value(alloc), written)?;
+    assert_written(alloc, manifest_read_back(alloc), written)?;
+    assert_written(
+        alloc,
+        manifest_of_a_new_package(alloc),
+        "{ package = { name = 'a', version = '1.0.0' } }",
+    )?;
     let document = b"[package]\nname = 'a'\nmetadata = { level = 3 }";
     assert_written(
         alloc,

@@ -1,11 +1,11 @@
 //! The examples of the calls of `manifest_parts` that read, each as it stands in the call's comment, and their answers.
+use crate::answers::{assert_is, assert_written, error_text};
 use cargo_manifest::{
     Badge, Badges, Dependency, DependencyDetail, Edition, Error, InheritedDependencyDetail, Lint,
     LintConfig, LintLevel, Maintenance, MaintenanceStatus, MaybeInherited, MaybeInheritedLintsSet,
     Product, Profile, Publish, Resolver, StringOrBool, StripSetting, Target, True,
 };
 use manifest_parts::inherited::{has_workspace, says_workspace};
-use manifest_test_support::answers::{assert_is, assert_written, error_text};
 use manifest_value::error::refusal;
 use manifest_value::{Schema, text};
 use std::alloc::Global;
@@ -29,22 +29,6 @@ fn badges(alloc: Global) -> Result<Badges, Fail> {
     let value = Value::from_str(alloc, "{ gitlab = 1, codecov = { repository = 'a/b' } }")?;
     let badges = Badges::from_value(alloc, &value)?; // `gitlab` is `None`, `codecov` is there
     Ok(badges)
-}
-
-#[test]
-fn badges_are_read(rt: HostRuntime) -> Result<(), Fail> {
-    let alloc = rt.alloc();
-    assert_written(
-        alloc,
-        badge(alloc),
-        "{ repository = 'a/b', branch = 'master' }",
-    )?;
-    assert_written(alloc, maintenance(alloc), "{ status = 'as-is' }")?;
-    assert_written(
-        alloc,
-        badges(alloc),
-        "{ codecov = { repository = 'a/b', branch = 'master' }, maintenance = { status = 'none' } }",
-    )
 }
 
 fn edition(alloc: Global) -> Result<Edition, Fail> {
@@ -71,24 +55,6 @@ fn status(alloc: Global) -> Result<MaintenanceStatus, Fail> {
     Ok(status)
 }
 
-#[test]
-fn choices_are_read(rt: HostRuntime) -> Result<(), Fail> {
-    assert!(rt; edition(rt.alloc())? == Edition::E2021);
-    assert!(rt; resolver(rt.alloc())? == Resolver::V2);
-    assert!(rt; level(rt.alloc())? == LintLevel::Deny);
-    assert!(rt; status(rt.alloc())? == MaintenanceStatus::AsIs);
-    Ok(())
-}
-
-#[test]
-fn choices_are_texts(rt: HostRuntime) -> Result<(), Fail> {
-    let text = Edition::E2021.as_str(); // "2021"
-    assert!(rt; text == "2021");
-    let text = LintLevel::Deny.as_str(); // "deny"
-    assert!(rt; text == "deny");
-    Ok(())
-}
-
 fn inherited_dependency(alloc: Global) -> Result<InheritedDependencyDetail, Fail> {
     let value = Value::from_str(alloc, "{ workspace = true, optional = true }")?;
     let inherited = InheritedDependencyDetail::from_value(alloc, &value)?; // `optional` is `Some(true)`
@@ -105,22 +71,6 @@ fn dependency(alloc: Global) -> Result<Dependency, Fail> {
     let value = Value::from_str(alloc, "{ workspace = false, version = '1' }")?;
     let dependency = Dependency::from_value(alloc, &value)?; // `Detailed`, with this version
     Ok(dependency)
-}
-
-#[test]
-fn dependencies_are_read(rt: HostRuntime) -> Result<(), Fail> {
-    let alloc = rt.alloc();
-    assert_written(
-        alloc,
-        inherited_dependency(alloc),
-        "{ workspace = true, optional = true }",
-    )?;
-    assert_written(
-        alloc,
-        dependency_detail(alloc),
-        "{ version = '1', default-features = false }",
-    )?;
-    assert_written(alloc, dependency(alloc), "{ version = '1' }")
 }
 
 fn edition_by_its_kind(alloc: Global) -> Result<Edition, Fail> {
@@ -206,18 +156,6 @@ fn lints(alloc: Global) -> Result<MaybeInheritedLintsSet, Fail> {
     Ok(lints)
 }
 
-#[test]
-fn lints_are_read(rt: HostRuntime) -> Result<(), Fail> {
-    let alloc = rt.alloc();
-    assert_written(
-        alloc,
-        lint_config(alloc),
-        "{ level = 'deny', priority = -1 }",
-    )?;
-    assert_written(alloc, lint(alloc), "'deny'")?;
-    assert_written(alloc, lints(alloc), "{ rust = { unsafe_code = 'forbid' } }")
-}
-
 fn product(alloc: Global) -> Result<Product, Fail> {
     let value = Value::from_str(alloc, "{ name = 'a', test = false }")?;
     let product = Product::from_value(alloc, &value)?; // not tested, and all else by default
@@ -227,21 +165,6 @@ fn product(alloc: Global) -> Result<Product, Fail> {
 fn product_by_default(alloc: Global) -> Product {
     let product = Product::default(alloc);
     product
-}
-
-#[test]
-fn products_are_read(rt: HostRuntime) -> Result<(), Fail> {
-    let alloc = rt.alloc();
-    assert_written(
-        alloc,
-        product(alloc),
-        "{ name = 'a', test = false, required-features = [] }",
-    )?;
-    assert_written(
-        alloc,
-        Ok(product_by_default(alloc)),
-        "{ edition = '2015', required-features = [] }",
-    )
 }
 
 /// A profile, which can be written.
@@ -271,23 +194,6 @@ fn target(alloc: Global) -> Result<Target, Fail> {
     Ok(target)
 }
 
-#[test]
-fn other_parts_are_read(rt: HostRuntime) -> Result<(), Fail> {
-    let alloc = rt.alloc();
-    assert_written(
-        alloc,
-        profile(&rt, alloc),
-        "{ opt-level = 's', codegen-units = 1, package = {} }",
-    )?;
-    assert_written(alloc, build(alloc), "'build.rs'")?;
-    assert_written(alloc, publish(alloc), "['crates-io']")?;
-    assert_written(
-        alloc,
-        target(alloc),
-        "{ dependencies = { libc = '0.2' }, dev-dependencies = {}, build-dependencies = {} }",
-    )
-}
-
 fn strip(alloc: Global) -> Result<StripSetting, Fail> {
     let value = Value::from_str(alloc, "'debuginfo'")?;
     let strip = StripSetting::from_value(alloc, &value)?; // `Debuginfo`
@@ -300,8 +206,77 @@ fn strip_by_a_boolean(alloc: Global) -> Result<StripSetting, Fail> {
 }
 
 #[test]
-fn strip_settings_are_read(rt: HostRuntime) -> Result<(), Fail> {
+fn choices_are_read_and_are_texts(rt: HostRuntime) -> Result<(), Fail> {
+    assert!(rt; edition(rt.alloc())? == Edition::E2021);
+    assert!(rt; resolver(rt.alloc())? == Resolver::V2);
+    assert!(rt; level(rt.alloc())? == LintLevel::Deny);
+    assert!(rt; status(rt.alloc())? == MaintenanceStatus::AsIs);
     assert!(rt; strip(rt.alloc())? == StripSetting::Debuginfo);
     assert!(rt; strip_by_a_boolean(rt.alloc())? == StripSetting::Symbols);
+    let text = Edition::E2021.as_str(); // "2021"
+    assert!(rt; text == "2021");
+    let text = LintLevel::Deny.as_str(); // "deny"
+    assert!(rt; text == "deny");
     Ok(())
+}
+
+#[test]
+fn dependencies_and_lints_are_read(rt: HostRuntime) -> Result<(), Fail> {
+    let alloc = rt.alloc();
+    assert_written(
+        alloc,
+        inherited_dependency(alloc),
+        "{ workspace = true, optional = true }",
+    )?;
+    assert_written(
+        alloc,
+        dependency_detail(alloc),
+        "{ version = '1', default-features = false }",
+    )?;
+    assert_written(alloc, dependency(alloc), "{ version = '1' }")?;
+    assert_written(
+        alloc,
+        lint_config(alloc),
+        "{ level = 'deny', priority = -1 }",
+    )?;
+    assert_written(alloc, lint(alloc), "'deny'")?;
+    assert_written(alloc, lints(alloc), "{ rust = { unsafe_code = 'forbid' } }")
+}
+
+#[test]
+fn other_parts_are_read(rt: HostRuntime) -> Result<(), Fail> {
+    let alloc = rt.alloc();
+    assert_written(
+        alloc,
+        badge(alloc),
+        "{ repository = 'a/b', branch = 'master' }",
+    )?;
+    assert_written(alloc, maintenance(alloc), "{ status = 'as-is' }")?;
+    assert_written(
+        alloc,
+        badges(alloc),
+        "{ codecov = { repository = 'a/b', branch = 'master' }, maintenance = { status = 'none' } }",
+    )?;
+    assert_written(
+        alloc,
+        product(alloc),
+        "{ name = 'a', test = false, required-features = [] }",
+    )?;
+    assert_written(
+        alloc,
+        Ok(product_by_default(alloc)),
+        "{ edition = '2015', required-features = [] }",
+    )?;
+    assert_written(
+        alloc,
+        profile(&rt, alloc),
+        "{ opt-level = 's', codegen-units = 1, package = {} }",
+    )?;
+    assert_written(alloc, build(alloc), "'build.rs'")?;
+    assert_written(alloc, publish(alloc), "['crates-io']")?;
+    assert_written(
+        alloc,
+        target(alloc),
+        "{ dependencies = { libc = '0.2' }, dev-dependencies = {}, build-dependencies = {} }",
+    )
 }

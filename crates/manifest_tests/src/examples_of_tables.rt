@@ -1,8 +1,8 @@
 //! The examples of the calls of packages, workspaces and profiles, each as it stands in the call's comment, and their
 //! answers.
+use crate::answers::assert_written;
 use cargo_manifest::package::package_from;
 use cargo_manifest::{Package, Profiles, Schema, Workspace, WorkspacePackage};
-use manifest_test_support::answers::assert_written;
 use std::alloc::Global;
 use std::process::Abort;
 use std::test::Fail;
@@ -29,22 +29,6 @@ fn package_of_a_table(alloc: Global) -> Result<Package<Value>, Fail> {
     Ok(package)
 }
 
-#[test]
-fn packages(rt: HostRuntime) -> Result<(), Fail> {
-    let alloc = rt.alloc();
-    assert_written(
-        alloc,
-        package(&rt, alloc),
-        "{ name = 'a', version = '1.0.0', edition = '2021' }",
-    )?;
-    assert_written(
-        alloc,
-        package_by_its_name(alloc),
-        "{ name = 'a', version = '1.0.0' }",
-    )?;
-    assert_written(alloc, package_of_a_table(alloc), "{ name = 'a' }")
-}
-
 fn profiles_by_default(alloc: Global) -> Profiles {
     let profiles = Profiles::default(alloc);
     profiles
@@ -54,17 +38,6 @@ fn profiles(alloc: Global) -> Result<Profiles, Fail> {
     let value = Value::from_str(alloc, "{ release = {}, tiny = { inherits = 'release' } }")?;
     let profiles = Profiles::from_value(alloc, &value)?; // `release`, and the custom profile `tiny`
     Ok(profiles)
-}
-
-#[test]
-fn all_profiles(rt: HostRuntime) -> Result<(), Fail> {
-    let alloc = rt.alloc();
-    assert_written(alloc, Ok(profiles_by_default(alloc)), "{}")?;
-    assert_written(
-        alloc,
-        profiles(alloc),
-        "{ release = { package = {} }, tiny = { inherits = 'release', package = {} } }",
-    )
 }
 
 fn workspace_package(alloc: Global) -> Result<WorkspacePackage, Fail> {
@@ -88,8 +61,25 @@ fn workspace(rt: &impl Abort, alloc: Global) -> Result<Workspace<Value>, Fail> {
 }
 
 #[test]
-fn workspaces(rt: HostRuntime) -> Result<(), Fail> {
+fn packages_profiles_and_workspaces(rt: HostRuntime) -> Result<(), Fail> {
     let alloc = rt.alloc();
+    assert_written(
+        alloc,
+        package(&rt, alloc),
+        "{ name = 'a', version = '1.0.0', edition = '2021' }",
+    )?;
+    assert_written(
+        alloc,
+        package_by_its_name(alloc),
+        "{ name = 'a', version = '1.0.0' }",
+    )?;
+    assert_written(alloc, package_of_a_table(alloc), "{ name = 'a' }")?;
+    assert_written(alloc, Ok(profiles_by_default(alloc)), "{}")?;
+    assert_written(
+        alloc,
+        profiles(alloc),
+        "{ release = { package = {} }, tiny = { inherits = 'release', package = {} } }",
+    )?;
     assert_written(
         alloc,
         workspace_package(alloc),

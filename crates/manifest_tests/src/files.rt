@@ -1,7 +1,7 @@
 //! Manifests of files, completed by the folders that these stand in: real ones, which the tests make and remove.
+use crate::answers::{assert_is, toml_layout, written};
+use crate::score::Score;
 use cargo_manifest::{AbstractFilesystem, Error, Filesystem, Manifest};
-use manifest_test_support::answers::{assert_is, toml_layout, written};
-use manifest_test_support::score::Score;
 use std::io::ErrorKind;
 use std::path::{Path, PathBuf};
 use std::process::Abort;

@@ -1,12 +1,19 @@
-//! Tests of the public calls that read, compare, question and write manifests, and the examples of their comments.
+//! Tests that are code: the examples of comments, comparisons and copies, filesystems that refuse or change, real folders, and
+//! what needs a type, a closure or a value of its own. The rows of tests are calls of the program `manifest_calls`.
 #![tactic(auto)]
 
 #[cfg(test)]
+mod answers;
+#[cfg(test)]
 mod bounds;
+#[cfg(test)]
+mod by_name;
 #[cfg(test)]
 mod bytes;
 #[cfg(test)]
 mod calls;
+#[cfg(test)]
+mod completed;
 #[cfg(test)]
 mod equal;
 #[cfg(test)]
@@ -24,18 +31,28 @@ mod examples_of_tables;
 #[cfg(test)]
 mod files;
 #[cfg(test)]
+mod finished;
+#[cfg(test)]
+mod folders;
+#[cfg(test)]
 mod found;
 #[cfg(test)]
-mod hostile;
-#[cfg(test)]
 mod metadata;
-#[cfg(test)]
-mod paths;
 #[cfg(test)]
 mod printed;
 #[cfg(test)]
 mod queries;
 #[cfg(test)]
+mod questions;
+#[cfg(test)]
+mod refusals;
+#[cfg(test)]
 mod runs;
+#[cfg(test)]
+mod score;
+#[cfg(test)]
+mod unfound;
+#[cfg(test)]
+mod walks;
 #[cfg(test)]
 mod well_formed;

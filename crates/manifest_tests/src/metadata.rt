@@ -1,10 +1,9 @@
 //! Manifests whose package has metadata of a type.
+use crate::answers::{PACKAGE, Row, assert_is, assert_written, expected_behind, written};
+use crate::score::{Level, Score};
 use cargo_manifest::{Manifest, Metadata, Schema, Unread};
-use manifest_test_support::answers::{
-    PACKAGE, Row, assert_is, assert_written, expected_behind, written,
-};
-use manifest_test_support::score::{Level, Score};
 use std::alloc::Global;
+use std::process::Abort;
 use std::test::Fail;
 use toml::Value;
 
@@ -57,16 +56,14 @@ const SCORES: &[Row] = &[
     ),
 ];
 
-#[test]
-fn a_score(rt: HostRuntime) -> Result<(), Fail> {
-    assert_metadata::<Score>(rt.alloc(), SCORES)?;
+/// A score is well-formed from 0 to 9.
+fn assert_scores(rt: &impl Abort) {
     for (number, is_well_formed) in [(0, true), (9, true), (12, false)] {
         let score = Score {
             level: Level { number },
         };
         assert_eq!(rt; score.is_well_formed(), is_well_formed);
     }
-    Ok(())
 }
 
 const NOTHING: &[Row] = &[
@@ -77,11 +74,6 @@ const NOTHING: &[Row] = &[
         Err("holds a float at workspace.metadata.x"),
     ),
 ];
-
-#[test]
-fn none_at_all(rt: HostRuntime) -> Result<(), Fail> {
-    assert_metadata::<()>(rt.alloc(), NOTHING)
-}
 
 const UNREAD: &[Row] = &[
     ("", Ok("")),
@@ -97,9 +89,13 @@ const UNREAD: &[Row] = &[
     ),
 ];
 
+/// A score, none at all, and what is not looked at.
 #[test]
-fn not_looked_at(rt: HostRuntime) -> Result<(), Fail> {
+fn metadata_of_each_type(rt: HostRuntime) -> Result<(), Fail> {
+    assert_metadata::<Score>(rt.alloc(), SCORES)?;
+    assert_metadata::<()>(rt.alloc(), NOTHING)?;
     assert_metadata::<Unread>(rt.alloc(), UNREAD)?;
+    assert_scores(&rt);
     assert!(rt; Unread.is_well_formed());
     Ok(())
 }

@@ -1,6 +1,5 @@
 //! Manifests that are built, and printed or not.
 use cargo_manifest::{Error, Manifest};
-use manifest_test_support::answers::{assert_is, toml_layout, written};
 use std::alloc::Global;
 use std::test::Fail;
 use toml::Value;
@@ -38,44 +37,4 @@ fn a_date_that_toml_cannot_write(rt: HostRuntime) -> Result<(), Fail> {
         assert_eq!(rt; print_workspace(rt.alloc(), date)?.as_str(), expected);
     }
     Ok(())
-}
-
-/// A document whose value is nested this deep after this beginning: what opens a level, what stands in the last one,
-/// and what closes a level.
-pub fn nested_document(
-    alloc: Global,
-    head: &str,
-    shape: (&str, &str, &str),
-    depth: usize,
-) -> Result<String, Fail> {
-    let (opening, inner, closing) = shape;
-    let mut document = String::from_str(alloc, head)?;
-    for _ in 0..depth {
-        document.push_str(opening)?;
-    }
-    document.push_str(inner)?;
-    for _ in 0..depth {
-        document.push_str(closing)?;
-    }
-    Ok(document)
-}
-
-/// What is printed of the manifest of a document: twice the same, where the text is read again.
-fn printed_twice(alloc: Global, document: &str) -> Result<String, Fail> {
-    let text = written(alloc, Manifest::from_str(alloc, document))?;
-    let again = written(alloc, Manifest::from_str(alloc, text.as_str()))?;
-    if text == again {
-        Ok(text)
-    } else {
-        Err(Fail::from("the text is read as another manifest"))
-    }
-}
-
-#[test]
-fn a_deep_list(rt: HostRuntime) -> Result<(), Fail> {
-    let head = "[package]\nname = 'p'\nmetadata.x = ";
-    let document = nested_document(rt.alloc(), head, ("[", "1", "]"), 20)?;
-    let expected = toml_layout(rt.alloc(), document.as_str())?;
-    let got = printed_twice(rt.alloc(), document.as_str());
-    assert_is(got, expected.as_str(), "20 lists")
 }

@@ -1,6 +1,6 @@
 //! What is well-formed, of values that no document gives.
+use crate::answers::value;
 use cargo_manifest::{MaybeInheritedLintsSet, Profiles, Schema};
-use manifest_test_support::answers::value;
 use std::alloc::Global;
 use std::collections::BTreeMap;
 use std::mem;
@@ -32,14 +32,6 @@ fn assert_profiles(rt: &impl Abort, alloc: Global, profiles: &mut Profiles) -> R
     Ok(())
 }
 
-#[test]
-fn custom_profiles(rt: HostRuntime) -> Result<(), Fail> {
-    let mut profiles = Profiles::default(rt.alloc());
-    let asserted = assert_profiles(&rt, rt.alloc(), &mut profiles);
-    drop(profiles);
-    asserted
-}
-
 /// Asserts that a tool may have any name but `workspace`.
 fn assert_tools(
     rt: &impl Abort,
@@ -59,12 +51,16 @@ fn assert_tools(
 }
 
 #[test]
-fn tools_of_lints(rt: HostRuntime) -> Result<(), Fail> {
+fn names_of_profiles_and_of_tools(rt: HostRuntime) -> Result<(), Fail> {
+    let mut profiles = Profiles::default(rt.alloc());
+    let of_profiles = assert_profiles(&rt, rt.alloc(), &mut profiles);
+    drop(profiles);
+    of_profiles?;
     let mut lints = MaybeInheritedLintsSet {
         workspace: None,
         lints: BTreeMap::new(rt.alloc()),
     };
-    let asserted = assert_tools(&rt, rt.alloc(), &mut lints);
+    let of_tools = assert_tools(&rt, rt.alloc(), &mut lints);
     drop(lints);
-    asserted
+    of_tools
 }

@@ -3,7 +3,7 @@
 ghost use Rattle.std.specs.Prelude.{◌≡◌, ℤ, pos};
 ghost use Rattle.manifest_schema.specs.Kinds.{whole};
 ghost use Rattle.manifest_schema.proofs.KindLaws.{whole_lawful};
-ghost use Rattle.manifest_test_support.specs.Scores.{score_rows, score_lawful, score_plain, score_by_tree};
+ghost use Rattle.manifest_tests.specs.Scores.{score_rows, score_lawful, score_plain, score_by_tree};
 
 use manifest_value::fault::fault_here;
 use manifest_value::findings::{Findings, Found};

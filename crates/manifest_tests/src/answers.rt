@@ -1,4 +1,4 @@
-//! Answers of the calls as texts, and the loops that try rows of them.
+//! Answers of the calls as texts.
 use cargo_manifest::{Error, Manifest, Metadata, ParseFault, Schema};
 use std::alloc::{AllocError, Global};
 use std::test::Fail;
@@ -95,17 +95,6 @@ pub fn assert_written<T: Schema>(
     assert_is(Ok(got), expected.as_str(), text)
 }
 
-/// What is written of the manifest of a document, or the text of its refusal: one answer for its bytes and its text.
-pub fn document_answer(alloc: Global, document: &str) -> Result<String, Fail> {
-    let by_bytes = written(alloc, Manifest::from_slice(alloc, document.as_bytes()))?;
-    let by_text = written(alloc, Manifest::from_str(alloc, document))?;
-    if by_bytes == by_text {
-        Ok(by_text)
-    } else {
-        Err(Fail::from("the text is answered otherwise than its bytes"))
-    }
-}
-
 /// The answer that a row expects of a document: the table that is written, after the head, or the text of its refusal.
 pub fn expected_behind(
     alloc: Global,
@@ -116,60 +105,6 @@ pub fn expected_behind(
         Ok(written) => toml_layout(alloc, format!(in alloc; "{head}{written}")?.as_str()),
         Err(told) => Ok(String::from_str(alloc, told)?),
     }
-}
-
-/// Asserts of each row how the document after the head is answered.
-pub fn assert_documents(alloc: Global, head: &str, rows: &[Row]) -> Result<(), Fail> {
-    for (rest, answer) in rows {
-        let document = format!(in alloc; "{head}{rest}")?;
-        let expected = expected_behind(alloc, head, *answer)?;
-        let got = document_answer(alloc, document.as_str());
-        assert_is(got, expected.as_str(), rest)?;
-    }
-    Ok(())
-}
-
-/// What is written of the value of a text, read as a `T`, or the text of its refusal.
-fn value_answer<T: Schema>(alloc: Global, text: &str) -> Result<String, Fail> {
-    answer_of(alloc, T::from_value(alloc, &value(alloc, text)?))
-}
-
-/// Asserts of each row how its text is answered as a `T`.
-pub fn assert_values<T: Schema>(alloc: Global, rows: &[Row]) -> Result<(), Fail> {
-    for (text, answer) in rows {
-        let expected = expected_answer(alloc, *answer)?;
-        assert_is(value_answer::<T>(alloc, text), expected.as_str(), text)?;
-    }
-    Ok(())
-}
-
-/// Asserts that the first of two keys is reported, where a number stands under both and fits neither, after these
-/// entries.
-fn assert_told_first<T: Schema>(
-    alloc: Global,
-    entries: &str,
-    first: &str,
-    second: &str,
-) -> Result<(), Fail> {
-    let text = format!(in alloc; "{{ {entries}{second} = 1, {first} = 1 }}")?;
-    let expected = format!(in alloc; "wrong kind at {first}")?;
-    assert_is(
-        value_answer::<T>(alloc, text.as_str()),
-        expected.as_str(),
-        text.as_str(),
-    )
-}
-
-/// The same for each two neighbouring keys.
-pub fn assert_told_in_order<T: Schema>(
-    alloc: Global,
-    entries: &str,
-    keys: &[&str],
-) -> Result<(), Fail> {
-    for (first, second) in keys.iter().zip(keys.iter().skip(1)) {
-        assert_told_first::<T>(alloc, entries, first, second)?;
-    }
-    Ok(())
 }
 
 /// The value of a text, read as a `T`.

@@ -1,5 +1,5 @@
 //! A walk over a table, and the readers of its rows, by their names.
-use manifest_test_support::answers::{assert_is, error_text};
+use crate::answers::{assert_is, error_text};
 use manifest_value::entries::Key;
 use manifest_value::error::refusal;
 use manifest_value::maps::map_of_entries;
@@ -143,8 +143,9 @@ fn each_reader_reads_its_row(rt: HostRuntime) -> Result<(), Fail> {
     Ok(())
 }
 
+/// A lenient reader passes over what does not fit, and a missing row is refused and leaves its place.
 #[test]
-fn each_lenient_reader_passes_over_what_does_not_fit(rt: HostRuntime) -> Result<(), Fail> {
+fn rows_that_do_not_fit_or_are_missing(rt: HostRuntime) -> Result<(), Fail> {
     let alloc = rt.alloc();
     let mut place: Option<bool> = Some(true);
     let mut unfit = slot_of(Value::Integer(1));
@@ -154,13 +155,6 @@ fn each_lenient_reader_passes_over_what_does_not_fit(rt: HostRuntime) -> Result<
     let mut unfit = slot_of(Value::Integer(1));
     assert!(rt; read_lenient_default(alloc, &mut unfit, &mut flag, true).is_ok());
     assert!(rt; flag);
-    Ok(())
-}
-
-#[test]
-fn a_missing_row_is_refused_and_leaves_its_place(rt: HostRuntime) -> Result<(), Fail> {
-    let alloc = rt.alloc();
-    let mut flag = true;
     let mut missing = RowSlot::Absent;
     let told = match read_required(alloc, "a", &mut missing, &mut flag) {
         Ok(()) => String::from_str(alloc, "accepted")?,

@@ -1,13 +1,11 @@
 //! The calls that take memory and that no other test names: faults, rows that are written, and targets that are
 //! completed.
+use crate::answers::{answer_of, assert_is, assert_written, error_text, toml_layout, value};
+use crate::folders::listings;
 use cargo_manifest::{
     Cause, Edition, MaybeInherited, Product, ReadFault, Schema, Step, StringOrBool,
 };
 use manifest_completion::{CompletedTargets, DeclaredTargets, complete};
-use manifest_test_support::answers::{
-    answer_of, assert_is, assert_written, error_text, toml_layout, value,
-};
-use manifest_test_support::folders::listings;
 use manifest_value::error::refusal;
 use manifest_value::fault::{fault_behind_step, fault_here, fault_under_key};
 use manifest_value::maps::{entries_table, map_of_list};

@@ -1,9 +1,8 @@
 //! Which folders are asked while a manifest is completed, and what comes of a filesystem that refuses one question or
 //! changes.
-use crate::completed::{NO_LIBRARY, ODD_NAMES, WITH_ODD_NAMES, completion};
-use cargo_manifest::{Error, Manifest, Value};
-use manifest_test_support::answers::{assert_is, error_text, expected_behind};
-use manifest_test_support::folders::{Changing, Recorder, listings};
+use crate::answers::{assert_is, error_text, expected_behind};
+use crate::folders::{Changing, Recorder, listings};
+use cargo_manifest::{AbstractFilesystem, Error, Manifest, Value};
 use std::alloc::Global;
 use std::io::ErrorKind;
 use std::test::Fail;
@@ -17,6 +16,15 @@ type Row = (
     &'static str,
     Result<&'static str, &'static str>,
 );
+
+/// Folders that list an empty name, and names with slashes.
+const ODD_NAMES: &str = "src/bin||/|a//b.rs;src/bin/|main.rs;src/bin//|main.rs;.";
+
+const WITH_ODD_NAMES: &str =
+    "[package]\nname = 'p'\nedition = '2021'\n[[bin]]\nname = ''\npath = 'src/bin//main.rs'\nedition = '2021'\nrequired-features = []\n[[bin]]\nname = '/'\npath = 'src/bin///main.rs'\nedition = '2021'\nrequired-features = []\n[[bin]]\nname = 'a//b'\npath = 'src/bin/a//b.rs'\nedition = '2021'\nrequired-features = []";
+
+const NO_LIBRARY: &str =
+    "other: can't find library, rename file to `src/lib.rs` or specify lib.path";
 
 /// What is listed for the questions below.
 const ASKED: &str = "src|lib.rs;examples|ex.rs;.|build.rs";
@@ -211,6 +219,19 @@ const CHANGED: &[[&str; 4]] = &[
         "build = 'build.rs'\n[lib]\nname = 'p'\npath = 'src/lib.rs'\nedition = '2021'\nrequired-features = []\ncrate-type = ['lib']\n[[bin]]\nname = 'a'\npath = 'src/bin/a.rs'\nedition = '2021'\nrequired-features = []\n[[bin]]\nname = 'b'\npath = 'src/bin/b.rs'\nedition = '2021'\nrequired-features = []\n[[bin]]\nname = 'p'\npath = 'src/main.rs'\nedition = '2021'\nrequired-features = []",
     ],
 ];
+
+/// What completing a manifest leaves: the text of its refusal, or nothing; and the text that is written of it.
+fn completion<FS: AbstractFilesystem>(
+    alloc: Global,
+    manifest: &mut Manifest<Value, Value>,
+    fs: &FS,
+) -> Result<(String, String), Fail> {
+    let answer = match manifest.complete_from_abstract_filesystem(alloc, fs) {
+        Ok(()) => String::new(alloc),
+        Err(error) => error_text(alloc, &error)?,
+    };
+    Ok((answer, manifest.to_toml_string(alloc)?))
+}
 
 /// What is written of a manifest after each of three completions over a filesystem that changes; a text for each line.
 fn complete_thrice(

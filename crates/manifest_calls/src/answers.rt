@@ -1,0 +1,100 @@
+//! Answers as texts.
+
+use cargo_manifest::{Error, Manifest, Metadata, ParseFault, Schema, Value};
+use std::alloc::{AllocError, Global};
+use std::str::Utf8Error;
+
+/// How bytes are refused that are not UTF-8: where, and how many are wrong, or that the end of a character is missing.
+fn utf8_text(alloc: Global, fault: &Utf8Error) -> Result<String, AllocError> {
+    let at = fault.valid_up_to();
+    match fault.error_len() {
+        Some(wrong) => format!(in alloc; "error: utf8 at {at}, {wrong} wrong"),
+        None => format!(in alloc; "error: utf8 at {at}, cut short"),
+    }
+}
+
+/// How a refusal is answered: the cause and the path of a fault of the schema, else what refused.
+pub fn error_text(alloc: Global, error: &Error) -> Result<String, AllocError> {
+    match error {
+        Error::Parse(ParseFault::Schema(fault)) => {
+            let cause = fault.cause.as_str();
+            let path = fault.path.to_text(alloc)?;
+            format!(in alloc; "error: {cause} at {path}")
+        }
+        Error::Parse(ParseFault::Toml(_)) => String::from_str(alloc, "error: toml"),
+        Error::Utf8(fault) => utf8_text(alloc, fault),
+        Error::Io(_) => String::from_str(alloc, "error: io"),
+        Error::Memory(_) => String::from_str(alloc, "error: memory"),
+        Error::Other(text) => format!(in alloc; "error: other: {text}"),
+    }
+}
+
+/// A value in one line.
+pub fn value_line(alloc: Global, value: &Value) -> Result<String, AllocError> {
+    format!(in alloc; "{value}")
+}
+
+/// What is written of a value that was read, or how it was refused.
+pub fn answer_of_value<T: Schema>(
+    alloc: Global,
+    read: &Result<T, Error>,
+) -> Result<String, AllocError> {
+    match read {
+        Ok(x) => value_line(alloc, &x.to_value(alloc)?),
+        Err(error) => error_text(alloc, error),
+    }
+}
+
+/// What is written of a manifest, or how it was refused.
+#[derive(PartialEq, Eq, Drop)]
+pub enum Written {
+    Text(String),
+    Refusal(String),
+}
+
+impl Written {
+    /// Whether this text is written.
+    pub fn is_text(&self, text: &str) -> bool {
+        match self {
+            Written::Text(written) => written.as_str() == text,
+            Written::Refusal(_) => false,
+        }
+    }
+}
+
+/// What is written of a manifest.
+pub fn written_text<P: Metadata, W: Metadata>(
+    alloc: Global,
+    manifest: &Manifest<P, W>,
+) -> Result<Written, AllocError> {
+    match manifest.to_toml_string(alloc) {
+        Ok(text) => Ok(Written::Text(text)),
+        Err(error) => Ok(Written::Refusal(error_text(alloc, &error)?)),
+    }
+}
+
+/// The table of a text that was written, in one line; and a further line where `toml` lays this table out otherwise.
+pub fn table_line(alloc: Global, text: &str) -> anyhow::Result<String> {
+    let table = toml::table_from_str(alloc, text)?;
+    let layout = toml::table_to_string(alloc, &table)?;
+    let line = value_line(alloc, &Value::Table(table))?;
+    if layout.as_str() == text {
+        Ok(line)
+    } else {
+        Ok(format!(in alloc; "{line}\nwhich is laid out otherwise")?)
+    }
+}
+
+/// The line of what was written, or how it was refused.
+pub fn line_of_written(alloc: Global, written: &Written) -> anyhow::Result<String> {
+    match written {
+        Written::Text(text) => table_line(alloc, text.as_str()),
+        Written::Refusal(refusal) => Ok(refusal.clone()?),
+    }
+}
+
+/// Texts, a line each, or the word for none.
+pub fn lines_or_none(alloc: Global, lines: &str) -> Result<String, AllocError> {
+    let text = lines.strip_suffix("\n").unwrap_or(lines);
+    String::from_str(alloc, if text.is_empty() { "none" } else { text })
+}

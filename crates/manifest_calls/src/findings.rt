@@ -1,0 +1,41 @@
+//! What is found in the table of a document.
+
+use crate::answers::lines_or_none;
+use cargo_manifest::{Choices, Finding, inspect};
+use std::alloc::{AllocError, Global};
+
+/// The words of a choice, each after a blank.
+fn words(alloc: Global, choices: Choices) -> Result<String, AllocError> {
+    let mut text = String::new(alloc);
+    for word in choices {
+        text.push_str(" ")?;
+        text.push_str(word)?;
+    }
+    Ok(text)
+}
+
+/// A finding as a line: a fault of a choice with its words.
+fn line(alloc: Global, finding: &Finding) -> Result<String, AllocError> {
+    match finding {
+        Finding::Fault(fault, choices) => {
+            let words = words(alloc, choices)?;
+            format!(in alloc; "{fault}{words}\n")
+        }
+        Finding::Ignored(fault, choices) => {
+            let words = words(alloc, choices)?;
+            format!(in alloc; "ignored: {fault}{words}\n")
+        }
+        Finding::Unlisted(path) => format!(in alloc; "unlisted: {path}\n"),
+    }
+}
+
+/// All that is found in a document, a line each.
+pub fn answer(alloc: Global, document: &str) -> anyhow::Result<String> {
+    let table = toml::table_from_str(alloc, document)?;
+    let found = inspect(alloc, &table)?;
+    let mut lines = String::new(alloc);
+    for finding in &found.to_vec(alloc)? {
+        lines.push_str(line(alloc, finding)?.as_str())?;
+    }
+    Ok(lines_or_none(alloc, lines.as_str())?)
+}

@@ -1,0 +1,84 @@
+//! The examples of resolving a member over its workspace, and of all its refusals.
+use crate::answers::assert_is;
+use cargo_manifest::{Manifest, Value, Workspace};
+use manifest_inherit::{ResolveError, ResolveFault, refusals, resolve};
+use std::alloc::{AllocError, Global};
+use std::test::Fail;
+
+/// The example of the call.
+fn all_refusals(
+    alloc: Global,
+    manifest: &Manifest<Value, Value>,
+    workspace: &Workspace<Value>,
+) -> Result<Vec<ResolveFault>, AllocError> {
+    let faults = refusals(alloc, manifest, workspace)?; // as `not in workspace: version at package.version`
+    Ok(faults)
+}
+
+/// Puts in what a manifest inherits.
+fn put_in(
+    alloc: Global,
+    manifest: &mut Manifest<Value, Value>,
+    workspace: &Workspace<Value>,
+) -> Result<(), ResolveError> {
+    resolve(alloc, manifest, workspace)?; // `version.workspace = true` becomes the workspace's `version = '2.0.0'`
+    Ok(())
+}
+
+/// The refusals of a member, a line each; or where there are none, what is written of it once it is resolved.
+fn answer(
+    alloc: Global,
+    manifest: &mut Manifest<Value, Value>,
+    workspace: &Workspace<Value>,
+) -> Result<String, Fail> {
+    let mut text = String::new(alloc);
+    for fault in &all_refusals(alloc, manifest, workspace)? {
+        text.push_str(format!(in alloc; "{fault}\n")?.as_str())?;
+    }
+    if text.is_empty() {
+        put_in(alloc, manifest, workspace)?;
+        text = manifest.to_toml_string(alloc)?;
+    }
+    Ok(text)
+}
+
+/// The same over the workspace of a document.
+fn answer_over_root(
+    alloc: Global,
+    manifest: &mut Manifest<Value, Value>,
+    root: &str,
+) -> Result<String, Fail> {
+    let root = Manifest::from_str(alloc, root)?;
+    let answer = match &root.workspace {
+        Some(workspace) => answer(alloc, manifest, workspace),
+        None => Err(Fail::from("no workspace")),
+    };
+    drop(root);
+    answer
+}
+
+/// The same for the document of a member.
+fn answer_of_document(alloc: Global, member: &str, root: &str) -> Result<String, Fail> {
+    let mut manifest = Manifest::from_str(alloc, member)?;
+    let answer = answer_over_root(alloc, &mut manifest, root);
+    drop(manifest);
+    answer
+}
+
+#[test]
+fn members_of_the_examples(rt: HostRuntime) -> Result<(), Fail> {
+    let member = "[package]\nname = 'p'\nversion.workspace = true";
+    for (root, expected) in [
+        (
+            "[workspace.package]\nversion = '2.0.0'",
+            "[package]\nname = \"p\"\nversion = \"2.0.0\"\n",
+        ),
+        (
+            "[workspace]",
+            "not in workspace: version at package.version\n",
+        ),
+    ] {
+        assert_is(answer_of_document(rt.alloc(), member, root), expected, root)?;
+    }
+    Ok(())
+}
