@@ -31,8 +31,6 @@ mod examples_of_tables;
 #[cfg(test)]
 mod files;
 #[cfg(test)]
-mod finished;
-#[cfg(test)]
 mod folders;
 #[cfg(test)]
 mod found;
@@ -44,10 +42,6 @@ mod printed;
 mod queries;
 #[cfg(test)]
 mod questions;
-#[cfg(test)]
-mod refusals;
-#[cfg(test)]
-mod runs;
 #[cfg(test)]
 mod score;
 #[cfg(test)]

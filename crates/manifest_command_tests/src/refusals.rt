@@ -1,5 +1,4 @@
 //! The examples of resolving a member over its workspace, and of all its refusals.
-use crate::answers::assert_is;
 use cargo_manifest::{Manifest, Value, Workspace};
 use manifest_inherit::{ResolveError, ResolveFault, refusals, resolve};
 use std::alloc::{AllocError, Global};
@@ -78,7 +77,8 @@ fn members_of_the_examples(rt: HostRuntime) -> Result<(), Fail> {
             "not in workspace: version at package.version\n",
         ),
     ] {
-        assert_is(answer_of_document(rt.alloc(), member, root), expected, root)?;
+        let got = answer_of_document(rt.alloc(), member, root)?;
+        assert_eq!(rt; got.as_str(), expected, "over {root}");
     }
     Ok(())
 }
