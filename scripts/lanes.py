@@ -41,6 +41,11 @@ def lanes(free, processors, taken=TAKEN):
     return max(1, min(processors, int(SHARE * free) // taken))
 
 
+def spare_lanes(free, processors):
+    """How many further tasks run while rt ci does: on half of the processors, as many as memory holds that it does not take."""
+    return max(0, min(processors // 2, int(SHARE * free - processors * TAKEN) // TAKEN))
+
+
 def jobs(free, processors):
     """What RT_JOBS is set to, or None where rt ci is left to itself."""
     return lanes(free, processors) if SHARE * free < SECOND * RESERVED else None
