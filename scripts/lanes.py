@@ -5,7 +5,7 @@
 
 `rt ci` reserves memory by the lines of a crate, up to RESERVED, and runs a proof in several processes where that is there
 more than once. Where it is there only once, it would run one task, in one process, and leave all other processors idle;
-but a task takes TAKEN or less, and few more. There ./test says how many run. docs/GATE.md has what was measured.
+but most tasks take TAKEN or less. There ./test says how many run. docs/GATE.md has what was measured.
 """
 import os
 import re
@@ -13,7 +13,7 @@ from pathlib import Path
 
 # what rt ci reserves for the largest crate, in bytes
 RESERVED = 6_200_000_000
-# what a check takes in one process: most 1 to 3 GB, the tests 3.5, and the round of cargo_manifest 5.6
+# what a check takes in one process: most 1 to 3.5 GB, the tests 5, and the round of cargo_manifest 5.6
 TAKEN = 3_000_000_000
 # the share of the free memory that rt ci reserves at most, and by how much a second process adds to a reservation
 SHARE = 0.85
