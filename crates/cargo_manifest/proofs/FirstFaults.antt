@@ -1,8 +1,8 @@
 -- The first fault of a table without a header, and of the document of a text.
-use Rattle.manifest_schema.specs.Prelude.{same_Some, Data, table, Members, key, Kind, IsLawful, form, package_rows, manifest_rows, Rows, Manifest, Faults, IsFaultless, first_found, foremost, found_behind, unlisted_keys, without, row_findings, left_over, form_findings, old_findings, manifest_faults}
+use Rattle.manifest_schema.specs.Prelude.{same_Some, Data, table, Members, key, Kind, IsLawful, form, package_rows, manifest_rows, Rows, Manifest, Faults, IsFaultless, first_found, foremost, found_behind, unused_keys, without, row_findings, left_over, form_findings, old_findings, manifest_faults}
 use Rattle.std.proofs.Common.{◌≡◌, ℕ, List, [], ◌∷◌, ◌++◌, Option, Some, None, codes, sym, ◌∙◌, subst}
 use Rattle.toml.specs.Parse.{parse_document}
-use Rattle.manifest_schema.proofs.FindingLaws.{append_faultless, unlisted_faultless}
+use Rattle.manifest_schema.proofs.FindingLaws.{append_faultless, unused_faultless}
 use Rattle.manifest_schema.proofs.ManifestLaws.{manifest_lawful}
 use Rattle.manifest_value.specs.Faults.{FaultIn, IsOneOf}
 use Rattle.manifest_value.specs.Refusals.{IsRefusal, RefusedIn}
@@ -18,36 +18,36 @@ use Rattle.cargo_manifest.specs.Answers.{old_package_findings, TellsFirst}
 rows_same : {A : Type 0} (rows : Rows A) (ms : Members) (f : ReadFault)
     → FaultIn (first_found (form_findings rows (table ms))) f → FaultIn (first_found (row_findings rows ms)) f
 rows_same rows ms f h =
-    let left = unlisted_keys (left_over rows ms) in
+    let left = unused_keys (left_over rows ms) in
     first_same (row_findings rows ms) (row_findings rows ms ++ left) f
-    (sym (append_faultless (row_findings rows ms) left (unlisted_faultless (left_over rows ms)))) h
+    (sym (append_faultless (row_findings rows ms) left (unused_faultless (left_over rows ms)))) h
 
 module _ (K W : Kind Data) (ms : Members) where
   -- a fault of the manifest's rows comes first
   pub first_of_rows : (o : Option Data) (f : ReadFault) → FaultIn (first_found ((form (manifest_rows K W)).findings (table ms))) f → FaultIn (first_found (old_findings K W ms o)) f
   first_of_rows (Some d) f h =
       first_before (row_findings (manifest_rows K W) ms)
-      (found_behind (key (codes "project")) ((form (package_rows K)).findings d) ++ unlisted_keys (without (codes "project" ∷ []) (left_over (manifest_rows K W) ms)))
+      (found_behind (key (codes "project")) ((form (package_rows K)).findings d) ++ unused_keys (without (codes "project" ∷ []) (left_over (manifest_rows K W) ms)))
       f (rows_same (manifest_rows K W) ms f h)
   first_of_rows None f h =
       first_before (row_findings (manifest_rows K W) ms)
-      (row_findings (package_rows K) ms ++ unlisted_keys (left_over (package_rows K) (left_over (manifest_rows K W) ms)))
+      (row_findings (package_rows K) ms ++ unused_keys (left_over (package_rows K) (left_over (manifest_rows K W) ms)))
       f (rows_same (manifest_rows K W) ms f h)
 
   -- and where these are read, a fault of the package
   module _ (k : IsLawful K) (w : IsLawful W) (m : Manifest) (r : (form (manifest_rows K W)).reads (table ms) m) where
     rows_clean : IsFaultless (row_findings (manifest_rows K W) ms)
     rows_clean =
-        sym (append_faultless (row_findings (manifest_rows K W) ms) (unlisted_keys (left_over (manifest_rows K W) ms)) (unlisted_faultless (left_over (manifest_rows K W) ms)))
+        sym (append_faultless (row_findings (manifest_rows K W) ms) (unused_keys (left_over (manifest_rows K W) ms)) (unused_faultless (left_over (manifest_rows K W) ms)))
         ∙ read_clean (form (manifest_rows K W)) (manifest_lawful K W k w) (table ms) m r
 
     pub first_of_package : (o : Option Data) (f : ReadFault) → FaultIn (first_found (old_package_findings K ms o)) f → FaultIn (first_found (old_findings K W ms o)) f
     first_of_package (Some d) f h =
         let inside = found_behind (key (codes "project")) ((form (package_rows K)).findings d) in
-        let rest = unlisted_keys (without (codes "project" ∷ []) (left_over (manifest_rows K W) ms)) in
+        let rest = unused_keys (without (codes "project" ∷ []) (left_over (manifest_rows K W) ms)) in
         first_after (row_findings (manifest_rows K W) ms) (inside ++ rest) f rows_clean (first_before inside rest f h)
     first_of_package None f h =
-        let rest = unlisted_keys (left_over (package_rows K) (left_over (manifest_rows K W) ms)) in
+        let rest = unused_keys (left_over (package_rows K) (left_over (manifest_rows K W) ms)) in
         first_after (row_findings (manifest_rows K W) ms) (row_findings (package_rows K) ms ++ rest) f rows_clean
         (first_before (row_findings (package_rows K) ms) rest f (rows_same (package_rows K) ms f h))
 

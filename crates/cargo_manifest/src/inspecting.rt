@@ -1,7 +1,7 @@
 //! What is found in the table of a document: each fault, what does not fit where that is no fault, and each key that
 //! nothing reads.
 
-ghost use Rattle.manifest_schema.specs.Prelude.{get_member, table_view, kept, tree_of, manifest_findings, manifest_faults, manifest_ignored, manifest_unlisted, old_findings};
+ghost use Rattle.manifest_schema.specs.Prelude.{get_member, table_view, kept, tree_of, manifest_findings, manifest_faults, manifest_ignored, manifest_unused, old_findings};
 ghost use Rattle.std.specs.Prelude.{◌≡◌, codes, map, IfOk};
 ghost use Rattle.manifest_value.specs.Faults.{path_of};
 ghost use Rattle.manifest_value.specs.Found.{fault_of, found};
@@ -29,12 +29,12 @@ fn old_findings<P: Metadata, W: Metadata>(alloc: Global, table: &Table) -> Found
             let inside = Package::<P>::findings(alloc, project)?;
             let left = entries_without(alloc, rest, &spelled!["project"])?;
             let found = Findings::none(alloc).and_under(alloc, "project", inside)?;
-            rows.and(found.and_unlisted(alloc, left)?)
+            rows.and(found.and_unused(alloc, left)?)
         }
         None => {
             let (package, _) = findings_of_closed::<Package<P>>(alloc, table)?;
             let left = entries_left_over::<Package<P>>(alloc, rest)?;
-            rows.and(package.and_unlisted(alloc, left)?)
+            rows.and(package.and_unused(alloc, left)?)
         }
     }
 }
@@ -110,11 +110,11 @@ pub fn ignored(alloc: Global, table: &Table) -> Result<Vec<SchemaFault>, AllocEr
 ///
 /// ```ignore
 /// let table = toml::table_from_str(alloc, "[package]\nname = 'a'\nedtion = '2021'")?;
-/// let keys = unlisted_keys(alloc, &table)?; // `package.edtion`
+/// let keys = unused_keys(alloc, &table)?; // `package.edtion`
 /// ```
-pub fn unlisted_keys(alloc: Global, table: &Table) -> Result<Vec<KeyPath>, AllocError>
+pub fn unused_keys(alloc: Global, table: &Table) -> Result<Vec<KeyPath>, AllocError>
     ensures { IfOk result (λ v. map path_of v.items
-        ≡ manifest_unlisted (tree_of kept) (tree_of kept) (table_view table.now)) }
+        ≡ manifest_unused (tree_of kept) (tree_of kept) (table_view table.now)) }
 {
-    inspect(alloc, table)?.unlisted(alloc)
+    inspect(alloc, table)?.unused(alloc)
 }

@@ -3,7 +3,7 @@
 //!
 //! Each function returns at once: it is there for its contract, a law of the definitions.
 
-ghost use Rattle.manifest_schema.specs.Prelude.{kept, tree_of, MeansOne, WrittenIsRead, AcceptedIsWellFormed, WrittenMeansTheSame, RewrittenMeansTheSame, RewrittenTwiceIsOnce, SameExactly, SameWrittenIsSame, FaultyMeansNothing, AcceptedOrFaulty, FindsEveryFault, FaultlessIfMeant, SameWithoutUnlisted, RewrittenWithoutUnlisted, FindsEachOnce, FindsNothingWritten, FindsNothingRewritten, IsClean, WritesEachRow, form, manifest_rows, OldWrittenIsRead, MeantDatesAreValid, WrittenDatesAreValid};
+ghost use Rattle.manifest_schema.specs.Prelude.{kept, tree_of, MeansOne, WrittenIsRead, AcceptedIsWellFormed, WrittenMeansTheSame, RewrittenMeansTheSame, RewrittenTwiceIsOnce, SameExactly, SameWrittenIsSame, FaultyMeansNothing, AcceptedOrFaulty, FindsEveryFault, FaultlessIfMeant, SameWithoutUnused, RewrittenWithoutUnused, FindsEachOnce, FindsNothingWritten, FindsNothingRewritten, IsClean, WritesEachRow, form, manifest_rows, OldWrittenIsRead, MeantDatesAreValid, WrittenDatesAreValid};
 ghost use Rattle.manifest_completion.specs.Laws.{CompletedIsFixed};
 ghost use Rattle.cargo_manifest.specs.Completes.{StoredDecides, StoredDecidesUnfound};
 ghost use Rattle.cargo_manifest.specs.Dates.{ParsedDatesAreValid, ReadDatesAreValid, CompletedDatesAreValid};
@@ -88,14 +88,14 @@ pub fn faultless_if_meant()
 
 /// A table whose keys ascend, as those of a document do, means the same manifest and has the same faults without the
 /// keys that nothing reads, with metadata kept as it is.
-pub fn same_without_unlisted()
-    ensures { SameWithoutUnlisted (tree_of kept) (tree_of kept) }
+pub fn same_without_unused()
+    ensures { SameWithoutUnused (tree_of kept) (tree_of kept) }
 {}
 
 /// An accepted table whose keys ascend, as do those of the tables inside, is rewritten to the same table with its
-/// unlisted keys and without them, with metadata of the type `Value`.
-pub fn rewritten_without_unlisted()
-    ensures { RewrittenWithoutUnlisted (tree_of kept) (tree_of kept) }
+/// unused keys and without them, with metadata of the type `Value`.
+pub fn rewritten_without_unused()
+    ensures { RewrittenWithoutUnused (tree_of kept) (tree_of kept) }
 {}
 
 /// Each place of a table whose keys ascend, as do those of the tables inside, is reported once, with metadata of the

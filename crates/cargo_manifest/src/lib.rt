@@ -30,7 +30,7 @@ mod reading;
 pub mod workspace;
 mod writing;
 
-pub use inspecting::{faults, ignored, inspect, inspect_with_metadata, unlisted_keys};
+pub use inspecting::{faults, ignored, inspect, inspect_with_metadata, unused_keys};
 pub use manifest::Manifest;
 pub use manifest_completion::{AbstractFilesystem, Filesystem, Listing, Listings};
 pub use manifest_parts::{

@@ -1,5 +1,5 @@
 -- What is found in the table of a document, as a value and as its tagged bytes: a tree in which each step stands once.
-use Rattle.manifest_schema.specs.Prelude.{Data, Members, string, integer, array, no_items, item, Text, Step, key, index, Cause, not_a_choice, manifest_findings, kept_metadata}
+use Rattle.manifest_schema.specs.Prelude.{Data, Members, string, integer, array, no_items, item, Text, Step, key, index, Cause, not_a_choice, manifest_findings}
 use Rattle.std.specs.Prelude.{◌≡◌, ◌⊎◌, ℕ, ℤ, pos, min, List, map, string_bytes}
 use Rattle.toml.specs.View.{items_of}
 use Rattle.manifest_bytes.specs.Encoded.{encoded}
@@ -9,6 +9,7 @@ use Rattle.manifest_value.specs.declared.findings.FindingNode.{FindingNode, fold
 use Rattle.manifest_value.specs.declared.findings.FindingNode.TheOpen.{FindingNode-F}
 use Rattle.manifest_answers.specs.Told.{cause_number}
 use Rattle.manifest_answers.specs.Read.{IsDocument, IsNoDocument}
+use Rattle.manifest_answers.specs.Unread.{no_metadata}
 use Rattle.manifest_answers.specs.Made.{Refusals, IsOutOfMemory, OfBytes, AreWithin, RefusesTagged}
 
 -- arrays of two and of three values
@@ -41,7 +42,7 @@ cause_data what c words = pair_data (integer (pos what)) (integer (pos (cause_nu
 abbrev pub node_data_step : FindingNode-F Data → Data
 node_data_step (FindingNode-F.Fault c words) = cause_data 0 (cause_of c) (choices_of words)
 node_data_step (FindingNode-F.Ignored c words) = cause_data 1 (cause_of c) (choices_of words)
-node_data_step (FindingNode-F.Unlisted k) = pair_data (integer (pos 2)) (string (string_bytes k))
+node_data_step (FindingNode-F.Unused k) = pair_data (integer (pos 2)) (string (string_bytes k))
 node_data_step (FindingNode-F.Within s inside) =
     triple_data (integer (pos 3)) (step_data (step_of s)) (array (items_of inside.items))
 
@@ -52,10 +53,10 @@ node_data = fold-FindingNode Data node_data_step
 abbrev pub nodes_data : List FindingNode → Data
 nodes_data nodes = array (items_of (map node_data nodes))
 
--- the nodes say all that is found in the table of a document, its metadata kept as it is, and no more
+-- the nodes say all that is found in the table of a document, whose metadata is not looked at, and no more
 abbrev pub SayAllFound : Members → List FindingNode → Type 0
 SayAllFound document nodes =
-    found_among nodes ≡ manifest_findings kept_metadata kept_metadata document
+    found_among nodes ≡ manifest_findings no_metadata no_metadata document
 
 -- THE TEXT is the tagged bytes of nodes that say all that is found in the table
 abbrev pub GivesFound : ℕ → Members → Text → Type 0

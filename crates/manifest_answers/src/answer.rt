@@ -142,7 +142,7 @@ pub fn respond_document(alloc: Global, bytes: &[u8], most: usize, out: &mut [u8]
 /// Answers a call for what is found in a TOML document as in a manifest, in the way of [`respond`].
 ///
 /// ```ignore
-/// let answer = respond_findings(alloc, b"name = 1", usize::MAX, &mut out); // status 0, and `[[0, 1, ['name']]]`
+/// let answer = respond_findings(alloc, b"name = 1", usize::MAX, &mut out); // status 0, and `[[3, 'name', [[0, 1]]]]`
 /// ```
 pub fn respond_findings(alloc: Global, bytes: &[u8], most: usize, out: &mut [u8]) -> Answer
     ensures { IsAnswered (GivesFindings most bytes.now) (RefusesFindings most bytes.now)

@@ -12,7 +12,9 @@ use crate::making::tagged_bytes;
 use crate::reading::document;
 use crate::refusal::Refusal;
 use crate::telling::cause_number;
-use cargo_manifest::{Cause, Choices, FindingNode, Step, Value, inspect};
+use cargo_manifest::{
+    Cause, Choices, FindingNode, Step, Unread, Value, inspect_with_metadata,
+};
 use std::alloc::{AllocError, Global};
 use toml::Table;
 
@@ -91,7 +93,7 @@ fn node_value(alloc: Global, node: &FindingNode) -> Result<Value, AllocError>
     match node {
         FindingNode::Fault(cause, choices) => cause_value(alloc, 0, *cause, choices),
         FindingNode::Ignored(cause, choices) => cause_value(alloc, 1, *cause, choices),
-        FindingNode::Unlisted(key) => {
+        FindingNode::Unused(key) => {
             let key = Value::string(alloc, key.as_str())?;
             pair(alloc, Value::Integer(2), key)
         }
@@ -124,12 +126,12 @@ fn bytes_of_nodes(alloc: Global, nodes: &[FindingNode], most: usize) -> Result<V
     tagged_bytes(alloc, &value, most)
 }
 
-/// The tagged bytes of what is found in the table of a document.
+/// The tagged bytes of what is found in the table of a document, whose metadata is not looked at.
 fn bytes_of_findings(alloc: Global, table: &Table, most: usize) -> Result<Vec<u8>, Refusal>
     ensures { let document = table_view table.now in
         IsMade (GivesFound most document) (RefusesFound most document) result }
 {
-    let found = inspect(alloc, table)?;
+    let found = inspect_with_metadata::<Unread, Unread>(alloc, table)?;
     bytes_of_nodes(alloc, found.nodes(), most)
 }
 

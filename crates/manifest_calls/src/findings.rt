@@ -25,7 +25,7 @@ fn line(alloc: Global, finding: &Finding) -> Result<String, AllocError> {
             let words = words(alloc, choices)?;
             format!(in alloc; "ignored: {fault}{words}\n")
         }
-        Finding::Unlisted(path) => format!(in alloc; "unlisted: {path}\n"),
+        Finding::Unused(path) => format!(in alloc; "unused: {path}\n"),
     }
 }
 

@@ -259,15 +259,14 @@ pub extern "C" fn manifest_document(
 
 /// Reads bytes as a TOML document, and writes what is found in it as in a manifest, as tagged bytes: every fault, what
 /// does not fit where that is no fault, and every key that nothing reads. They stand in the order of the rows of
-/// `docs/KEYS.md`, and such keys after the rows of their table.
+/// `docs/KEYS.md`, and such keys after the rows of their table. Metadata is not looked at, so no float in it is a fault.
 ///
-/// The tagged bytes are those of an array. It has an array for each finding: 0 for a fault, 1 for what is ignored, 2
-/// for a key that nothing reads; the number of the cause, as in `docs/LIBRARY.md`, or 0 for such a key; and the path, an
-/// array with a text for each key and a number for each index. A document with faults is accepted all the same: refused
-/// is what [`manifest_document`] refuses, and tagged bytes that are more than `most`.
+/// The tagged bytes are those of an array, a tree in which each step of a path stands once: `docs/LIBRARY.md` says which
+/// arrays it has. A document with faults is accepted all the same: refused is what [`manifest_document`] refuses, and
+/// tagged bytes that are more than `most`.
 ///
 /// ```ignore
-/// let answer = manifest_findings(alloc, b"name = 1", usize::MAX, &mut out); // status 0, and `[[0, 1, ['name']]]`
+/// let answer = manifest_findings(alloc, b"name = 1", usize::MAX, &mut out); // status 0, and `[[3, 'name', [[0, 1]]]]`
 /// ```
 #[unsafe(no_mangle)]
 pub extern "C" fn manifest_findings(

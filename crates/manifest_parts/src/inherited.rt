@@ -103,14 +103,14 @@ pub fn has_workspace(table: &Table) -> bool
     }
 }
 
-/// What is found in a table in place of a value that may be inherited: each key but `workspace` is unlisted where that
+/// What is found in a table in place of a value that may be inherited: each key but `workspace` is unused where that
 /// says that the value is inherited, and else the table is of the wrong kind.
 fn findings_beside_workspace<T: Plain>(alloc: Global, table: &Table) -> Found
     ensures { IfOk result (λ f. found f ≡ (inh T.kind).findings (data_of table.now)) }
 {
     if has_workspace(table) {
         let walk = walk(alloc, TableSource::Lent(table), &spelled!["workspace"])?;
-        Findings::none(alloc).and_unlisted(alloc, walk.rest)
+        Findings::none(alloc).and_unused(alloc, walk.rest)
     } else {
         Findings::here(alloc, Cause::WrongKind)
     }

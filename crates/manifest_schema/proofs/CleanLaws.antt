@@ -3,7 +3,7 @@ use Rattle.manifest_schema.specs.Prelude.{and_parts, Data, float, table, array, 
 use Rattle.std.proofs.Common.{◌≡◌, ℕ, suc, ℤ, Bool, true, false, ◌⊎◌, inl, inr, List, [], ◌∷◌, ◌++◌, Option, Some, None, IsTrue, refl, sym, ap, subst, true≢false}
 use Rattle.manifest_schema.specs.Kinds
 use Rattle.manifest_schema.specs.Kinds.{written_inh, inh_findings, split_findings}
-use Rattle.manifest_schema.specs.Findings.{Finding, found_behind, unlisted_keys, leniently}
+use Rattle.manifest_schema.specs.Findings.{Finding, found_behind, unused_keys, leniently}
 use Rattle.manifest_schema.proofs.KindLaws.{IsSplit}
 use Rattle.manifest_schema.proofs.FormLaws.{writes_each_row}
 
@@ -131,5 +131,5 @@ form_clean rows c d = record {
       let t = gets rows x in
       let ms = written_rows rows t in
       let h = writes_each_row rows d x g in
-      none_both (rows_clean (spelled rows) rows ms t c g h) (ap unlisted_keys (none_left (spelled rows) rows ms t h));
+      none_both (rows_clean (spelled rows) rows ms t c g h) (ap unused_keys (none_left (spelled rows) rows ms t h));
 }

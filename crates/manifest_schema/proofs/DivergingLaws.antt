@@ -3,7 +3,7 @@ use Rattle.manifest_schema.specs.Prelude.{and_parts, Data, float, string, intege
 use Rattle.std.proofs.Common.{◌≡◌, ℕ, suc, ◌≤◌, ℤ, Bool, true, false, ◌⊎◌, inl, inr, List, [], ◌∷◌, ◌++◌, Option, if◌then◌else◌, is_some, codes, refl, sym, ap, subst, arith}
 use Rattle.manifest_schema.specs.Kinds
 use Rattle.manifest_schema.specs.Kinds.{choice_findings, list_findings, map_findings, inh_findings, split_findings}
-use Rattle.manifest_schema.specs.Findings.{Finding, fault, ignored, unlisted, found_here, found_behind, unlisted_keys, leniently, found_at, found_paths, Diverge, DivergeFrom, AllDiverge, AllBegin}
+use Rattle.manifest_schema.specs.Findings.{Finding, fault, ignored, unused, found_here, found_behind, unused_keys, leniently, found_at, found_paths, Diverge, DivergeFrom, AllDiverge, AllBegin}
 use Rattle.manifest_schema.proofs.LeftOutLaws.{InOrder, in_order, order_beside}
 
 -- PATHS
@@ -78,13 +78,13 @@ paths-behind : (s : Step) (fs : List Finding) → found_paths (found_behind s fs
 paths-behind s [] = refl
 paths-behind s (fault p c ws ∷ fs) = ap (λ ps. (s ∷ p) ∷ ps) (paths-behind s fs)
 paths-behind s (ignored p c ws ∷ fs) = ap (λ ps. (s ∷ p) ∷ ps) (paths-behind s fs)
-paths-behind s (unlisted p ∷ fs) = ap (λ ps. (s ∷ p) ∷ ps) (paths-behind s fs)
+paths-behind s (unused p ∷ fs) = ap (λ ps. (s ∷ p) ∷ ps) (paths-behind s fs)
 
 paths-lenient : (fs : List Finding) → found_paths (leniently fs) ≡ found_paths fs
 paths-lenient [] = refl
 paths-lenient (fault p c ws ∷ fs) = ap (λ ps. p ∷ ps) (paths-lenient fs)
 paths-lenient (ignored p c ws ∷ fs) = ap (λ ps. p ∷ ps) (paths-lenient fs)
-paths-lenient (unlisted p ∷ fs) = ap (λ ps. p ∷ ps) (paths-lenient fs)
+paths-lenient (unused p ∷ fs) = ap (λ ps. p ∷ ps) (paths-lenient fs)
 
 -- the findings stand at paths that diverge, and that begin with steps of which P holds
 pub record DivergingBy (P : Step → Type 0) (fs : List Finding) : Type 0 where
@@ -146,12 +146,12 @@ pub entries_diverging : (find : Data → List Finding) → ((d : Data) → is_so
 entries_diverging find each no_members s = none_diverging
 entries_diverging find each (member k d ms) s = entry_diverging k d ms (find d) s.0 (each d s.1) (entries_diverging find each ms s.2)
 
-keys-found : (ms : Members) → unlisted_keys ms ≡ entry_findings (λ d. unlisted [] ∷ []) ms
+keys-found : (ms : Members) → unused_keys ms ≡ entry_findings (λ d. unused [] ∷ []) ms
 keys-found no_members = refl
-keys-found (member k d ms) = ap (λ fs. unlisted (key k ∷ []) ∷ fs) (keys-found ms)
+keys-found (member k d ms) = ap (λ fs. unused (key k ∷ []) ∷ fs) (keys-found ms)
 
-pub keys_diverging : (ms : Members) → InOrder ms → DivergingBy (KeyOf (HasKey ms)) (unlisted_keys ms)
-keys_diverging ms s = rw (keys-found ms) (entries_diverging (λ d. unlisted [] ∷ []) (λ d s. (tt, tt)) ms s)
+pub keys_diverging : (ms : Members) → InOrder ms → DivergingBy (KeyOf (HasKey ms)) (unused_keys ms)
+keys_diverging ms s = rw (keys-found ms) (entries_diverging (λ d. unused [] ∷ []) (λ d s. (tt, tt)) ms s)
 
 -- KINDS
 pub text_diverging : IsDiverging text
@@ -213,7 +213,7 @@ module _ {A : Type 0} {K : Kinds.Kind A} (T : IsDiverging K) where
   pub tree_diverging : IsDiverging (tree_of K)
   tree_diverging = record { diverging = T.diverging }
 
-  beside_diverging : (b : Bool) (ms : Members) → InOrder ms → AllDiverge (found_paths (if b then unlisted_keys ms else found_here wrong_kind))
+  beside_diverging : (b : Bool) (ms : Members) → InOrder ms → AllDiverge (found_paths (if b then unused_keys ms else found_here wrong_kind))
   beside_diverging true ms s = (keys_diverging ms s).diverge
   beside_diverging false ms s = (tt, tt)
 

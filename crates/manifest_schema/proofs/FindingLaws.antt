@@ -1,7 +1,7 @@
 -- Lists of findings: which faults they have, put together and one step further out.
 use Rattle.std.proofs.Common.{◌≡◌, Bool, true, false, ◌⊎◌, inl, inr, List, [], ◌∷◌, ◌++◌, Option, Some, None, ◌↔◌, refl, sym, ap, ◌∙◌, true≢false, if◌then◌else◌, IsFalse, is_some}
 use Rattle.manifest_schema.specs.Prelude.{none-some, Members, Text, no_members, member, Path, Cause, Step, Faults, no_fault, itself, behind, ReadOrFaulty}
-use Rattle.manifest_schema.specs.Findings.{Finding, fault, ignored, unlisted, found_here, found_behind, unlisted_keys, leniently, faults_of, among, IsFaultless, FindsAll}
+use Rattle.manifest_schema.specs.Findings.{Finding, fault, ignored, unused, found_here, found_behind, unused_keys, leniently, faults_of, among, IsFaultless, FindsAll}
 
 -- ONE FAULT, OR NONE
 pub faultless_finds : (fs : List Finding) → IsFaultless fs → FindsAll fs no_fault
@@ -29,7 +29,7 @@ behind_to s (fault q e ws ∷ fs) p c h = elim h [
   | inr there ↦ let b = behind_to s fs p c there in (b.0, b.1, inr b.2)
 ]
 behind_to s (ignored q e ws ∷ fs) p c h = behind_to s fs p c h
-behind_to s (unlisted q ∷ fs) p c h = behind_to s fs p c h
+behind_to s (unused q ∷ fs) p c h = behind_to s fs p c h
 
 pub behind_from : (s : Step) (fs : List Finding) (p q : Path) (c : Cause) → p ≡ s ∷ q → among (faults_of fs) q c → among (faults_of (found_behind s fs)) p c
 behind_from s [] p q c e h = h
@@ -38,7 +38,7 @@ behind_from s (fault r f ws ∷ fs) p q c e h = elim h [
   | inr there ↦ inr (behind_from s fs p q c e there)
 ]
 behind_from s (ignored r f ws ∷ fs) p q c e h = behind_from s fs p q c e h
-behind_from s (unlisted r ∷ fs) p q c e h = behind_from s fs p q c e h
+behind_from s (unused r ∷ fs) p q c e h = behind_from s fs p q c e h
 
 pub finds_behind : (s : Step) (fs : List Finding) (F : Faults) → FindsAll fs F → FindsAll (found_behind s fs) (behind s F)
 finds_behind s fs F t p c = (
@@ -54,7 +54,7 @@ pub faults-append : (fs gs : List Finding) → faults_of (fs ++ gs) ≡ faults_o
 faults-append [] gs = refl
 faults-append (fault p c ws ∷ fs) gs = ap (λ t. (p, c) ∷ t) (faults-append fs gs)
 faults-append (ignored p c ws ∷ fs) gs = faults-append fs gs
-faults-append (unlisted p ∷ fs) gs = faults-append fs gs
+faults-append (unused p ∷ fs) gs = faults-append fs gs
 
 pub append_to : (fs gs : List Finding) (p : Path) (c : Cause) → among (faults_of (fs ++ gs)) p c → among (faults_of fs) p c ⊎ among (faults_of gs) p c
 append_to [] gs p c h = inr h
@@ -63,19 +63,19 @@ append_to (fault q e ws ∷ fs) gs p c h = elim h [
   | inr there ↦ elim (append_to fs gs p c there) [ inl a ↦ inl (inr a) | inr b ↦ inr b ]
 ]
 append_to (ignored q e ws ∷ fs) gs p c h = append_to fs gs p c h
-append_to (unlisted q ∷ fs) gs p c h = append_to fs gs p c h
+append_to (unused q ∷ fs) gs p c h = append_to fs gs p c h
 
 pub append_first : (fs gs : List Finding) (p : Path) (c : Cause) → among (faults_of fs) p c → among (faults_of (fs ++ gs)) p c
 append_first [] gs p c h = absurd h
 append_first (fault q e ws ∷ fs) gs p c h = elim h [ inl here ↦ inl here | inr there ↦ inr (append_first fs gs p c there) ]
 append_first (ignored q e ws ∷ fs) gs p c h = append_first fs gs p c h
-append_first (unlisted q ∷ fs) gs p c h = append_first fs gs p c h
+append_first (unused q ∷ fs) gs p c h = append_first fs gs p c h
 
 pub append_second : (fs gs : List Finding) (p : Path) (c : Cause) → among (faults_of gs) p c → among (faults_of (fs ++ gs)) p c
 append_second [] gs p c h = h
 append_second (fault q e ws ∷ fs) gs p c h = inr (append_second fs gs p c h)
 append_second (ignored q e ws ∷ fs) gs p c h = append_second fs gs p c h
-append_second (unlisted q ∷ fs) gs p c h = append_second fs gs p c h
+append_second (unused q ∷ fs) gs p c h = append_second fs gs p c h
 
 pub finds_both : (fs gs : List Finding) (F G : Faults) → FindsAll fs F → FindsAll gs G → FindsAll (fs ++ gs) (λ p c. F p c ⊎ G p c)
 finds_both fs gs F G t u p c = (
@@ -88,21 +88,21 @@ pub append_faultless : (fs gs : List Finding) → IsFaultless gs → faults_of (
 append_faultless [] gs e = e
 append_faultless (fault p c ws ∷ fs) gs e = ap (λ t. (p, c) ∷ t) (append_faultless fs gs e)
 append_faultless (ignored p c ws ∷ fs) gs e = append_faultless fs gs e
-append_faultless (unlisted p ∷ fs) gs e = append_faultless fs gs e
+append_faultless (unused p ∷ fs) gs e = append_faultless fs gs e
 
 pub finds_beside : (fs gs : List Finding) (F : Faults) → IsFaultless gs → FindsAll fs F → FindsAll (fs ++ gs) F
 finds_beside fs gs F e t p c = let same = append_faultless fs gs e in (λ h. (t p c).0 (rw same at h), λ f. rw same ((t p c).1 f))
 
 -- FINDINGS WITHOUT A FAULT
-pub unlisted_faultless : (ms : Members) → IsFaultless (unlisted_keys ms)
-unlisted_faultless no_members = refl
-unlisted_faultless (member k d ms) = unlisted_faultless ms
+pub unused_faultless : (ms : Members) → IsFaultless (unused_keys ms)
+unused_faultless no_members = refl
+unused_faultless (member k d ms) = unused_faultless ms
 
 pub lenient_faultless : (fs : List Finding) → IsFaultless (leniently fs)
 lenient_faultless [] = refl
 lenient_faultless (fault p c ws ∷ fs) = lenient_faultless fs
 lenient_faultless (ignored p c ws ∷ fs) = lenient_faultless fs
-lenient_faultless (unlisted p ∷ fs) = lenient_faultless fs
+lenient_faultless (unused p ∷ fs) = lenient_faultless fs
 
 -- NO FAULT IS FOUND exactly where something is read
 none_among : (fs : List (Path × Cause)) → ((p : Path) (c : Cause) → among fs p c → ⊥) → fs ≡ []

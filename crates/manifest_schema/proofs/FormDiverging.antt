@@ -2,7 +2,7 @@
 use Rattle.manifest_schema.specs.Prelude.{and_parts, table, Members, Text, Spellings, only, both, first, Slot, one, at, slot_key, IsSlotSorted, is_among, without, has_entry, Need, Rows, no_more, others, ◌⨾◌, spelled, differ, distinct, is_closed, form, findings_beside, left_beside, form_findings, AllDiverge, found_paths, IsDiverging, IsDivergingNeed, AreDiverging}
 use Rattle.std.proofs.Common.{◌≡◌, true, false, inl, inr, List, IsTrue, refl, sym, ◌∙◌, true≢false}
 use Rattle.manifest_schema.specs.Needs
-use Rattle.manifest_schema.specs.Findings.{unlisted_keys}
+use Rattle.manifest_schema.specs.Findings.{unused_keys}
 use Rattle.manifest_schema.proofs.LeftOutLaws.{InOrder, in_order, order_beside, entry_beside, value_sorted}
 use Rattle.manifest_schema.proofs.FormTidy.{HasSpelling, OfOne, slot_of, Owns, Within, within_later, owned_once, owned_spelled}
 use Rattle.manifest_schema.proofs.DivergingLaws.{DivergingBy, none_diverging, weaker_diverging, both_diverging, begin_weaker, KeyOf, key_weaker, key_apart, entries_diverging, keys_diverging}
@@ -34,7 +34,7 @@ module _ (ms : Members) (s : InOrder ms) where
         let (new, more) = and_parts (differ r.spellings (spelled rs)) (distinct rs) d in
         both_diverging (row_diverging r.need r.spellings t.0) (rows_diverging rs t.1 more (within_later named r rs w)) (key_weaker (λ k e. inl e)) (key_weaker (λ k o. inr o)) (key_apart (λ k e o. owned_once named r rs k new w o e))
 
-    pub left_diverging : (rows : Rows A) → DivergingBy (KeyOf (λ k. (is_among named k ≡ false) × (is_closed rows ≡ true))) (unlisted_keys (left_beside named rows ms))
+    pub left_diverging : (rows : Rows A) → DivergingBy (KeyOf (λ k. (is_among named k ≡ false) × (is_closed rows ≡ true))) (unused_keys (left_beside named rows ms))
     left_diverging no_more = weaker_diverging (key_weaker (λ k h. ((entry_beside named k h.0 ms h.1).1, refl))) (keys_diverging (without named ms) (order_beside named ms s))
     left_diverging (others get K) = none_diverging
     left_diverging (r ⨾ rs) = left_diverging rs

@@ -4,9 +4,9 @@ use Rattle.std.proofs.Common.{◌≡◌, Bool, true, false, not, ◌||◌, if◌
 use Rattle.manifest_schema.specs.Kinds
 use Rattle.manifest_schema.specs.Forms.{reads_form}
 use Rattle.manifest_schema.specs.Paths.{wrong_kind}
-use Rattle.manifest_schema.specs.Findings.{unlisted_keys, FindsAll}
+use Rattle.manifest_schema.specs.Findings.{unused_keys, FindsAll}
 use Rattle.manifest_schema.specs.Forms.{findings_beside, row_findings, left_over, form_findings}
-use Rattle.manifest_schema.proofs.FindingLaws.{finds_nothing, finds_here, finds_both, finds_beside, unlisted_faultless}
+use Rattle.manifest_schema.proofs.FindingLaws.{finds_nothing, finds_here, finds_both, finds_beside, unused_faultless}
 use Rattle.manifest_schema.proofs.KindLaws.{entries_single, entry_apart, entries_well, entries_back, entries_exact}
 use Rattle.manifest_schema.proofs.TableLaws.{same_key-self, same_key-false, not_among_head, not_among_tail, turned, get-member_other, get-put_same, get-put_other, get-put_some_other, without-put_some}
 
@@ -170,7 +170,7 @@ module _ {A : Type 0} (rows : Rows A) (L : AreLawful rows) (B : IsBuilt rows) (D
   form_well _ x a = absurd a
 
   form_exact : (d : Data) → FindsAll (form_findings rows d) (faulty_form rows d)
-  form_exact (table ms) = finds_beside (row_findings rows ms) (unlisted_keys (left_over rows ms)) (unfit_beside (spelled rows) rows ms) (unlisted_faultless (left_over rows ms)) (rows_exact (spelled rows) rows ms L)
+  form_exact (table ms) = finds_beside (row_findings rows ms) (unused_keys (left_over rows ms)) (unfit_beside (spelled rows) rows ms) (unused_faultless (left_over rows ms)) (rows_exact (spelled rows) rows ms L)
   form_exact _ = finds_here wrong_kind
 
   pub form_lawful : IsLawful (form rows)

@@ -1,13 +1,13 @@
 -- Without the keys that nothing reads a table has the same readings and the same faults, by each form.
-use Rattle.manifest_schema.specs.Prelude.{and_parts, cases_Bool, not-true, Data, table, Members, get_member, same_key, is_sorted, members_are_sorted, Text, Path, key, Spellings, only, both, Slot, absent, one, clash, slot, slot_of_two, at, is_among, without, has_entry, Need, Rows, no_more, others, ◌⨾◌, gets, spell, spelled, differ, distinct, is_closed, fits_beside, unfit_beside, faulty_form, form, findings_beside, row_findings, left_beside, left_over, form_findings, from_step, ends_here, left_out, left_out_members, Alike, IsTidy, IsTidyNeed, AreTidy, slot_findings, UnlistedIfNoRow}
+use Rattle.manifest_schema.specs.Prelude.{and_parts, cases_Bool, not-true, Data, table, Members, get_member, same_key, is_sorted, members_are_sorted, Text, Path, key, Spellings, only, both, Slot, absent, one, clash, slot, slot_of_two, at, is_among, without, has_entry, Need, Rows, no_more, others, ◌⨾◌, gets, spell, spelled, differ, distinct, is_closed, fits_beside, unfit_beside, faulty_form, form, findings_beside, row_findings, left_beside, left_over, form_findings, from_step, ends_here, left_out, left_out_members, Alike, IsTidy, IsTidyNeed, AreTidy, slot_findings, UnusedIfNoRow}
 use Rattle.std.proofs.Common.{◌≡◌, true, false, not, ◌⊎◌, inl, inr, List, [], ◌∷◌, Option, Some, None, IsTrue, refl, sym, ap, ◌∙◌, subst, true≢false}
 use Rattle.manifest_schema.specs.Needs
 use Rattle.manifest_schema.specs.Forms
 use Rattle.manifest_schema.specs.Forms.{reads_form}
-use Rattle.manifest_schema.specs.Findings.{Finding, unlisted_keys, unlisted_of}
+use Rattle.manifest_schema.specs.Findings.{Finding, unused_keys, unused_of}
 use Rattle.manifest_schema.proofs.TableLaws.{same_key-self, same_key-true, same_key-false}
 use Rattle.manifest_schema.proofs.FormLaws.{among_here, among_there, later_among}
-use Rattle.manifest_schema.proofs.LeftOutLaws.{unlisted_at, at-behind, at-other, at_first, at_second, Inner, inner_append, inner_behind, inner_keys, Stays, stays_append, stays_behind, named_not_found, key_found, left_value, get-left, without-left, entry_found, entry_beside, kept_beside, InOrder, in_order, order_beside, value_sorted}
+use Rattle.manifest_schema.proofs.LeftOutLaws.{unused_at, at-behind, at-other, at_first, at_second, Inner, inner_append, inner_behind, inner_keys, Stays, stays_append, stays_behind, named_not_found, key_found, left_value, get-left, without-left, entry_found, entry_beside, kept_beside, InOrder, in_order, order_beside, value_sorted}
 use Rattle.manifest_schema.proofs.TidyLaws.{both_ways, either_way, alike, TidyAt, tidy_by, none_beside, entries_same, entries_inner}
 
 -- SPELLINGS
@@ -84,14 +84,14 @@ module _ {C : Type 0} (n : Needs.Need C) (T : IsTidyNeed n) (names : Spellings) 
     abbrev InTable : Slot → Type 0
     InTable = OfOne (λ k d. HasSpelling names k × has_entry k d ms)
 
-    slot_vanish : (s : Slot) (k : Text) → InTable s → ((d : Data) → has_entry k d ms → HasSpelling names k → ⊥) → unlisted_at (key k) (n.findings names s) ≡ []
+    slot_vanish : (s : Slot) (k : Text) → InTable s → ((d : Data) → has_entry k d ms → HasSpelling names k → ⊥) → unused_at (key k) (n.findings names s) ≡ []
     slot_vanish s k h none = ap (from_step (key k)) (T.found names s) ∙ by_slot s h
       where
-        by_slot : (s : Slot) → InTable s → unlisted_at (key k) (slot_findings T.value s) ≡ []
+        by_slot : (s : Slot) → InTable s → unused_at (key k) (slot_findings T.value s) ≡ []
         by_slot (one j d) h = at-other (key k) (key j) (T.value d) (same_key-false k j (λ e. none d (subst (λ l. has_entry l d ms) (sym e) h.1) (subst (HasSpelling names) (sym e) h.0)))
         by_slot _ h = refl
 
-    slot_same : (ps : List Path) (s : Slot) → InTable s → InOrder ms → ((k : Text) → HasSpelling names k → from_step (key k) ps ≡ unlisted_at (key k) (n.findings names s))
+    slot_same : (ps : List Path) (s : Slot) → InTable s → InOrder ms → ((k : Text) → HasSpelling names k → from_step (key k) ps ≡ unused_at (key k) (n.findings names s))
         → Alike (n.meets (slot_left ps s)) (n.faulty names (slot_left ps s)) (n.meets s) (n.faulty names s)
     slot_same ps absent h s g = alike
     slot_same ps clash h s g = alike
@@ -134,11 +134,11 @@ module _ {A : Type 0} (named : List Text) where
     abbrev all : Rows A → List Finding
     all rows = findings_beside named rows ms
 
-    row_vanish : (r : Forms.Row A) (k : Text) → IsTidyNeed r.need → ((d : Data) → has_entry k d ms → HasSpelling r.spellings k → ⊥) → unlisted_at (key k) (own r) ≡ []
+    row_vanish : (r : Forms.Row A) (k : Text) → IsTidyNeed r.need → ((d : Data) → has_entry k d ms → HasSpelling r.spellings k → ⊥) → unused_at (key k) (own r) ≡ []
     row_vanish r k t none = slot_vanish r.need t r.spellings ms (at r.spellings ms) k (slot_of r.spellings ms) none
 
     -- nothing is found under a key that the rows do not read, nor under one that is absent
-    pub rows_vanish : (rows : Rows A) (k : Text) → AreTidy rows → ((d : Data) → has_entry k d ms → Owns rows k → ⊥) → unlisted_at (key k) (all rows) ≡ []
+    pub rows_vanish : (rows : Rows A) (k : Text) → AreTidy rows → ((d : Data) → has_entry k d ms → Owns rows k → ⊥) → unused_at (key k) (all rows) ≡ []
     rows_vanish no_more k t none = refl
     rows_vanish (others get K) k t none = none_beside K k (without named ms) (λ d h. let (a, b) = entry_beside named k d ms h in none d a b)
     rows_vanish (r ⨾ rs) k t none = at_second (key k) (own r) (all rs) (row_vanish r k t.0 (λ d h e. none d h (inl e))) ∙ rows_vanish rs k t.1 (λ d h o. none d h (inr o))
@@ -153,7 +153,7 @@ module _ {A : Type 0} (named : List Text) where
 
     -- these paths go by each key that the rows read as their own do
     abbrev pub Agrees : Rows A → List Path → Type 0
-    Agrees rows ps = (k : Text) → Owns rows k → from_step (key k) ps ≡ unlisted_at (key k) (all rows)
+    Agrees rows ps = (k : Text) → Owns rows k → from_step (key k) ps ≡ unused_at (key k) (all rows)
 
     pub rows_same : (rows : Rows A) (ps : List Path) → AreTidy rows → distinct rows ≡ true → Within rows → InOrder ms → Agrees rows ps
         → Alike (fits_beside named rows (left_out_members ps ms)) (unfit_beside named rows (left_out_members ps ms)) (fits_beside named rows ms) (unfit_beside named rows ms)
@@ -161,7 +161,7 @@ module _ {A : Type 0} (named : List Text) where
     rows_same (others get K) ps t d w s g = rw (without-left ps named ms) (entries_same t ps (without named ms) (λ k d h. g k (entry_beside named k d ms h).1) (order_beside named ms s))
     rows_same (r ⨾ rs) ps t d w s g =
         let (new, more) = and_parts (differ r.spellings (spelled rs)) (distinct rs) d in
-        let first : (k : Text) → HasSpelling r.spellings k → from_step (key k) ps ≡ unlisted_at (key k) (own r) =
+        let first : (k : Text) → HasSpelling r.spellings k → from_step (key k) ps ≡ unused_at (key k) (own r) =
         λ k e. g k (inl e) ∙ at_first (key k) (own r) (all rs) (rows_vanish rs k t.1 (λ d h o. owned_once r rs k new w o e)) in
         let rest : Agrees rs ps = λ k o. g k (inr o) ∙ at_second (key k) (own r) (all rs) (row_vanish r k t.0 (λ d h e. owned_once r rs k new w o e)) in
         let left = at-left r.spellings ps ms (λ k e. ap ends_here (first k e) ∙ (slot_inner r.need t.0 r.spellings (at r.spellings ms)).1 k) in
@@ -170,7 +170,7 @@ module _ {A : Type 0} (named : List Text) where
         rw left (λ x. both_ways (here.0 x.0) (there.0 x.1), λ p c. either_way (here.1 p c) (there.1 p c))
 
     -- none of the keys that are left over is one that the rows read
-    pub left_vanish : (rows : Rows A) (k : Text) → Within rows → (is_among named k ≡ true) ⊎ Owns rows k → unlisted_at (key k) (unlisted_keys (left_beside named rows ms)) ≡ []
+    pub left_vanish : (rows : Rows A) (k : Text) → Within rows → (is_among named k ≡ true) ⊎ Owns rows k → unused_at (key k) (unused_keys (left_beside named rows ms)) ≡ []
     left_vanish no_more k w (inl h) = named_not_found named k ms h
     left_vanish no_more k w (inr o) = absurd o
     left_vanish (others get K) k w h = refl
@@ -186,14 +186,14 @@ module _ {A : Type 0} (named : List Text) where
 -- THE FORM
 module _ {A : Type 0} (rows : Rows A) (T : AreTidy rows) where
   abbrev left : Members → List Finding
-  left ms = unlisted_keys (left_over rows ms)
+  left ms = unused_keys (left_over rows ms)
 
   -- a key that a row has stays
   pub key_stays : (ms : Members) (k : Text) → is_among (spelled rows) k ≡ true → Stays (key k) (form_findings rows (table ms))
   key_stays ms k h = ap ends_here (at_first (key k) (row_findings rows ms) (left ms) (left_vanish (spelled rows) ms rows k (λ k h. h) (inl h))) ∙ (rows_inner (spelled rows) ms rows T).1 k
 
-  pub unlisted_if_no_row : UnlistedIfNoRow rows
-  unlisted_if_no_row c ms k d h = elim (cases_Bool (is_among (spelled rows) k)) [
+  pub unused_if_no_row : UnusedIfNoRow rows
+  unused_if_no_row c ms k d h = elim (cases_Bool (is_among (spelled rows) k)) [
     | inl e ↦ key_stays ms k e ∙ ap not (sym e)
     | inr e ↦
         ap ends_here (at_second (key k) (row_findings rows ms) (left ms) (rows_vanish (spelled rows) ms rows k T (λ d h o. true≢false (sym (owned_spelled (spelled rows) rows k c o) ∙ e))))
@@ -206,7 +206,7 @@ module _ {A : Type 0} (rows : Rows A) (T : AreTidy rows) where
     table_same ps ms s g = let (a, b) = rows_same (spelled rows) ms rows ps T D (λ k h. h) (in_order ms s) g in (λ x. a (gets rows x), b)
 
     form_same : (d : Data) → is_sorted d ≡ true → TidyAt (form rows) d
-    form_same (table ms) s = table_same (unlisted_of (form_findings rows (table ms))) ms s (λ k o. at_first (key k) (row_findings rows ms) (left ms) (left_vanish (spelled rows) ms rows k (λ k h. h) (inr o)))
+    form_same (table ms) s = table_same (unused_of (form_findings rows (table ms))) ms s (λ k o. at_first (key k) (row_findings rows ms) (left ms) (left_vanish (spelled rows) ms rows k (λ k h. h) (inr o)))
     form_same _ s = alike
 
     pub form_tidy : IsTidy (form rows)

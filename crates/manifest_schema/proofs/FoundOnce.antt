@@ -2,7 +2,7 @@
 use Rattle.manifest_schema.specs.Prelude.{and_parts, cases_Bool, false≢true, not-true, or_cases, or_parts, Data, table, Members, get_member, same_key, members_are_sorted, Text, Step, key, index, Spellings, only, both, absent, at, is_among, without, Kind, Rows, no_more, others, ◌⨾◌, spelled, form, findings_beside, row_findings, left_over, package_rows, manifest_rows, Package, Manifest, has_header, is_empty, findings_by, old_findings, FindsEachOnce, found_paths, AllDiverge, AllBegin, IsDiverging, IsDivergingNeed, AreDiverging}
 use Rattle.std.proofs.Common.{◌≡◌, Bool, true, false, not, ◌&&◌, ◌||◌, inl, inr, List, [], ◌∷◌, Option, Some, None, is_some, codes, refl, sym, ap, ◌∙◌, subst, true≢false}
 use Rattle.manifest_schema.specs.Needs
-use Rattle.manifest_schema.specs.Findings.{Finding, unlisted_keys}
+use Rattle.manifest_schema.specs.Findings.{Finding, unused_keys}
 use Rattle.manifest_schema.proofs.TableLaws.{same_key-self, same_key-true}
 use Rattle.manifest_schema.proofs.LeftOutLaws.{InOrder, in_order, order_beside, entry_beside, entry_found, value_sorted}
 use Rattle.manifest_schema.proofs.FormTidy.{HasSpelling, owned_spelled, left-closed}
@@ -10,7 +10,7 @@ use Rattle.manifest_schema.proofs.DivergingLaws.{DivergingBy, weaker_diverging, 
 use Rattle.manifest_schema.proofs.FormDiverging.{row_diverging, rows_diverging}
 use Rattle.manifest_schema.proofs.PartTidy.{package_distinct, manifest_distinct}
 use Rattle.manifest_schema.proofs.ManifestLaws.{package_diverging, package_rows_diverging, manifest_diverging, manifest_rows_diverging}
-use Rattle.manifest_schema.proofs.UnlistedLaws.{shared_is, known, closed, none_of}
+use Rattle.manifest_schema.proofs.UnusedLaws.{shared_is, known, closed, none_of}
 
 -- A KEY THAT IS ABSENT: no path begins with it, if its row finds nothing then
 abbrev is_quiet : Text → Spellings → List Finding → Bool
@@ -77,7 +77,7 @@ module _ {K W : Kind Data} (k : IsDiverging K) (w : IsDiverging W) (ms : Members
   left : left_over rows ms ≡ without (spelled rows) ms
   left = left-closed (spelled rows) ms rows (closed K W).1
 
-  left_keys : (names : List Text) → DivergingBy (KeyOf (Left names)) (unlisted_keys (without names (left_over rows ms)))
+  left_keys : (names : List Text) → DivergingBy (KeyOf (Left names)) (unused_keys (without names (left_over rows ms)))
   left_keys names = rw left (weaker_diverging (key_weaker (λ j h.
       let (there, a) = entry_beside names j h.0 (without (spelled rows) ms) h.1 in
       (a, (entry_beside (spelled rows) j h.0 ms there).1)))

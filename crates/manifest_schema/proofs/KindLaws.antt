@@ -3,8 +3,8 @@ use Rattle.manifest_schema.specs.Prelude.{false≢true, none-some, same_Some, Da
 use Rattle.std.proofs.Common.{◌≡◌, ◌↔◌, ℕ, zero, suc, ◌+◌, ℤ, Bool, true, false, ◌⊎◌, inl, inr, List, [], ◌∷◌, Option, Some, IsTrue, IsFalse, if◌then◌else◌, codes, refl, sym, ap, ◌∙◌, true≢false, arith}
 use Rattle.manifest_schema.specs.Kinds
 use Rattle.manifest_schema.specs.Findings.{Finding, found_behind, FindsAll}
-use Rattle.manifest_schema.proofs.FindingLaws.{finds_nothing, finds_here, finds_unless, finds_unless_some, finds_behind, finds_both, faultless_finds, unlisted_faultless}
-use Rattle.manifest_schema.specs.Findings.{found_here, unlisted_keys}
+use Rattle.manifest_schema.proofs.FindingLaws.{finds_nothing, finds_here, finds_unless, finds_unless_some, finds_behind, finds_both, faultless_finds, unused_faultless}
+use Rattle.manifest_schema.specs.Findings.{found_here, unused_keys}
 use Rattle.manifest_schema.specs.Kinds.{reads_text, not_text, reads_flag, not_flag, reads_whole, not_whole, reads_truth, not_truth, reads_list, faulty_list, reads_map, written_inh, metadata, text_findings, flag_findings, whole_findings, truth_findings, choice_findings, item_findings, list_findings, entry_findings, map_findings, inh_findings, split_findings}
 
 -- TEXT
@@ -269,8 +269,8 @@ module _ {A : Type 0} {K : Kinds.Kind A} (L : IsLawful K) (N : IsPlain K) where
   inh_back inherited g = refl
   inh_back (local x) g = L.back x g
 
-  workspace_exact : (b : Bool) (ms : Members) → FindsAll (if b then unlisted_keys ms else found_here wrong_kind) (λ p c. IsFalse b × itself wrong_kind p c)
-  workspace_exact true ms p c = let t = faultless_finds (unlisted_keys ms) (unlisted_faultless ms) p c in (λ h. absurd (t.0 h), λ f. absurd (true≢false f.0))
+  workspace_exact : (b : Bool) (ms : Members) → FindsAll (if b then unused_keys ms else found_here wrong_kind) (λ p c. IsFalse b × itself wrong_kind p c)
+  workspace_exact true ms p c = let t = faultless_finds (unused_keys ms) (unused_faultless ms) p c in (λ h. absurd (t.0 h), λ f. absurd (true≢false f.0))
   workspace_exact false ms p c = finds_unless false wrong_kind p c
 
   inh_exact : (d : Data) → FindsAll (inh_findings K.findings d) (faulty_inh K d)

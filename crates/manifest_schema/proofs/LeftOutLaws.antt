@@ -1,58 +1,58 @@
 -- The paths of the keys that nothing reads, by their first step; and what a table is without these keys.
 use Rattle.manifest_schema.specs.Prelude.{and_parts, append-nil, cases_Bool, is_eq, is_lt, nat_list_cmp_total, slice_cmp, none-some, Data, array, table, Items, no_items, item, Members, no_members, member, get_member, same_key, is_before, is_sorted, members_are_sorted, Text, Path, Step, key, is_among, without, has_entry, same_step, from_step, ends_here, left_out, left_out_items, left_out_members}
 use Rattle.std.proofs.Common.{◌≡◌, ℕ, suc, Bool, true, false, ◌&&◌, ◌⊎◌, if◌then◌else◌, List, [], ◌∷◌, ◌++◌, Option, Some, None, Ordering, Less, Equal, Greater, nat_cmp, inl, inr, refl, sym, ap, ap₂, ◌∙◌, subst, true≢false}
-use Rattle.manifest_schema.specs.Findings.{Finding, fault, ignored, unlisted, found_behind, unlisted_keys, leniently, unlisted_of}
+use Rattle.manifest_schema.specs.Findings.{Finding, fault, ignored, unused, found_behind, unused_keys, leniently, unused_of}
 use Rattle.manifest_schema.proofs.TableLaws.{same_key-self, same_key-true, same_key-false, get-member_other, get-member_same}
 
 -- THE PATHS AFTER A STEP, of the keys that nothing reads
-abbrev pub unlisted_at : Step → List Finding → List Path
-unlisted_at s fs = from_step s (unlisted_of fs)
+abbrev pub unused_at : Step → List Finding → List Path
+unused_at s fs = from_step s (unused_of fs)
 
-unlisted-append : (fs gs : List Finding) → unlisted_of (fs ++ gs) ≡ unlisted_of fs ++ unlisted_of gs
-unlisted-append [] gs = refl
-unlisted-append (fault p c ws ∷ fs) gs = unlisted-append fs gs
-unlisted-append (ignored p c ws ∷ fs) gs = unlisted-append fs gs
-unlisted-append (unlisted p ∷ fs) gs = ap (λ ps. p ∷ ps) (unlisted-append fs gs)
+unused-append : (fs gs : List Finding) → unused_of (fs ++ gs) ≡ unused_of fs ++ unused_of gs
+unused-append [] gs = refl
+unused-append (fault p c ws ∷ fs) gs = unused-append fs gs
+unused-append (ignored p c ws ∷ fs) gs = unused-append fs gs
+unused-append (unused p ∷ fs) gs = ap (λ ps. p ∷ ps) (unused-append fs gs)
 
 from-append : (s : Step) (ps qs : List Path) → from_step s (ps ++ qs) ≡ from_step s ps ++ from_step s qs
 from-append s [] qs = refl
 from-append s ([] ∷ ps) qs = from-append s ps qs
 from-append s ((t ∷ p) ∷ ps) qs = elim (cases_Bool (same_step s t)) [ inl e ↦ rw e (ap (λ r. p ∷ r) (from-append s ps qs)) | inr e ↦ rw e (from-append s ps qs) ]
 
-at-append : (s : Step) (fs gs : List Finding) → unlisted_at s (fs ++ gs) ≡ unlisted_at s fs ++ unlisted_at s gs
-at-append s fs gs = ap (from_step s) (unlisted-append fs gs) ∙ from-append s (unlisted_of fs) (unlisted_of gs)
+at-append : (s : Step) (fs gs : List Finding) → unused_at s (fs ++ gs) ≡ unused_at s fs ++ unused_at s gs
+at-append s fs gs = ap (from_step s) (unused-append fs gs) ∙ from-append s (unused_of fs) (unused_of gs)
 
 -- those of the first findings, or of the ones after them
-pub at_first : (s : Step) (fs gs : List Finding) → unlisted_at s gs ≡ [] → unlisted_at s (fs ++ gs) ≡ unlisted_at s fs
-at_first s fs gs e = at-append s fs gs ∙ ap (λ ps. unlisted_at s fs ++ ps) e ∙ append-nil (unlisted_at s fs)
+pub at_first : (s : Step) (fs gs : List Finding) → unused_at s gs ≡ [] → unused_at s (fs ++ gs) ≡ unused_at s fs
+at_first s fs gs e = at-append s fs gs ∙ ap (λ ps. unused_at s fs ++ ps) e ∙ append-nil (unused_at s fs)
 
-pub at_second : (s : Step) (fs gs : List Finding) → unlisted_at s fs ≡ [] → unlisted_at s (fs ++ gs) ≡ unlisted_at s gs
-at_second s fs gs e = at-append s fs gs ∙ ap (λ ps. ps ++ unlisted_at s gs) e
+pub at_second : (s : Step) (fs gs : List Finding) → unused_at s fs ≡ [] → unused_at s (fs ++ gs) ≡ unused_at s gs
+at_second s fs gs e = at-append s fs gs ∙ ap (λ ps. ps ++ unused_at s gs) e
 
-pub at-behind : (s t : Step) (fs : List Finding) → same_step s t ≡ true → unlisted_at s (found_behind t fs) ≡ unlisted_of fs
+pub at-behind : (s t : Step) (fs : List Finding) → same_step s t ≡ true → unused_at s (found_behind t fs) ≡ unused_of fs
 at-behind s t [] e = refl
 at-behind s t (fault p c ws ∷ fs) e = at-behind s t fs e
 at-behind s t (ignored p c ws ∷ fs) e = at-behind s t fs e
-at-behind s t (unlisted p ∷ fs) e = rw e (ap (λ ps. p ∷ ps) (at-behind s t fs e))
+at-behind s t (unused p ∷ fs) e = rw e (ap (λ ps. p ∷ ps) (at-behind s t fs e))
 
-pub at-other : (s t : Step) (fs : List Finding) → same_step s t ≡ false → unlisted_at s (found_behind t fs) ≡ []
+pub at-other : (s t : Step) (fs : List Finding) → same_step s t ≡ false → unused_at s (found_behind t fs) ≡ []
 at-other s t [] e = refl
 at-other s t (fault p c ws ∷ fs) e = at-other s t fs e
 at-other s t (ignored p c ws ∷ fs) e = at-other s t fs e
-at-other s t (unlisted p ∷ fs) e = rw e (at-other s t fs e)
+at-other s t (unused p ∷ fs) e = rw e (at-other s t fs e)
 
-pub unlisted-lenient : (fs : List Finding) → unlisted_of (leniently fs) ≡ unlisted_of fs
-unlisted-lenient [] = refl
-unlisted-lenient (fault p c ws ∷ fs) = unlisted-lenient fs
-unlisted-lenient (ignored p c ws ∷ fs) = unlisted-lenient fs
-unlisted-lenient (unlisted p ∷ fs) = ap (λ ps. p ∷ ps) (unlisted-lenient fs)
+pub unused-lenient : (fs : List Finding) → unused_of (leniently fs) ≡ unused_of fs
+unused-lenient [] = refl
+unused-lenient (fault p c ws ∷ fs) = unused-lenient fs
+unused-lenient (ignored p c ws ∷ fs) = unused-lenient fs
+unused-lenient (unused p ∷ fs) = ap (λ ps. p ∷ ps) (unused-lenient fs)
 
 -- NO KEY among some findings, and so none with a step before their paths
-pub bare_behind : (s : Step) (fs gs : List Finding) → unlisted_of fs ≡ [] → unlisted_of gs ≡ [] → unlisted_of (found_behind s fs ++ gs) ≡ []
+pub bare_behind : (s : Step) (fs gs : List Finding) → unused_of fs ≡ [] → unused_of gs ≡ [] → unused_of (found_behind s fs ++ gs) ≡ []
 bare_behind s [] gs e h = h
 bare_behind s (fault p c ws ∷ fs) gs e h = bare_behind s fs gs e h
 bare_behind s (ignored p c ws ∷ fs) gs e h = bare_behind s fs gs e h
-bare_behind s (unlisted p ∷ fs) gs e h = cc
+bare_behind s (unused p ∷ fs) gs e h = cc
 
 -- NO PATH ENDS at the value itself, or at what a step leads to
 none_end : (ps qs : List Path) → ends_here ps ≡ false → ends_here qs ≡ false → ends_here (ps ++ qs) ≡ false
@@ -61,26 +61,26 @@ none_end ([] ∷ ps) qs h k = absurd (true≢false h)
 none_end ((s ∷ p) ∷ ps) qs h k = none_end ps qs h k
 
 abbrev pub Inner : List Finding → Type 0
-Inner fs = ends_here (unlisted_of fs) ≡ false
+Inner fs = ends_here (unused_of fs) ≡ false
 
 pub inner_append : (fs gs : List Finding) → Inner fs → Inner gs → Inner (fs ++ gs)
-inner_append fs gs h k = ap ends_here (unlisted-append fs gs) ∙ none_end (unlisted_of fs) (unlisted_of gs) h k
+inner_append fs gs h k = ap ends_here (unused-append fs gs) ∙ none_end (unused_of fs) (unused_of gs) h k
 
 pub inner_behind : (s : Step) (fs : List Finding) → Inner (found_behind s fs)
 inner_behind s [] = refl
 inner_behind s (fault p c ws ∷ fs) = inner_behind s fs
 inner_behind s (ignored p c ws ∷ fs) = inner_behind s fs
-inner_behind s (unlisted p ∷ fs) = inner_behind s fs
+inner_behind s (unused p ∷ fs) = inner_behind s fs
 
-pub inner_keys : (ms : Members) → Inner (unlisted_keys ms)
+pub inner_keys : (ms : Members) → Inner (unused_keys ms)
 inner_keys no_members = refl
 inner_keys (member k d ms) = inner_keys ms
 
 abbrev pub Stays : Step → List Finding → Type 0
-Stays s fs = ends_here (unlisted_at s fs) ≡ false
+Stays s fs = ends_here (unused_at s fs) ≡ false
 
 pub stays_append : (s : Step) (fs gs : List Finding) → Stays s fs → Stays s gs → Stays s (fs ++ gs)
-stays_append s fs gs h k = ap ends_here (at-append s fs gs) ∙ none_end (unlisted_at s fs) (unlisted_at s gs) h k
+stays_append s fs gs h k = ap ends_here (at-append s fs gs) ∙ none_end (unused_at s fs) (unused_at s gs) h k
 
 pub stays_behind : (s t : Step) (fs : List Finding) → Inner fs → Stays s (found_behind t fs)
 stays_behind s t fs h = elim (cases_Bool (same_step s t)) [ inl e ↦ ap ends_here (at-behind s t fs e) ∙ h | inr e ↦ ap ends_here (at-other s t fs e) ]
@@ -180,14 +180,14 @@ kept_beside named k d (member l e ms) h n = elim (cases_Bool (is_among named l))
 ]
 
 -- the entries that nothing reads are found at their keys, and under no other
-pub no_key_found : (k : Text) (ms : Members) → ((d : Data) → has_entry k d ms → ⊥) → unlisted_at (key k) (unlisted_keys ms) ≡ []
+pub no_key_found : (k : Text) (ms : Members) → ((d : Data) → has_entry k d ms → ⊥) → unused_at (key k) (unused_keys ms) ≡ []
 no_key_found k no_members none = refl
 no_key_found k (member l d ms) none = rw (same_key-false k l (λ e. none d (inl (e, refl)))) (no_key_found k ms (λ e there. none e (inr there)))
 
-pub named_not_found : (named : List Text) (k : Text) (ms : Members) → is_among named k ≡ true → unlisted_at (key k) (unlisted_keys (without named ms)) ≡ []
+pub named_not_found : (named : List Text) (k : Text) (ms : Members) → is_among named k ≡ true → unused_at (key k) (unused_keys (without named ms)) ≡ []
 named_not_found named k ms h = no_key_found k (without named ms) (λ d there. true≢false (sym h ∙ (entry_beside named k d ms there).1))
 
-pub key_found : (k : Text) (d : Data) (ms : Members) → has_entry k d ms → ends_here (unlisted_at (key k) (unlisted_keys ms)) ≡ true
+pub key_found : (k : Text) (d : Data) (ms : Members) → has_entry k d ms → ends_here (unused_at (key k) (unused_keys ms)) ≡ true
 key_found k d no_members h = absurd h
 key_found k d (member l e ms) h = elim (cases_Bool (same_key k l)) [
   | inl same ↦ rw same

@@ -22,7 +22,7 @@ pub mod PartLaws
 pub mod ManifestLaws
 pub mod MeaningLaws
 pub mod FoundLaws
-pub mod UnlistedLaws
+pub mod UnusedLaws
 pub mod FoundOnce
 pub mod WrittenLaws
 pub mod GoodLaws

@@ -2,7 +2,7 @@
 use Rattle.manifest_schema.specs.Prelude.{Data, string, boolean, table, Members, Path, Kind, is_text, inherits, form, distinct, left_out, IsTidy, AreTidy, text_or_flag, publish, dependency_table, dependency, lint, inherited_rows, detailed_rows, lint_rows, product_rows, badge_rows, maintenance_rows, badges_rows, profile_rows, profiles_rows, lints_rows, platform_rows, package_rows, workspace_package_rows, workspace_rows, manifest_rows}
 use Rattle.std.proofs.Common.{◌≡◌, Bool, true, false, inl, inr, List, IsTrue, codes, refl, ◌∙◌}
 use Rattle.manifest_schema.specs.Kinds.{is_flag, split_findings}
-use Rattle.manifest_schema.specs.Findings.{unlisted_of}
+use Rattle.manifest_schema.specs.Findings.{unused_of}
 use Rattle.manifest_schema.proofs.RowLaws.{text_plain, texts_plain, text_or_flag_plain, publish_plain}
 use Rattle.manifest_schema.proofs.ChoiceLaws.{edition_plain}
 use Rattle.manifest_schema.proofs.TidyLaws.{text_tidy, flag_tidy, truth_tidy, whole_tidy, choice_tidy, kept_tidy, list_tidy, map_tidy, split_tidy, inherits-left, inh_tidy, required_tidy, optional_tidy, default_tidy, lenient_optional_tidy, lenient_default_tidy}
@@ -35,12 +35,12 @@ unfolding detailed_rows
 detailed_tidy = form_tidy detailed_rows (search row_tidies) refl
 
 -- an inherited dependency keeps its `workspace`, and a detailed one gets none
-table_keeps : (b : Bool) (ms : Members) → inherits (table ms) ≡ b → inherits (left_out (unlisted_of (split_findings (form inherited_rows).findings (form detailed_rows).findings b (table ms))) (table ms)) ≡ b
+table_keeps : (b : Bool) (ms : Members) → inherits (table ms) ≡ b → inherits (left_out (unused_of (split_findings (form inherited_rows).findings (form detailed_rows).findings b (table ms))) (table ms)) ≡ b
 unfolding inherited_rows
 table_keeps true ms e = inherits-left _ ms (inl (key_stays inherited_rows inherited_rows_tidy ms (codes "workspace") refl)) ∙ e
 table_keeps false ms e = inherits-left _ ms (inr e) ∙ e
 
-dependency_table_keeps : (d : Data) → inherits (left_out (unlisted_of (split_findings (form inherited_rows).findings (form detailed_rows).findings (inherits d) d)) d) ≡ inherits d
+dependency_table_keeps : (d : Data) → inherits (left_out (unused_of (split_findings (form inherited_rows).findings (form detailed_rows).findings (inherits d) d)) d) ≡ inherits d
 dependency_table_keeps (table ms) = table_keeps (inherits (table ms)) ms refl
 dependency_table_keeps _ = refl
 

@@ -1,11 +1,11 @@
 -- What is written of a manifest: each row of its form and nothing else, so that nothing is found in it.
-use Rattle.manifest_schema.specs.Prelude.{Kind, Data, IsLawful, IsClean, IsTidy, WritesEachRow, manifest_rows, rewritten, FindsNothingWritten, FindsNothingRewritten, RewrittenWithoutUnlisted}
+use Rattle.manifest_schema.specs.Prelude.{Kind, Data, IsLawful, IsClean, IsTidy, WritesEachRow, manifest_rows, rewritten, FindsNothingWritten, FindsNothingRewritten, RewrittenWithoutUnused}
 use Rattle.std.proofs.Common.{ap}
 use Rattle.manifest_schema.proofs.FormLaws.{writes_each_row}
 use Rattle.manifest_schema.proofs.PartTidy.{manifest_distinct}
 use Rattle.manifest_schema.proofs.ManifestLaws.{manifest_clean}
 use Rattle.manifest_schema.proofs.MeaningLaws.{headers, means_one, written_is_read, accepted_is_well_formed}
-use Rattle.manifest_schema.proofs.UnlistedLaws.{same_without_unlisted}
+use Rattle.manifest_schema.proofs.UnusedLaws.{same_without_unused}
 
 pub manifest_by_rows : (K W : Kind Data) → WritesEachRow (manifest_rows K W)
 manifest_by_rows K W = writes_each_row (manifest_rows K W) (manifest_distinct K W)
@@ -20,6 +20,6 @@ module _ {K W : Kind Data} (k : IsLawful K) (w : IsLawful W) where
       let (good, headed) = accepted_is_well_formed k w ms m a in
       finds_nothing_written c d m good headed
 
-  pub rewritten_without_unlisted : IsTidy K → IsTidy W → RewrittenWithoutUnlisted K W
-  rewritten_without_unlisted t u ms m n s a b =
-      ap (rewritten K W) (means_one k w ms m n a (((same_without_unlisted t u ms s).0 n).0 b))
+  pub rewritten_without_unused : IsTidy K → IsTidy W → RewrittenWithoutUnused K W
+  rewritten_without_unused t u ms m n s a b =
+      ap (rewritten K W) (means_one k w ms m n a (((same_without_unused t u ms s).0 n).0 b))

@@ -2,7 +2,7 @@
 use Rattle.std.specs.Prelude.{◌≡◌, Bool, true, false, not, ◌&&◌, ◌⊎◌, List, [], ◌∷◌, ◌++◌, IsTrue}
 use Rattle.toml.specs.Data.{Data, table, Members, no_members}
 use Rattle.manifest_schema.specs.Paths.{Text, wrong_kind, Faults, itself}
-use Rattle.manifest_schema.specs.Findings.{Finding, found_here, unlisted_keys}
+use Rattle.manifest_schema.specs.Findings.{Finding, found_here, unused_keys}
 use Rattle.manifest_schema.specs.Slots.{Spellings, only, both, first, slot, at, put_some, is_among, without}
 use Rattle.manifest_schema.specs.Kinds.{Kind, Entries, reads_entries, faulty_entry, written_entries, good_entries, entry_findings}
 use Rattle.manifest_schema.specs.Needs.{Need}
@@ -134,7 +134,7 @@ faulty_form rows (table ms) p c = unfit rows ms p c
 faulty_form rows _ p c = itself wrong_kind p c
 
 abbrev pub form_findings : {A : Type 0} → Rows A → Data → List Finding
-form_findings rows (table ms) = row_findings rows ms ++ unlisted_keys (left_over rows ms)
+form_findings rows (table ms) = row_findings rows ms ++ unused_keys (left_over rows ms)
 form_findings rows _ = found_here wrong_kind
 
 abbrev pub form : {A : Type 0} → Rows A → Kind A

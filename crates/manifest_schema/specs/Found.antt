@@ -2,7 +2,7 @@
 use Rattle.std.specs.Prelude.{◌≡◌, ◌↔◌, Bool, true, false, List, [], ◌∷◌, ◌++◌, Option, Some, None, IsTrue, codes}
 use Rattle.toml.specs.Data.{Data, table, Members, get_member, members_are_sorted}
 use Rattle.manifest_schema.specs.Paths.{Path, Cause, key}
-use Rattle.manifest_schema.specs.Findings.{Finding, found_behind, unlisted_keys, faults_of, ignored_of, unlisted_of, FindsAll, found_paths, AllDiverge}
+use Rattle.manifest_schema.specs.Findings.{Finding, found_behind, unused_keys, faults_of, ignored_of, unused_of, FindsAll, found_paths, AllDiverge}
 use Rattle.manifest_schema.specs.Slots.{without}
 use Rattle.manifest_schema.specs.LeftOut.{left_out_members}
 use Rattle.manifest_schema.specs.Kinds.{Kind}
@@ -16,11 +16,11 @@ abbrev pub old_findings : Kind Data → Kind Data → Members → Option Data �
 old_findings K W ms (Some d) =
     row_findings (manifest_rows K W) ms
     ++ (found_behind (key (codes "project")) ((form (package_rows K)).findings d)
-    ++ unlisted_keys (without (codes "project" ∷ []) (left_over (manifest_rows K W) ms)))
+    ++ unused_keys (without (codes "project" ∷ []) (left_over (manifest_rows K W) ms)))
 old_findings K W ms None =
     row_findings (manifest_rows K W) ms
     ++ (row_findings (package_rows K) ms
-    ++ unlisted_keys (left_over (package_rows K) (left_over (manifest_rows K W) ms)))
+    ++ unused_keys (left_over (package_rows K) (left_over (manifest_rows K W) ms)))
 
 -- what is found in a table, by whether it has a header
 abbrev pub findings_by : Kind Data → Kind Data → Bool → Members → List Finding
@@ -40,8 +40,8 @@ abbrev pub manifest_ignored : Kind Data → Kind Data → Members → List (Path
 manifest_ignored K W ms = ignored_of (manifest_findings K W ms)
 
 -- every key that nothing reads
-abbrev pub manifest_unlisted : Kind Data → Kind Data → Members → List Path
-manifest_unlisted K W ms = unlisted_of (manifest_findings K W ms)
+abbrev pub manifest_unused : Kind Data → Kind Data → Members → List Path
+manifest_unused K W ms = unused_of (manifest_findings K W ms)
 
 -- WHAT IS PROMISED
 -- each fault of the table is found, and no other
@@ -53,16 +53,16 @@ abbrev pub FaultlessIfMeant : Kind Data → Kind Data → Type 0
 FaultlessIfMeant K W =
     (ms : Members) → (manifest_faults K W ms ≡ []) ↔ ((m : Manifest) × means K W ms m)
 
--- the table without its unlisted keys
-abbrev pub without_unlisted : Kind Data → Kind Data → Members → Members
-without_unlisted K W ms = left_out_members (manifest_unlisted K W ms) ms
+-- the table without its unused keys
+abbrev pub without_unused : Kind Data → Kind Data → Members → Members
+without_unused K W ms = left_out_members (manifest_unused K W ms) ms
 
 -- where the keys of each table ascend, it means the same without them and has the same faults
-abbrev pub SameWithoutUnlisted : Kind Data → Kind Data → Type 0
-SameWithoutUnlisted K W =
+abbrev pub SameWithoutUnused : Kind Data → Kind Data → Type 0
+SameWithoutUnused K W =
     (ms : Members) → IsTrue (members_are_sorted ms) →
-    ((m : Manifest) → means K W (without_unlisted K W ms) m ↔ means K W ms m)
-    × ((p : Path) (c : Cause) → unmeant K W (without_unlisted K W ms) p c ↔ unmeant K W ms p c)
+    ((m : Manifest) → means K W (without_unused K W ms) m ↔ means K W ms m)
+    × ((p : Path) (c : Cause) → unmeant K W (without_unused K W ms) p c ↔ unmeant K W ms p c)
 
 -- where the keys of each table ascend, what is found stands at paths that diverge: each place is reported once
 abbrev pub FindsEachOnce : Kind Data → Kind Data → Type 0
@@ -81,9 +81,9 @@ abbrev pub FindsNothingRewritten : Kind Data → Kind Data → Type 0
 FindsNothingRewritten K W =
     (ms : Members) (m : Manifest) → means K W ms m → manifest_findings K W (rewritten K W m) ≡ []
 
--- where the keys of each table ascend, an accepted table is rewritten as it is without its unlisted keys
-abbrev pub RewrittenWithoutUnlisted : Kind Data → Kind Data → Type 0
-RewrittenWithoutUnlisted K W =
+-- where the keys of each table ascend, an accepted table is rewritten as it is without its unused keys
+abbrev pub RewrittenWithoutUnused : Kind Data → Kind Data → Type 0
+RewrittenWithoutUnused K W =
     (ms : Members) (m n : Manifest) → IsTrue (members_are_sorted ms) →
-    means K W ms m → means K W (without_unlisted K W ms) n
+    means K W ms m → means K W (without_unused K W ms) n
     → rewritten K W m ≡ rewritten K W n

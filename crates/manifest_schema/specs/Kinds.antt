@@ -3,7 +3,7 @@ use Rattle.std.specs.Prelude.{◌≡◌, ℕ, suc, ℤ, Bool, true, false, ◌&&
 use Rattle.std.proofs.Common.{inl, inr}
 use Rattle.toml.specs.Data.{Data, string, integer, float, boolean, array, table, Items, no_items, item, Members, no_members, member, get_item, get}
 use Rattle.manifest_schema.specs.Paths.{Text, wrong_kind, not_a_choice, out_of_range, not_true, holds_float, metadata_fault, key, index, Path, Faults, itself, behind}
-use Rattle.manifest_schema.specs.Findings.{Finding, found_here, none_of, found_behind, unlisted_keys}
+use Rattle.manifest_schema.specs.Findings.{Finding, found_here, none_of, found_behind, unused_keys}
 use Rattle.manifest_schema.specs.Slots.{without}
 
 -- A kind of values that stand for an A.
@@ -324,7 +324,7 @@ good_inh K (local x) = K.good x
 -- of a table whose `workspace` is the boolean true, nothing else is read
 abbrev pub inh_findings : (Data → List Finding) → Data → List Finding
 inh_findings find (table ms) =
-    if inherits (table ms) then unlisted_keys (without (codes "workspace" ∷ []) ms)
+    if inherits (table ms) then unused_keys (without (codes "workspace" ∷ []) ms)
     else found_here wrong_kind
 inh_findings find d = find d
 

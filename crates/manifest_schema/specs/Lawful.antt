@@ -2,7 +2,7 @@
 use Rattle.std.specs.Prelude.{◌≡◌, ◌⊎◌, ◌↔◌, Bool, true, not, List, [], IsTrue, IsFalse}
 use Rattle.toml.specs.Data.{Data, Members, table, is_sorted}
 use Rattle.manifest_schema.specs.Paths.{Text, Cause, key, Path, Faults}
-use Rattle.manifest_schema.specs.Findings.{Finding, found_behind, unlisted_of, FindsAll, found_paths, AllDiverge, AllBegin}
+use Rattle.manifest_schema.specs.Findings.{Finding, found_behind, unused_of, FindsAll, found_paths, AllDiverge, AllBegin}
 use Rattle.manifest_schema.specs.Slots.{Spellings, first, Slot, one, slot, is_among}
 use Rattle.manifest_schema.specs.Kinds.{Kind, has_entry}
 use Rattle.manifest_schema.specs.Needs.{Need}
@@ -71,25 +71,25 @@ pub record IsPlain {A : Type 0} (K : Kind A) : Type 0 where
   pub writes_no_table : (ms : Members) (x : A) → K.written x ≡ table ms → ⊥
   pub all_good : (x : A) → K.good x
 
--- WITHOUT ITS UNLISTED KEYS
+-- WITHOUT ITS UNUSED KEYS
 -- the same contents and the same faults
 abbrev pub Alike : {A : Type 0} → (A → Type 0) → Faults → (A → Type 0) → Faults → Type 0
 Alike {A} R F Q G = ((x : A) → R x ↔ Q x) × ((p : Path) (c : Cause) → F p c ↔ G p c)
 
 -- the paths of the keys in the value that nothing reads
-abbrev pub unlisted_in : {A : Type 0} → Kind A → Data → List Path
-unlisted_in K d = unlisted_of (K.findings d)
+abbrev pub unused_in : {A : Type 0} → Kind A → Data → List Path
+unused_in K d = unused_of (K.findings d)
 
 -- a value whose keys ascend has the same readings and the same faults without these keys
 pub record IsTidy {A : Type 0} (K : Kind A) : Type 0 where
   pub reads :
       (d : Data) → IsTrue (is_sorted d) → (x : A) →
-      K.reads (left_out (unlisted_in K d) d) x ↔ K.reads d x
+      K.reads (left_out (unused_in K d) d) x ↔ K.reads d x
   pub faulty :
       (d : Data) → IsTrue (is_sorted d) → (p : Path) (c : Cause) →
-      K.faulty (left_out (unlisted_in K d) d) p c ↔ K.faulty d p c
+      K.faulty (left_out (unused_in K d) d) p c ↔ K.faulty d p c
   -- and all of them stand inside it
-  pub inside : (d : Data) → IsFalse (ends_here (unlisted_in K d))
+  pub inside : (d : Data) → IsFalse (ends_here (unused_in K d))
 
 -- what is found in the value of a slot, with its key before the path
 abbrev pub slot_findings : (Data → List Finding) → Slot → List Finding
@@ -99,13 +99,13 @@ slot_findings value _ = []
 -- the same for a need, by what is found in the value under the spelling that is present
 pub record IsTidyNeed {C : Type 0} (n : Need C) : Type 0 where
   pub value : Data → List Finding
-  pub inside : (d : Data) → IsFalse (ends_here (unlisted_of (value d)))
+  pub inside : (d : Data) → IsFalse (ends_here (unused_of (value d)))
   pub found :
       (names : Spellings) (s : Slot) →
-      unlisted_of (n.findings names s) ≡ unlisted_of (slot_findings value s)
+      unused_of (n.findings names s) ≡ unused_of (slot_findings value s)
   pub same :
       (names : Spellings) (k : Text) (d : Data) → IsTrue (is_sorted d) →
-      let e = left_out (unlisted_of (value d)) d in
+      let e = left_out (unused_of (value d)) d in
       Alike (n.meets (one k e)) (n.faulty names (one k e))
       (n.meets (one k d)) (n.faulty names (one k d))
 
@@ -116,10 +116,10 @@ AreTidy (others get K) = IsTidy K
 AreTidy no_more = Unit {0}
 
 -- in a closed form a key of the table is one that nothing reads exactly if no row has it
-abbrev pub UnlistedIfNoRow : {A : Type 0} → Rows A → Type 0
-UnlistedIfNoRow rows =
+abbrev pub UnusedIfNoRow : {A : Type 0} → Rows A → Type 0
+UnusedIfNoRow rows =
     IsTrue (is_closed rows) → (ms : Members) (k : Text) (d : Data) → has_entry k d ms →
-    ends_here (from_step (key k) (unlisted_in (form rows) (table ms)))
+    ends_here (from_step (key k) (unused_in (form rows) (table ms)))
     ≡ not (is_among (spelled rows) k)
 
 -- WHAT IS WRITTEN HAS NOTHING TO BE FOUND

@@ -49,12 +49,12 @@ pub use Rattle.manifest_schema.specs.Contents.{Dependency, DependencyDetail, Edi
 pub use Rattle.manifest_schema.specs.Dates.{HasValidDates, KeepsValidDates, MeantDatesAreValid, WrittenDatesAreValid, kept_metadata}
 pub use Rattle.manifest_schema.specs.Defaults.{empty_manifest, named}
 pub use Rattle.manifest_schema.specs.ForProofs.{first_fit, nothing_clean, nothing_laws, nothing_diverging, nothing_tidy, spellings_of, unread_clean, unread_laws, unread_diverging, unread_tidy}
-pub use Rattle.manifest_schema.specs.Findings.{Finding, FindsAll, IsFaultless, among, fault, faults_of, first_found, foremost, found_behind, found_here, ignored, ignored_of, leniently, none_of, unlisted, unlisted_keys, unlisted_of, found_at, found_paths, Diverge, DivergeFrom, AllDiverge, AllBegin}
-pub use Rattle.manifest_schema.specs.Found.{FaultlessIfMeant, FindsEveryFault, SameWithoutUnlisted, findings_by, manifest_faults, manifest_findings, manifest_ignored, manifest_unlisted, old_findings, without_unlisted, FindsEachOnce, FindsNothingWritten, FindsNothingRewritten, RewrittenWithoutUnlisted}
+pub use Rattle.manifest_schema.specs.Findings.{Finding, FindsAll, IsFaultless, among, fault, faults_of, first_found, foremost, found_behind, found_here, ignored, ignored_of, leniently, none_of, unused, unused_keys, unused_of, found_at, found_paths, Diverge, DivergeFrom, AllDiverge, AllBegin}
+pub use Rattle.manifest_schema.specs.Found.{FaultlessIfMeant, FindsEveryFault, SameWithoutUnused, findings_by, manifest_faults, manifest_findings, manifest_ignored, manifest_unused, old_findings, without_unused, FindsEachOnce, FindsNothingWritten, FindsNothingRewritten, RewrittenWithoutUnused}
 pub use Rattle.manifest_schema.specs.Former.{AllValues, ManifestLeavesDefaults, OldWrittenIsRead, former_written}
 pub use Rattle.manifest_schema.specs.Forms.{Fields, Rows, differ, distinct, faulty_form, findings_beside, form_findings, left_beside, left_over, row_findings, fits, fits_beside, form, gets, good_beside, good_rows, is_closed, no_more, none_named, others, spell, spelled, unfit_beside, written_rows, ◌⨾◌, holds_beside, holds}
 pub use Rattle.manifest_schema.specs.Kinds.{Entries, Inheritable, Kind, choice, choice_findings, entry_findings, entry_floats, faulty_entry, faulty_inh, faulty_item, faulty_map, faulty_split, flag, float_at, float_findings, float_in, good_entries, good_inh, good_items, good_split, has_entry, inh, inherited, inherits, is_text, item_findings, item_floats, kept, list_of, local, map_of, not_choice, nothing, plain, plain_items, plain_members, reads_choice, reads_entries, reads_inh, reads_items, reads_kept, reads_split, split, text, tree_of, truth, unread, whole, within, written_entries, written_items, written_split}
-pub use Rattle.manifest_schema.specs.Lawful.{Alike, AreLawful, AreTidy, AreTotal, IsBuilt, IsDefault, IsLawful, IsLawfulNeed, IsPlain, IsTidy, IsTidyNeed, IsTotal, IsTotalNeed, ReadOrFaulty, UnlistedIfNoRow, slot_findings, unlisted_in, IsClean, IsCleanNeed, AreClean, WritesEachRow, IsDiverging, IsDivergingNeed, AreDiverging, slot_key, IsSlotSorted}
+pub use Rattle.manifest_schema.specs.Lawful.{Alike, AreLawful, AreTidy, AreTotal, IsBuilt, IsDefault, IsLawful, IsLawfulNeed, IsPlain, IsTidy, IsTidyNeed, IsTotal, IsTotalNeed, ReadOrFaulty, UnusedIfNoRow, slot_findings, unused_in, IsClean, IsCleanNeed, AreClean, WritesEachRow, IsDiverging, IsDivergingNeed, AreDiverging, slot_key, IsSlotSorted}
 pub use Rattle.manifest_schema.specs.LeftOut.{ends_here, from_step, left_out, left_out_items, left_out_members, same_step}
 unfoldable pub use Rattle.manifest_schema.specs.ManifestForms.{manifest_rows, package_rows, workspace_package_rows, workspace_rows}
 pub use Rattle.manifest_schema.specs.Meaning.{AcceptedIsWellFormed, AcceptedOrFaulty, FaultyMeansNothing, MeansOne, RewrittenMeansTheSame, RewrittenTwiceIsOnce, SameExactly, SameWrittenIsSame, WrittenIsRead, WrittenMeansTheSame, faulty_old, has_header, is_headed, means, means_by, old_package, reads_manifest, rewritten, unmeant, unmeant_by, well_formed, written_manifest}

@@ -10,7 +10,7 @@ ghost use Rattle.manifest_schema.specs.Examples.{one_entry, two_entries, bare, b
 
 /// A key that no row has is ignored, and is not written.
 #[tactic(auto, unfolding(crate::specs::ManifestForms::package_rows, crate::specs::Slots::put_some))]
-pub fn unlisted_key()
+pub fn unused_key()
     ensures reads { (form (package_rows kept)).reads
         (table (two_entries (codes "name") (string (codes "p")) (codes "zzz") (integer (pos 1))))
         (named (codes "p")) }

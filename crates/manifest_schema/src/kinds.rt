@@ -1,6 +1,6 @@
 //! Kinds and forms that satisfy the laws, and the laws of what is made of them.
 
-ghost use Rattle.manifest_schema.specs.Prelude.{Data, Kind, text, flag, whole, truth, choice, kept, list_of, map_of, inh, tree_of, nothing, required, optional, default, lenient_optional, lenient_default, Rows, no_more, form, distinct, IsLawful, IsLawfulNeed, AreLawful, IsBuilt, IsTotal, IsTotalNeed, AreTotal, IsTidy, IsTidyNeed, AreTidy, UnlistedIfNoRow, IsClean, IsCleanNeed, AreClean, WritesEachRow, IsDiverging, IsDivergingNeed, AreDiverging, IsDefault, IsPlain, unread, nothing_laws, nothing_tidy, nothing_clean, nothing_diverging};
+ghost use Rattle.manifest_schema.specs.Prelude.{Data, Kind, text, flag, whole, truth, choice, kept, list_of, map_of, inh, tree_of, nothing, required, optional, default, lenient_optional, lenient_default, Rows, no_more, form, distinct, IsLawful, IsLawfulNeed, AreLawful, IsBuilt, IsTotal, IsTotalNeed, AreTotal, IsTidy, IsTidyNeed, AreTidy, UnusedIfNoRow, IsClean, IsCleanNeed, AreClean, WritesEachRow, IsDiverging, IsDivergingNeed, AreDiverging, IsDefault, IsPlain, unread, nothing_laws, nothing_tidy, nothing_clean, nothing_diverging};
 ghost use Rattle.std.specs.Prelude.{◌≡◌, ℤ, Bool, IsTrue, refl};
 ghost use Rattle.manifest_schema.specs.ForProofs.{nothing_told};
 
@@ -20,7 +20,7 @@ pub trait TotalKind: LawfulKind {
     ghost total: { IsTotal Self.kind };
 }
 
-/// A lawful kind whose every value has the same readings and the same faults without its unlisted keys: the keys that
+/// A lawful kind whose every value has the same readings and the same faults without its unused keys: the keys that
 /// nothing of the kind reads.
 pub trait TidyKind: LawfulKind {
     ghost tidy: { IsTidy Self.kind };
@@ -54,7 +54,7 @@ pub trait TotalForm: LawfulForm {
     ghost total: { AreTotal Self.rows };
 }
 
-/// A lawful form: each of its rows has the same contents and the same faults without the unlisted keys of its value.
+/// A lawful form: each of its rows has the same contents and the same faults without the unused keys of its value.
 pub trait TidyForm: LawfulForm {
     ghost tidy: { AreTidy Self.rows };
 }
@@ -181,7 +181,7 @@ pub fn form_is_total<F: TotalForm>()
 {}
 
 /// Texts, booleans, the boolean true, whole numbers and kept values have the same readings and the same faults without
-/// their unlisted keys: they have none.
+/// their unused keys: they have none.
 #[tactic(auto, using(crate::proofs::TidyLaws::text_tidy, crate::proofs::TidyLaws::flag_tidy, crate::proofs::TidyLaws::truth_tidy, crate::proofs::TidyLaws::kept_tidy, crate::proofs::TidyLaws::whole_tidy))]
 pub fn simple_kinds_are_tidy()
     ensures text_is { IsTidy text }
@@ -191,7 +191,7 @@ pub fn simple_kinds_are_tidy()
     ensures whole_is { (low high : ℤ) → IsTidy (whole low high) }
 {}
 
-/// A value has the same readings and the same faults without its unlisted keys also by what is made of such a kind:
+/// A value has the same readings and the same faults without its unused keys also by what is made of such a kind:
 /// by lists, maps, what may be inherited, and metadata.
 pub fn made_kinds_are_tidy<K: TidyKind>()
     ensures list_is { IsTidy (list_of K.kind) }
@@ -200,7 +200,7 @@ pub fn made_kinds_are_tidy<K: TidyKind>()
     ensures tree_is { IsTidy (tree_of K.kind) }
 {}
 
-/// A field has the same contents and the same faults without the unlisted keys of its value, by each need.
+/// A field has the same contents and the same faults without the unused keys of its value, by each need.
 pub fn needs_are_tidy<K: TidyKind>()
     ensures required_is { IsTidyNeed (required K.kind) }
     ensures optional_is { IsTidyNeed (optional K.kind) }
@@ -210,12 +210,12 @@ pub fn needs_are_tidy<K: TidyKind>()
     ensures lenient_default_is { (e : K.Content) → IsTidyNeed (lenient_default K.kind e) }
 {}
 
-/// A table has the same readings and the same faults without its unlisted keys by a form. In a form that ends with no
-/// more rows, a key of the table is unlisted exactly if no row has it.
-#[tactic(auto, using(crate::proofs::FormTidy::form_tidy, crate::proofs::FormTidy::unlisted_if_no_row))]
+/// A table has the same readings and the same faults without its unused keys by a form. In a form that ends with no
+/// more rows, a key of the table is unused exactly if no row has it.
+#[tactic(auto, using(crate::proofs::FormTidy::form_tidy, crate::proofs::FormTidy::unused_if_no_row))]
 pub fn form_is_tidy<F: TidyForm>()
     ensures kind_is { IsTidy (form F.rows) }
-    ensures keys_are { UnlistedIfNoRow F.rows }
+    ensures keys_are { UnusedIfNoRow F.rows }
 {}
 
 /// A form writes of a well-formed content what the need of each row writes, under the first spelling of the row, and

@@ -3,7 +3,7 @@
 //! The parameters `P` and `W` stand for the two kinds of metadata. Each function returns at once: it is there for
 //! its contract, a law of the definitions.
 
-ghost use Rattle.manifest_schema.specs.Prelude.{tree_of, MeansOne, WrittenIsRead, AcceptedIsWellFormed, WrittenMeansTheSame, RewrittenMeansTheSame, RewrittenTwiceIsOnce, SameExactly, SameWrittenIsSame, FaultyMeansNothing, AcceptedOrFaulty, OldWrittenIsRead, FindsEveryFault, FaultlessIfMeant, SameWithoutUnlisted, RewrittenWithoutUnlisted, FindsEachOnce, FindsNothingWritten, FindsNothingRewritten, IsClean, WritesEachRow, form, manifest_rows};
+ghost use Rattle.manifest_schema.specs.Prelude.{tree_of, MeansOne, WrittenIsRead, AcceptedIsWellFormed, WrittenMeansTheSame, RewrittenMeansTheSame, RewrittenTwiceIsOnce, SameExactly, SameWrittenIsSame, FaultyMeansNothing, AcceptedOrFaulty, OldWrittenIsRead, FindsEveryFault, FaultlessIfMeant, SameWithoutUnused, RewrittenWithoutUnused, FindsEachOnce, FindsNothingWritten, FindsNothingRewritten, IsClean, WritesEachRow, form, manifest_rows};
 
 use crate::kinds::{CleanKind, DivergingKind, LawfulKind, TidyKind, TotalKind};
 
@@ -65,16 +65,16 @@ pub fn finds_every_fault<P: TotalKind, W: TotalKind>()
     ensures none { FaultlessIfMeant (tree_of P.kind) (tree_of W.kind) }
 {}
 
-/// A table whose keys ascend, as do those of the tables inside, means without its unlisted keys the same manifest and
+/// A table whose keys ascend, as do those of the tables inside, means without its unused keys the same manifest and
 /// has the same faults: the keys that are found to be read by nothing are indeed of no use.
-pub fn same_without_unlisted<P: TidyKind, W: TidyKind>()
-    ensures { SameWithoutUnlisted (tree_of P.kind) (tree_of W.kind) }
+pub fn same_without_unused<P: TidyKind, W: TidyKind>()
+    ensures { SameWithoutUnused (tree_of P.kind) (tree_of W.kind) }
 {}
 
 /// An accepted table whose keys ascend, as do those of the tables inside, is rewritten to the same table with its
-/// unlisted keys and without them.
-pub fn rewritten_without_unlisted<P: TidyKind, W: TidyKind>()
-    ensures { RewrittenWithoutUnlisted (tree_of P.kind) (tree_of W.kind) }
+/// unused keys and without them.
+pub fn rewritten_without_unused<P: TidyKind, W: TidyKind>()
+    ensures { RewrittenWithoutUnused (tree_of P.kind) (tree_of W.kind) }
 {}
 
 /// Each place of a table whose keys ascend, as do those of the tables inside, is reported once: no two findings have

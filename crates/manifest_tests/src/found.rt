@@ -2,7 +2,7 @@
 use crate::answers::assert_is;
 use cargo_manifest::{
     Choices, Finding, Findings, KeyPath, SchemaFault, Unread, faults, ignored, inspect,
-    inspect_with_metadata, unlisted_keys,
+    inspect_with_metadata, unused_keys,
 };
 use std::alloc::{AllocError, Global};
 use std::fmt::Display;
@@ -29,7 +29,7 @@ fn line(alloc: Global, finding: &Finding) -> Result<String, AllocError> {
             let words = words(alloc, choices)?;
             format!(in alloc; "ignored: {fault}{words}\n")
         }
-        Finding::Unlisted(path) => format!(in alloc; "unlisted: {path}\n"),
+        Finding::Unused(path) => format!(in alloc; "unused: {path}\n"),
     }
 }
 
@@ -59,7 +59,7 @@ fn apart(alloc: Global) -> Result<String, Fail> {
     let mut text = String::new(alloc);
     add_lines(alloc, faults(alloc, &table)?.as_slice(), &mut text)?;
     add_lines(alloc, ignored(alloc, &table)?.as_slice(), &mut text)?;
-    add_lines(alloc, unlisted_keys(alloc, &table)?.as_slice(), &mut text)?;
+    add_lines(alloc, unused_keys(alloc, &table)?.as_slice(), &mut text)?;
     let found = inspect_with_metadata::<Unread, Unread>(alloc, &table)?; // metadata is not looked at
     text.push_str(lines(alloc, &found)?.as_str())?;
     Ok(text)
@@ -86,7 +86,7 @@ fn dropped_badge(alloc: Global) -> Result<Vec<SchemaFault>, Fail> {
 
 fn misspelled_key(alloc: Global) -> Result<Vec<KeyPath>, Fail> {
     let table = toml::table_from_str(alloc, "[package]\nname = 'a'\nedtion = '2021'")?;
-    let keys = unlisted_keys(alloc, &table)?; // `package.edtion`
+    let keys = unused_keys(alloc, &table)?; // `package.edtion`
     Ok(keys)
 }
 
@@ -102,9 +102,9 @@ fn found_by_examples(alloc: Global) -> Result<String, Fail> {
 #[test]
 fn each_call_finds_its_own(rt: HostRuntime) -> Result<(), Fail> {
     let expected =
-        "wrong kind at package.name\nholds a float at package.metadata\nwrong kind at badges.gitlab\nbadges.x\nwrong kind at package.name\nignored: wrong kind at badges.gitlab\nunlisted: badges.x\n";
+        "wrong kind at package.name\nholds a float at package.metadata\nwrong kind at badges.gitlab\nbadges.x\nwrong kind at package.name\nignored: wrong kind at badges.gitlab\nunused: badges.x\n";
     assert_is(apart(rt.alloc()), expected, "the three calls")?;
     let expected =
-        "wrong kind at package.name\nunlisted: package.edtion\nwrong kind at package.name\nwrong kind at package.authors[0]\nwrong kind at badges.gitlab\npackage.edtion\n";
+        "wrong kind at package.name\nunused: package.edtion\nwrong kind at package.name\nwrong kind at package.authors[0]\nwrong kind at badges.gitlab\npackage.edtion\n";
     assert_is(found_by_examples(rt.alloc()), expected, "the examples")
 }

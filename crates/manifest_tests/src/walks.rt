@@ -28,7 +28,7 @@ fn slots_text(alloc: Global, slots: &[RowSlot<'_>]) -> Result<String, Fail> {
                 text.push_str(spelling)?;
                 text.push_str(match value {
                     Source::Taken(Value::Integer(4)) => " is a taken 4;",
-                    Source::Lent(Value::Integer(4)) => " is a lent 4;",
+                    Source::Lent(Value::Integer(4)) => " is a borrowed 4;",
                     _ => " is something else;",
                 })?;
             }
@@ -53,7 +53,7 @@ fn a_walk_finds_the_rows_and_the_rest(rt: HostRuntime) -> Result<(), Fail> {
     let alloc = rt.alloc();
     let table = toml::table_from_str(alloc, ENTRIES)?;
     let lent = walk(alloc, TableSource::Lent(&table), &ROWS)?;
-    assert_found(&rt, alloc, &lent, "clash;c is a lent 4;absent;")?;
+    assert_found(&rt, alloc, &lent, "clash;c is a borrowed 4;absent;")?;
     drop(lent);
     let taken = walk(alloc, TableSource::Taken(table), &ROWS)?;
     assert_found(&rt, alloc, &taken, "clash;c is a taken 4;absent;")

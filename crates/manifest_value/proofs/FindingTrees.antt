@@ -1,5 +1,5 @@
 -- What is found as a tree: nodes one after another, at a path, and leniently.
-use Rattle.manifest_schema.specs.Prelude.{Text, Path, Cause, Step, key, fault, ignored, unlisted, found_behind, leniently}
+use Rattle.manifest_schema.specs.Prelude.{Text, Path, Cause, Step, key, fault, ignored, unused, found_behind, leniently}
 use Rattle.manifest_schema.specs.Findings.{Finding, behind_step}
 use Rattle.std.proofs.Common.{◌≡◌, List, [], ◌∷◌, ◌++◌, map, refl, sym, ap, ◌∙◌, append_assoc, append-nil, String, Vec, Global, Bor, string_bytes, rules}
 use Rattle.std.proofs.lemmas.List.{map-append}
@@ -8,7 +8,7 @@ use Rattle.manifest_value.specs.Found.{finding_of, choices_of, joined, found_in,
 use Rattle.manifest_value.specs.declared.fault.Cause.{Cause as CodeCause}
 use Rattle.manifest_value.specs.declared.fault.Step.{Step as CodeStep}
 use Rattle.manifest_value.specs.declared.finding_lists.Finding.{Finding as CodeFinding}
-use Rattle.manifest_value.specs.declared.findings.FindingNode.{FindingNode, Fault, Ignored, Unlisted, Within, the_lemmas}
+use Rattle.manifest_value.specs.declared.findings.FindingNode.{FindingNode, Fault, Ignored, Unused, Within, the_lemmas}
 
 -- EACH NODE
 pub in-Fault : (c : CodeCause) (words : Bor (List (Bor Text))) → found_in (Fault c words) ≡ fault [] (cause_of c) (choices_of words) ∷ []
@@ -17,8 +17,8 @@ in-Fault c words = search (rules, the_lemmas)
 pub in-Ignored : (c : CodeCause) (words : Bor (List (Bor Text))) → found_in (Ignored c words) ≡ ignored [] (cause_of c) (choices_of words) ∷ []
 in-Ignored c words = search (rules, the_lemmas)
 
-pub in-Unlisted : (k : String Global) → found_in (Unlisted k) ≡ unlisted (key (string_bytes k) ∷ []) ∷ []
-in-Unlisted k = search (rules, the_lemmas)
+pub in-Unused : (k : String Global) → found_in (Unused k) ≡ unused (key (string_bytes k) ∷ []) ∷ []
+in-Unused k = search (rules, the_lemmas)
 
 pub in-Within : (s : CodeStep) (inside : Vec FindingNode Global) → found_in (Within s inside) ≡ found_behind (step_of s) (found_among inside.items)
 in-Within s inside = search (rules, the_lemmas)
@@ -48,13 +48,13 @@ pub lenient-append : (fs gs : List Finding) → leniently (fs ++ gs) ≡ lenient
 lenient-append [] gs = refl
 lenient-append (fault p c ws ∷ fs) gs = ap (λ t. ignored p c ws ∷ t) (lenient-append fs gs)
 lenient-append (ignored p c ws ∷ fs) gs = ap (λ t. ignored p c ws ∷ t) (lenient-append fs gs)
-lenient-append (unlisted p ∷ fs) gs = ap (λ t. unlisted p ∷ t) (lenient-append fs gs)
+lenient-append (unused p ∷ fs) gs = ap (λ t. unused p ∷ t) (lenient-append fs gs)
 
 pub lenient-behind : (s : Step) (fs : List Finding) → leniently (found_behind s fs) ≡ found_behind s (leniently fs)
 lenient-behind s [] = refl
 lenient-behind s (fault p c ws ∷ fs) = ap (λ t. ignored (s ∷ p) c ws ∷ t) (lenient-behind s fs)
 lenient-behind s (ignored p c ws ∷ fs) = ap (λ t. ignored (s ∷ p) c ws ∷ t) (lenient-behind s fs)
-lenient-behind s (unlisted p ∷ fs) = ap (λ t. unlisted (s ∷ p) ∷ t) (lenient-behind s fs)
+lenient-behind s (unused p ∷ fs) = ap (λ t. unused (s ∷ p) ∷ t) (lenient-behind s fs)
 
 -- AT A PATH
 pub at-none : (p : Path) → found_below p [] ≡ []
@@ -77,6 +77,6 @@ pub at-ignored : (p : Path) (c : Cause) (ws : List Text) → found_below p (igno
 at-ignored [] c ws = refl
 at-ignored (s ∷ p) c ws = ap (found_behind s) (at-ignored p c ws)
 
-pub at-unlisted : (p : Path) (k : Text) → found_below p (unlisted (key k ∷ []) ∷ []) ≡ unlisted (p ++ key k ∷ []) ∷ []
-at-unlisted [] k = refl
-at-unlisted (s ∷ p) k = ap (found_behind s) (at-unlisted p k)
+pub at-unused : (p : Path) (k : Text) → found_below p (unused (key k ∷ []) ∷ []) ≡ unused (p ++ key k ∷ []) ∷ []
+at-unused [] k = refl
+at-unused (s ∷ p) k = ap (found_behind s) (at-unused p k)

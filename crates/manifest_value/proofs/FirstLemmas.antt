@@ -1,5 +1,5 @@
 -- The first fault that is found: one step further out, and after findings without a fault.
-use Rattle.manifest_schema.specs.Prelude.{no_fault, itself, table, Data, Items, no_items, item, Members, no_members, member, Text, Path, Cause as SchemaCause, Step, behind, key, index, Spellings, Slot, IsLawful, Kind, Entries, Rows, spelled, left_over, findings_beside, fault, ignored, unlisted, unlisted_keys, faults_of, foremost, first_found, found_here, found_behind, leniently, IsFaultless, item_findings, entry_findings, form_findings, plain, kept}
+use Rattle.manifest_schema.specs.Prelude.{no_fault, itself, table, Data, Items, no_items, item, Members, no_members, member, Text, Path, Cause as SchemaCause, Step, behind, key, index, Spellings, Slot, IsLawful, Kind, Entries, Rows, spelled, left_over, findings_beside, fault, ignored, unused, unused_keys, faults_of, foremost, first_found, found_here, found_behind, leniently, IsFaultless, item_findings, entry_findings, form_findings, plain, kept}
 use Rattle.manifest_schema.specs.Findings.{Finding}
 use Rattle.std.proofs.Common.{◌≡◌, ℕ, suc, true, List, [], ◌∷◌, ◌++◌, Result, Ok, Err, OnOk, refl, sym, ap, ◌∙◌, subst, length, ◌+◌, arith, drop}
 use Rattle.manifest_schema.proofs.FindingLaws.{read_faultless, lenient_faultless, faults-append}
@@ -21,7 +21,7 @@ foremost_behind : (fs : List Finding) (s : Step) (p q : Path) (c e : SchemaCause
 foremost_behind [] s p q c e h k l = absurd h
 foremost_behind (fault r f ws ∷ fs) s p q c e h k l = (k ∙ ap (λ r. s ∷ r) h.0, l ∙ h.1)
 foremost_behind (ignored r f ws ∷ fs) s p q c e h k l = foremost_behind fs s p q c e h k l
-foremost_behind (unlisted r ∷ fs) s p q c e h k l = foremost_behind fs s p q c e h k l
+foremost_behind (unused r ∷ fs) s p q c e h k l = foremost_behind fs s p q c e h k l
 
 -- the fault g is f one step further out
 pub first_behind : (fs : List Finding) (s : Step) (f g : ReadFault) → FaultIn (first_found fs) f → IsBehind s f g → FaultIn (first_found (found_behind s fs)) g
@@ -50,7 +50,7 @@ pub faultless_behind : (s : Step) (fs : List Finding) → IsFaultless fs → IsF
 faultless_behind s [] e = refl
 faultless_behind s (fault p c ws ∷ fs) e = absurd (no_cons e)
 faultless_behind s (ignored p c ws ∷ fs) e = faultless_behind s fs e
-faultless_behind s (unlisted p ∷ fs) e = faultless_behind s fs e
+faultless_behind s (unused p ∷ fs) e = faultless_behind s fs e
 
 -- the first fault of the former findings is that of all
 pub first_before : (fs gs : List Finding) (f : ReadFault) → FaultIn (first_found fs) f → FaultIn (first_found (fs ++ gs)) f
@@ -58,7 +58,7 @@ first_before fs gs (Memory e) h = tt
 first_before [] gs (Schema f) h = absurd h
 first_before (fault p c ws ∷ fs) gs (Schema f) h = h
 first_before (ignored p c ws ∷ fs) gs (Schema f) h = first_before fs gs (Schema f) h
-first_before (unlisted p ∷ fs) gs (Schema f) h = first_before fs gs (Schema f) h
+first_before (unused p ∷ fs) gs (Schema f) h = first_before fs gs (Schema f) h
 
 pub first_same : (fs gs : List Finding) (f : ReadFault) → faults_of fs ≡ faults_of gs → FaultIn (first_found gs) f → FaultIn (first_found fs) f
 first_same fs gs f e h = subst (λ t. FaultIn (foremost t) f) (sym e) h
@@ -76,13 +76,13 @@ pub none_faultless : (fs : List Finding) → HasNoFault fs → IsFaultless fs
 none_faultless [] h = refl
 none_faultless (fault p c ws ∷ fs) h = absurd h
 none_faultless (ignored p c ws ∷ fs) h = none_faultless fs h
-none_faultless (unlisted p ∷ fs) h = none_faultless fs h
+none_faultless (unused p ∷ fs) h = none_faultless fs h
 
 faultless_none : (fs : List Finding) → IsFaultless fs → HasNoFault fs
 faultless_none [] e = tt
 faultless_none (fault p c ws ∷ fs) e = absurd (no_cons e)
 faultless_none (ignored p c ws ∷ fs) e = faultless_none fs e
-faultless_none (unlisted p ∷ fs) e = faultless_none fs e
+faultless_none (unused p ∷ fs) e = faultless_none fs e
 
 pub none_behind : (s : Step) (fs : List Finding) → HasNoFault fs → HasNoFault (found_behind s fs)
 none_behind s fs h = faultless_none (found_behind s fs) (faultless_behind s fs (none_faultless fs h))
@@ -147,7 +147,7 @@ module _ {A : Type 0} (rows : Rows A) (i : ℕ) (ms : Members) (name : Spellings
 -- all rows of a form
 pub first_of_form : {A : Type 0} (rows : Rows A) (ms : Members) (f : ReadFault) → AreAll rows → FaultIn (first_found (findings_from 0 rows ms)) f → FaultIn (first_found (form_findings rows (table ms))) f
 first_of_form rows ms f a h =
-    first_before (findings_beside (spelled rows) rows ms) (unlisted_keys (left_over rows ms)) f (subst (λ t. FaultIn (first_found t) f) (closed_rows_found rows ms a) h)
+    first_before (findings_beside (spelled rows) rows ms) (unused_keys (left_over rows ms)) f (subst (λ t. FaultIn (first_found t) f) (closed_rows_found rows ms a) h)
 
 -- A VALUE THAT IS NO TABLE is refused by each form, and by each map
 pub form_first : {A : Type 0} (rows : Rows A) (d : Data) (f : ReadFault) → FaultIn (no_table d) f → FaultIn (first_found (form_findings rows d)) f

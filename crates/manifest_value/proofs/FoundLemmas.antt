@@ -1,5 +1,5 @@
 -- What is found row by row, and then in the map of all other keys or under the keys that no row has.
-use Rattle.manifest_schema.specs.Prelude.{Data, Kind, Members, no_members, table, Text, Spellings, Slot, at, Rows, no_more, others, ◌⨾◌, without, spelled, findings_beside, left_beside, form_findings, unlisted_keys}
+use Rattle.manifest_schema.specs.Prelude.{Data, Kind, Members, no_members, table, Text, Spellings, Slot, at, Rows, no_more, others, ◌⨾◌, without, spelled, findings_beside, left_beside, form_findings, unused_keys}
 use Rattle.manifest_schema.specs.OneFault.{HasOneFault}
 use Rattle.std.proofs.Common.{◌≡◌, ℕ, zero, suc, List, [], ◌∷◌, ◌++◌, refl, sym, ap, ap₂, ◌∙◌, drop, append_assoc, append-nil}
 use Rattle.manifest_value.specs.FormRows.{many, AreAll}
@@ -65,7 +65,7 @@ left_open no_more named ms o = absurd o
 pub open_found : {A : Type 0} (rows : Rows A) (ms : Members) → IsOpen rows → findings_from zero rows ms ++ other_findings (spelled rows) rows ms ≡ form_findings rows (table ms)
 open_found rows ms o =
     rows_found rows (spelled rows) ms ∙ sym (append-nil (findings_beside (spelled rows) rows ms))
-    ∙ ap (λ x. findings_beside (spelled rows) rows ms ++ unlisted_keys x) (sym (left_open rows (spelled rows) ms o))
+    ∙ ap (λ x. findings_beside (spelled rows) rows ms ++ unused_keys x) (sym (left_open rows (spelled rows) ms o))
 
 -- ONE FAULT AT MOST: a value that is read has no finding, and one that is refused has that fault alone
 pub one_fault_read : {A : Type 0} {K : Kind A} {words : List Text} → HasOneFault K words → (d : Data) (x : A) → K.reads d x → [] ≡ K.findings d

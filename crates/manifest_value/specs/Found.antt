@@ -1,5 +1,5 @@
 -- What the code finds in a value, as the definitions see it, and what is found row by row.
-use Rattle.manifest_schema.specs.Prelude.{Members, Spellings, Slot, at, without, Rows, no_more, others, ◌⨾◌, entry_findings, fault, ignored, unlisted, found_behind, Text, Path, key, Cause as SchemaCause}
+use Rattle.manifest_schema.specs.Prelude.{Members, Spellings, Slot, at, without, Rows, no_more, others, ◌⨾◌, entry_findings, fault, ignored, unused, found_behind, Text, Path, key, Cause as SchemaCause}
 use Rattle.manifest_schema.specs.Findings.{Finding as PathFinding}
 use Rattle.manifest_schema.specs.OneFault.{fault_here}
 use Rattle.std.specs.Prelude.{◌≡◌, ℕ, zero, suc, List, [], ◌∷◌, ◌++◌, map, string_bytes}
@@ -9,7 +9,7 @@ use Rattle.manifest_value.specs.declared.fault.SchemaFault.{SchemaFault}
 use Rattle.manifest_value.specs.declared.fault.ReadFault.{ReadFault}
 use Rattle.manifest_value.specs.declared.fault.ReadFault.TheVariants.{Schema, Memory}
 use Rattle.manifest_value.specs.declared.finding_lists.Finding.{Finding}
-use Rattle.manifest_value.specs.declared.finding_lists.Finding.TheVariants.{Fault, Ignored, Unlisted}
+use Rattle.manifest_value.specs.declared.finding_lists.Finding.TheVariants.{Fault, Ignored, Unused}
 use Rattle.manifest_value.specs.declared.findings.FindingNode.{FindingNode, fold-FindingNode}
 use Rattle.manifest_value.specs.declared.findings.FindingNode.TheOpen.{FindingNode-F}
 use Rattle.manifest_value.specs.declared.findings.Findings.{Findings}
@@ -23,7 +23,7 @@ choices_of words = map (λ (w : Bor Text). w.now) words.now
 abbrev pub finding_of : Finding → PathFinding
 finding_of (Fault f words) = fault (path_of f.path) (cause_of f.cause) (choices_of words)
 finding_of (Ignored f words) = ignored (path_of f.path) (cause_of f.cause) (choices_of words)
-finding_of (Unlisted p) = unlisted (path_of p)
+finding_of (Unused p) = unused (path_of p)
 
 -- a fault, by its path and its cause
 abbrev pub fault_of : SchemaFault → Path × SchemaCause
@@ -39,7 +39,7 @@ joined (fs ∷ more) = fs ++ joined more
 abbrev pub node_step : FindingNode-F (List PathFinding) → List PathFinding
 node_step (FindingNode-F.Fault c words) = fault [] (cause_of c) (choices_of words) ∷ []
 node_step (FindingNode-F.Ignored c words) = ignored [] (cause_of c) (choices_of words) ∷ []
-node_step (FindingNode-F.Unlisted k) = unlisted (key (string_bytes k) ∷ []) ∷ []
+node_step (FindingNode-F.Unused k) = unused (key (string_bytes k) ∷ []) ∷ []
 node_step (FindingNode-F.Within s inside) = found_behind (step_of s) (joined inside.items)
 
 -- what a node says

@@ -1,6 +1,6 @@
 //! What is found in a value as lists, in which each finding has its whole path.
 
-ghost use Rattle.manifest_schema.specs.Prelude.{faults_of, ignored_of, unlisted_of, key as key_step};
+ghost use Rattle.manifest_schema.specs.Prelude.{faults_of, ignored_of, unused_of, key as key_step};
 ghost use Rattle.std.specs.Prelude.{◌≡◌, ◌++◌, [], ◌∷◌, IfOk, OnOk, map};
 ghost use Rattle.manifest_value.specs.Faults.{path_of};
 ghost use Rattle.manifest_value.specs.Found.{fault_of, finding_of, found_in, found_among, found, found_below};
@@ -18,7 +18,7 @@ pub enum Finding {
     /// badge.
     Ignored(SchemaFault, Choices),
     /// Nothing reads the entry of the key at the path, and nothing that stands in it is found.
-    Unlisted(KeyPath),
+    Unused(KeyPath),
 }
 
 /// The path with a step to a key after it.
@@ -66,8 +66,8 @@ fn push_node(
             ))?;
             Ok(out)
         }
-        FindingNode::Unlisted(key) => {
-            out.push(Finding::Unlisted(path_to_key(alloc, path, key.as_str())?))?;
+        FindingNode::Unused(key) => {
+            out.push(Finding::Unused(path_to_key(alloc, path, key.as_str())?))?;
             Ok(out)
         }
         FindingNode::Within(step, nodes) => {
@@ -149,13 +149,13 @@ impl Findings {
     }
 
     /// The paths of the keys among the findings that nothing reads, in their order.
-    pub fn unlisted(&self, alloc: Global) -> Result<Vec<KeyPath>, AllocError>
-        ensures { IfOk result (λ v. map path_of v.items ≡ unlisted_of (found self.now)) }
+    pub fn unused(&self, alloc: Global) -> Result<Vec<KeyPath>, AllocError>
+        ensures { IfOk result (λ v. map path_of v.items ≡ unused_of (found self.now)) }
     {
         let mut paths = Vec::new(alloc);
         for finding in self.to_vec(alloc)? {
             match finding {
-                Finding::Unlisted(path) => paths.push(path)?,
+                Finding::Unused(path) => paths.push(path)?,
                 other => drop(other),
             }
         }

@@ -3,7 +3,7 @@
 //! It is kept as a tree, in which each step of a path stands once: so it takes memory in proportion to the value that it
 //! is found in, however many findings stand below one long key.
 
-ghost use Rattle.manifest_schema.specs.Prelude.{found_here, found_behind, unlisted_keys, leniently, key, index};
+ghost use Rattle.manifest_schema.specs.Prelude.{found_here, found_behind, unused_keys, leniently, key, index};
 ghost use Rattle.std.specs.Prelude.{◌≡◌, ◌++◌, [], IfOk};
 ghost use Rattle.manifest_value.specs.Faults.{step_of, cause_of};
 ghost use Rattle.manifest_value.specs.Found.{choices_of, found_in, found_among, found, IsFoundHere};
@@ -27,7 +27,7 @@ pub enum FindingNode {
     /// The value, or its absence, does not fit, and that is no fault: the field counts as absent, as of a badge.
     Ignored(Cause, Choices),
     /// Nothing reads the entry of this key, and nothing that stands in it is found.
-    Unlisted(String),
+    Unused(String),
     /// What is found in the value that the step leads to.
     Within(Step, Vec<FindingNode>),
 }
@@ -206,16 +206,16 @@ impl Findings {
     /// These findings, and then the keys of entries that nothing reads.
     ///
     /// ```ignore
-    /// let all = found.and_unlisted(alloc, walk.rest)?;
+    /// let all = found.and_unused(alloc, walk.rest)?;
     /// ```
-    pub fn and_unlisted(self, alloc: Global, rest: Vec<Entry<'_>>) -> Found
+    pub fn and_unused(self, alloc: Global, rest: Vec<Entry<'_>>) -> Found
         ensures { IfOk result
-            (λ f. found f ≡ found self ++ unlisted_keys (rest_view rest.entry.items)) }
+            (λ f. found f ≡ found self ++ unused_keys (rest_view rest.entry.items)) }
     {
         let mut nodes = self.nodes;
         for (key, value) in rest {
             drop(value);
-            nodes.push(FindingNode::Unlisted(key.into_string(alloc)?))?;
+            nodes.push(FindingNode::Unused(key.into_string(alloc)?))?;
         }
         Ok(Findings { nodes })
     }

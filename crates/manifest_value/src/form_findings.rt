@@ -96,7 +96,7 @@ pub fn findings_of_closed<'t, T: Form>(
 /// The entries of a list under the keys that no row of a form has.
 ///
 /// ```ignore
-/// let unlisted = entries_left_over::<Package<Value>>(alloc, rest)?;
+/// let unused = entries_left_over::<Package<Value>>(alloc, rest)?;
 /// ```
 pub fn entries_left_over<'t, T: Form>(
     alloc: Global,
@@ -120,7 +120,7 @@ pub fn findings_of_form<T: Form>(alloc: Global, table: &Table) -> Found
         (λ f. found f ≡ form_findings T.rows (table_data (table_view table.now))) }
 {
     let (found, rest) = findings_of_closed::<T>(alloc, table)?;
-    found.and_unlisted(alloc, rest)
+    found.and_unused(alloc, rest)
 }
 
 /// What is found in a value of a form that ends with the map of all other keys, whose values are read as an `X`: row by

@@ -1,11 +1,11 @@
 use Rattle.std.proofs.Common.{string_bytes, [], ◌∷◌, ◌++◌, map, suc, drop, sym, ap, ◌∙◌, arith, add-one, append_assoc, append-nil}
 use Rattle.std.proofs.Math.Seq.{drop-cons}
 use Rattle.std.proofs.lemmas.List.{drop_all, map-append}
-use Rattle.manifest_schema.specs.Prelude.{key, fault, ignored, unlisted}
-use Rattle.manifest_value.specs.declared.finding_lists.Finding.TheVariants.{Fault, Ignored, Unlisted}
+use Rattle.manifest_schema.specs.Prelude.{key, fault, ignored, unused}
+use Rattle.manifest_value.specs.declared.finding_lists.Finding.TheVariants.{Fault, Ignored, Unused}
 use Rattle.manifest_value.specs.Faults.{step_of, path_of, cause_of}
 use Rattle.manifest_value.specs.Found.{finding_of, choices_of, found_in, found_among, found_below}
-use Rattle.manifest_value.proofs.FindingTrees.{list_pushed, in-Fault, in-Ignored, in-Unlisted, in-Within, at-none, at-append, at-deeper, at-fault, at-ignored, at-unlisted}
+use Rattle.manifest_value.proofs.FindingTrees.{list_pushed, in-Fault, in-Ignored, in-Unused, in-Within, at-none, at-append, at-deeper, at-fault, at-ignored, at-unused}
 use Rattle.manifest_value.proofs.finding_lists.+lists.Goals as goal
 
 pub push_node-returns-in_ok-push-in-Fault-clause-list : goal.push_node-returns-in_ok-push-in-Fault-clause-list
@@ -28,14 +28,14 @@ push_node-returns-in_ok-push-in-Ignored-clause-list t c =
     list_pushed c.push-in-Ignored.new.self.items c.args.out.items (Ignored (record { path = c.in_ok-path-in-Ignored.path; cause = cause }) words) here c.in_ok-push-in-Ignored.ensures.items
     (ap (λ q. ignored q (cause_of cause) (choices_of words) ∷ []) c.in_ok-path-in-Ignored.ensures ∙ sym is)
 
-pub push_node-returns-in_ok-push-in-Unlisted-clause-list : goal.push_node-returns-in_ok-push-in-Unlisted-clause-list
-push_node-returns-in_ok-push-in-Unlisted-clause-list t c =
+pub push_node-returns-in_ok-push-in-Unused-clause-list : goal.push_node-returns-in_ok-push-in-Unused-clause-list
+push_node-returns-in_ok-push-in-Unused-clause-list t c =
     let p = path_of c.args.path.now in
     let here = found_below p (found_in c.args.node.now) in
-    let is = ap (found_below p) (ap found_in c.in-Unlisted.is ∙ in-Unlisted c.in-Unlisted.key) ∙ at-unlisted p (string_bytes c.in-Unlisted.key) in
-    let to_key = c.in_ok-path_to_key-in-Unlisted.ensures ∙ ap (λ k. p ++ key k ∷ []) c.as_str.ensures.value in
-    list_pushed c.push-in-Unlisted.new.self.items c.args.out.items (Unlisted c.in_ok-path_to_key-in-Unlisted.field-0) here c.in_ok-push-in-Unlisted.ensures.items
-    (ap (λ q. unlisted q ∷ []) to_key ∙ sym is)
+    let is = ap (found_below p) (ap found_in c.in-Unused.is ∙ in-Unused c.in-Unused.key) ∙ at-unused p (string_bytes c.in-Unused.key) in
+    let to_key = c.in_ok-path_to_key-in-Unused.ensures ∙ ap (λ k. p ++ key k ∷ []) c.as_str.ensures.value in
+    list_pushed c.push-in-Unused.new.self.items c.args.out.items (Unused c.in_ok-path_to_key-in-Unused.field-0) here c.in_ok-push-in-Unused.ensures.items
+    (ap (λ q. unused q ∷ []) to_key ∙ sym is)
 
 pub push_node-returns-in_ok-out-in-Within-clause-list : goal.push_node-returns-in_ok-out-in-Within-clause-list
 push_node-returns-in_ok-out-in-Within-clause-list t c =

@@ -1,11 +1,11 @@
 use Rattle.std.proofs.Common.{◌≡◌, ◌++◌}
 use Rattle.std.specs.Vec.Iter.{into_iter_items}
-use Rattle.manifest_schema.specs.Prelude.{unlisted_keys}
+use Rattle.manifest_schema.specs.Prelude.{unused_keys}
 use Rattle.manifest_value.specs.Found.{found_among}
 use Rattle.manifest_value.specs.Sources.{rest_view}
-use Rattle.manifest_value.proofs.findings.Findings.and_unlisted.Given as goal
+use Rattle.manifest_value.proofs.findings.Findings.and_unused.Given as goal
 
 -- the findings so far, and the keys that are to come
 abbrev pub invariant-loop-key : goal.invariant-loop-key
 invariant-loop-key l =
-    found_among l.nodes.items ++ unlisted_keys (rest_view (into_iter_items l.key-iterator)) ≡ found_among l.fn.self.nodes.items ++ unlisted_keys (rest_view l.fn.rest.items)
+    found_among l.nodes.items ++ unused_keys (rest_view (into_iter_items l.key-iterator)) ≡ found_among l.fn.self.nodes.items ++ unused_keys (rest_view l.fn.rest.items)

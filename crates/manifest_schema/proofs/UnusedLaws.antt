@@ -1,9 +1,9 @@
 -- A whole table without the keys that nothing reads means the same and has the same faults, with old headers.
-use Rattle.manifest_schema.specs.Prelude.{and_parts, cases_Bool, not-true, or_cases, or_parts, Data, table, Members, get_member, same_key, members_are_sorted, Text, Path, key, is_among, without, has_entry, Kind, Rows, spelled, is_closed, form, row_findings, left_over, package_rows, manifest_rows, Package, Manifest, has_header, old_package, means_by, faulty_old, unmeant_by, findings_by, old_findings, SameWithoutUnlisted, from_step, ends_here, left_out, left_out_members, unlisted_in, Alike, IsTidy, AreTidy}
+use Rattle.manifest_schema.specs.Prelude.{and_parts, cases_Bool, not-true, or_cases, or_parts, Data, table, Members, get_member, same_key, members_are_sorted, Text, Path, key, is_among, without, has_entry, Kind, Rows, spelled, is_closed, form, row_findings, left_over, package_rows, manifest_rows, Package, Manifest, has_header, old_package, means_by, faulty_old, unmeant_by, findings_by, old_findings, SameWithoutUnused, from_step, ends_here, left_out, left_out_members, unused_in, Alike, IsTidy, AreTidy}
 use Rattle.std.proofs.Common.{◌≡◌, Bool, true, false, not, ◌&&◌, ◌||◌, ◌⊎◌, inl, inr, List, [], ◌∷◌, ◌++◌, Option, Some, None, is_some, codes, refl, sym, ap, ap₂, ◌∙◌, subst, true≢false}
-use Rattle.manifest_schema.specs.Findings.{Finding, found_behind, unlisted_keys, unlisted_of}
+use Rattle.manifest_schema.specs.Findings.{Finding, found_behind, unused_keys, unused_of}
 use Rattle.manifest_schema.proofs.TableLaws.{same_key-true, same_key-false}
-use Rattle.manifest_schema.proofs.LeftOutLaws.{unlisted_at, at-behind, at-other, at_first, at_second, Stays, no_key_found, named_not_found, left_value, get-left, test-left, entry_found, entry_there, entry_beside, in_order, value_sorted}
+use Rattle.manifest_schema.proofs.LeftOutLaws.{unused_at, at-behind, at-other, at_first, at_second, Stays, no_key_found, named_not_found, left_value, get-left, test-left, entry_found, entry_there, entry_beside, in_order, value_sorted}
 use Rattle.manifest_schema.proofs.TidyLaws.{either_way, behind_same}
 use Rattle.manifest_schema.proofs.FormTidy.{Owns, Agrees, owned_spelled, rows_vanish, left-closed, table_same, key_stays}
 use Rattle.manifest_schema.proofs.PartTidy.{package_rows_tidy, package_distinct, package_tidy, manifest_rows_tidy, manifest_distinct, manifest_tidy}
@@ -76,7 +76,7 @@ module _ {K W : Kind Data} (k : IsTidy K) (w : IsTidy W) where
   -- A TABLE WITHOUT A HEADER, by the value under `project`
   module _ (ms : Members) (s : members_are_sorted ms ≡ true) (none : get_member workspace ms ≡ None) where
     -- none of the keys that are left over is named
-    left_none : (names : List Text) (j : Text) → (is_among names j ≡ true) ⊎ (is_among (spelled rows) j ≡ true) → unlisted_at (key j) (unlisted_keys (without names (left_over rows ms))) ≡ []
+    left_none : (names : List Text) (j : Text) → (is_among names j ≡ true) ⊎ (is_among (spelled rows) j ≡ true) → unused_at (key j) (unused_keys (without names (left_over rows ms))) ≡ []
     left_none names j (inl h) = named_not_found names j (left_over rows ms) h
     left_none names j (inr h) = no_key_found j (without names (left_over rows ms)) (λ d e.
         let there : has_entry j d (without (spelled rows) ms) = subst (has_entry j d) (left-closed (spelled rows) ms rows (closed K W).1) (entry_beside names j d (left_over rows ms) e).0 in
@@ -93,18 +93,18 @@ module _ {K W : Kind Data} (k : IsTidy K) (w : IsTidy W) where
     inside d = found_behind (key project) ((form own_rows).findings d)
 
     abbrev beside : List Finding
-    beside = unlisted_keys (without (project ∷ []) (left_over rows ms))
+    beside = unused_keys (without (project ∷ []) (left_over rows ms))
 
     abbrev second : List Finding
     second = row_findings own_rows ms
 
     abbrev rest : List Finding
-    rest = unlisted_keys (left_over own_rows (left_over rows ms))
+    rest = unused_keys (left_over own_rows (left_over rows ms))
 
-    rest_none : (j : Text) → (is_among (spelled own_rows) j ≡ true) ⊎ (is_among (spelled rows) j ≡ true) → unlisted_at (key j) rest ≡ []
+    rest_none : (j : Text) → (is_among (spelled own_rows) j ≡ true) ⊎ (is_among (spelled rows) j ≡ true) → unused_at (key j) rest ≡ []
     rest_none j h = rw (left-closed (spelled own_rows) (left_over rows ms) own_rows (closed K W).0) (left_none (spelled own_rows) j h)
 
-    old_agrees : (o : Option Data) → Agrees (spelled rows) ms rows (unlisted_of (old_findings K W ms o))
+    old_agrees : (o : Option Data) → Agrees (spelled rows) ms rows (unused_of (old_findings K W ms o))
     old_agrees (Some d) j o =
         let h = rows_spelled j o in
         let other = same_key-false j project (λ tie. true≢false (sym h ∙ ap (is_among (spelled rows)) tie ∙ (known K W).no_project)) in
@@ -113,49 +113,49 @@ module _ {K W : Kind Data} (k : IsTidy K) (w : IsTidy W) where
         let h = rows_spelled j o in
         at_first (key j) first (second ++ rest) (at_second (key j) second rest (rows_vanish (spelled own_rows) ms own_rows j (package_rows_tidy K k) (λ d e o. apart j d e h (own_spelled j o))) ∙ rest_none j (inr h))
 
-    project_paths : (d : Data) → unlisted_at (key project) (old_findings K W ms (Some d)) ≡ unlisted_in (form own_rows) d
+    project_paths : (d : Data) → unused_at (key project) (old_findings K W ms (Some d)) ≡ unused_in (form own_rows) d
     project_paths d =
         at_second (key project) first (inside d ++ beside) (rows_vanish (spelled rows) ms rows project rows_tidy (λ d h o. true≢false (sym (rows_spelled project o) ∙ (known K W).no_project)))
         ∙ at_first (key project) (inside d) beside (left_none (project ∷ []) project (inl refl)) ∙ at-behind (key project) (key project) ((form own_rows).findings d) refl
 
-    own_agrees : Agrees (spelled own_rows) ms own_rows (unlisted_of (old_findings K W ms None))
+    own_agrees : Agrees (spelled own_rows) ms own_rows (unused_of (old_findings K W ms None))
     own_agrees j o =
         let h = own_spelled j o in
         at_second (key j) first (second ++ rest) (rows_vanish (spelled rows) ms rows j rows_tidy (λ d e o. apart j d e (rows_spelled j o) h)) ∙ at_first (key j) second rest (rest_none j (inl h))
 
     abbrev left : Option Data → Members
-    left o = left_out_members (unlisted_of (old_findings K W ms o)) ms
+    left o = left_out_members (unused_of (old_findings K W ms o)) ms
 
     abbrev project_left : Option Data → Option Data
-    project_left o = left_value (unlisted_at (key project) (old_findings K W ms o)) o
+    project_left o = left_value (unused_at (key project) (old_findings K W ms o)) o
 
     package_same : (o : Option Data) → get_member project ms ≡ o
         → Alike ((form own_rows).reads (old_package (left o) (project_left o))) (faulty_old K (left o) (project_left o)) ((form own_rows).reads (old_package ms o)) (faulty_old K ms o)
     package_same (Some d) e =
         let sorted = value_sorted project d ms (in_order ms s) (entry_found project d ms e) in
         let t = package_tidy K k in
-        rw (project_paths d, t.inside d) (t.reads d sorted, behind_same (key project) ((form own_rows).faulty (left_out (unlisted_in (form own_rows) d) d)) ((form own_rows).faulty d) (t.faulty d sorted))
-    package_same None e = table_same own_rows (package_rows_tidy K k) (package_distinct K) (unlisted_of (old_findings K W ms None)) ms s own_agrees
+        rw (project_paths d, t.inside d) (t.reads d sorted, behind_same (key project) ((form own_rows).faulty (left_out (unused_in (form own_rows) d) d)) ((form own_rows).faulty d) (t.faulty d sorted))
+    package_same None e = table_same own_rows (package_rows_tidy K k) (package_distinct K) (unused_of (old_findings K W ms None)) ms s own_agrees
 
     old_same : (o : Option Data) → get_member project ms ≡ o → Alike (means_by K W false (left o)) (unmeant_by K W false (left o)) (means_by K W false ms) (unmeant_by K W false ms)
     old_same o e =
-        let (a, b) = table_same rows rows_tidy (manifest_distinct K W) (unlisted_of (old_findings K W ms o)) ms s (old_agrees o) in
+        let (a, b) = table_same rows rows_tidy (manifest_distinct K W) (unused_of (old_findings K W ms o)) ms s (old_agrees o) in
         let (c, d) = package_same o e in
-        rw (get-left (unlisted_of (old_findings K W ms o)) project ms, e) (
+        rw (get-left (unused_of (old_findings K W ms o)) project ms, e) (
           λ m. (λ h. (h.0, h.1, (a h.0).0 h.2, (c h.1).0 h.3, h.4), λ h. (h.0, h.1, (a h.0).1 h.2, (c h.1).1 h.3, h.4)),
           λ p c. either_way (b p c) (d p c),
         )
 
   -- THE WHOLE TABLE, by whether it has a header: one stays, and none comes
   abbrev left_by : Bool → Members → Members
-  left_by h ms = left_out_members (unlisted_of (findings_by K W h ms)) ms
+  left_by h ms = left_out_members (unused_of (findings_by K W h ms)) ms
 
   abbrev Kept : Bool → Members → Text → Type 0
   Kept h ms j = Stays (key j) (findings_by K W h ms) ⊎ (has_key j ms ≡ false)
 
   header_stays : (h : Bool) (ms : Members) → has_header ms ≡ h → has_header (left_by h ms) ≡ h
   header_stays h ms e =
-      let kept = has_key-left (unlisted_of (findings_by K W h ms)) in
+      let kept = has_key-left (unused_of (findings_by K W h ms)) in
       let (a, b) = either h ms e in
       ap₂ (λ a b. a || b) (kept (codes "package") ms a) (kept workspace ms b) ∙ e
     where
@@ -167,5 +167,5 @@ module _ {K W : Kind Data} (k : IsTidy K) (w : IsTidy W) where
   same_by true ms s e = let t = manifest_tidy K W k w in (t.reads (table ms) s, t.faulty (table ms) s)
   same_by false ms s e = old_same ms s (none_of (get_member workspace ms) (or_parts (has_key (codes "package") ms) (has_key workspace ms) e).1) (get_member project ms) refl
 
-  pub same_without_unlisted : SameWithoutUnlisted K W
-  same_without_unlisted ms s = rw (header_stays (has_header ms) ms refl) (same_by (has_header ms) ms s refl)
+  pub same_without_unused : SameWithoutUnused K W
+  same_without_unused ms s = rw (header_stays (has_header ms) ms refl) (same_by (has_header ms) ms s refl)
