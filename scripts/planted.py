@@ -14,9 +14,9 @@ NAMES = ["a", "b", "serde", "foo-bar", "x_1", "0", "é", "a.b", "cfg(unix)", "",
 TEXTS = ["1", "1.0", "MIT", "src/lib.rs", "true", "2021", "x y", "é", "", "^1.2, <2", *ODD[1:12]]
 FREE = ["zzz", "Package", "licence", "autobin", "dependecies", "git2", "é", "a b", "metadat", "$", "workspaces", "profiles"]
 SINGULAR = {"texts": "text", "dependencies": "dependency", "lints": "lint", "values without a float": "kept"}
-KEPT = ("any value without a float", "metadata", "kept")
+KEPT = ("any value without a float", "kept")
 HEADERS = {"package": 12, "workspace": 4, "both": 4, "project": 3, "none": 3}
-FAULT, IGNORED, UNLISTED = "fault", "ignored", "unlisted"
+FAULT, IGNORED, UNUSED = "fault", "ignored", "unused"
 WRONG_KIND, MISSING, TWO_SPELLINGS, NOT_A_CHOICE = "wrong kind", "missing", "two spellings", "not a choice"
 OUT_OF_RANGE, NOT_TRUE, HOLDS_FLOAT = "out of range", "not true", "holds a float"
 
@@ -124,9 +124,9 @@ class Planted:
         self.found = []
         self.table = self.manifest()
         for _ in range(random.choice([0, 1, 1, 2, 3, 4, 5])):
-            self.plant(lambda what: what != UNLISTED)
+            self.plant(lambda what: what != UNUSED)
         for _ in range(random.choice([0, 0, 1, 2, 3])):
-            self.plant(lambda what: what == UNLISTED)
+            self.plant(lambda what: what == UNUSED)
         if "badges" in self.table and self.is_so(0.5):
             self.plant(lambda what: what == IGNORED)
         self.found.sort()
@@ -175,6 +175,8 @@ class Planted:
             "boolean": lambda: self.is_so(0.5),
             "true": lambda: True,
             "kept": self.anything,
+            # (metadata is not looked at)
+            "metadata": lambda: self.anything(0, True),
             "text or boolean": lambda: choice([*TEXTS, True, False]),
             "boolean or list of texts": lambda: choice([True, False, self.good(("list", ("text",)))]),
             "dependency": lambda: choice([choice(TEXTS), self.form("Dependency in detail"), self.inherited()]),
@@ -217,7 +219,7 @@ class Planted:
         """Does one thing of this kind that may be done, if there is any. Each kind of it comes about as often."""
         by_cause = {}
         for each in self.root():
-            what = UNLISTED if each[1] == UNLISTED else IGNORED if each[0].is_lenient else FAULT
+            what = UNUSED if each[1] == UNUSED else IGNORED if each[0].is_lenient else FAULT
             if is_wanted(what):
                 by_cause.setdefault((each[1], each[0].form), []).append((what, *each))
         if not by_cause:
@@ -229,7 +231,7 @@ class Planted:
         put()
         self.closed |= {place.path, *closes}
         choices = place.choices if cause == NOT_A_CHOICE else ()
-        self.found.append(Finding(place.rank, what, place.path, None if what == UNLISTED else cause, choices, form))
+        self.found.append(Finding(place.rank, what, place.path, None if what == UNUSED else cause, choices, form))
 
     def root(self):
         """What may be done in the whole table. Each of it is the place, the cause, other paths that it closes, and the deed."""
@@ -241,9 +243,9 @@ class Planted:
             words |= spelled("Package")
         elif self.header == "project":
             yield from self.at(("form", "Package"), self.table, "project", top.below("project", (1, 0, b"")))
-        yield from self.unlisted(words | {"package", "workspace", "project"}, self.table, top)
+        yield from self.unused(words | {"package", "workspace", "project"}, self.table, top)
         if not self.is_old():
-            yield from self.unlisted(words, self.table, top, ["project", "name"])
+            yield from self.unused(words, self.table, top, ["project", "name"])
 
     def is_old(self):
         return self.header in ("project", "none")
@@ -263,7 +265,7 @@ class Planted:
         name, *more = kind
         if name == "inherited":
             if isinstance(value, dict):
-                yield from self.unlisted({"workspace"}, value, place)
+                yield from self.unused({"workspace"}, value, place)
                 return
             yield from self.inside(more[0], value, place)
         elif name == "list" or name == "boolean or list of texts" and isinstance(value, list):
@@ -274,7 +276,7 @@ class Planted:
                 yield from self.at(more[0], value, key, place.below(key, (0, 0, key.encode())))
         elif name == "kept":
             yield from self.inside_kept(value, place)
-        elif isinstance(value, dict):
+        elif isinstance(value, dict) and name != "metadata":
             is_inherited = name == "dependency" and value.get("workspace") is True
             wanted = {"dependency": "Dependency in detail", "lint": "Lint in detail", "form": more and more[0]}[name]
             yield from self.inside_form("Dependency of the workspace" if is_inherited else wanted, value, place)
@@ -297,7 +299,7 @@ class Planted:
                 if key not in spelled(form):
                     yield from self.at(kind, table, key, place.below(key, (1, 0, key.encode())))
         else:
-            yield from self.unlisted(spelled(form), table, place)
+            yield from self.unused(spelled(form), table, place)
 
     def rows(self, form, table, place, left_out, group=0):
         """What may be done at the rows of a form but for some keys."""
@@ -322,7 +324,7 @@ class Planted:
             if key not in table or self.is_so(0.5):
                 table[key] = self.anything(2, True)
 
-    def unlisted(self, words, table, place, names=()):
+    def unused(self, words, table, place, names=()):
         """A key that nothing reads, with any value: a misspelled one, or one that another table has."""
         key = self.random.choice(names or [*FREE, self.misspelled(words), self.random.choice(sorted(spelled("Package")))])
         value = self.anything(0, True)
@@ -330,7 +332,7 @@ class Planted:
             return
         place = place.below(key, (2, 0, key.encode()), is_lenient=False)
         if self.is_free(place.path):
-            yield place, UNLISTED, (), lambda: table.update({key: value})
+            yield place, UNUSED, (), lambda: table.update({key: value})
 
     def misspelled(self, words):
         """One of the words, or one like it."""
@@ -357,6 +359,8 @@ class Planted:
         if name == "inherited":
             yield from self.misfits(more[0])
             yield WRONG_KIND, {"workspace": self.random.choice([False, 1, "true", [True]]), "x": 1}
+            return
+        if name == "metadata":
             return
         if name == "kept":
             yield HOLDS_FLOAT, Literal(self.random.choice(FLOATS))

@@ -180,7 +180,7 @@ static const struct call UNREAD[] = {
 #define FAULT(cause) "\x07\x02\x02\x00\x02" cause
 #define IGNORED(cause) "\x07\x02\x02\x01\x02" cause
 #define NO_CHOICE(what, count) "\x07\x03\x02" what "\x02\x04\x07" count
-#define UNLISTED(key) "\x07\x02\x02\x02\x01" key
+#define UNUSED(key) "\x07\x02\x02\x02\x01" key
 #define BELOW(key, count) "\x07\x03\x02\x03\x01" key "\x07" count
 #define IN_ITEM(index, count) "\x07\x03\x02\x03\x02" index "\x07" count
 
@@ -189,7 +189,7 @@ static const struct call FINDINGS_OF[] = {
     {FINDINGS, .bytes = NAME, BYTES("\x07\x00")},
     {FINDINGS, BYTES("\x07\x01" BELOW("\x04name", "\x01") FAULT("\x02"))},
     {FINDINGS, .bytes = "[package]\nname = 1\nedtion = '2021'",
-     BYTES("\x07\x01" BELOW("\x07package", "\x02") BELOW("\x04name", "\x01") FAULT("\x01") UNLISTED("\x06" "edtion"))},
+     BYTES("\x07\x01" BELOW("\x07package", "\x02") BELOW("\x04name", "\x01") FAULT("\x01") UNUSED("\x06" "edtion"))},
     {FINDINGS, .bytes = NAME "authors = [true, 'a', 2]",
      BYTES("\x07\x01" BELOW("\x07package", "\x01") BELOW("\x07" "authors", "\x02") IN_ITEM("\x00", "\x01") FAULT("\x01")
            IN_ITEM("\x02", "\x01") FAULT("\x01"))},
@@ -199,7 +199,7 @@ static const struct call FINDINGS_OF[] = {
            BELOW("\x05lints", "\x01") BELOW("\x04rust", "\x01") BELOW("\x01" "a", "\x01")
            NO_CHOICE("\x00", "\x04") "\x01\x06" "forbid\x01\x04" "deny\x01\x04warn\x01\x05" "allow")},
     {FINDINGS, .bytes = NAME "[badges]\ngitlab = 1\nx = 1",
-     BYTES("\x07\x01" BELOW("\x06" "badges", "\x02") BELOW("\x06gitlab", "\x01") IGNORED("\x01") UNLISTED("\x01x"))},
+     BYTES("\x07\x01" BELOW("\x06" "badges", "\x02") BELOW("\x06gitlab", "\x01") IGNORED("\x01") UNUSED("\x01x"))},
     {FINDINGS, .bytes = NAME "metadata = nan",
      BYTES("\x07\x01" BELOW("\x07package", "\x01") BELOW("\x08metadata", "\x01") FAULT("\x07"))},
     {FINDINGS, .bytes = "\xff", .status = MANIFEST_NOT_UTF8, .text = ""},
@@ -284,7 +284,7 @@ static const struct call DEPTHS[] = {
     {DOCUMENT, .bytes = "[k" TIMES_15(".k") ".k]\nk = " TIMES_21("[") TIMES_21("]"), .status = MANIFEST_TOO_DEEP,
      .text = ""},
     {DOCUMENT, .bytes = BRACKETS, .status = MANIFEST_TOO_DEEP, .text = ""},
-    {FINDINGS, .bytes = OWN DEEP(""), BYTES("\x07\x01" UNLISTED("\x01k"))},
+    {FINDINGS, .bytes = OWN DEEP(""), BYTES("\x07\x01" UNUSED("\x01k"))},
     {FINDINGS, .bytes = OWN DEEP(".k"), .status = MANIFEST_TOO_DEEP, .text = ""},
     {FINDINGS, .bytes = BRACKETS, .status = MANIFEST_TOO_DEEP, .text = ""},
     {TABLE, .bytes = OWN BRACKETS, .status = MANIFEST_TOO_DEEP, .text = ""},

@@ -238,7 +238,9 @@ struct manifest_answer manifest_resolved_completed_table(const uint8_t *bytes, s
 
 /* The table that manifest_table gives, but that the metadata of the package and of the workspace is not looked at: where
    there is any, it is written as the empty table. So no value in metadata refuses anything, not a float either, but for what
-   nests too deep. */
+   nests too deep. All calls above keep metadata as it is, and refuse a float in it as MANIFEST_HOLDS_FLOAT: whoever does not
+   need metadata asks for this table, and then for its text by manifest_canonical_of_table, or completes it by
+   manifest_completed_of_table. */
 struct manifest_answer manifest_table_without_metadata(const uint8_t *bytes, size_t bytes_length, size_t most,
                                                        uint8_t *out, size_t out_length);
 
@@ -252,14 +254,15 @@ struct manifest_answer manifest_document(const uint8_t *bytes, size_t bytes_leng
 enum manifest_found {
     MANIFEST_FOUND_FAULT = 0,    /* the value here, or its absence, does not fit: the manifest is refused */
     MANIFEST_FOUND_IGNORED = 1,  /* it does not fit where that refuses nothing: a badge, which counts as absent */
-    MANIFEST_FOUND_UNLISTED = 2, /* nothing reads this key of the table here, as a misspelled one, or looks below it */
+    MANIFEST_FOUND_UNUSED = 2,   /* nothing reads this key of the table here, as a misspelled one, or looks below it */
     MANIFEST_FOUND_BELOW = 3     /* what is found in a value of the table or the array here */
 };
 
 /* What is found in the document that the bytes are, as in a manifest: every fault, and not the first one alone, what is
    ignored, and every key that nothing reads. The status is MANIFEST_ACCEPTED with faults too: they are what was asked for.
    Without any, the bytes are a manifest, which manifest_canonical accepts if its text is not too long; and else the first
-   fault is the one with which that refuses them. Metadata is kept as it is there, so each float in it is a fault.
+   fault is the one with which that refuses them. Metadata is not looked at here: a float in it, which Cargo takes, is no
+   fault, though the calls that keep metadata refuse it, and before what is found here (see manifest_table_without_metadata).
 
    It is a tagged array of parts, of what is found in the whole table. Each part is an array, whose first value is a number of
    enum manifest_found. What stands after it:

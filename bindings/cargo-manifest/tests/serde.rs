@@ -75,12 +75,12 @@ fn a_null_is_a_key_that_is_absent() {
 fn a_misfit_says_where() {
     let of = |value: serde_json::Value| serde_json::from_value::<Manifest>(value).unwrap_err().to_string();
     let wrong = of(json!({ "package": { "name": "a", "authors": [true] } }));
-    assert_eq!(wrong, "`package.authors[0]` is of the wrong kind: a string is wanted");
+    assert_eq!(wrong, "invalid type for `package.authors[0]`: expected a string");
     let both = of(json!({ "dependencies": { "a b": { "default-features": true, "default_features": true } } }));
-    assert_eq!(both, "`dependencies.\"a b\".default-features` is there in both of its spellings");
-    assert_eq!(of(json!({ "package": {} })), "`package.name` is missing: a string is wanted");
+    assert_eq!(both, "`dependencies.\"a b\".default-features` is given twice, as `default-features` and as `default_features`");
+    assert_eq!(of(json!({ "package": {} })), "missing field `package.name`");
     let choice = of(json!({ "package": { "name": "a", "resolver": "4" } }));
-    assert_eq!(choice, "`package.resolver` is not a choice: one of the strings \"1\", \"2\", \"3\" is wanted");
+    assert_eq!(choice, "`package.resolver` is none of `1`, `2`, `3`");
 }
 
 #[derive(Debug, PartialEq, Deserialize, Serialize)]
@@ -112,7 +112,7 @@ fn metadata_that_its_type_refuses() {
     let text = "[package]\nname = 'a'\n[package.metadata]\nkeep = [1, 300]\n";
     let Err(Error::Parse(error)) = Manifest::<Own>::from_slice_with_metadata(text.as_bytes()) else { panic!() };
     assert_eq!((error.cause(), error.key_path()), (Some(Cause::Metadata), Some("package.metadata")));
-    assert!(error.message().starts_with("`package.metadata` does not fit: "), "{error}");
+    assert!(error.message().starts_with("invalid metadata in `package.metadata`: "), "{error}");
     assert!(error.message().contains("300") && error.message().contains("`keep[1]`"), "{error}");
 }
 

@@ -12,13 +12,20 @@ meanwhile.
 """
 from ._calls import canonical, completed, completed_table, resolved, resolved_completed
 from ._calls import resolved_completed_table, resolved_table, table
-from ._error import Cause, ManifestError
-from ._faults import Fault, faults, ignored, unlisted_keys
+from ._cause import Cause
+from ._error import ManifestError
+from ._faults import Fault, faults, ignored, unused_keys
+from ._unused import CargoKey, UnusedKey
+
+__version__ = "0.2.0"
 
 __all__ = [
+    "CargoKey",
     "Cause",
     "Fault",
     "ManifestError",
+    "UnusedKey",
+    "__version__",
     "canonical",
     "completed",
     "completed_table",
@@ -29,5 +36,5 @@ __all__ = [
     "resolved_completed_table",
     "resolved_table",
     "table",
-    "unlisted_keys",
+    "unused_keys",
 ]

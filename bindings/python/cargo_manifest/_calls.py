@@ -7,13 +7,19 @@ from ._answer import answered
 from ._library import manifest_canonical, manifest_completed, manifest_resolved
 from ._library import manifest_resolved_completed, manifest_table, manifest_completed_table
 from ._library import manifest_resolved_table, manifest_resolved_completed_table
+from ._library import manifest_canonical_of_table, manifest_completed_of_table, manifest_table_without_metadata
 from ._listings import Folders
 from ._reader import utf8
 from ._tagged import decoded
 from ._texts import Text, bytes_of, listings_of
 
 
-def canonical(manifest: Text, *, most: Optional[int] = None) -> str:
+def _without_metadata(manifest: bytes) -> bytes:
+    """The table of a manifest without what its metadata holds, as tagged bytes."""
+    return answered(manifest_table_without_metadata, None, manifest)
+
+
+def canonical(manifest: Text, *, most: Optional[int] = None, metadata: bool = True) -> str:
     r"""The canonical text of a manifest: only the keys that a manifest has, each by its first spelling, in one order.
 
     `manifest` is the text, as `bytes`, `bytearray`, `memoryview` or `str`; or the path of a file that is read, as
@@ -23,6 +29,9 @@ def canonical(manifest: Text, *, most: Optional[int] = None) -> str:
     long key stands above many tables. What is compared is a bound on the length: the keys and the values, and a header
     of its whole path for each table.
 
+    Metadata is kept as it is, and no float can be kept: one in it is refused as `Cause.HOLDS_FLOAT`. With `metadata=False`
+    metadata is not looked at, and an empty table stands in its place.
+
     Raises `ManifestError` where the text is no manifest, nests too deep or could give more than `most`; the `OSError`
     of a file that cannot be read; and `MemoryError` where no memory is left.
 
@@ -31,13 +40,18 @@ def canonical(manifest: Text, *, most: Optional[int] = None) -> str:
     edition = "2021"
     name = "a"
     """
-    return utf8(answered(manifest_canonical, most, bytes_of(manifest, "manifest")))
+    given = bytes_of(manifest, "manifest")
+    if not metadata:
+        return utf8(answered(manifest_canonical_of_table, most, _without_metadata(given)))
+    return utf8(answered(manifest_canonical, most, given))
 
 
-def completed(manifest: Text, folders: Optional[Folders] = None, *, most: Optional[int] = None) -> str:
+def completed(
+    manifest: Text, folders: Optional[Folders] = None, *, most: Optional[int] = None, metadata: bool = True
+) -> str:
     """The canonical text of a manifest, completed with the targets and the build script that its folders show.
 
-    `manifest` and `most` are as in `canonical`. `folders` says what stands next to it, in one of three ways:
+    `manifest`, `most` and `metadata` are as in `canonical`. `folders` says what stands next to it, in one of three ways:
 
     - the path of the manifest's folder on the disk, a `str` or as `pathlib.Path`;
     - a mapping from the path of each folder, as `"src"` and `"src/bin"`, and `"."` for the manifest's own, to the names
@@ -65,8 +79,11 @@ def completed(manifest: Text, folders: Optional[Folders] = None, *, most: Option
     edition = "2021"
     name = "a-b"
     """
-    given = bytes_of(manifest, "manifest")
-    return utf8(answered(manifest_completed, most, given, listings=listings_of(manifest, folders)))
+    given, listings = bytes_of(manifest, "manifest"), listings_of(manifest, folders)
+    if not metadata:
+        table = answered(manifest_completed_of_table, None, _without_metadata(given), listings=listings)
+        return utf8(answered(manifest_canonical_of_table, most, table))
+    return utf8(answered(manifest_completed, most, given, listings=listings))
 
 
 def resolved(manifest: Text, root: Text, *, most: Optional[int] = None) -> str:
@@ -110,14 +127,14 @@ def resolved_completed(
     return utf8(answered(manifest_resolved_completed, most, given, lent, listings_of(manifest, folders)))
 
 
-def table(manifest: Text, *, most: Optional[int] = None) -> dict[str, Any]:
+def table(manifest: Text, *, most: Optional[int] = None, metadata: bool = True) -> dict[str, Any]:
     r"""What the canonical text of a manifest says, by values, as `tomllib.loads` makes them of a text.
 
     These are `str`, `int`, `bool`, `list` and `dict`, and `datetime`, `date` and `time` of the module `datetime`. A
     date-time with an offset is aware, and others are naive. What a second has below its millionth part is cut off.
     They stand in one another 128 deep at most.
 
-    `manifest` is as in `canonical`. `most` is how many bytes the table may take as the library returns it, where a
+    `manifest` and `metadata` are as in `canonical`. `most` is how many bytes the table may take as the library returns it, where a
     key or a text of less than 128 bytes takes one or two more than its own.
 
     Raises what `canonical` does, and `ManifestError` with `Cause.DATE_BEYOND_PYTHON` for a date-time with the second
@@ -125,8 +142,11 @@ def table(manifest: Text, *, most: Optional[int] = None) -> dict[str, Any]:
 
     >>> table("name = 'a'\nmetadata = { since = 1979-05-27 }")
     {'package': {'metadata': {'since': datetime.date(1979, 5, 27)}, 'name': 'a'}}
+    >>> table("name = 'a'\nmetadata = 0.5", metadata=False)
+    {'package': {'metadata': {}, 'name': 'a'}}
     """
-    return _table_of(answered(manifest_table, most, bytes_of(manifest, "manifest")))
+    call = manifest_table if metadata else manifest_table_without_metadata
+    return _table_of(answered(call, most, bytes_of(manifest, "manifest")))
 
 
 def completed_table(

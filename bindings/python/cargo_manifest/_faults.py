@@ -5,15 +5,17 @@ from collections.abc import Iterable, Iterator
 from typing import Any, Optional, cast
 
 from ._answer import answered
-from ._error import Cause
+from ._cause import Cause
 from ._library import manifest_findings
-from ._parts import FAULT, IGNORED, UNLISTED, Choices, Found, found_in
-from ._paths import KeyPath, Link, Step, link_of, path_of, text_of
+from ._messages import said_of
+from ._parts import FAULT, IGNORED, UNUSED, Choices, Found, found_in
+from ._paths import KeyPath, Link, Step, link_of, path_of
 from ._texts import Text, bytes_of
+from ._unused import UnusedKey
 
 
 class Fault:
-    """A value, or its absence, that does not fit. Its text is one plain line, as `wrong kind at package.name`.
+    """A value, or its absence, that does not fit. Its text is one line.
 
     - `path`: the keys and indexes that lead to it from the top of the text, as `("package", "authors", 0)`. What is
       missing has the path that it would have. The tuple is made each time: a fault holds its last step, and what stands
@@ -23,7 +25,7 @@ class Fault:
 
     >>> fault = Fault(("package", "edition"), Cause.NOT_A_CHOICE, ("2015", "2018", "2021", "2024"))
     >>> print(fault)
-    not a choice at package.edition
+    `package.edition` is none of `2015`, `2018`, `2021`, `2024`
     >>> fault.cause == "not a choice", fault.path, fault.choices[-1]
     (True, ('package', 'edition'), '2024')
     """
@@ -69,7 +71,7 @@ class Fault:
         return hash(self._parts())
 
     def __str__(self) -> str:
-        return f"{self.cause} at {text_of(self.path)}"
+        return said_of(self.cause, self.path, self.choices)
 
     def __repr__(self) -> str:
         return f"Fault(path={self.path!r}, cause={self.cause!r}, choices={self.choices!r})"
@@ -90,6 +92,9 @@ def faults(manifest: Text, *, most: Optional[int] = None) -> list[Fault]:
     They stand in the order in which `docs/KEYS.md` of the repository has the keys: the values of a table key by key,
     and those of lists and maps one by one.
 
+    Metadata is not looked at: a float in it is no fault, though `canonical` and `table` refuse it unless they are asked to
+    leave metadata out.
+
     `manifest` is as in `canonical`. `most` is how many bytes the library may take to pass on what it finds.
 
     Raises what `canonical` does of a text that is no TOML or nests too deep, and of what is found in more bytes than
@@ -97,9 +102,9 @@ def faults(manifest: Text, *, most: Optional[int] = None) -> list[Fault]:
 
     >>> for fault in faults("[package]\nname = 1\nedition = '2020'\nauthors = ['a', true]"):
     ...     print(fault)
-    wrong kind at package.name
-    not a choice at package.edition
-    wrong kind at package.authors[1]
+    invalid type for `package.name`: expected a string
+    `package.edition` is none of `2015`, `2018`, `2021`, `2024`
+    invalid type for `package.authors[1]`: expected a string
     >>> fault.path
     ('package', 'authors', 1)
     """
@@ -112,19 +117,20 @@ def ignored(manifest: Text, *, most: Optional[int] = None) -> list[Fault]:
     Takes what `faults` takes, raises what `faults` does, and has the same order.
 
     >>> [str(each) for each in ignored("package.name = 'a'\nbadges.gitlab = 1")]
-    ['wrong kind at badges.gitlab']
+    ['invalid type for `badges.gitlab`: expected a table']
     """
     return [Fault._of(each) for each in _found(manifest, most, IGNORED)]
 
 
-def unlisted_keys(manifest: Text, *, most: Optional[int] = None) -> list[KeyPath]:
-    r"""The paths of the keys that nothing reads, as misspelled ones: no manifest has them, and no text that is written.
+def unused_keys(manifest: Text, *, most: Optional[int] = None) -> list[UnusedKey]:
+    r"""The keys that nothing reads, as misspelled ones and those that only Cargo knows: no manifest has them, and no text that
+    is written.
 
     Those of a table stand after what is found in its other keys. Nothing below such a key is looked at.
 
     Takes what `faults` takes, and raises what `faults` does.
 
-    >>> unlisted_keys("[package]\nname = 'a'\nedtion = '2021'\n[dependecies]\nb = '1'")
-    [('package', 'edtion'), ('dependecies',)]
+    >>> unused_keys("[package]\nname = 'a'\nedtion = '2021'\n[dependecies]\nb = '1'")
+    [UnusedKey(path=('package', 'edtion')), UnusedKey(path=('dependecies',))]
     """
-    return [path_of(each.link) for each in _found(manifest, most, UNLISTED)]
+    return [UnusedKey._of(each.link) for each in _found(manifest, most, UNUSED)]

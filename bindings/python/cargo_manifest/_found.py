@@ -24,7 +24,7 @@ def packed_file(package: Path) -> Path:
         if place.is_file():
             return place
     raise ImportError(
-        f"there is no {NAME} beside the modules of cargo_manifest, nor a {PREBUILT} above them: install the"
+        f"there is no {NAME} next to the modules of cargo_manifest, nor a {PREBUILT} above them: install the"
         f" package from its wheel, or name the library's file by the environment variable {VARIABLE}"
     )
 

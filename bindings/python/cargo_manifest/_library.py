@@ -54,7 +54,7 @@ _OUT = (ctypes.POINTER(ctypes.c_char), ctypes.c_size_t)
 
 def broken() -> RuntimeError:
     """What is raised of an answer that the library never gives."""
-    return RuntimeError("the library's answer is none that cargo_manifest knows: the two are of different versions")
+    return RuntimeError("cargo_manifest does not know this answer of the library: the two are of different versions")
 
 
 def _loaded() -> ctypes.CDLL:
@@ -105,6 +105,9 @@ manifest_resolved = _declared(_LIBRARY, "manifest_resolved", _TEXT, _TEXT)
 manifest_resolved_completed = _declared(_LIBRARY, "manifest_resolved_completed", _TEXT, _TEXT, _FOLDERS)
 manifest_table = _declared(_LIBRARY, "manifest_table", _TEXT)
 manifest_findings = _declared(_LIBRARY, "manifest_findings", _TEXT)
+manifest_table_without_metadata = _declared(_LIBRARY, "manifest_table_without_metadata", _TEXT)
+manifest_canonical_of_table = _declared(_LIBRARY, "manifest_canonical_of_table", _TEXT)
+manifest_completed_of_table = _declared(_LIBRARY, "manifest_completed_of_table", _TEXT, _FOLDERS)
 manifest_completed_table = _declared(_LIBRARY, "manifest_completed_table", _TEXT, _FOLDERS)
 manifest_resolved_table = _declared(_LIBRARY, "manifest_resolved_table", _TEXT, _TEXT)
 manifest_resolved_completed_table = _declared(_LIBRARY, "manifest_resolved_completed_table", _TEXT, _TEXT, _FOLDERS)

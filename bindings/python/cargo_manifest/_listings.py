@@ -66,7 +66,8 @@ def _names_in(folder: bytes) -> list[bytes]:
 class Listings:
     """Folders by their paths, each with its names or its fault. A path that is not among them is not there."""
 
-    def __init__(self) -> None:
+    def __init__(self, folder: bytes = b"") -> None:
+        self._folder = folder
         self._by_path: dict[bytes, Listed] = {}
 
     @staticmethod
@@ -84,7 +85,7 @@ class Listings:
     @staticmethod
     def of_folder(folder: bytes) -> Listings:
         """All that a completion may ask for, from the folders below one on the disk."""
-        listings = Listings()
+        listings = Listings(folder)
         listings._ask(folder, _SOURCES)
         for targets in _TARGETS:
             for name in listings._ask(folder, targets):
@@ -106,16 +107,22 @@ class Listings:
         """How many names there are."""
         return sum(len(listed) for listed in self._by_path.values() if isinstance(listed, list))
 
-    def fault(self, number: int) -> Optional[Fault]:
-        """The fault of this number for which a completion is refused, where it is that of `src` or of the top."""
+    def fault(self, number: int) -> tuple[Optional[str], Optional[Fault]]:
+        """The folder and the fault of this number for which a completion is refused, where it is `src` or the top."""
         for path in (_SOURCES, _TOP):
             listed = self._by_path.get(path, [])
             if isinstance(listed, list) or _number_of(listed) != number:
                 continue
             # (`src` need not be there)
             if (path, number) != (_SOURCES, NOT_FOUND):
-                return listed
-        return None
+                return self._name_of(path), listed
+        return (self._name_of(_TOP) if number == NOT_FOUND else None), None
+
+    def _name_of(self, path: bytes) -> str:
+        """The path of a folder as the caller has it: on the disk, or in the mapping."""
+        if path == _TOP and self._folder:
+            return os.fsdecode(self._folder)
+        return os.fsdecode(os.path.join(self._folder, path))
 
     def folders(self) -> ctypes.Array[Folder]:
         """The folders as the library takes them. What they point to lives as long as the array and the listings."""
@@ -126,5 +133,5 @@ class Listings:
 def _folder(path: bytes, listed: Listed) -> Folder:
     names: list[bytes] = listed if isinstance(listed, list) else []
     number = 0 if isinstance(listed, list) else _number_of(listed)
-    slices: Any = (Bytes * len(names))(*[(name, len(name)) for name in names])
+    slices: Any = (Bytes * len(names))(*(Bytes(name, len(name)) for name in names))
     return Folder((path, len(path)), (slices, len(names)), number)

@@ -4,14 +4,14 @@ from __future__ import annotations
 from collections.abc import Iterator
 from typing import NamedTuple, Optional
 
-from ._error import Cause
+from ._cause import Cause
 from ._library import broken
 from ._paths import Link, Step
 from ._reader import NUMBER, TEXT, Reader
 from ._refusal import SCHEMA_CAUSES
 
 # what a part is
-FAULT, IGNORED, UNLISTED, _BELOW = range(4)
+FAULT, IGNORED, UNUSED, _BELOW = range(4)
 
 Choices = tuple[str, ...]
 
@@ -77,7 +77,7 @@ def found_in(held: bytes) -> Iterator[Found]:
             cause, choices = _cause(reader, length)
             # (faults share the texts)
             yield Found(what, place.link, cause, known.setdefault(choices, choices))
-        elif (what, length) == (UNLISTED, 2):
+        elif (what, length) == (UNUSED, 2):
             yield Found(what, Link(place.link, _text(reader)))
         elif (what, length) == (_BELOW, 3):
             link = Link(place.link, _step(reader))

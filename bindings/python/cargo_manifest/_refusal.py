@@ -3,7 +3,8 @@ from __future__ import annotations
 
 from typing import Optional
 
-from ._error import Cause, ManifestError, Part, Place
+from ._cause import Cause
+from ._error import ManifestError, Part, Place
 from ._library import Answer, broken
 from ._listings import NOT_FOUND, OUT_OF_MEMORY, Listings
 
@@ -66,12 +67,13 @@ def _of_text(answer: Answer, said: str, status: int, part: Part, text: bytes) ->
 
 def _of_folder(answer: Answer, listings: Optional[Listings]) -> Exception:
     """The exception of a folder, with the fault that it was listed with as its cause."""
+    folder, fault = (None, None) if listings is None else listings.fault(answer.cause)
     refused: Exception
     if answer.cause == OUT_OF_MEMORY:
         refused = MemoryError(_NO_MEMORY)
     else:
-        refused = ManifestError(Cause.FOLDER_NOT_FOUND if answer.cause == NOT_FOUND else Cause.FOLDER_FAULT)
-    refused.__cause__ = None if listings is None else listings.fault(answer.cause)
+        refused = ManifestError(Cause.FOLDER_NOT_FOUND if answer.cause == NOT_FOUND else Cause.FOLDER_FAULT, name=folder)
+    refused.__cause__ = fault
     return refused
 
 

@@ -4,7 +4,8 @@ from __future__ import annotations
 from typing import Any, Union
 
 from ._dates import date_time
-from ._error import Cause, ManifestError
+from ._cause import Cause
+from ._error import ManifestError
 from ._library import broken
 from ._paths import text_of
 from ._reader import ARRAY, BELOW_ZERO, DATE_TIME, FALSE, NUMBER, TABLE, TEXT, TRUE, Reader

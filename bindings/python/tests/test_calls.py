@@ -33,6 +33,29 @@ class EachCall(unittest.TestCase):
         self.assertEqual(canonical("edition = '2021'\nname = 'a'"), '[package]\nedition = "2021"\nname = "a"\n')
         self.assertEqual(canonical('[package]\nname = "a"\n'), '[package]\nname = "a"\n')
 
+    def test_metadata_that_is_not_looked_at(self) -> None:
+        text = "[package]\nname = 'p'\n[package.metadata]\na = [0, [1.5]]\n[workspace]\nmetadata = nan"
+        empty = '[package]\nname = "p"\n\n[package.metadata]\n\n[workspace]\nmembers = []\n\n[workspace.metadata]\n'
+        for call, given in ((canonical, ()), (completed, ({".": []},))):
+            self.assertEqual(call(text, *given, metadata=False), empty)
+            self.assertEqual(call("name = 'p'", *given, metadata=False), '[package]\nname = "p"\n')
+        held = {"package": {"metadata": {}, "name": "p"}, "workspace": {"members": [], "metadata": {}}}
+        self.assertEqual(table(text, metadata=False), held)
+        for refuse in (canonical, table, lambda text: completed(text, {})):
+            with self.assertRaises(ManifestError) as caught:
+                refuse(text)
+            self.assertIs(caught.exception.cause, Cause.HOLDS_FLOAT)
+        for wrong in ("[package]", "a = '\ud800'", "a =", "a = " + "[" * 510):
+            said = []
+            for keyword in ({}, {"metadata": False}):
+                with self.assertRaises(ManifestError) as caught:
+                    canonical(wrong, **keyword)
+                said.append((str(caught.exception), vars(caught.exception)))
+            self.assertEqual(said[0], said[1])
+        with self.assertRaises(ManifestError) as caught:
+            canonical(text, metadata=False, most=10)
+        self.assertIs(caught.exception.cause, Cause.TOO_LONG)
+
     def test_resolved(self) -> None:
         self.assertEqual(resolved(MEMBER, ROOT), RESOLVED)
 
@@ -120,7 +143,7 @@ class WhatIsTaken(unittest.TestCase):
         for empty in ("", b"", bytearray(), memoryview(b"")):
             with self.assertRaises(ManifestError) as caught:
                 canonical(empty)
-            self.assertEqual(str(caught.exception), "missing at name")
+            self.assertEqual(str(caught.exception), "missing field `name`")
 
     def test_a_megabyte(self) -> None:
         long = "é" * (1 << 19)

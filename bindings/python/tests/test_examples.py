@@ -14,7 +14,7 @@ from .places import PROJECT, make_files
 
 
 CALLS = ("canonical", "completed", "resolved", "resolved_completed", "table")
-FINDERS = ("faults", "ignored", "unlisted_keys")
+FINDERS = ("faults", "ignored", "unused_keys")
 
 
 class Readme(unittest.TestCase):

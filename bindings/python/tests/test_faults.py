@@ -7,8 +7,8 @@ import unittest
 from pathlib import Path
 from typing import Any, Union
 
-from cargo_manifest import Cause, Fault, ManifestError, canonical, faults, ignored, table, unlisted_keys
-from cargo_manifest._parts import FAULT, IGNORED, UNLISTED, found_in
+from cargo_manifest import Cause, Fault, ManifestError, UnusedKey, canonical, faults, ignored, table, unused_keys
+from cargo_manifest._parts import FAULT, IGNORED, UNUSED, found_in
 from cargo_manifest._paths import path_of
 
 from .test_refusals import NO_TOML, SCHEMA, OfDepthAndLength
@@ -16,46 +16,74 @@ from .test_table import number, text as text_bytes
 
 PACKAGE = "[package]\nname = 'p'\n"
 
-# documents, with the lines of their faults and of what is ignored, and the keys that nothing reads
-DOCUMENTS: list[tuple[str, list[str], list[str], list[tuple[Any, ...]]]] = [
+# documents, with the lines of their faults, of what is ignored, and of the keys that nothing reads
+DOCUMENTS: list[tuple[str, list[str], list[str], list[str]]] = [
     (PACKAGE, [], [], []),
-    ("", ["missing at name"], [], []),
+    ("", ["missing field `name`"], [], []),
     (
         "[package]\nname = 1\nedtion = '2021'\nauthors = [1, 'a', 2]\nedition = '2020'\n[dependecies.a]\nb = 1",
         [
-            "wrong kind at package.name",
-            "not a choice at package.edition",
-            "wrong kind at package.authors[0]",
-            "wrong kind at package.authors[2]",
+            "invalid type for `package.name`: expected a string",
+            "`package.edition` is none of `2015`, `2018`, `2021`, `2024`",
+            "invalid type for `package.authors[0]`: expected a string",
+            "invalid type for `package.authors[2]`: expected a string",
         ],
         [],
-        [("package", "edtion"), ("dependecies",)],
+        ["package.edtion", "dependecies"],
     ),
     (
         PACKAGE + "[dependencies.a]\ndefault-features = true\ndefault_features = 1\nversion = 1",
-        ["wrong kind at dependencies.a.version", "two spellings at dependencies.a.default-features"],
+        [
+            "invalid type for `dependencies.a.version`: expected a string",
+            "`dependencies.a.default-features` is given twice, as `default-features` and as `default_features`",
+        ],
         [],
         [],
     ),
     (
         PACKAGE + "version = { workspace = true, x = 1 }\n[badges]\ngitlab = { branch = 1, foo = 2 }\n'a.b' = 1",
         [],
-        ["missing at badges.gitlab.repository", "wrong kind at badges.gitlab.branch"],
-        [("package", "version", "x"), ("badges", "gitlab", "foo"), ("badges", "a.b")],
+        ["missing field `badges.gitlab.repository`", "invalid type for `badges.gitlab.branch`: expected a string"],
+        ["package.version.x", "badges.gitlab.foo", 'badges."a.b"'],
     ),
     (
-        PACKAGE + "metadata = { a = [0.5, 1, [2.5]] }\n[profile.dev]\ncodegen-units = 65536\n[lints]\nworkspace = false",
+        PACKAGE + "[profile.dev]\ncodegen-units = 65536\nlto = nan\npackage = [1]\n[lints]\nworkspace = false\n"
+        "rust.a = 1\nrust.b.priority = 128",
         [
-            "holds a float at package.metadata.a[0]",
-            "holds a float at package.metadata.a[2][0]",
-            "out of range at profile.dev.codegen-units",
-            "not true at lints.workspace",
+            "invalid type for `profile.dev.lto`: expected a value without a float",
+            "invalid value for `profile.dev.codegen-units`: expected an integer from 0 to 65535",
+            "invalid type for `profile.dev.package`: expected a table",
+            "invalid value for `lints.workspace`: expected `true`",
+            "invalid type for `lints.rust.a`: expected one of the strings `forbid`, `deny`, `warn`, `allow`, or a table",
+            "missing field `lints.rust.b.level`",
+            "invalid value for `lints.rust.b.priority`: expected an integer from -128 to 127",
         ],
         [],
         [],
     ),
-    ("name = 'p'\nedtion = 1\ndependencies = 1", ["wrong kind at dependencies"], [], [("edtion",)]),
-    (PACKAGE + "[project]\nname = 1", [], [], [("project",)]),
+    (
+        "[project]\nname = 1\nresolver = 1\nreadme = 1\npublish = [1]\npublish2 = 1\n[lib]\ntest = 1\n[[bin]]\npath = []\n"
+        "[target.x.dev_dependencies]\na = []\nb.workspace = true\nb.optional = 1\n[features]\na = 'a'\nb = [1]\n"
+        "[patch.x]\na = 1\n[profile]\nx.strip = 1\n[badges]\nmaintenance = 1\n[dependencies.a]\npublic = 1",
+        [
+            "invalid type for `target.x.dev_dependencies.a`: expected a string or a table",
+            "invalid type for `target.x.dev_dependencies.b.optional`: expected a boolean",
+            "invalid type for `features.a`: expected an array",
+            "invalid type for `features.b[0]`: expected a string",
+            "invalid type for `bin[0].path`: expected a string",
+            "invalid type for `patch.x.a`: expected a string or a table",
+            "invalid type for `lib.test`: expected a boolean",
+            "invalid type for `profile.x.strip`: expected a boolean, or one of the strings `none`, `symbols`, `debuginfo`",
+            "invalid type for `project.name`: expected a string",
+            "invalid type for `project.readme`: expected a string or a boolean",
+            "invalid type for `project.publish[0]`: expected a string",
+            "invalid type for `project.resolver`: expected one of the strings `1`, `2`, `3`",
+        ],
+        ["invalid type for `badges.maintenance`: expected a table"],
+        ["dependencies.a.public (Cargo reads it with an unstable feature)", "project.publish2"],
+    ),
+    ("name = 'p'\nedtion = 1\ndependencies = 1", ["invalid type for `dependencies`: expected a table"], [], ["edtion"]),
+    (PACKAGE + "[project]\nname = 1", [], [], ["project (Cargo reads it, but it is deprecated)"]),
 ]
 
 
@@ -65,14 +93,14 @@ class Found(unittest.TestCase):
             with self.subTest(text=text):
                 self.assertEqual([str(fault) for fault in faults(text)], wanted)
                 self.assertEqual([str(fault) for fault in ignored(text)], dropped)
-                self.assertEqual(unlisted_keys(text), keys)
+                self.assertEqual([str(key) for key in unused_keys(text)], [f"unused manifest key: {key}" for key in keys])
 
     def test_the_parts_of_a_fault(self) -> None:
-        (fault,) = faults(PACKAGE + "[package.metadata]\na = [0, [1.5]]")
-        self.assertEqual(fault, Fault(("package", "metadata", "a", 1, 0), Cause.HOLDS_FLOAT))
+        (fault,) = faults(PACKAGE + "[profile.p.package]\na = [0, [1.5]]")
+        self.assertEqual(fault, Fault(("profile", "p", "package", "a", 1, 0), Cause.HOLDS_FLOAT))
         self.assertEqual((fault.cause, fault.choices), ("holds a float", ()))
-        self.assertEqual(str(fault), "holds a float at package.metadata.a[1][0]")
-        self.assertEqual([type(step) for step in fault.path], [str, str, str, int, int])
+        self.assertEqual(str(fault), "invalid type for `profile.p.package.a[1][0]`: expected a value without a float")
+        self.assertEqual([type(step) for step in fault.path], [str, str, str, str, int, int])
 
     def test_choices(self) -> None:
         made = (
@@ -96,13 +124,23 @@ class Found(unittest.TestCase):
         self.assertEqual(fault.choices, (*status, "deprecated"))
 
     def test_the_first_fault_is_what_the_other_calls_tell(self) -> None:
-        for text, cause, path, path_text in SCHEMA:
+        for text, cause, path, _, line in SCHEMA:
             with self.subTest(text=text):
                 self.assertEqual([(each.path, each.cause) for each in faults(text)], [(path, cause)])
-                self.assertEqual(str(faults(text)[0]), f"{cause} at {path_text}")
+                self.assertEqual(str(faults(text)[0]), line)
         for text, wanted, _, _ in DOCUMENTS:
             with self.subTest(text=text):
                 self.assertEqual(self.told(text), wanted[0] if wanted else None)
+
+    def test_a_float_in_metadata(self) -> None:
+        made = PACKAGE + "version = 1\n[package.metadata]\na = [0, [1.5]]\n[workspace]\nmetadata = nan"
+        (fault,) = faults(made)
+        self.assertEqual(fault.path, ("package", "version"))
+        self.assertEqual(self.told(made), str(fault))
+        made = made.replace("version = 1\n", "")
+        self.assertEqual(faults(made), [])
+        said = "invalid type for `package.metadata.a[1][0]`: expected a value without a float"
+        self.assertEqual(self.told(made), said)
 
     def told(self, text: str) -> Any:
         try:
@@ -113,7 +151,7 @@ class Found(unittest.TestCase):
 
     def test_what_is_written_has_nothing_of_it(self) -> None:
         text = canonical(DOCUMENTS[4][0])
-        self.assertEqual((faults(text), ignored(text), unlisted_keys(text)), ([], [], []))
+        self.assertEqual((faults(text), ignored(text), unused_keys(text)), ([], [], []))
 
     def test_what_is_taken(self) -> None:
         text = "[package]\nname = 'é'\nx = 1\n"
@@ -121,10 +159,10 @@ class Found(unittest.TestCase):
             file = Path(folder, "Cargo.toml")
             file.write_text(text, encoding="utf-8")
             for like in (text, text.encode("utf-8"), bytearray(text, "utf-8"), memoryview(text.encode("utf-8")), file):
-                self.assertEqual(unlisted_keys(like), [("package", "x")])
+                self.assertEqual(unused_keys(like), [UnusedKey(("package", "x"))])
             with self.assertRaises(FileNotFoundError):
                 faults(Path(folder, "none.toml"))
-        for call in (faults, ignored, unlisted_keys):
+        for call in (faults, ignored, unused_keys):
             with self.assertRaisesRegex(TypeError, "the manifest has to be"):
                 call(None)  # type: ignore[operator]
 
@@ -134,7 +172,7 @@ class Refused(unittest.TestCase):
         texts = [text for text, *_ in NO_TOML]
         for text in (*texts, b"\xff", "name = '\ud800'", *OfDepthAndLength.DEEP):
             with self.subTest(text=text):
-                for call in (faults, ignored, unlisted_keys):
+                for call in (faults, ignored, unused_keys):
                     said = []
                     for each in (call, table):
                         with self.assertRaises(ManifestError) as caught:
@@ -145,26 +183,26 @@ class Refused(unittest.TestCase):
     def test_the_bound(self) -> None:
         # 7 1 7 3 2 3 1 4 `name` 7 1 7 2 2 0 2 2
         self.assertEqual(faults("", most=20), faults(""))
-        for call in (faults, ignored, unlisted_keys):
+        for call in (faults, ignored, unused_keys):
             with self.assertRaises(ManifestError) as caught:
                 call("", most=19)
             self.assertIs(caught.exception.cause, Cause.TOO_LONG)
 
     def test_more_than_most(self) -> None:
         many = "".join(f"{number} = 1\n" for number in range(3000))
-        keys = unlisted_keys("name = 'p'\n" + many)
+        keys = [key.path for key in unused_keys("name = 'p'\n" + many)]
         self.assertEqual(keys, sorted((str(number),) for number in range(3000)))
 
     def test_what_is_found_is_no_longer_than_some_times_the_document(self) -> None:
         long = "k" * 20_000
         many = "".join(f"a{number} = 1\n" for number in range(20_000))
         made = f"package.name = 'p'\n[target.{long}]\n{many}"
-        keys = unlisted_keys(made, most=2 * len(made))
+        keys = [key.path for key in unused_keys(made, most=2 * len(made))]
         self.assertEqual((len(keys), keys[0]), (20_000, ("target", long, "a0")))
         self.assertIs(keys[0][1], keys[-1][1])
-        made = f"[package]\nname = 'p'\n[package.metadata{'.a' * 76}]\na{'.a' * 23} = [{'0.5, ' * 20_000}]"
+        made = f"[package]\nname = 'p'\n[profile.a.package{'.a' * 75}]\na{'.a' * 23} = [{'0.5, ' * 20_000}]"
         found = faults(made, most=4 * len(made))
-        wanted = ("package", "metadata", *"a" * 100, 19_999)
+        wanted = ("profile", "a", "package", *"a" * 99, 19_999)
         self.assertEqual((len(found), found[-1].path, found[-1].cause), (20_000, wanted, Cause.HOLDS_FLOAT))
 
 
@@ -197,6 +235,29 @@ class OfAFault(unittest.TestCase):
         for name in ("path", "cause", "choices", "other"):
             with self.assertRaises(AttributeError):
                 setattr(self.FAULT, name, None)
+
+
+class OfAnUnusedKey(unittest.TestCase):
+    KEY = UnusedKey(("profile", "dev", "trim-paths"))
+
+    def test_copies(self) -> None:
+        for again in (copy.copy(self.KEY), copy.deepcopy(self.KEY), pickle.loads(pickle.dumps(self.KEY))):
+            self.assertEqual((again, str(again), hash(again)), (self.KEY, str(self.KEY), hash(self.KEY)))
+        self.assertNotEqual(self.KEY, UnusedKey(("profile", "dev")))
+        self.assertNotEqual(self.KEY, self.KEY.path)
+
+    def test_what_cargo_makes_of_it(self) -> None:
+        known = self.KEY.in_cargo
+        assert known is not None
+        self.assertEqual((known.support, known.since), ("unstable", None))
+        lint = ("rust", "unexpected_cfgs", "check-cfg")
+        for path in (("lints", *lint), ("workspace", "lints", *lint)):
+            self.assertEqual(UnusedKey(path).in_cargo, ("stable", "1.80"))
+        for path in (("lints", "rust", "other", "check-cfg"), ("package", "trim-paths"), ("hints", "hints"), ("a",)):
+            self.assertIsNone(UnusedKey(path).in_cargo)
+
+    def test_it_is_printed_as_it_is_made(self) -> None:
+        self.assertEqual(repr(self.KEY), "UnusedKey(path=('profile', 'dev', 'trim-paths'))")
 
 
 def held(value: Union[str, int, list[Any]]) -> bytes:
@@ -236,12 +297,12 @@ class OfTaggedBytes(unittest.TestCase):
             (FAULT, ("package", "name"), Cause.MISSING, ()),
             (FAULT, ("package", "authors", 0), Cause.WRONG_KIND, ()),
             (FAULT, ("package", "authors", 300), Cause.WRONG_KIND, ()),
-            (UNLISTED, ("package", "é"), None, ()),
+            (UNUSED, ("package", "é"), None, ()),
             (FAULT, ("lints", "a"), Cause.NOT_A_CHOICE, words),
             (IGNORED, ("lints", "b"), Cause.NOT_A_CHOICE, ()),
             (FAULT, ("lints", "b"), Cause.NOT_A_CHOICE, words),
             (IGNORED, (), Cause.HOLDS_FLOAT, ()),
-            (UNLISTED, ("",), None, ()),
+            (UNUSED, ("",), None, ()),
         ]
         self.assertEqual(found, wanted)
         self.assertIs(found[4][3], found[6][3])
@@ -253,7 +314,7 @@ class OfTaggedBytes(unittest.TestCase):
         )
         wanted = [
             (FAULT, ("package", "name"), Cause.WRONG_KIND, ()),
-            (UNLISTED, ("package", "edtion"), None, ()),
+            (UNUSED, ("package", "edtion"), None, ()),
         ]
         self.assertEqual(told(example), wanted)
 

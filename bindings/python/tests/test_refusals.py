@@ -1,7 +1,9 @@
 """Each reason to refuse, with all that its error says."""
 import copy
 import errno
+import os
 import pickle
+import pydoc
 import sys
 import unittest
 from collections.abc import Callable
@@ -17,41 +19,76 @@ from .places import LIBRARY, python
 PACKAGE = "[package]\nname = 'p'\n"
 MEMBER = "package = { name = 'p', version.workspace = true }"
 NO_LIBRARY = "can't find library, rename file to `src/lib.rs` or specify lib.path"
+TOO_LONG = "the result could take more bytes than `most`"
 Call = Callable[[], Any]
 FIELDS = ("cause", "part", "path", "path_text", "name", "line", "column", "start", "end")
 
-# a text with a fault of its schema: its cause, its path by keys and indexes, and as a text
+# a text with a fault of its schema: its cause, its path by keys and indexes, and as a text, and what is said of it
 SCHEMA = [
-    ("[package]\nname = 'p'\nauthors = [true]\n", Cause.WRONG_KIND, ("package", "authors", 0), "package.authors[0]"),
-    ("", Cause.MISSING, ("name",), "name"),
+    (
+        "[package]\nname = 'p'\nauthors = [true]\n",
+        Cause.WRONG_KIND,
+        ("package", "authors", 0),
+        "package.authors[0]",
+        "invalid type for `package.authors[0]`: expected a string",
+    ),
+    ("", Cause.MISSING, ("name",), "name", "missing field `name`"),
     (
         PACKAGE + "[dependencies.a]\ndefault-features = true\ndefault_features = true",
         Cause.TWO_SPELLINGS,
         ("dependencies", "a", "default-features"),
         "dependencies.a.default-features",
+        "`dependencies.a.default-features` is given twice, as `default-features` and as `default_features`",
     ),
-    (PACKAGE + "edition = '2020'", Cause.NOT_A_CHOICE, ("package", "edition"), "package.edition"),
+    (
+        PACKAGE + "edition = '2020'",
+        Cause.NOT_A_CHOICE,
+        ("package", "edition"),
+        "package.edition",
+        "`package.edition` is none of `2015`, `2018`, `2021`, `2024`",
+    ),
     (
         PACKAGE + "[profile.release]\ncodegen-units = 65536",
         Cause.OUT_OF_RANGE,
         ("profile", "release", "codegen-units"),
         "profile.release.codegen-units",
+        "invalid value for `profile.release.codegen-units`: expected an integer from 0 to 65535",
     ),
-    (PACKAGE + "[lints]\nworkspace = false", Cause.NOT_TRUE, ("lints", "workspace"), "lints.workspace"),
     (
-        PACKAGE + "[package.metadata]\na = [0, [1.5]]",
+        PACKAGE + "[lints]\nworkspace = false",
+        Cause.NOT_TRUE,
+        ("lints", "workspace"),
+        "lints.workspace",
+        "invalid value for `lints.workspace`: expected `true`",
+    ),
+    (
+        PACKAGE + "[profile.release.package]\na = [0, [1.5]]",
         Cause.HOLDS_FLOAT,
-        ("package", "metadata", "a", 1, 0),
-        "package.metadata.a[1][0]",
+        ("profile", "release", "package", "a", 1, 0),
+        "profile.release.package.a[1][0]",
+        "invalid type for `profile.release.package.a[1][0]`: expected a value without a float",
     ),
     (
         PACKAGE + "[target.'cfg(unix)'.dependencies]\n\"a\\\"\\\\\\u0007é.(top)\" = 1",
         Cause.WRONG_KIND,
         ("target", "cfg(unix)", "dependencies", 'a"\\\aé.(top)'),
         'target."cfg(unix)".dependencies."a\\"\\\\\\u0007é.(top)"',
+        'invalid type for `target."cfg(unix)".dependencies."a\\"\\\\\\u0007é.(top)"`: expected a string or a table',
     ),
-    (PACKAGE + "[dependencies]\n'' = 1", Cause.WRONG_KIND, ("dependencies", ""), 'dependencies.""'),
-    (PACKAGE + "[dependencies]\n'(top)' = 1", Cause.WRONG_KIND, ("dependencies", "(top)"), 'dependencies."(top)"'),
+    (
+        PACKAGE + "[dependencies]\n'' = 1",
+        Cause.WRONG_KIND,
+        ("dependencies", ""),
+        'dependencies.""',
+        'invalid type for `dependencies.""`: expected a string or a table',
+    ),
+    (
+        PACKAGE + "[dependencies]\n'(top)' = 1",
+        Cause.WRONG_KIND,
+        ("dependencies", "(top)"),
+        'dependencies."(top)"',
+        'invalid type for `dependencies."(top)"`: expected a string or a table',
+    ),
 ]
 
 # a text that is no TOML: where, by line, column and offset
@@ -85,9 +122,8 @@ class Refused(unittest.TestCase):
 
 class OfAText(Refused):
     def test_faults_of_the_schema(self) -> None:
-        for text, cause, path, path_text in SCHEMA:
+        for text, cause, path, path_text, line in SCHEMA:
             with self.subTest(text=text):
-                line = f"{cause} at {path_text}"
                 wanted = {"cause": cause, "path": path, "path_text": path_text}
                 for call in (canonical, table):
                     self.refused(lambda: call(text), line, **wanted)
@@ -122,9 +158,9 @@ class OfAText(Refused):
         as_bytes = [b"\xff", b"name = 'a\xc3'", b"name = '\xed\xa0\x80'"]
         for text in (*as_bytes, "name = '\ud800'", "\udcff", "\ud83d\ude00"):
             with self.subTest(text=text):
-                self.refused(lambda: canonical(text), "not UTF-8", cause=Cause.NOT_UTF8)
-                self.refused(lambda: table(text), "not UTF-8", cause=Cause.NOT_UTF8)
-                self.refused(lambda: resolved(MEMBER, text), "root: not UTF-8", cause=Cause.NOT_UTF8, part="root")
+                self.refused(lambda: canonical(text), "invalid UTF-8", cause=Cause.NOT_UTF8)
+                self.refused(lambda: table(text), "invalid UTF-8", cause=Cause.NOT_UTF8)
+                self.refused(lambda: resolved(MEMBER, text), "root: invalid UTF-8", cause=Cause.NOT_UTF8, part="root")
 
 
 class OfDepthAndLength(Refused):
@@ -132,13 +168,13 @@ class OfDepthAndLength(Refused):
     DEEP = ("a = " + "[" * 510, "a" + ".a" * 170 + " = 1", "[a" + ".a" * 79 + "]\na" + ".a" * 49 + " = 1")
 
     def test_what_nests_too_deep(self) -> None:
-        cause = Cause.TOO_DEEP
+        cause, line = Cause.TOO_DEEP, "nested too deep: the limit is 128 arrays and tables within one another"
         for text in self.DEEP:
             for call in (canonical, table):
-                self.refused(lambda: call(text), "too deep", cause=cause)
-            self.refused(lambda: completed(text, {}), "too deep", cause=cause)
-            self.refused(lambda: resolved(text, text), "too deep", cause=cause)
-            self.refused(lambda: resolved(PACKAGE, text), "root: too deep", cause=cause, part="root")
+                self.refused(lambda: call(text), line, cause=cause)
+            self.refused(lambda: completed(text, {}), line, cause=cause)
+            self.refused(lambda: resolved(text, text), line, cause=cause)
+            self.refused(lambda: resolved(PACKAGE, text), f"root: {line}", cause=cause, part="root")
 
     def test_what_takes_too_much(self) -> None:
         given: list[tuple[Callable[..., Any], tuple[Any, ...]]] = [
@@ -157,20 +193,20 @@ class OfDepthAndLength(Refused):
                 for enough in (None, 4096, 2**63, 2**64, 2**100):
                     self.assertEqual(call(PACKAGE, *words, most=enough), whole)
                 for less in (0, 19):
-                    self.refused(lambda: call(PACKAGE, *words, most=less), "too long", cause=Cause.TOO_LONG)
+                    self.refused(lambda: call(PACKAGE, *words, most=less), TOO_LONG, cause=Cause.TOO_LONG)
                 # (a fault of the text is reported, however long its words are)
                 wanted = {"cause": Cause.MISSING, "path": ("name",), "path_text": "name"}
-                self.refused(lambda: call("", *words, most=0), "missing at name", **wanted)
+                self.refused(lambda: call("", *words, most=0), "missing field `name`", **wanted)
 
     def test_the_length_of_a_table(self) -> None:
         # 8 1 7 `package` 8 1 4 `name` 1 1 `p`
         self.assertEqual(table(PACKAGE, most=20), {"package": {"name": "p"}})
-        self.refused(lambda: table(PACKAGE, most=19), "too long", cause=Cause.TOO_LONG)
+        self.refused(lambda: table(PACKAGE, most=19), TOO_LONG, cause=Cause.TOO_LONG)
 
     def test_a_long_key_above_many_tables(self) -> None:
         text = f"{PACKAGE}[package.metadata.{'k' * 1000}]\n" + "".join(f"t{number} = {{}}\n" for number in range(1000))
         self.assertGreater(len(canonical(text)), 1_000_000)
-        self.refused(lambda: canonical(text, most=1 << 16), "too long", cause=Cause.TOO_LONG)
+        self.refused(lambda: canonical(text, most=1 << 16), TOO_LONG, cause=Cause.TOO_LONG)
         self.assertEqual(len(table(text, most=1 << 16)["package"]["metadata"]["k" * 1000]), 1000)
 
     def test_what_is_no_length(self) -> None:
@@ -183,11 +219,15 @@ class OfDepthAndLength(Refused):
 
 class OfFolders(Refused):
     def test_the_folder_of_the_manifest_is_not_there(self) -> None:
-        self.refused(lambda: completed(PACKAGE, {}), "folder not found", cause=Cause.FOLDER_NOT_FOUND)
+        cause, line = Cause.FOLDER_NOT_FOUND, "folder not found: '.'"
+        self.refused(lambda: completed(PACKAGE, {}), line, cause=cause, name=".")
         fault = FileNotFoundError("no such folder")
         given = {"src": FileNotFoundError("nor this one"), ".": fault}
-        error = self.refused(lambda: completed(PACKAGE, given), None, cause=Cause.FOLDER_NOT_FOUND)
+        error = self.refused(lambda: completed(PACKAGE, given), line, cause=cause, name=".")
         self.assertIs(error.__cause__, fault)
+        gone = os.path.join("no", "such\nfolder")
+        error = self.refused(lambda: completed(PACKAGE, gone), f"folder not found: {gone!r}", cause=cause, name=gone)
+        self.assertIsInstance(error.__cause__, FileNotFoundError)
 
     def test_a_folder_has_a_fault(self) -> None:
         for path in ("src", "."):
@@ -195,7 +235,7 @@ class OfFolders(Refused):
             given = {".": [], "tests": NotADirectoryError(), path: fault}
             calls = (lambda: completed(PACKAGE, given), lambda: resolved_completed(PACKAGE, "workspace={}", given))
             for call in calls:
-                error = self.refused(call, "folder with a fault", cause=Cause.FOLDER_FAULT)
+                error = self.refused(call, f"folder cannot be listed: {path!r}", cause=Cause.FOLDER_FAULT, name=path)
                 self.assertIs(error.__cause__, fault)
 
     def test_no_memory_for_a_folder(self) -> None:
@@ -215,7 +255,7 @@ class OfFolders(Refused):
         for given in ({".": ["a\ud800"]}, {".": [], "src\udcff": []}, {".": [], "docs": ["a", "\udfff"]}):
             self.refused(
                 lambda: completed(PACKAGE, given),
-                "folder whose path or names are not UTF-8",
+                "the path of a folder, or a name in it, is not UTF-8",
                 cause=Cause.FOLDER_NOT_UTF8,
             )
 
@@ -226,32 +266,37 @@ class OfFolders(Refused):
 
 class OfTheWorkspace(Refused):
     def test_no_workspace(self) -> None:
-        self.refused(lambda: resolved(MEMBER, PACKAGE), "root: no workspace", cause=Cause.NO_WORKSPACE, part="root")
+        self.refused(lambda: resolved(MEMBER, PACKAGE), "root: missing table `workspace`", cause=Cause.NO_WORKSPACE, part="root")
 
     def test_what_the_workspace_does_not_have(self) -> None:
         cause = Cause.NOT_IN_WORKSPACE
-        line = "not in workspace: version"
+        line = "`version` is inherited from the workspace, which does not define it"
         self.refused(lambda: resolved(MEMBER, "workspace = {}"), line, cause=cause, name="version")
         text = PACKAGE + "[dependencies]\n'a b'.workspace = true"
-        self.refused(lambda: resolved(text, "workspace = {}"), 'not in workspace: "a b"', cause=cause, name="a b")
+        line = '`"a b"` is inherited from the workspace, which does not define it'
+        self.refused(lambda: resolved(text, "workspace = {}"), line, cause=cause, name="a b")
         text = PACKAGE + "[lints]\nworkspace = true"
-        self.refused(lambda: resolved(text, "workspace = {}"), "not in workspace: lints", cause=cause, name="lints")
+        line = "`lints` is inherited from the workspace, which does not define it"
+        self.refused(lambda: resolved(text, "workspace = {}"), line, cause=cause, name="lints")
 
     def test_what_the_workspace_inherits_itself(self) -> None:
         text = PACKAGE + "[dependencies]\na.workspace = true"
         root = "workspace.dependencies.a.workspace = true"
-        line, cause = "root: inherited in workspace: a", Cause.INHERITED_IN_WORKSPACE
+        line = "root: the dependency `a` is inherited from the workspace, whose own entry says `workspace = true`"
+        cause = Cause.INHERITED_IN_WORKSPACE
         self.refused(lambda: resolved(text, root), line, cause=cause, name="a", part="root")
 
     def test_mixed_lints(self) -> None:
         text = PACKAGE + "[lints]\nworkspace = true\nrust.unsafe_code = 'forbid'"
         root = "workspace.lints.rust.unsafe_code = 'forbid'"
-        self.refused(lambda: resolved(text, root), "mixed lints", cause=Cause.MIXED_LINTS)
+        line = "`lints` cannot have lints of its own next to `workspace = true`"
+        self.refused(lambda: resolved(text, root), line, cause=Cause.MIXED_LINTS)
 
     def test_a_tool_named_workspace(self) -> None:
         text = PACKAGE + "[lints]\nworkspace = true"
         root = "workspace.lints.workspace.unsafe_code = 'forbid'"
-        line, cause = "root: tool named workspace", Cause.TOOL_NAMED_WORKSPACE
+        line = "root: `lints` is inherited from a workspace with lints of a tool named `workspace`"
+        cause = Cause.TOOL_NAMED_WORKSPACE
         self.refused(lambda: resolved(text, root), line, cause=cause, part="root")
 
 
@@ -297,7 +342,7 @@ class NeverTold(unittest.TestCase):
         assert isinstance(date, ManifestError)
         self.assertEqual(fields(date), {"cause": Cause.DATE_WITHOUT_TEXT, "part": "manifest"})
         metadata = self.made(18, 8, "(top)")
-        self.assertEqual(str(metadata), "root: metadata at (top)")
+        self.assertEqual(str(metadata), "root: invalid metadata in the manifest")
         assert isinstance(metadata, ManifestError)
         self.assertEqual(metadata.path, ())
         self.assertIsInstance(self.made(6), MemoryError)
@@ -341,13 +386,21 @@ class Copies(unittest.TestCase):
 
     def test_a_kind_of_ones_own(self) -> None:
         other = pickle.loads(pickle.dumps(OwnError(Cause.MISSING, path_text="name")))
-        self.assertEqual((type(other), str(other)), (OwnError, "missing at name"))
+        self.assertEqual((type(other), str(other)), (OwnError, "missing field `name`"))
 
     def test_is_a_value_error(self) -> None:
-        with self.assertRaisesRegex(ValueError, "^missing at name$"):
+        with self.assertRaisesRegex(ValueError, "^missing field `name`$"):
             canonical("")
 
+    def test_the_page_of_the_causes(self) -> None:
+        page = pydoc.plain(pydoc.render_doc(Cause))
+        self.assertIn("WRONG_KIND", page)
+        self.assertNotIn("casefold", page)
+
     def test_causes_in_plain_words(self) -> None:
+        self.assertEqual((Cause.MISSING, hash(Cause.MISSING)), ("missing", hash("missing")))
+        self.assertNotEqual(Cause.MISSING, "wrong kind")
+        self.assertNotEqual(Cause.MISSING, Cause.WRONG_KIND)
         self.assertEqual((str(Cause.WRONG_KIND), Cause("wrong kind")), ("wrong kind", Cause.WRONG_KIND))
         self.assertEqual(len({cause.value for cause in Cause}), len(Cause))
 

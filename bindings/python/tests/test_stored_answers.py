@@ -45,8 +45,9 @@ def said_by(call: Any, *words: Any) -> tuple[int, bytes, bytes]:
     try:
         return 0, call(*words).encode("utf-8"), b""
     except ManifestError as error:
-        kind = "other" if error.cause is Cause.NO_LIBRARY_FILE else "schema"
-        return 1, b"", f"error: {kind}: {error}\n".encode("utf-8")
+        is_other = error.cause is Cause.NO_LIBRARY_FILE
+        said = f"other: {error}" if is_other else f"schema: {error.cause} at {error.path_text}"
+        return 1, b"", f"error: {said}\n".encode("utf-8")
 
 
 def said_by_both(text: Any, values: Any, *words: Any) -> tuple[int, bytes, bytes]:

@@ -107,7 +107,7 @@ class OfManifests(unittest.TestCase):
             error = caught.exception
             self.assertIs(error.cause, Cause.DATE_BEYOND_PYTHON)
             self.assertEqual(error.path, ("package", "metadata", "a b", 1, "c"))
-            self.assertEqual(str(error), 'date-time that Python cannot hold at package.metadata."a b"[1].c')
+            self.assertEqual(str(error), 'invalid value for `package.metadata."a b"[1].c`: `datetime` has no such date-time')
             self.assertIsInstance(error.__cause__, ValueError)
             self.assertIn(written, canonical(made))
 

@@ -6,7 +6,7 @@ from collections.abc import Callable
 from concurrent.futures import ThreadPoolExecutor
 
 from cargo_manifest import ManifestError, canonical, completed, faults, resolved, resolved_completed, table
-from cargo_manifest import unlisted_keys
+from cargo_manifest import unused_keys
 
 from .test_calls import COUNT, FOLDERS, LIB, MANY, MANY_BINS, MEMBER, RESOLVED, ROOT
 
@@ -37,7 +37,7 @@ def each_call(thread: int) -> list[object]:
         refused(f"package = {{ name = 'p', authors = [{'1, ' * thread}] }}"),
         refused(" " * thread + "="),
         [fault.path for fault in faults(f"package = {{ name = {thread}, authors = [{'1, ' * thread}] }}")],
-        unlisted_keys(f"name = 'p'\n{name} = 1"),
+        [key.path for key in unused_keys(f"name = 'p'\n{name} = 1")],
     ]
 
 
@@ -54,7 +54,7 @@ def wanted(thread: int) -> list[object]:
         LIB + RESOLVED,
         True,
         COUNT,
-        ("accepted",) if accepted else ("wrong kind at package.authors[0]", ("package", "authors", 0), None),
+        ("accepted",) if accepted else ("invalid type for `package.authors[0]`: expected a string", ("package", "authors", 0), None),
         (refused(" " * thread + "=")[0], None, thread),
         [("package", "name"), *(("package", "authors", index) for index in range(thread))],
         [(name,)],

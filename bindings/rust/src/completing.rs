@@ -1,6 +1,6 @@
 //! Completing a manifest: which folders are asked for, and the proved call.
 
-use crate::calls::{tables, Fault, Listings, Refusal};
+use crate::calls::{tables, ListingError, Listings, Refusal};
 use crate::codec::Aside;
 use crate::error::refused_table;
 use crate::reading::{decode, encode};
@@ -112,7 +112,7 @@ impl<FS: AbstractFilesystem> Asked<'_, FS> {
                 names
             }
             Err(error) => {
-                self.listings.put_fault(path, Fault::from(error.kind()));
+                self.listings.put_error(path, ListingError::from(error.kind()));
                 self.error = refuses(&error).then_some(error);
                 BTreeSet::new()
             }

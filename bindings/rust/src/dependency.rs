@@ -1,8 +1,7 @@
 //! Dependencies.
 
-use crate::codec::{read, record, Aside, Encode, Form, Misfit, Reader, Step, Writer, STRING};
+use crate::codec::{read, record, Aside, Encode, Expected, Form, Misfit, Reader, Step, Writer, STRING};
 use crate::{DepsSet, True, Value};
-use std::borrow::Cow;
 
 /// A dependency, as one of `[dependencies]`.
 #[derive(Debug, Clone, PartialEq, Eq)]
@@ -35,14 +34,14 @@ impl Form for Dependency {
         }
     }
 
-    fn wanted() -> Cow<'static, str> {
-        "a string or a table".into()
+    fn expected() -> Expected {
+        DependencyDetail::expected().said("a string or a table")
     }
 
-    fn wanted_at(path: &[Step]) -> Option<Cow<'static, str>> {
+    fn expected_at(path: &[Step]) -> Option<Expected> {
         match path {
-            [] => Some(Self::wanted()),
-            below => DependencyDetail::wanted_at(below).or_else(|| InheritedDependencyDetail::wanted_at(below)),
+            [] => Some(Self::expected()),
+            below => DependencyDetail::expected_at(below).or_else(|| InheritedDependencyDetail::expected_at(below)),
         }
     }
 }

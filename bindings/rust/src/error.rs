@@ -1,9 +1,8 @@
 //! Why a manifest is refused.
 
-use crate::calls::{is_broken, Cause, Fault, Refusal, DEPTH_LIMIT};
-use crate::codec::{steps, Form, Misfit, Step};
-use crate::{Manifest, Package, Value};
-use std::borrow::Cow;
+use crate::calls::{is_broken, Cause, ListingError, Refusal, DEPTH_LIMIT};
+use crate::codec::{steps, Expected, Misfit};
+use crate::message::{expected_at, message};
 use std::error;
 use std::fmt;
 use std::io;
@@ -86,7 +85,7 @@ impl From<Utf8Error> for Error {
 ///
 /// let text = b"[package]\nname = 'a'\nauthors = [true]\n";
 /// let Err(Error::Parse(error)) = Manifest::from_slice(text) else { panic!() };
-/// assert_eq!(error.to_string(), "`package.authors[0]` is of the wrong kind: a string is wanted");
+/// assert_eq!(error.to_string(), "invalid type for `package.authors[0]`: expected a string");
 /// assert_eq!((error.cause(), error.key_path()), (Some(Cause::WrongKind), Some("package.authors[0]")));
 ///
 /// let text = b"[package]\nname = \n";
@@ -108,7 +107,7 @@ enum At {
 }
 
 impl ParseError {
-    /// What is wrong, where, and what was expected, in one line.
+    /// What is wrong, where, and what is expected, in one line.
     pub fn message(&self) -> &str {
         &self.message
     }
@@ -144,31 +143,15 @@ impl ParseError {
         }
     }
 
-    fn of_key(cause: Cause, path: String, wanted: Option<Cow<'static, str>>) -> ParseError {
-        let what = match cause {
-            Cause::WrongKind => "is of the wrong kind",
-            Cause::Missing => "is missing",
-            Cause::TwoSpellings => return ParseError::said(cause, path, "is there in both of its spellings"),
-            Cause::NotAChoice => "is not a choice",
-            Cause::OutOfRange => "is out of range",
-            Cause::NotTrue => "is not true",
-            Cause::HoldsFloat => return ParseError::said(cause, path, "is a float, and no float is kept there"),
-            Cause::Metadata => return ParseError::said(cause, path, "does not fit"),
-        };
-        match wanted {
-            Some(wanted) => ParseError::said(cause, path, &format!("{what}: {wanted} is wanted")),
-            None => ParseError::said(cause, path, what),
-        }
-    }
-
-    fn said(cause: Cause, path: String, what: &str) -> ParseError {
-        ParseError { message: format!("`{path}` {what}"), at: At::Key(cause, path) }
+    fn of_key(cause: Cause, path: String, expected: Option<&Expected>) -> ParseError {
+        ParseError { message: message(cause, &path, expected), at: At::Key(cause, path) }
     }
 
     /// Metadata that its own type refuses.
     #[cfg(feature = "serde")]
     pub(crate) fn of_metadata(path: &str, why: &str) -> ParseError {
-        ParseError::said(Cause::Metadata, path.to_owned(), &format!("does not fit: {why}"))
+        let message = format!("{}: {why}", message(Cause::Metadata, path, None));
+        ParseError { message, at: At::Key(Cause::Metadata, path.to_owned()) }
     }
 }
 
@@ -182,8 +165,8 @@ impl error::Error for ParseError {}
 
 impl From<Misfit> for ParseError {
     fn from(misfit: Misfit) -> ParseError {
-        let (cause, wanted) = (misfit.cause, misfit.wanted.clone());
-        ParseError::of_key(cause, misfit.path(), Some(wanted))
+        let (cause, expected) = (misfit.cause, misfit.expected.clone());
+        ParseError::of_key(cause, misfit.path(), Some(&expected))
     }
 }
 
@@ -196,20 +179,9 @@ fn line_column(bytes: &[u8], place: usize) -> (usize, usize) {
     (line, column)
 }
 
-/// What is expected at a key path of a manifest. Under an old header the path is one of a package.
-fn wanted_at(path: &str) -> Option<Cow<'static, str>> {
-    let steps = steps(path);
-    let package = match steps.as_slice() {
-        [Step::Key(key), below @ ..] if key == "project" => below,
-        whole => whole,
-    };
-    let of_manifest = Manifest::<Value, Value>::wanted_at(&steps);
-    of_manifest.or_else(|| Package::<Value>::wanted_at(package))
-}
-
 /// What is said of what nests too deep.
 pub(crate) fn too_deep() -> String {
-    format!("it nests too deep: at most {DEPTH_LIMIT} arrays and tables can stand in one another")
+    format!("nested too deep: the limit is {DEPTH_LIMIT} arrays and tables within one another")
 }
 
 /// The error of a refusal of these bytes, and of those of the workspace's root.
@@ -221,17 +193,17 @@ pub(crate) fn refused(refusal: Refusal, bytes: &[u8]) -> Error {
             Error::Parse(ParseError { message, at: At::Bytes(range) })
         }
         Refusal::Schema { cause, path, .. } => {
-            let wanted = wanted_at(&path);
-            Error::Parse(ParseError::of_key(cause, path, wanted))
+            let expected = expected_at(&steps(&path));
+            Error::Parse(ParseError::of_key(cause, path, expected.as_ref()))
         }
         Refusal::TooDeep(_) => Error::Parse(ParseError { message: too_deep(), at: At::Whole }),
         Refusal::Utf8(_) => match std::str::from_utf8(bytes) {
             Err(error) => Error::Utf8(error),
             Ok(_) => is_broken(),
         },
-        Refusal::Io(Fault::NotFound) => Error::Io(io::ErrorKind::NotFound.into()),
-        Refusal::Io(Fault::Other) => Error::Io(io::ErrorKind::Other.into()),
-        Refusal::Io(Fault::OutOfMemory) | Refusal::Memory => Error::Io(io::ErrorKind::OutOfMemory.into()),
+        Refusal::Io(ListingError::NotFound) => Error::Io(io::ErrorKind::NotFound.into()),
+        Refusal::Io(ListingError::Other) => Error::Io(io::ErrorKind::Other.into()),
+        Refusal::Io(ListingError::OutOfMemory) | Refusal::Memory => Error::Io(io::ErrorKind::OutOfMemory.into()),
         Refusal::Other(text) | Refusal::Date(text) => Error::Other(text),
         other => Error::Other(sentence(&other)),
     }
@@ -248,14 +220,14 @@ pub(crate) fn refused_table(refusal: Refusal) -> Error {
 /// Why a manifest cannot inherit from its workspace.
 fn sentence(refusal: &Refusal) -> String {
     match refusal {
-        Refusal::NoWorkspace => "the manifest of the root has no `[workspace]`".into(),
-        Refusal::NotInWorkspace(key) => format!("`{key}` is inherited, and the workspace does not have it"),
+        Refusal::NoWorkspace => "the manifest of the workspace's root has no table `workspace`".into(),
+        Refusal::NotInWorkspace(key) => format!("`{key}` is inherited from the workspace, which does not define it"),
         Refusal::InheritedInWorkspace(name) => {
-            format!("the dependency `{name}` is inherited, and the workspace inherits it itself")
+            format!("the dependency `{name}` is inherited from the workspace, whose own entry says `workspace = true`")
         }
-        Refusal::MixedLints => "the lints are inherited, and there are lints of a tool beside them".into(),
+        Refusal::MixedLints => "`lints` cannot have lints of its own next to `workspace = true`".into(),
         Refusal::ToolNamedWorkspace => {
-            "the lints are inherited, and the workspace has lints of a tool named `workspace`".into()
+            "`lints` is inherited from a workspace with lints of a tool named `workspace`".into()
         }
         other => other.to_string(),
     }

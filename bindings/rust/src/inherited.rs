@@ -1,9 +1,8 @@
 //! What is inherited from the workspace.
 
 use crate::calls::Cause;
-use crate::codec::{read, Aside, Encode, Form, Members, Misfit, Reader, Step, Writer, TRUE};
+use crate::codec::{read, Aside, Encode, Expected, Form, Members, Misfit, Reader, Step, Writer, TRUE};
 use crate::Value;
-use std::borrow::Cow;
 
 /// A property of a package that may be inherited from its workspace, as by `version.workspace = true`.
 #[derive(Debug, Clone, PartialEq, Eq)]
@@ -58,12 +57,12 @@ impl<T: Form> Form for MaybeInherited<T> {
         T::read(value, aside).map(MaybeInherited::Local)
     }
 
-    fn wanted() -> Cow<'static, str> {
-        T::wanted()
+    fn expected() -> Expected {
+        T::expected()
     }
 
-    fn wanted_at(path: &[Step]) -> Option<Cow<'static, str>> {
-        T::wanted_at(path)
+    fn expected_at(path: &[Step]) -> Option<Expected> {
+        T::expected_at(path)
     }
 }
 
@@ -98,8 +97,8 @@ impl Form for True {
         }
     }
 
-    fn wanted() -> Cow<'static, str> {
-        "the boolean true".into()
+    fn expected() -> Expected {
+        Expected::new("`true`")
     }
 }
 

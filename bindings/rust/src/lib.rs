@@ -33,18 +33,21 @@
 //! let text = "[package]\nname = 'a'\nversion = '1.0.0'\nlicense = 'MIT'\n";
 //! assert_eq!(checked(text.as_bytes()), Ok(("a".into(), "1.0.0".into())));
 //! let wrong = checked(b"[package]\nname = 'a'\nversion = 1\n").unwrap_err();
-//! assert_eq!(wrong, "`package.version` is of the wrong kind: a string is wanted");
+//! assert_eq!(wrong, "invalid type for `package.version`: expected a string");
 //! assert!(checked(b"[package\nname = 'a'\n").unwrap_err().starts_with("line 1: "));
 //! ```
 //!
 //! All that is wrong, and not the first fault alone, is in [`faults`], with the words that may stand where one is wrong
-//! ([`Fault::choices`]); and keys that nothing reads, as misspelled ones, are in [`unlisted_keys`]:
+//! ([`Fault::choices`]); and keys that nothing reads, as misspelled ones, are in [`unused_keys`]:
 //!
 //! ```
 //! let upload = b"[package]\nname = 'a'\nversion = 1\nauthors = 'b'\nlicence = 'MIT'\n";
 //! let faults: Vec<_> = cargo_manifest::faults(upload)?.iter().map(ToString::to_string).collect();
-//! assert_eq!(faults, ["wrong kind at package.version", "wrong kind at package.authors"]);
-//! assert_eq!(cargo_manifest::unlisted_keys(upload)?[0].to_string(), "package.licence");
+//! assert_eq!(faults, [
+//!     "invalid type for `package.version`: expected a string",
+//!     "invalid type for `package.authors`: expected an array",
+//! ]);
+//! assert_eq!(cargo_manifest::unused_keys(upload)?[0].to_string(), "unused manifest key: package.licence");
 //! # Ok::<(), cargo_manifest::Error>(())
 //! ```
 //!
@@ -157,6 +160,7 @@ mod found;
 mod inherited;
 mod lint;
 mod manifest;
+mod message;
 mod metadata;
 mod package;
 mod product;
@@ -183,7 +187,7 @@ pub use codec::Step;
 pub use dependency::{Dependency, DependencyDetail, InheritedDependencyDetail, Target};
 pub use error::{Error, ParseError};
 pub use filesystem::{AbstractFilesystem, Filesystem};
-pub use found::{faults, ignored, unlisted_keys, Fault, Finding, KeyPath};
+pub use found::{faults, ignored, unused_keys, CargoKey, CargoSupport, Fault, Finding, KeyPath, UnusedKey};
 pub use inherited::{MaybeInherited, True};
 pub use lint::{Lint, LintConfig, LintLevel, MaybeInheritedLintsSet};
 pub use manifest::Manifest;

@@ -1,8 +1,7 @@
 //! Lints.
 
-use crate::codec::{record, words, Aside, Encode, Form, Misfit, Reader, Step, Writer, STRING};
+use crate::codec::{record, words, Aside, Encode, Expected, Form, Misfit, Reader, Step, Writer, STRING};
 use crate::{ToolLintsSet, True, Value};
-use std::borrow::Cow;
 
 record! {
     /// `[lints]` of a package: inherited from the workspace, or the lints of each tool.
@@ -67,14 +66,16 @@ impl Form for Lint {
         }
     }
 
-    fn wanted() -> Cow<'static, str> {
-        format!("{}, or a table", LintLevel::wanted()).into()
+    fn expected() -> Expected {
+        let level = LintLevel::expected();
+        let what = format!("{}, or a table", level.what);
+        Expected { table: LintConfig::expected().table, ..level.said(what) }
     }
 
-    fn wanted_at(path: &[Step]) -> Option<Cow<'static, str>> {
+    fn expected_at(path: &[Step]) -> Option<Expected> {
         match path {
-            [] => Some(Self::wanted()),
-            below => LintConfig::wanted_at(below),
+            [] => Some(Self::expected()),
+            below => LintConfig::expected_at(below),
         }
     }
 }

@@ -1,8 +1,7 @@
 //! The package.
 
-use crate::codec::{record, Aside, Encode, Form, Misfit, Reader, Step, Writer, ARRAY, STRING};
+use crate::codec::{record, Aside, Encode, Expected, Form, Misfit, Reader, Step, Writer, ARRAY, STRING};
 use crate::{Edition, MaybeInherited, Resolver, Value};
-use std::borrow::Cow;
 
 record! {
     /// `[package]`.
@@ -205,8 +204,8 @@ impl Form for StringOrBool {
         }
     }
 
-    fn wanted() -> Cow<'static, str> {
-        "a string or a boolean".into()
+    fn expected() -> Expected {
+        Expected::new("a string or a boolean")
     }
 }
 
@@ -275,14 +274,14 @@ impl Form for Publish {
         }
     }
 
-    fn wanted() -> Cow<'static, str> {
-        "a boolean or an array of strings".into()
+    fn expected() -> Expected {
+        Expected::new("a boolean or an array of strings")
     }
 
-    fn wanted_at(path: &[Step]) -> Option<Cow<'static, str>> {
+    fn expected_at(path: &[Step]) -> Option<Expected> {
         match path {
-            [] => Some(Self::wanted()),
-            below => Vec::<String>::wanted_at(below),
+            [] => Some(Self::expected()),
+            below => Vec::<String>::expected_at(below),
         }
     }
 }

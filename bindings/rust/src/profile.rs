@@ -1,8 +1,8 @@
 //! Profiles.
 
-use crate::codec::{record, Aside, Encode, Form, Misfit, Reader, Writer, STRING};
+use crate::codec::{record, Aside, Encode, Expected, Form, Misfit, Reader, Writer, STRING};
+use crate::message::{message, none_of};
 use crate::{Cause, Error, Value};
-use std::borrow::Cow;
 use std::collections::BTreeMap;
 
 record! {
@@ -131,12 +131,13 @@ impl TryFrom<Value> for StripSetting {
     type Error = Error;
 
     fn try_from(value: Value) -> Result<StripSetting, Error> {
+        let expected = StripSetting::expected();
         match &value {
             Value::Boolean(flag) => Ok(StripSetting::of_flag(*flag)),
             Value::String(word) => {
-                StripSetting::of_word(word).ok_or_else(|| Error::Other(format!("`{word}` is no choice of `strip`")))
+                StripSetting::of_word(word).ok_or_else(|| Error::Other(none_of(word, expected.choices)))
             }
-            other => Err(Error::Other(format!("`strip` is a {}: a boolean or a string is wanted", other.type_str()))),
+            _ => Err(Error::Other(message(Cause::WrongKind, "strip", Some(&expected)))),
         }
     }
 }
@@ -160,8 +161,10 @@ impl Form for StripSetting {
         }
     }
 
-    fn wanted() -> Cow<'static, str> {
-        "a boolean, or one of the strings \"none\", \"symbols\", \"debuginfo\",".into()
+    fn expected() -> Expected {
+        let word = Expected::one_of(&["none", "symbols", "debuginfo"]);
+        let what = format!("a boolean, or {}", word.what);
+        word.said(what)
     }
 }
 

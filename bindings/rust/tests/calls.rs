@@ -2,7 +2,7 @@
 
 use cargo_manifest::calls::{canonical, completed, resolved, resolved_completed, table};
 use cargo_manifest::calls::{completed_table, resolved_completed_table, resolved_table};
-use cargo_manifest::calls::{AtMost, Cause, Fault, Listings, Part, Refusal};
+use cargo_manifest::calls::{AtMost, Cause, ListingError, Listings, Part, Refusal};
 use cargo_manifest::{Date, Datetime, Offset, Time, Value};
 use std::fs;
 use std::io::{Error as IoError, ErrorKind};
@@ -135,13 +135,13 @@ fn what_the_root_refuses() {
 
 #[test]
 fn what_listings_refuse() {
-    for fault in [Fault::OutOfMemory, Fault::Other] {
+    for fault in [ListingError::OutOfMemory, ListingError::Other] {
         let mut listings = with_library();
-        listings.put_fault("src", fault);
+        listings.put_error("src", fault);
         assert_eq!(completed(b"[package]\nname = 'p'\n", &listings), Err(Refusal::Io(fault)));
     }
     // `.` is asked, and is not there
-    assert_eq!(completed(b"[package]\nname = 'p'\n", &Listings::new()), Err(Refusal::Io(Fault::NotFound)));
+    assert_eq!(completed(b"[package]\nname = 'p'\n", &Listings::new()), Err(Refusal::Io(ListingError::NotFound)));
     let none = completed(b"[package]\nname = 'p'\nedition = '2021'\n[lib]\n", &Listings::new());
     let text = "can't find library, rename file to `src/lib.rs` or specify lib.path";
     assert_eq!(none, Err(Refusal::Other(text.into())));
@@ -151,7 +151,7 @@ fn what_listings_refuse() {
 fn folders_that_are_not_asked_for_change_nothing() {
     let mut more = with_library();
     more.put("docs", ["lib.rs", "main.rs"]);
-    more.put_fault("src/bin/main.rs/deeper", Fault::OutOfMemory);
+    more.put_error("src/bin/main.rs/deeper", ListingError::OutOfMemory);
     assert_eq!(resolved_completed(MEMBER, ROOT, &more), resolved_completed(MEMBER, ROOT, &with_library()));
 }
 
@@ -256,7 +256,7 @@ fn the_tables_of_the_other_calls() {
     );
     assert_eq!(completed_table(b"", &listings), Err(schema(Cause::Missing, "name")));
     assert_eq!(resolved_table(member, member), Err(Refusal::NoWorkspace));
-    let missed = Err(Refusal::Io(Fault::NotFound));
+    let missed = Err(Refusal::Io(ListingError::NotFound));
     assert_eq!(resolved_completed_table(member, root, &Listings::new()), missed);
 }
 

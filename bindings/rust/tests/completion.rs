@@ -219,11 +219,11 @@ fn resolving() {
     assert_eq!(package.metadata, Some(Value::from_iter([("kept", 1)])));
     assert_eq!(manifest.dependencies.unwrap()["b"].req(), "1");
     let said = |member, root| resolved(member, root).unwrap_err();
-    assert_eq!(said(member, "[workspace]"), "`version` is inherited, and the workspace does not have it");
+    assert_eq!(said(member, "[workspace]"), "`version` is inherited from the workspace, which does not define it");
     let inherits = "[workspace.package]\nversion = '1'\n[workspace.dependencies]\nb.workspace = true\n";
     assert!(said(member, inherits).contains("`b`"));
     assert!(said("[package]\nname = 'a'\n[lints]\nworkspace = true\nrust.a = 'warn'\n", "[workspace.lints]\n")
-        .contains("beside"));
+        .contains("next to `workspace = true`"));
     let tool = "[workspace.lints.workspace]\na = 'warn'\n";
     assert!(said("[package]\nname = 'a'\n[lints]\nworkspace = true\n", tool).contains("named `workspace`"));
 }

@@ -3,39 +3,108 @@
 mod stored;
 
 use cargo_manifest::calls::{findings, AtMost, Part, Refusal};
-use cargo_manifest::{faults, ignored, unlisted_keys, Cause, Error, Fault, Finding, KeyPath, Manifest, Step};
+use cargo_manifest::{faults, ignored, unused_keys, Cause, Error, Fault, Finding, KeyPath, Manifest, Step, UnusedKey};
 
 /// Documents, and what is found in them, line by line.
 const DOCUMENTS: &[(&str, &str)] = &[
     ("[package]\nname = 'p'", ""),
-    ("", "missing at name\n"),
+    ("", "missing field `name`\n"),
     (
         "[package]\nname = 1\nedtion = '2021'\nauthors = [1, 'a', 2]\nedition = '2020'\n[dependecies.a]\nb = 1",
-        "wrong kind at package.name\nnot a choice at package.edition\nwrong kind at package.authors[0]\n\
-         wrong kind at package.authors[2]\nnothing reads package.edtion\nnothing reads dependecies\n",
+        "invalid type for `package.name`: expected a string\n\
+         `package.edition` is none of `2015`, `2018`, `2021`, `2024`\n\
+         invalid type for `package.authors[0]`: expected a string\n\
+         invalid type for `package.authors[2]`: expected a string\n\
+         unused manifest key: package.edtion\nunused manifest key: dependecies\n",
     ),
     (
         "[package]\nname = 'p'\n[dependencies.a]\ndefault-features = true\ndefault_features = 1\nversion = 1",
-        "wrong kind at dependencies.a.version\ntwo spellings at dependencies.a.default-features\n",
+        "invalid type for `dependencies.a.version`: expected a string\n\
+         `dependencies.a.default-features` is given twice, as `default-features` and as `default_features`\n",
     ),
     (
         "[package]\nname = 'p'\nversion = { workspace = true, x = 1 }\n[badges]\ngitlab = { branch = 1, foo = 2 }",
-        "nothing reads package.version.x\nignored: missing at badges.gitlab.repository\n\
-         ignored: wrong kind at badges.gitlab.branch\nnothing reads badges.gitlab.foo\n",
+        "unused manifest key: package.version.x\nignored: missing field `badges.gitlab.repository`\n\
+         ignored: invalid type for `badges.gitlab.branch`: expected a string\nunused manifest key: badges.gitlab.foo\n",
     ),
     (
         "[package]\nname = 'p'\nmetadata = { a = [0.5, 1, [2.5]] }\n[profile.dev]\ncodegen-units = 65536\nlto = nan\n\
-         [lints]\nworkspace = false",
-        "holds a float at package.metadata.a[0]\nholds a float at package.metadata.a[2][0]\n\
-         holds a float at profile.dev.lto\nout of range at profile.dev.codegen-units\nnot true at lints.workspace\n",
+         package = [1]\n[lints]\nworkspace = false\nrust.a = 1\nrust.b.priority = 128",
+        "invalid type for `profile.dev.lto`: expected a value without a float\n\
+         invalid value for `profile.dev.codegen-units`: expected an integer from 0 to 65535\n\
+         invalid type for `profile.dev.package`: expected a table\n\
+         invalid value for `lints.workspace`: expected `true`\n\
+         invalid type for `lints.rust.a`: expected one of the strings `forbid`, `deny`, `warn`, `allow`, or a table\n\
+         missing field `lints.rust.b.level`\n\
+         invalid value for `lints.rust.b.priority`: expected an integer from -128 to 127\n",
     ),
     (
         "package.name = 'p'\n[target.'cfg(unix)'.dependencies]\n\"a\\\"é\" = 1\n'' = 2\n\"\\t\\\\\" = 3",
-        "wrong kind at target.\"cfg(unix)\".dependencies.\"\"\n\
-         wrong kind at target.\"cfg(unix)\".dependencies.\"\\u0009\\\\\"\n\
-         wrong kind at target.\"cfg(unix)\".dependencies.\"a\\\"é\"\n",
+        "invalid type for `target.\"cfg(unix)\".dependencies.\"\"`: expected a string or a table\n\
+         invalid type for `target.\"cfg(unix)\".dependencies.\"\\u0009\\\\\"`: expected a string or a table\n\
+         invalid type for `target.\"cfg(unix)\".dependencies.\"a\\\"é\"`: expected a string or a table\n",
     ),
 ];
+
+/// The keys of a document that nothing reads, and what Cargo makes of them: by the table of `docs/CARGO.md`.
+const UNUSED: &str = "
+    [package]
+    name = 'p'
+    version = { workspace = true, public = 1 }
+    metabuild = 'a'
+    replace = 1
+    [project]
+    [replace]
+    [hints]
+    mostly-unused = true
+    [dependencies]
+    a = { version = '1', artifact = 'bin', filename = 'x' }
+    b = { workspace = true, public = true, version = '1' }
+    [target.x.build_dependencies]
+    c = { path = 'c', base = 'd' }
+    [lib]
+    doc-scrape-examples = false
+    [profile.dev]
+    dir-name = 'x'
+    [lints.rust]
+    unexpected_cfgs = { level = 'warn', check-cfg = [] }
+    other = { level = 'warn', check-cfg = [] }
+    [workspace.package]
+    badges = {}
+    [workspace.lints.rust]
+    unexpected_cfgs = { level = 'warn', check-cfg = [] }
+";
+const IN_CARGO: &str = "\
+    package.metabuild (Cargo reads it with an unstable feature)
+    package.replace
+    workspace.package.badges (Cargo ignores it since 1.80)
+    workspace.lints.rust.unexpected_cfgs.check-cfg (Cargo reads it since 1.80)
+    dependencies.a.artifact (Cargo reads it with an unstable feature)
+    dependencies.a.filename
+    dependencies.b.public (Cargo reads it with an unstable feature)
+    dependencies.b.version
+    hints (Cargo reads it since 1.90)
+    lib.doc-scrape-examples (Cargo reads it since 1.67)
+    lints.rust.other.check-cfg
+    lints.rust.unexpected_cfgs.check-cfg (Cargo reads it since 1.80)
+    package.version.public
+    profile.dev.dir-name (Cargo refuses it)
+    project (Cargo reads it, but it is deprecated)
+    replace (Cargo reads it, but it is deprecated)
+    target.x.build_dependencies.c.base (Cargo reads it with an unstable feature)
+";
+
+#[test]
+fn what_cargo_makes_of_unused_keys() {
+    let sorted = |lines: Vec<String>| {
+        let mut lines = lines;
+        lines.sort();
+        lines
+    };
+    let said = unused_keys(UNUSED.as_bytes()).unwrap().iter().map(ToString::to_string).collect();
+    let due = IN_CARGO.lines().map(|line| format!("unused manifest key: {}", line.trim_start())).collect();
+    assert_eq!(sorted(said), sorted(due));
+}
 
 /// A line for each of these.
 fn lines<T: ToString>(all: &[T]) -> String {
@@ -57,6 +126,11 @@ fn path(steps: &[&str]) -> KeyPath {
     steps.iter().map(step).collect()
 }
 
+/// A key that Cargo does not know either.
+fn unused(steps: &[&str]) -> UnusedKey {
+    UnusedKey { path: path(steps), in_cargo: None }
+}
+
 fn fault(steps: &[&str], cause: Cause, choices: &[&str]) -> Fault {
     Fault { path: path(steps), cause, choices: choices.iter().map(ToString::to_string).collect() }
 }
@@ -71,12 +145,12 @@ fn each_part_of_a_finding() {
         [
             Finding::Fault(wrong(&["package", "authors", "0"])),
             Finding::Ignored(wrong(&["badges", "gitlab"])),
-            Finding::Unlisted(path(&["x"])),
+            Finding::Unused(unused(&["x"])),
         ]
     );
     assert_eq!(faults(text).unwrap(), [wrong(&["package", "authors", "0"])]);
     assert_eq!(ignored(text).unwrap(), [wrong(&["badges", "gitlab"])]);
-    assert_eq!(unlisted_keys(text).unwrap(), [path(&["x"])]);
+    assert_eq!(unused_keys(text).unwrap(), [unused(&["x"])]);
     assert_eq!(path(&[]).to_string(), "(top)");
 }
 
@@ -110,18 +184,19 @@ fn what_is_found_is_no_longer_than_some_times_the_document() {
     let many: String = (0..20_000).map(|number| format!("a{number} = 1\n")).collect();
     let text = format!("package.name = 'p'\n[target.{long}]\n{many}");
     let found = AtMost(2 * text.len()).findings(text.as_bytes()).unwrap();
-    let keys = unlisted_keys(text.as_bytes()).unwrap();
+    let keys = unused_keys(text.as_bytes()).unwrap();
     assert_eq!((found.len(), keys.len()), (20_000, 20_000));
+    let keys: Vec<_> = keys.into_iter().map(|key| key.path).collect();
     assert!(keys.is_sorted() && keys.iter().all(|key| std::ptr::eq(key.steps()[1], keys[0].steps()[1])));
     assert_eq!(keys[0], path(&["target", &long, "a0"]));
 
     let floats = "0.5, ".repeat(20_000);
-    let text = format!("[package]\nname = 'p'\n[package.metadata{}]\na{} = [{floats}]", ".a".repeat(76), ".a".repeat(23));
+    let text = format!("[package]\nname = 'p'\n[profile.a.package{}]\na{} = [{floats}]", ".a".repeat(75), ".a".repeat(23));
     let found = AtMost(4 * text.len()).findings(text.as_bytes()).unwrap();
-    assert_eq!((found.len(), faults(text.as_bytes()).unwrap().len()), (20_000, 0));
+    assert_eq!((found.len(), faults(text.as_bytes()).unwrap().len()), (20_000, 20_000));
     let Some(Finding::Fault(last)) = found.last() else { panic!() };
     assert_eq!((last.path.steps().len(), last.cause), (103, Cause::HoldsFloat));
-    assert!(last.to_string().ends_with(".a.a.a[19999]"));
+    assert!(last.to_string().ends_with(".a.a.a[19999]`: expected a value without a float"));
 }
 
 /// Each refusal is that of the other calls.
@@ -133,7 +208,7 @@ fn what_is_no_document_is_refused() {
     assert_eq!(findings(deep.as_bytes()), Err(Refusal::TooDeep(Part::Manifest)));
     for text in [&b"\xff"[..], b"[package\nname = 1", deep.as_bytes()] {
         let wanted = Manifest::from_slice(text).unwrap_err().to_string();
-        let said = [faults(text).err(), ignored(text).err(), unlisted_keys(text).err()];
+        let said = [faults(text).err(), ignored(text).err(), unused_keys(text).err()];
         assert_eq!(said.map(|error| error.unwrap().to_string()), [(); 3].map(|()| wanted.clone()));
     }
 }
@@ -144,20 +219,19 @@ fn the_bound_is_that_on_the_tagged_bytes() {
     assert_eq!(AtMost(20).findings(b""), findings(b""));
     assert_eq!(AtMost(19).findings(b""), Err(Refusal::TooLong));
     let many: String = (0..1_000).map(|number| format!("{number} = 1\n")).collect();
-    assert_eq!(unlisted_keys(format!("name = 'p'\n{many}").as_bytes()).unwrap().len(), 1_000);
+    assert_eq!(unused_keys(format!("name = 'p'\n{many}").as_bytes()).unwrap().len(), 1_000);
 }
 
-/// Metadata with a float is kept by this crate, and by its calls it is not.
+/// A float in metadata is no fault, and is kept.
 #[test]
 fn a_float_in_metadata() {
     for header in ["", "[package]", "[project]"] {
         let text = format!("{header}\nname = 'p'\nmetadata = [{{ a = 0.5 }}]\n");
-        assert_eq!(faults(text.as_bytes()).unwrap(), []);
+        assert_eq!(findings(text.as_bytes()).unwrap(), []);
         assert!(text.parse::<Manifest>().is_ok());
-        assert_eq!(findings(text.as_bytes()).unwrap().len(), 1, "{text}");
     }
     let text = b"package.name = 'p'\n[workspace]\nmetadata = inf\n[profile.metadata]\ndebug = 0.5";
-    assert_eq!(lines(&faults(text).unwrap()), "holds a float at profile.metadata.debug\n");
+    assert_eq!(lines(&faults(text).unwrap()), "invalid type for `profile.metadata.debug`: expected a value without a float\n");
 }
 
 /// There are faults exactly where a text is refused, and the first one is that with which it is refused. Where there is none,
@@ -175,8 +249,8 @@ fn agrees_with_reading(text: &str) -> bool {
             assert_eq!(all, [], "{text}");
             let written = manifest.to_toml_string().unwrap();
             let again = findings(written.as_bytes()).unwrap();
-            assert!(again.iter().all(|each| matches!(each, Finding::Fault(_))), "{written}");
-            assert_eq!(faults(written.as_bytes()).is_ok_and(|all| all.is_empty()), written.parse::<Manifest>().is_ok());
+            assert_eq!(again, [], "{written}");
+            assert!(written.parse::<Manifest>().is_ok(), "{written}");
         }
         Err(Error::Parse(error)) => {
             let first = all.first().unwrap_or_else(|| panic!("no fault of {text}"));

@@ -243,37 +243,37 @@ fn parse_error(text: &[u8]) -> ParseError {
 }
 
 #[test]
-fn errors_say_what_is_wrong_where_and_what_is_wanted() {
+fn errors_say_what_is_wrong_where_and_what_is_expected() {
     for (text, message) in [
-        ("", "`name` is missing: a string is wanted"),
-        ("[project]\nname = 1", "`project.name` is of the wrong kind: a string is wanted"),
-        ("[package]\n", "`package.name` is missing: a string is wanted"),
+        ("", "missing field `name`"),
+        ("[project]\nname = 1", "invalid type for `project.name`: expected a string"),
+        ("[package]\n", "missing field `package.name`"),
         (
             "[package]\nname = 'a'\nedition = '2022'",
-            "`package.edition` is not a choice: one of the strings \"2015\", \"2018\", \"2021\", \"2024\" is wanted",
+            "`package.edition` is none of `2015`, `2018`, `2021`, `2024`",
         ),
         (
             "[package]\nname = 'a'\n[profile.x]\ncodegen-units = 65536",
-            "`profile.x.codegen-units` is out of range: an integer from 0 to 65535 is wanted",
+            "invalid value for `profile.x.codegen-units`: expected an integer from 0 to 65535",
         ),
         (
             "[package]\nname = 'a'\n[profile.x]\ndebug = [1.5]",
-            "`profile.x.debug[0]` is a float, and no float is kept there",
+            "invalid type for `profile.x.debug[0]`: expected a value without a float",
         ),
         (
             "[package]\nname = 'a'\n[lints]\nworkspace = false",
-            "`lints.workspace` is not true: the boolean true is wanted",
+            "invalid value for `lints.workspace`: expected `true`",
         ),
         (
             "[package]\nname = 'a'\n[target.'cfg(unix)'.dependencies]\n'b c' = 1",
-            "`target.\"cfg(unix)\".dependencies.\"b c\"` is of the wrong kind: a string or a table is wanted",
+            "invalid type for `target.\"cfg(unix)\".dependencies.\"b c\"`: expected a string or a table",
         ),
         (
             "[package]\nname = 'a'\n[lib]\nproc-macro = true\nproc_macro = true",
-            "`lib.proc-macro` is there in both of its spellings",
+            "`lib.proc-macro` is given twice, as `proc-macro` and as `proc_macro`",
         ),
-        ("[package]\nname = 'a'\nreadme = 1", "`package.readme` is of the wrong kind: a string or a boolean is wanted"),
-        ("[package]\nname = 'a'\npublish = [1]", "`package.publish[0]` is of the wrong kind: a string is wanted"),
+        ("[package]\nname = 'a'\nreadme = 1", "invalid type for `package.readme`: expected a string or a boolean"),
+        ("[package]\nname = 'a'\npublish = [1]", "invalid type for `package.publish[0]`: expected a string"),
     ] {
         let error = parse_error(text.as_bytes());
         assert_eq!(error.to_string(), message);
@@ -287,7 +287,7 @@ fn errors_say_what_is_wrong_where_and_what_is_wanted() {
 fn what_nests_too_deep() {
     let text = format!("[package]\nname = 'p'\nmetadata = {}", "[".repeat(600));
     let error = parse_error(text.as_bytes());
-    assert_eq!(error.to_string(), "it nests too deep: at most 128 arrays and tables can stand in one another");
+    assert_eq!(error.to_string(), "nested too deep: the limit is 128 arrays and tables within one another");
     assert_eq!((error.span(), error.line_column(text.as_bytes())), (None, None));
     assert_eq!((error.key_path(), error.cause()), (None, None));
     // what is made of values is refused where it is written
@@ -296,7 +296,7 @@ fn what_nests_too_deep() {
         manifest.package.as_mut().unwrap().metadata = Some(metadata);
         manifest
     };
-    let is_too_deep = |error: &Error| matches!(error, Error::Other(text) if text.starts_with("it nests too deep: "));
+    let is_too_deep = |error: &Error| matches!(error, Error::Other(text) if text.starts_with("nested too deep: "));
     for inner in [Value::from(1), Value::from(1.5)] {
         let around = |count: usize| (0..count).fold(inner.clone(), |value, _| vec![value].into());
         // (that of the package and 127 arrays)

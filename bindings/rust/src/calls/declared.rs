@@ -2,7 +2,7 @@
 
 use super::folders::{with_folders, Folder};
 use super::listings::Listings;
-use super::refusal::{Cause, Fault, Part, Refusal};
+use super::refusal::{Cause, ListingError, Part, Refusal};
 use std::sync::OnceLock;
 
 /// What a call answers: `struct manifest_answer` of `bindings/c/cargo_manifest.h`.
@@ -67,7 +67,7 @@ pub(crate) enum Output {
 /// Ends at an answer that no contract of the library allows: the archive is of another version than this crate, or this
 /// crate reads the answer wrongly.
 pub(crate) fn is_broken() -> ! {
-    panic!("the library's answer is none that the header has: the archive is of another version")
+    panic!("the header does not have this answer of the library: the archive is of another version")
 }
 
 /// The text of an answer, which is UTF-8: contracts say so of a canonical text and of the text of a refusal.
@@ -85,9 +85,9 @@ fn refused(answer: Answer, text: Vec<u8>) -> Refusal {
             None => is_broken(),
         },
         3 => Refusal::Io(match answer.cause {
-            1 => Fault::NotFound,
-            2 => Fault::OutOfMemory,
-            _ => Fault::Other,
+            1 => ListingError::NotFound,
+            2 => ListingError::OutOfMemory,
+            _ => ListingError::Other,
         }),
         4 | 20 => Refusal::Utf8(part),
         5 => Refusal::Other(text_of(text)),

@@ -1,7 +1,7 @@
 //! Listings, as the library takes them.
 
 use super::listings::Listings;
-use super::refusal::Fault;
+use super::refusal::ListingError;
 
 /// A slice that is borrowed: `struct manifest_bytes` and `struct manifest_names` of `bindings/c/cargo_manifest.h`.
 #[repr(C)]
@@ -24,11 +24,11 @@ pub(crate) struct Folder {
     pub(crate) fault: u8,
 }
 
-fn number_of(fault: Fault) -> u8 {
-    match fault {
-        Fault::NotFound => 1,
-        Fault::OutOfMemory => 2,
-        Fault::Other => 3,
+fn number_of(error: ListingError) -> u8 {
+    match error {
+        ListingError::NotFound => 1,
+        ListingError::OutOfMemory => 2,
+        ListingError::Other => 3,
     }
 }
 

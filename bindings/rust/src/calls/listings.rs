@@ -1,13 +1,13 @@
 //! Listings of folders, gathered before the call.
 
-use super::refusal::Fault;
+use super::refusal::ListingError;
 use std::collections::{BTreeMap, BTreeSet};
 use std::fs;
 use std::io;
 use std::path::Path;
 
 /// What was found in a folder.
-type Listed = Result<BTreeSet<String>, Fault>;
+type Listed = Result<BTreeSet<String>, ListingError>;
 
 /// What the folders of a manifest hold, each by its path from the folder of the manifest, with `/` between its parts, as
 /// `src/bin`; that folder itself is `.`. A path that is not among them is not there.
@@ -39,9 +39,9 @@ impl Listings {
         self.by_path.insert(path.into(), Ok(names));
     }
 
-    /// Puts the fault of a folder, in the place of what was put at its path before.
-    pub fn put_fault(&mut self, path: impl Into<String>, fault: Fault) {
-        self.by_path.insert(path.into(), Err(fault));
+    /// Puts the error of a folder, in the place of what was put at its path before.
+    pub fn put_error(&mut self, path: impl Into<String>, error: ListingError) {
+        self.by_path.insert(path.into(), Err(error));
     }
 
     /// All that a completion may ask for, from what lists a folder.

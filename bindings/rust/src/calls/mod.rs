@@ -29,7 +29,7 @@ pub use at_most::AtMost;
 pub(crate) use declared::is_broken;
 use declared::ANY;
 pub use listings::Listings;
-pub use refusal::{Cause, Fault, Part, Refusal, DEPTH_LIMIT};
+pub use refusal::{Cause, ListingError, Part, Refusal, DEPTH_LIMIT};
 
 /// The canonical text of the manifest that the bytes are.
 pub fn canonical(bytes: &[u8]) -> Result<String, Refusal> {
@@ -97,7 +97,8 @@ pub fn resolved_completed_table(bytes: &[u8], root: &[u8], listings: &Listings) 
 /// and every key that nothing reads. They stand in the order in which `docs/KEYS.md` of the repository has the keys, and the
 /// keys that nothing reads after what is found in the other keys of their table.
 ///
-/// A document with faults is no error here. An error is what is no TOML, or nests too deep.
+/// Metadata is not looked at, so no float in it is a fault. A document with faults is no error here. An error is what is no
+/// TOML, or nests too deep.
 ///
 /// ```
 /// use cargo_manifest::calls::findings;
@@ -105,9 +106,9 @@ pub fn resolved_completed_table(bytes: &[u8], root: &[u8], listings: &Listings) 
 /// let found = findings(b"[package]\nname = 1\nedtion = '2021'\n[badges]\ngitlab = 1")?;
 /// let lines: Vec<_> = found.iter().map(ToString::to_string).collect();
 /// assert_eq!(lines, [
-///     "wrong kind at package.name",
-///     "nothing reads package.edtion",
-///     "ignored: wrong kind at badges.gitlab",
+///     "invalid type for `package.name`: expected a string",
+///     "unused manifest key: package.edtion",
+///     "ignored: invalid type for `badges.gitlab`: expected a table",
 /// ]);
 /// # Ok::<(), cargo_manifest::calls::Refusal>(())
 /// ```

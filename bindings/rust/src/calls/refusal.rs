@@ -76,9 +76,9 @@ impl fmt::Display for Part {
     }
 }
 
-/// The fault of a listing.
+/// Why a folder cannot be listed.
 #[derive(Clone, Copy, Debug, PartialEq, Eq, Hash)]
-pub enum Fault {
+pub enum ListingError {
     /// The folder is not there.
     NotFound,
     /// No memory was left for its names.
@@ -87,22 +87,22 @@ pub enum Fault {
     Other,
 }
 
-impl From<io::ErrorKind> for Fault {
-    fn from(kind: io::ErrorKind) -> Fault {
+impl From<io::ErrorKind> for ListingError {
+    fn from(kind: io::ErrorKind) -> ListingError {
         match kind {
-            io::ErrorKind::NotFound => Fault::NotFound,
-            io::ErrorKind::OutOfMemory => Fault::OutOfMemory,
-            _ => Fault::Other,
+            io::ErrorKind::NotFound => ListingError::NotFound,
+            io::ErrorKind::OutOfMemory => ListingError::OutOfMemory,
+            _ => ListingError::Other,
         }
     }
 }
 
-impl fmt::Display for Fault {
+impl fmt::Display for ListingError {
     fn fmt(&self, f: &mut fmt::Formatter<'_>) -> fmt::Result {
         f.write_str(match self {
-            Fault::NotFound => "not found",
-            Fault::OutOfMemory => "out of memory",
-            Fault::Other => "a fault",
+            ListingError::NotFound => "not found",
+            ListingError::OutOfMemory => "out of memory",
+            ListingError::Other => "it cannot be listed",
         })
     }
 }
@@ -140,7 +140,7 @@ pub enum Refusal {
     /// The bytes are not UTF-8.
     Utf8(Part),
     /// A listing has a fault that refuses the completion.
-    Io(Fault),
+    Io(ListingError),
     /// Anything else that refuses the completion, by its text: a declared library has no file.
     Other(String),
     /// No memory was left.

@@ -3,7 +3,7 @@
 use super::declared::{manifest_canonical, room_for, room_for_table, Answer};
 use super::folders::{Folder, Slice};
 use super::heap::refusals::{blocks, with_refused};
-use super::{canonical, findings, resolved_completed, resolved_completed_table, table, Fault, Listings, Refusal};
+use super::{canonical, findings, resolved_completed, resolved_completed_table, table, ListingError, Listings, Refusal};
 use crate::value::{decoded, Value};
 use std::fmt::Debug;
 use std::mem::{offset_of, size_of};
@@ -61,7 +61,7 @@ fn are_refused<T: Debug + PartialEq>(run: impl Fn() -> Result<T, Refusal>, wante
             assert_eq!(answer, *wanted);
             break;
         }
-        let is_memory = matches!(answer, Err(Refusal::Memory | Refusal::Io(Fault::OutOfMemory)));
+        let is_memory = matches!(answer, Err(Refusal::Memory | Refusal::Io(ListingError::OutOfMemory)));
         assert!(answer == *wanted || is_memory, "{granted}: {answer:?}");
         granted += 1;
     }

@@ -1,10 +1,9 @@
 //! Strings, numbers, lists and maps.
 
 use super::reader::{ARRAY, BELOW_ZERO, FALSE, FROM_ZERO, TABLE, TRUE};
-use super::{read, Aside, Encode, Form, Misfit, Reader, Step, Writer};
+use super::{read, Aside, Encode, Expected, Form, Misfit, Reader, Step, Writer};
 use crate::calls::Cause;
 use crate::value::Value;
-use std::borrow::Cow;
 use std::collections::BTreeMap;
 
 impl Form for String {
@@ -19,8 +18,8 @@ impl Form for String {
         }
     }
 
-    fn wanted() -> Cow<'static, str> {
-        "a string".into()
+    fn expected() -> Expected {
+        Expected::new("a string")
     }
 }
 
@@ -43,8 +42,8 @@ impl Form for bool {
         value.as_bool().ok_or_else(Misfit::wrong_kind::<bool>)
     }
 
-    fn wanted() -> Cow<'static, str> {
-        "a boolean".into()
+    fn expected() -> Expected {
+        Expected::new("a boolean")
     }
 }
 
@@ -84,8 +83,8 @@ macro_rules! small_integer {
                     number.try_into().map_err(|_| Misfit::new::<$integer>(Cause::OutOfRange))
                 }
 
-                fn wanted() -> Cow<'static, str> {
-                    format!("an integer from {} to {}", $integer::MIN, $integer::MAX).into()
+                fn expected() -> Expected {
+                    Expected::new(format!("an integer from {} to {}", $integer::MIN, $integer::MAX))
                 }
             }
 
@@ -117,14 +116,14 @@ impl<T: Form> Form for Vec<T> {
         }
     }
 
-    fn wanted() -> Cow<'static, str> {
-        "an array".into()
+    fn expected() -> Expected {
+        Expected::new("an array")
     }
 
-    fn wanted_at(path: &[Step]) -> Option<Cow<'static, str>> {
+    fn expected_at(path: &[Step]) -> Option<Expected> {
         match path {
-            [] => Some(Self::wanted()),
-            [Step::Index(_), path @ ..] => T::wanted_at(path),
+            [] => Some(Self::expected()),
+            [Step::Index(_), path @ ..] => T::expected_at(path),
             [Step::Key(_), ..] => None,
         }
     }
@@ -155,14 +154,14 @@ impl<T: Form> Form for BTreeMap<String, T> {
         read::others(read::members::<Self>(value)?, aside)
     }
 
-    fn wanted() -> Cow<'static, str> {
-        "a table".into()
+    fn expected() -> Expected {
+        Expected::new("a table")
     }
 
-    fn wanted_at(path: &[Step]) -> Option<Cow<'static, str>> {
+    fn expected_at(path: &[Step]) -> Option<Expected> {
         match path {
-            [] => Some(Self::wanted()),
-            [Step::Key(_), path @ ..] => T::wanted_at(path),
+            [] => Some(Self::expected()),
+            [Step::Key(_), path @ ..] => T::expected_at(path),
             [Step::Index(_), ..] => None,
         }
     }
@@ -189,11 +188,11 @@ impl<T: Form> Form for Option<T> {
         T::read(value, aside).map(Some)
     }
 
-    fn wanted() -> Cow<'static, str> {
-        T::wanted()
+    fn expected() -> Expected {
+        T::expected()
     }
 
-    fn wanted_at(path: &[Step]) -> Option<Cow<'static, str>> {
-        T::wanted_at(path)
+    fn expected_at(path: &[Step]) -> Option<Expected> {
+        T::expected_at(path)
     }
 }

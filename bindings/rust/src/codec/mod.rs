@@ -3,6 +3,7 @@
 //! A type is given by its rows, once: [`record`] makes of them the struct, what reads it and what writes it.
 
 mod containers;
+mod expected;
 mod path;
 pub(crate) mod read;
 mod reader;
@@ -13,6 +14,7 @@ mod words;
 mod writer;
 
 pub(crate) use containers::integer;
+pub(crate) use expected::Expected;
 pub(crate) use reader::{Keys, Reader, ARRAY, DATETIME, FALSE, FLOAT, FROM_ZERO, STRING, TABLE, TRUE};
 pub(crate) use record::{others_of, record, row};
 pub(crate) use words::words;
@@ -23,7 +25,6 @@ pub(crate) use path::steps;
 pub(crate) use path::text as path_text;
 pub use path::Step;
 pub(crate) use read::Misfit;
-use std::borrow::Cow;
 
 /// What stands in the table of a manifest as one value.
 pub(crate) trait Form: Sized {
@@ -33,12 +34,12 @@ pub(crate) trait Form: Sized {
     /// The value, read as the definitions say: by each spelling of a key, with defaults for what is absent.
     fn read(value: Value, aside: &mut Aside) -> Result<Self, Misfit>;
 
-    /// What is expected, as `a string`.
-    fn wanted() -> Cow<'static, str>;
+    /// What is expected.
+    fn expected() -> Expected;
 
     /// What is expected at a path below, if that is known.
-    fn wanted_at(path: &[Step]) -> Option<Cow<'static, str>> {
-        path.is_empty().then(Self::wanted)
+    fn expected_at(path: &[Step]) -> Option<Expected> {
+        path.is_empty().then(Self::expected)
     }
 }
 

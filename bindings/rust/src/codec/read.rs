@@ -1,10 +1,9 @@
 //! Values that are read as the types of a manifest, whatever the values are.
 
 use super::path::{self, Step};
-use super::{Aside, Form};
+use super::{Aside, Expected, Form};
 use crate::calls::Cause;
 use crate::value::{Map, Value};
-use std::borrow::Cow;
 use std::collections::BTreeMap;
 
 /// Why a value, or its absence, does not fit, and where.
@@ -12,14 +11,14 @@ use std::collections::BTreeMap;
 pub(crate) struct Misfit {
     pub(crate) cause: Cause,
     /// What is expected there.
-    pub(crate) wanted: Cow<'static, str>,
+    pub(crate) expected: Expected,
     /// From the inside out.
     steps: Vec<Step>,
 }
 
 impl Misfit {
     pub(crate) fn new<T: Form>(cause: Cause) -> Misfit {
-        Misfit { cause, wanted: T::wanted(), steps: Vec::new() }
+        Misfit { cause, expected: T::expected(), steps: Vec::new() }
     }
 
     pub(crate) fn wrong_kind<T: Form>() -> Misfit {

@@ -56,17 +56,17 @@ macro_rules! record {
                 })
             }
 
-            fn wanted() -> std::borrow::Cow<'static, str> {
-                "a table".into()
+            fn expected() -> $crate::codec::Expected {
+                $crate::codec::Expected::table(stringify!($name))
             }
 
-            fn wanted_at(path: &[$crate::codec::Step]) -> Option<std::borrow::Cow<'static, str>> {
+            fn expected_at(path: &[$crate::codec::Step]) -> Option<$crate::codec::Expected> {
                 let [$crate::codec::Step::Key(key), path @ ..] = path else {
-                    return path.is_empty().then(Self::wanted);
+                    return path.is_empty().then(Self::expected);
                 };
                 match key.as_str() {
-                    $($key $(| $second)? => $crate::codec::row!(wanted path ($type) $how $(($($with)+))?),)+
-                    _ => $crate::codec::others_of!(wanted path $($other)?),
+                    $($key $(| $second)? => $crate::codec::row!(expected path ($type) $how $(($($with)+))?),)+
+                    _ => $crate::codec::others_of!(expected path $($other)?),
                 }
             }
         }
@@ -147,9 +147,9 @@ macro_rules! row {
     };
     (second) => { None };
     (second $second:literal) => { Some($second) };
-    (wanted $path:ident ($type:ty) metadata($place:ident)) => { None };
-    (wanted $path:ident ($type:ty) $how:ident $(($with:expr))?) => {
-        <$type as $crate::codec::Form>::wanted_at($path)
+    (expected $path:ident ($type:ty) metadata($place:ident)) => { None };
+    (expected $path:ident ($type:ty) $how:ident $(($with:expr))?) => {
+        <$type as $crate::codec::Form>::expected_at($path)
     };
     (encode $writer:ident $members:ident $key:literal ($value:expr) metadata($place:ident)) => {
         if $writer.aside.$place.is_some() {
@@ -198,11 +198,11 @@ pub(crate) use row;
 
 /// What is done with a key that no row has.
 macro_rules! others_of {
-    (wanted $path:ident) => {
+    (expected $path:ident) => {
         None
     };
-    (wanted $path:ident $other:ty) => {
-        <$other as $crate::codec::Form>::wanted_at($path)
+    (expected $path:ident $other:ty) => {
+        <$other as $crate::codec::Form>::expected_at($path)
     };
     ($reader:ident $key:ident) => {{
         let _ = $key;

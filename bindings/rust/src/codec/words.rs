@@ -38,9 +38,8 @@ macro_rules! words {
                 $name::of_word(word).ok_or_else(|| $crate::codec::Misfit::new::<$name>($crate::Cause::NotAChoice))
             }
 
-            fn wanted() -> std::borrow::Cow<'static, str> {
-                let words = [$($word),+].map(|word| format!("{word:?}"));
-                format!("one of the strings {}", words.join(", ")).into()
+            fn expected() -> $crate::codec::Expected {
+                $crate::codec::Expected::one_of(&[$($word),+])
             }
         }
 

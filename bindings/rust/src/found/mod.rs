@@ -4,20 +4,23 @@ mod path;
 #[cfg(test)]
 mod tests;
 mod tree;
+mod unused;
 
 use crate::calls::{self, is_broken, Cause};
 use crate::codec::Step;
 use crate::error::refused;
+use crate::message::{expected_at, message, none_of};
 use crate::Error;
 pub use path::KeyPath;
 use std::fmt;
 use std::sync::Arc;
+pub use unused::{CargoKey, CargoSupport, UnusedKey};
 
-/// A value, or its absence, that does not fit: where, and why. It is written as `wrong kind at package.name`.
+/// A value, or its absence, that does not fit: where, and why.
 ///
 /// ```
 /// let fault = &cargo_manifest::faults(b"[package]\nname = 'a'\nedition = '2020'")?[0];
-/// assert_eq!(fault.to_string(), "not a choice at package.edition");
+/// assert_eq!(fault.to_string(), "`package.edition` is none of `2015`, `2018`, `2021`, `2024`");
 /// assert_eq!(fault.choices.join(", "), "2015, 2018, 2021, 2024");
 /// # Ok::<(), cargo_manifest::Error>(())
 /// ```
@@ -33,7 +36,12 @@ pub struct Fault {
 
 impl fmt::Display for Fault {
     fn fmt(&self, f: &mut fmt::Formatter<'_>) -> fmt::Result {
-        write!(f, "{} at {}", self.cause, self.path)
+        let path = self.path.to_string();
+        if self.cause == Cause::NotAChoice {
+            return f.write_str(&none_of(&path, &self.choices));
+        }
+        let steps: Vec<Step> = self.path.steps().into_iter().cloned().collect();
+        f.write_str(&message(self.cause, &path, expected_at(&steps).as_ref()))
     }
 }
 
@@ -46,7 +54,7 @@ pub enum Finding {
     /// What does not fit, and refuses nothing: a badge, which counts as absent.
     Ignored(Fault),
     /// A key that nothing reads, as a misspelled one. Nothing below it is looked at.
-    Unlisted(KeyPath),
+    Unused(UnusedKey),
 }
 
 impl fmt::Display for Finding {
@@ -54,7 +62,7 @@ impl fmt::Display for Finding {
         match self {
             Finding::Fault(fault) => fault.fmt(f),
             Finding::Ignored(fault) => write!(f, "ignored: {fault}"),
-            Finding::Unlisted(path) => write!(f, "nothing reads {path}"),
+            Finding::Unused(key) => key.fmt(f),
         }
     }
 }
@@ -70,38 +78,25 @@ fn picked<T>(bytes: &[u8], pick: impl Fn(Finding) -> Option<T>) -> Result<Vec<T>
     Ok(found.into_iter().filter_map(pick).collect())
 }
 
-/// Whether the fault is a float in metadata, under a header of today or an old one. Where an old header is not read, nothing
-/// is found below it.
-fn is_float_of_metadata(fault: &Fault) -> bool {
-    let is = |step: &Step, word: &str| matches!(step, Step::Key(key) if key == word);
-    let is_header = |step: &Step| ["package", "workspace", "project"].into_iter().any(|header| is(step, header));
-    fault.cause == Cause::HoldsFloat
-        && match fault.path.steps().as_slice() {
-            [first, ..] if is(first, "metadata") => true,
-            [first, second, ..] => is_header(first) && is(second, "metadata"),
-            _ => false,
-        }
-}
-
 /// Every fault of the bytes of a `Cargo.toml`, in the order in which `docs/KEYS.md` of the repository has the keys. There is
 /// none exactly where [`Manifest::from_slice`](crate::Manifest::from_slice) reads the bytes (tested), and else the first one
 /// is that with which it refuses them (tested).
 ///
-/// An error is what is no TOML, or nests too deep. A float in metadata is no fault here, since this crate keeps it.
+/// An error is what is no TOML, or nests too deep. Metadata is not looked at: this crate keeps a float in it.
 ///
 /// ```
 /// let text = b"[package]\nname = 1\nedition = '2020'\nauthors = ['a', true]\n";
 /// let faults: Vec<_> = cargo_manifest::faults(text)?.iter().map(ToString::to_string).collect();
 /// assert_eq!(faults, [
-///     "wrong kind at package.name",
-///     "not a choice at package.edition",
-///     "wrong kind at package.authors[1]",
+///     "invalid type for `package.name`: expected a string",
+///     "`package.edition` is none of `2015`, `2018`, `2021`, `2024`",
+///     "invalid type for `package.authors[1]`: expected a string",
 /// ]);
 /// # Ok::<(), cargo_manifest::Error>(())
 /// ```
 pub fn faults(cargo_toml_content: &[u8]) -> Result<Vec<Fault>, Error> {
     picked(cargo_toml_content, |finding| match finding {
-        Finding::Fault(fault) if !is_float_of_metadata(&fault) => Some(fault),
+        Finding::Fault(fault) => Some(fault),
         _ => None,
     })
 }
@@ -111,7 +106,7 @@ pub fn faults(cargo_toml_content: &[u8]) -> Result<Vec<Fault>, Error> {
 ///
 /// ```
 /// let ignored = cargo_manifest::ignored(b"package.name = 'a'\nbadges.gitlab = 1")?;
-/// assert_eq!(ignored[0].to_string(), "wrong kind at badges.gitlab");
+/// assert_eq!(ignored[0].to_string(), "invalid type for `badges.gitlab`: expected a table");
 /// # Ok::<(), cargo_manifest::Error>(())
 /// ```
 pub fn ignored(cargo_toml_content: &[u8]) -> Result<Vec<Fault>, Error> {
@@ -121,18 +116,19 @@ pub fn ignored(cargo_toml_content: &[u8]) -> Result<Vec<Fault>, Error> {
     })
 }
 
-/// The keys in the bytes of a `Cargo.toml` that nothing reads, as misspelled ones: a manifest does not hold them, and they
-/// are not written. In the same order, those of a table after what stands in its other keys; none is below another. The errors
-/// are those of [`faults`].
+/// The keys in the bytes of a `Cargo.toml` that nothing reads, as misspelled ones and those that only Cargo knows: a manifest
+/// does not hold them, and they are not written. In the same order, those of a table after what stands in its other keys; none
+/// is below another. The errors are those of [`faults`].
 ///
 /// ```
-/// let keys = cargo_manifest::unlisted_keys(b"[package]\nname = 'a'\nedtion = '2021'\n[dependecies]\nb = '1'")?;
-/// assert_eq!(keys.iter().map(ToString::to_string).collect::<Vec<_>>(), ["package.edtion", "dependecies"]);
+/// let keys = cargo_manifest::unused_keys(b"[package]\nname = 'a'\nedtion = '2021'\n[dependecies]\nb = '1'")?;
+/// let paths: Vec<_> = keys.iter().map(|key| key.path.to_string()).collect();
+/// assert_eq!(paths, ["package.edtion", "dependecies"]);
 /// # Ok::<(), cargo_manifest::Error>(())
 /// ```
-pub fn unlisted_keys(cargo_toml_content: &[u8]) -> Result<Vec<KeyPath>, Error> {
+pub fn unused_keys(cargo_toml_content: &[u8]) -> Result<Vec<UnusedKey>, Error> {
     picked(cargo_toml_content, |finding| match finding {
-        Finding::Unlisted(path) => Some(path),
+        Finding::Unused(key) => Some(key),
         _ => None,
     })
 }

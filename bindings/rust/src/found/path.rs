@@ -42,10 +42,10 @@ impl KeyPath {
     /// The path without its last step, and that step.
     ///
     /// ```
-    /// use cargo_manifest::{unlisted_keys, Step};
+    /// use cargo_manifest::{unused_keys, Step};
     ///
-    /// let keys = unlisted_keys(b"[package]\nname = 'a'\nedtion = '2021'")?;
-    /// let (table, key) = keys[0].split_last().expect("a key");
+    /// let keys = unused_keys(b"[package]\nname = 'a'\nedtion = '2021'")?;
+    /// let (table, key) = keys[0].path.split_last().expect("a key");
     /// assert_eq!((table.to_string().as_str(), key), ("package", &Step::Key("edtion".into())));
     /// # Ok::<(), cargo_manifest::Error>(())
     /// ```

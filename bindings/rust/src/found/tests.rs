@@ -1,7 +1,7 @@
 //! Trees of what is found, written here once more as `docs/LIBRARY.md` says it, and paths that share their steps.
 
 use super::tree::decoded;
-use super::{Fault, Finding, KeyPath};
+use super::{Fault, Finding, KeyPath, UnusedKey};
 use crate::codec::Step;
 use crate::value::tests::{bytes_of, Random};
 use crate::value::Value;
@@ -24,7 +24,7 @@ fn not_a_choice(what: u8, choices: &[&str]) -> Value {
     array([what.into(), 4.into(), choices.iter().copied().collect()])
 }
 
-fn unlisted(key: &str) -> Value {
+fn unused(key: &str) -> Value {
     array([2.into(), key.into()])
 }
 
@@ -37,9 +37,9 @@ fn tree() -> Value {
     let editions = ["2015", "2018", "2021", "2024"];
     let authors = below("authors", [below(0, [fault(0, 1)]), below(300, [fault(0, 1)])]);
     let package = [below("name", [fault(0, 2)]), below("edition", [not_a_choice(0, &editions)]), authors];
-    let badges = [below("gitlab", [fault(1, 1)]), below("x", [not_a_choice(1, &[])]), unlisted("a.b")];
+    let badges = [below("gitlab", [fault(1, 1)]), below("x", [not_a_choice(1, &[])]), unused("a.b")];
     let lib = [below("edition", [not_a_choice(0, &editions)])];
-    array([below("package", package), below("lib", lib), below("badges", badges), unlisted(""), fault(0, 7)])
+    array([below("package", package), below("lib", lib), below("badges", badges), unused(""), fault(0, 7)])
 }
 
 /// The findings of a tree.
@@ -68,8 +68,8 @@ fn a_tree_is_read_in_its_order() {
         Finding::Fault(fault_at([key("lib"), key("edition")], Cause::NotAChoice, &editions)),
         Finding::Ignored(fault_at([key("badges"), key("gitlab")], Cause::WrongKind, &[])),
         Finding::Ignored(fault_at([key("badges"), key("x")], Cause::NotAChoice, &[])),
-        Finding::Unlisted([key("badges"), key("a.b")].into_iter().collect()),
-        Finding::Unlisted([key("")].into_iter().collect()),
+        Finding::Unused(UnusedKey::new([key("badges"), key("a.b")].into_iter().collect())),
+        Finding::Unused(UnusedKey::new([key("")].into_iter().collect())),
         Finding::Fault(fault_at([], Cause::HoldsFloat, &[])),
     ];
     assert_eq!(found(&tree()), wanted);
@@ -81,7 +81,7 @@ fn the_example_of_the_page() {
     let bytes = b"\x07\x01\x07\x03\x02\x03\x01\x07package\x07\x02\x07\x03\x02\x03\x01\x04name\x07\x01\x07\x02\x02\x00\x02\x01\
                   \x07\x02\x02\x02\x01\x06edtion";
     let lines: Vec<_> = decoded(bytes).expect("a tree").iter().map(ToString::to_string).collect();
-    assert_eq!(lines, ["wrong kind at package.name", "nothing reads package.edtion"]);
+    assert_eq!(lines, ["invalid type for `package.name`: expected a string", "unused manifest key: package.edtion"]);
 }
 
 #[test]
@@ -113,8 +113,8 @@ fn bytes_that_are_no_tree_are_refused() {
         array([3.into(), "a".into()]),
         array([3.into(), "a".into(), number.clone()]),
         array([3.into(), "a".into(), array([]), number.clone()]),
-        below(-1, [unlisted("a")]),
-        below(true, [unlisted("a")]),
+        below(-1, [unused("a")]),
+        below(true, [unused("a")]),
         below("a", [number]),
     ];
     for part in parts {
@@ -143,7 +143,7 @@ fn damaged_bytes_are_refused_or_a_tree() {
 fn path_of(finding: &Finding) -> &KeyPath {
     match finding {
         Finding::Fault(fault) | Finding::Ignored(fault) => &fault.path,
-        Finding::Unlisted(path) => path,
+        Finding::Unused(key) => &key.path,
     }
 }
 
@@ -153,7 +153,7 @@ fn what_is_shared_is_kept_once() {
     let long = "k".repeat(20_000);
     let faults = (0..20_000).map(|index| below(index, [fault(0, 7)]));
     let choices = [not_a_choice(0, &["x"]), not_a_choice(0, &["x"])];
-    let found = found(&array([below(long.as_str(), faults.chain([unlisted("a")])), below("lib", choices)]));
+    let found = found(&array([below(long.as_str(), faults.chain([unused("a")])), below("lib", choices)]));
     assert_eq!(found.len(), 20_003);
     let mut paths: Vec<_> = found.iter().map(path_of).collect();
     assert!(std::ptr::eq(paths[0].steps()[0], paths[20_000].steps()[0]));
@@ -174,7 +174,7 @@ fn a_deep_tree_is_read_and_dropped_on_a_small_stack() {
         (0..100_000).for_each(|_| bytes.extend([7, 3, 2, 3, 1, 1, b'a', 7, 2, 7, 2, 2, 0, 2, 1]));
         bytes.extend([7, 2, 2, 2, 1, 1, b'b']);
         let mut found = decoded(&bytes).expect("a tree");
-        let Some(Finding::Unlisted(path)) = found.pop() else { panic!() };
+        let Some(Finding::Unused(UnusedKey { path, .. })) = found.pop() else { panic!() };
         assert_eq!((found.len(), path.steps().len()), (100_000, 100_001));
         let copy: KeyPath = path.steps().into_iter().cloned().collect();
         assert!(copy == path && copy.split_last().unwrap().0 < &path && path.to_string().len() == 200_001);

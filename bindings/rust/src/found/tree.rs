@@ -1,7 +1,7 @@
 //! The tagged bytes by which the library reports what is found: a tree, in which each step of a path stands once.
 //! `docs/LIBRARY.md` of the repository has its form.
 
-use super::{Fault, Finding, KeyPath};
+use super::{Fault, Finding, KeyPath, UnusedKey};
 use crate::calls::Cause;
 use crate::codec::{Reader, Step, FROM_ZERO, STRING};
 use std::collections::BTreeMap;
@@ -9,7 +9,7 @@ use std::sync::Arc;
 
 const FAULT: u64 = 0;
 const IGNORED: u64 = 1;
-const UNLISTED: u64 = 2;
+const UNUSED: u64 = 2;
 const BELOW: u64 = 3;
 
 /// A place in the document, and how many parts of what is found there are still to come.
@@ -76,7 +76,10 @@ pub(super) fn decoded(bytes: &[u8]) -> Option<Vec<Finding>> {
         match (whole_number(&mut reader)?, length) {
             (FAULT, _) => found.push(Finding::Fault(fault(path, length, &mut reader, &mut choices)?)),
             (IGNORED, _) => found.push(Finding::Ignored(fault(path, length, &mut reader, &mut choices)?)),
-            (UNLISTED, 2) => found.push(Finding::Unlisted(path.below(Step::Key(reader.string()?.to_owned())))),
+            (UNUSED, 2) => {
+                let path = path.below(Step::Key(reader.string()?.to_owned()));
+                found.push(Finding::Unused(UnusedKey::new(path)));
+            }
             (BELOW, 3) => {
                 let path = path.below(step(&mut reader)?);
                 places.push(Place::read(&mut reader, path)?);

@@ -2,9 +2,8 @@
 
 use super::{Date, Datetime, Offset, Time, Value};
 use crate::calls::Cause;
-use crate::codec::{integer, Aside, Encode, Form, Keys, Misfit, Reader, Step, Writer};
+use crate::codec::{integer, Aside, Encode, Expected, Form, Keys, Misfit, Reader, Step, Writer};
 use crate::codec::{ARRAY, DATETIME, FALSE, FLOAT, STRING, TABLE, TRUE};
-use std::borrow::Cow;
 use std::collections::btree_map;
 use std::slice;
 
@@ -135,12 +134,12 @@ impl Form for Value {
         Ok(value)
     }
 
-    fn wanted() -> Cow<'static, str> {
-        "a value without a float".into()
+    fn expected() -> Expected {
+        Expected::new("a value without a float")
     }
 
-    fn wanted_at(_: &[Step]) -> Option<Cow<'static, str>> {
-        Some(Self::wanted())
+    fn expected_at(_: &[Step]) -> Option<Expected> {
+        Some(Self::expected())
     }
 }
 

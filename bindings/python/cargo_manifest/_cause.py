@@ -1,0 +1,65 @@
+"""The causes for which a call refuses."""
+from __future__ import annotations
+
+import enum
+
+
+class Cause(enum.Enum):
+    """Why a call refuses. A cause equals its words: `Cause.MISSING == "missing"`."""
+
+    NO_TOML = "no TOML"
+    """The text is no TOML."""
+    NOT_UTF8 = "not UTF-8"
+    """The bytes are not UTF-8, or a `str` has a lone surrogate."""
+    TOO_DEEP = "too deep"
+    """Arrays and tables stand in one another more than 128 deep; or the text has brackets and dotted keys by which they
+    could."""
+    TOO_LONG = "too long"
+    """What is asked for could take more bytes than `most`."""
+    WRONG_KIND = "wrong kind"
+    """A value is of another kind, as a number for a text."""
+    MISSING = "missing"
+    """A required key is absent."""
+    TWO_SPELLINGS = "two spellings"
+    """A table has a key by both of its spellings, as `default-features` and `default_features`."""
+    NOT_A_CHOICE = "not a choice"
+    """A text is none of those that may stand there, as `edition = "2020"`."""
+    OUT_OF_RANGE = "out of range"
+    """A whole number is out of range."""
+    NOT_TRUE = "not true"
+    """A boolean that has to be true is false."""
+    HOLDS_FLOAT = "holds a float"
+    """A float stands where values are kept as they are, as in metadata."""
+    METADATA = "metadata"
+    """Metadata is refused by its type. The library keeps metadata as it is, so that no call tells this."""
+    FOLDER_NOT_FOUND = "folder not found"
+    """The folder of the manifest is not there."""
+    FOLDER_FAULT = "folder with a fault"
+    """A folder that is asked for cannot be listed."""
+    FOLDER_NOT_UTF8 = "folder whose path or names are not UTF-8"
+    """The path of a folder, or a name in it, has a lone surrogate."""
+    NO_LIBRARY_FILE = "library without a file"
+    """The manifest declares a library, and no folder has a file for it."""
+    NO_WORKSPACE = "no workspace"
+    """The root has no table `workspace`."""
+    NOT_IN_WORKSPACE = "not in workspace"
+    """The manifest inherits what the workspace does not have."""
+    INHERITED_IN_WORKSPACE = "inherited in workspace"
+    """The manifest inherits a dependency that the workspace itself says to inherit."""
+    MIXED_LINTS = "mixed lints"
+    """The manifest inherits its lints, and has lints of a tool beside."""
+    TOOL_NAMED_WORKSPACE = "tool named workspace"
+    """The manifest inherits its lints, and the workspace has lints of a tool named `workspace`."""
+    DATE_WITHOUT_TEXT = "date-time without a text"
+    """A date-time is kept that no text can have. The calls here read texts, which have none, so that no call tells this."""
+    DATE_BEYOND_PYTHON = "date-time that Python cannot hold"
+    """`table` only: a date-time with the second 60 or the year 0, which `datetime` does not have."""
+
+    def __str__(self) -> str:
+        return str(self.value)
+
+    def __eq__(self, other: object) -> bool:
+        return self is other or (isinstance(other, str) and self.value == other)
+
+    def __hash__(self) -> int:
+        return hash(self.value)
