@@ -1,0 +1,1 @@
+../rust/build.rs
