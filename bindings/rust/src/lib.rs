@@ -147,6 +147,7 @@
 
 // (a variant in a box would be another type than the crate cargo-manifest has)
 #![allow(clippy::large_enum_variant)]
+#![deny(unsafe_code)]
 #![warn(missing_docs)]
 
 mod badge;
@@ -180,6 +181,10 @@ mod writing;
 pub use self::serde::ValueError;
 #[doc = include_str!("from_cargo_manifest.md")]
 pub mod from_cargo_manifest {}
+
+#[cfg(doctest)]
+#[doc = include_str!("../README.md")]
+mod readme {}
 
 pub use badge::{Badge, Badges, Maintenance, MaintenanceStatus};
 pub use calls::Cause;

@@ -13,14 +13,18 @@
 //! whatever its bytes are, which is tested: what nests too deep is refused. How long an answer may be [`AtMost`] bounds.
 
 mod at_most;
+// (a call of the library takes pointers and lengths, and no compiler sees that they fit: at each call stands why they do)
+#[allow(unsafe_code)]
 mod declared;
 mod folders;
 #[cfg(test)]
+#[allow(unsafe_code)] // (it stands in the place of functions in C)
 mod heap;
 mod listings;
 mod refusal;
 pub(crate) mod tables;
 #[cfg(test)]
+#[allow(unsafe_code)] // (one call is made with less memory than its text takes)
 mod tests;
 
 use crate::found::Finding;
