@@ -119,7 +119,17 @@ def check_c(archive, room):
     run_all("C", [], room)
     check_valgrind(room)
     check_example("the example in C", room / "canonical")
-    return run([room / "calls", "layout"]).stdout
+    layout = run([room / "calls", "layout"]).stdout
+    check_musl(archive, room)
+    return layout
+
+
+def check_musl(archive, room):
+    """The same programs, linked statically with musl."""
+    if not shutil.which("musl-gcc"):
+        print("the archive is not linked with musl: there is no command musl-gcc")
+    elif built("musl-gcc", archive, room, "-static"):
+        run_all("C with musl", [], room)
 
 
 def check_arm(archive, room):

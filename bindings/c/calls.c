@@ -352,7 +352,7 @@ static const struct group {
 } GROUPS[] = {GROUP(READINGS), GROUP(COMPLETIONS), GROUP(RESOLVINGS), GROUP(TABLES), GROUP(UNREAD), GROUP(FINDINGS_OF),
               GROUP(OF_TABLES), GROUP(DEPTHS), GROUP(ORDERS), GROUP(NULLS)};
 
-enum { GROUP_COUNT = sizeof GROUPS / sizeof GROUPS[0], THREADS = 4, TURNS = 20, SET = 0xAA };
+enum { GROUP_COUNT = sizeof GROUPS / sizeof GROUPS[0], THREADS = 4, TURNS = 20, STACK = 512 << 10, SET = 0xAA };
 
 /* A call, whose text or table may take this many bytes. */
 static struct manifest_answer made(const struct call *call, size_t most, uint8_t *out, size_t room)
@@ -514,14 +514,19 @@ static void count(int is_right, const char *what, size_t number)
         printf("%s %zu: the answer is not as wanted\n", what, number);
 }
 
-/* Counts the threads in which each answer is as expected; whether there are threads. */
+/* Counts the threads in which each answer is as expected; whether there are threads. (If nothing is said, a thread has 128 KiB
+   of stack over musl, which is less than a call may take.) */
 static int count_threads(void)
 {
     pthread_t threads[THREADS];
+    pthread_attr_t attributes;
     int failed_there[THREADS] = {0};
+    if (pthread_attr_init(&attributes) || pthread_attr_setstacksize(&attributes, STACK))
+        return 0;
     for (int i = 0; i < THREADS; i++)
-        if (pthread_create(&threads[i], NULL, turns, &failed_there[i]))
+        if (pthread_create(&threads[i], &attributes, turns, &failed_there[i]))
             return 0;
+    pthread_attr_destroy(&attributes);
     for (int i = 0; i < THREADS; i++) {
         pthread_join(threads[i], NULL);
         count(!failed_there[i], "thread", i + 1);
