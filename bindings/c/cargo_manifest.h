@@ -36,7 +36,8 @@
    thread nothing is said.
 
    STACK. 256 KiB of stack were enough for each call on all inputs that were tried: what nests deeper than
-   MANIFEST_DEPTH_LIMIT is refused, and a text that could nest more than 384 deep is not even parsed.
+   MANIFEST_DEPTH_LIMIT is refused, and a text that could nest more than 384 deep is not even parsed. Over musl a thread
+   has 128 KiB, unless pthread_attr_setstacksize gives it more.
 
    MEMORY is asked for by three functions over malloc, realloc and free, which a program may replace: see the end. */
 #ifndef CARGO_MANIFEST_H

@@ -18,8 +18,8 @@ fn the_sums_are_those_of_the_standard() {
     assert_eq!(sha256(&vec![b'a'; 1_000_000]), million);
 }
 
-/// The sums of so many bytes `a`, where the last block has just room for the length and where it has none, are those of the
-/// command `sha256sum`.
+/// The sums of this many bytes `a`, with room for the length in the last block and without, are those of the command
+/// `sha256sum`.
 #[test]
 fn the_sums_of_every_kind_of_last_block() {
     let sums = [
