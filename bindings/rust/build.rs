@@ -167,7 +167,7 @@ fn names(archive: &[u8]) -> HashSet<&[u8]> {
 fn main() {
     println!("cargo:rerun-if-env-changed=MANIFEST_FFI");
     // (the features are those of the package next to this one, which has the same sources)
-    println!("cargo:rustc-check-cfg=cfg(feature, values(\"serde\", \"toml\"))");
+    println!("cargo:rustc-check-cfg=cfg(feature, values(\"serde\", \"toml\", \"toml_1\"))");
     let (file, archive) = match env::var_os("MANIFEST_FFI") {
         Some(folder) => named(Path::new(&folder)),
         None => prebuilt(),

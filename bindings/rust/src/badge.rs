@@ -11,11 +11,11 @@ record! {
         /// The branch. Default: `master`.
         "branch" => branch: String, default("master".into());
         /// Where the repository is: `github`, `bitbucket` or `gitlab`.
-        "service" => service: Option<String>, optional;
+        "service" => service: Option<String>, nullable;
         /// The number of the project.
-        "id" => id: Option<String>, optional;
+        "id" => id: Option<String>, nullable;
         /// The name of the project, where that is not the repository's.
-        "project-name" also "project_name" => project_name: Option<String>, optional;
+        "project-name" also "project_name" => project_name: Option<String>, nullable;
     }
 }
 

@@ -9,7 +9,7 @@ use std::collections::BTreeSet;
 use std::io;
 use std::path::Path;
 
-impl<PackageMetadata, WorkspaceMetadata> Manifest<PackageMetadata, WorkspaceMetadata> {
+impl<PackageMetadata> Manifest<PackageMetadata> {
     /// Completes the manifest by the folder that its file stands in: `path` is that of the file.
     ///
     /// It is the same as
@@ -68,7 +68,9 @@ impl<PackageMetadata, WorkspaceMetadata> Manifest<PackageMetadata, WorkspaceMeta
         self.replace(&completed);
         Ok(())
     }
+}
 
+impl<PackageMetadata, WorkspaceMetadata> Manifest<PackageMetadata, WorkspaceMetadata> {
     /// Puts the manifest of a table in the place of this one, and keeps the metadata.
     pub(crate) fn replace(&mut self, table: &[u8]) {
         let (mut manifest, _) = decode::<PackageMetadata, WorkspaceMetadata>(table);

@@ -149,7 +149,7 @@ record! {
         /// The address of the index of the registry.
         ///
         /// [Cargo reference](https://doc.rust-lang.org/cargo/reference/specifying-dependencies.html#specifying-dependencies-from-other-registries).
-        "registry-index" also "registry_index" => registry_index: Option<String>, optional;
+        "registry-index" also "registry_index" => registry_index: Option<String>, nullable;
         /// The folder that it stands in, from that of the manifest.
         ///
         /// [Cargo reference](https://doc.rust-lang.org/cargo/reference/specifying-dependencies.html#specifying-path-dependencies).

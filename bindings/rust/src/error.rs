@@ -101,6 +101,9 @@ pub struct ParseError {
 #[derive(Clone, Debug, PartialEq, Eq)]
 enum At {
     Bytes(Range<usize>),
+    /// A line and a column, both from 1 on.
+    #[cfg(any(feature = "toml", feature = "toml_1"))]
+    Line(usize, usize),
     Key(Cause, String),
     /// The text as a whole.
     Whole,
@@ -117,34 +120,54 @@ impl ParseError {
     pub fn span(&self) -> Option<Range<usize>> {
         match &self.at {
             At::Bytes(range) => Some(range.clone()),
-            At::Key(..) | At::Whole => None,
+            _ => None,
         }
     }
 
     /// The line and the column, both from 1 on, at which these bytes are no TOML: the bytes are those that were read. A
     /// column is a character.
     pub fn line_column(&self, bytes: &[u8]) -> Option<(usize, usize)> {
-        self.span().map(|span| line_column(bytes, span.start))
+        match &self.at {
+            #[cfg(any(feature = "toml", feature = "toml_1"))]
+            At::Line(line, column) => Some((*line, *column)),
+            _ => self.span().map(|span| line_column(bytes, span.start)),
+        }
     }
 
     /// The key path of what is wrong in a text that is TOML, as `package.authors[0]`.
     pub fn key_path(&self) -> Option<&str> {
         match &self.at {
-            At::Bytes(_) | At::Whole => None,
             At::Key(_, path) => Some(path),
+            _ => None,
         }
     }
 
     /// Why the value at the key path does not fit.
     pub fn cause(&self) -> Option<Cause> {
         match &self.at {
-            At::Bytes(_) | At::Whole => None,
             At::Key(cause, _) => Some(*cause),
+            _ => None,
         }
     }
 
     fn of_key(cause: Cause, path: String, expected: Option<&Expected>) -> ParseError {
         ParseError { message: message(cause, &path, expected), at: At::Key(cause, path) }
+    }
+
+    /// What is wrong with the text as a whole.
+    pub(crate) fn of_whole(message: String) -> ParseError {
+        ParseError { message, at: At::Whole }
+    }
+
+    /// An error of the crate `toml`, of the versions that have a range of bytes, or a line and a column from 0 on.
+    #[cfg(any(feature = "toml", feature = "toml_1"))]
+    pub(crate) fn of_toml(message: String, span: Option<Range<usize>>, place: Option<(usize, usize)>) -> ParseError {
+        let at = match (span, place) {
+            (Some(span), _) => At::Bytes(span),
+            (None, Some((line, column))) => At::Line(line + 1, column + 1),
+            (None, None) => At::Whole,
+        };
+        ParseError { message: message.trim_end().to_owned(), at }
     }
 
     /// Metadata that its own type refuses.
@@ -196,7 +219,7 @@ pub(crate) fn refused(refusal: Refusal, bytes: &[u8]) -> Error {
             let expected = expected_at(&steps(&path));
             Error::Parse(ParseError::of_key(cause, path, expected.as_ref()))
         }
-        Refusal::TooDeep(_) => Error::Parse(ParseError { message: too_deep(), at: At::Whole }),
+        Refusal::TooDeep(_) => Error::Parse(ParseError::of_whole(too_deep())),
         Refusal::Utf8(_) => match std::str::from_utf8(bytes) {
             Err(error) => Error::Utf8(error),
             Ok(_) => is_broken(),

@@ -170,7 +170,7 @@ mod reading;
 mod resolving;
 #[cfg(feature = "serde")]
 mod serde;
-#[cfg(feature = "toml")]
+#[cfg(any(feature = "toml", feature = "toml_1"))]
 mod toml;
 mod value;
 mod words;

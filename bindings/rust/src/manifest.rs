@@ -107,7 +107,7 @@ impl<PackageMetadata, WorkspaceMetadata> Default for Manifest<PackageMetadata, W
     }
 }
 
-impl<PackageMetadata, WorkspaceMetadata> Manifest<PackageMetadata, WorkspaceMetadata> {
+impl<PackageMetadata> Manifest<PackageMetadata> {
     /// Whether a list of targets is completed: as the package says. Where it says nothing, not in a package of the 2015
     /// edition that declares some.
     fn is_completed(&self, declared: &[Product], says: impl Fn(&Package<PackageMetadata>) -> Option<bool>) -> bool {

@@ -80,7 +80,7 @@ record! {
         /// The oldest Rust that can build the package, as `1.63.0`.
         ///
         /// [Cargo reference](https://doc.rust-lang.org/cargo/reference/manifest.html#the-rust-version-field).
-        "rust-version" => rust_version: Option<MaybeInherited<String>>, optional;
+        "rust-version" => rust_version: Option<MaybeInherited<String>>, nullable;
         /// The files that are not packed.
         ///
         /// [Cargo reference](https://doc.rust-lang.org/cargo/reference/manifest.html#the-exclude-and-include-fields).

@@ -11,11 +11,11 @@ record! {
         /// The file, from the folder of the manifest.
         ///
         /// [Cargo reference](https://doc.rust-lang.org/cargo/reference/cargo-targets.html#the-path-field).
-        "path" => path: Option<String>, optional;
+        "path" => path: Option<String>, nullable;
         /// The name of what is built.
         ///
         /// [Cargo reference](https://doc.rust-lang.org/cargo/reference/cargo-targets.html#the-name-field).
-        "name" => name: Option<String>, optional;
+        "name" => name: Option<String>, nullable;
         /// Whether `cargo test` builds and runs it. Default: true.
         ///
         /// [Cargo reference](https://doc.rust-lang.org/cargo/reference/cargo-targets.html#the-test-field).
@@ -48,7 +48,7 @@ record! {
         /// the package's own.
         ///
         /// [Cargo reference](https://doc.rust-lang.org/cargo/reference/cargo-targets.html#the-edition-field).
-        "edition" => edition: Option<Edition>, optional;
+        "edition" => edition: Option<Edition>, nullable;
         /// The features without which it is not built. Of a library they mean nothing. Default: none.
         ///
         /// [Cargo reference](https://doc.rust-lang.org/cargo/reference/cargo-targets.html#the-required-features-field).

@@ -12,21 +12,21 @@ record! {
         /// `[profile.release]`, of `cargo build --release`.
         ///
         /// [Cargo reference](https://doc.rust-lang.org/cargo/reference/profiles.html#release).
-        "release" => release: Option<Profile>, optional;
+        "release" => release: Option<Profile>, nullable;
         /// `[profile.dev]`, of `cargo build`.
         ///
         /// [Cargo reference](https://doc.rust-lang.org/cargo/reference/profiles.html#dev).
-        "dev" => dev: Option<Profile>, optional;
+        "dev" => dev: Option<Profile>, nullable;
         /// `[profile.test]`, of `cargo test`.
         ///
         /// [Cargo reference](https://doc.rust-lang.org/cargo/reference/profiles.html#test).
-        "test" => test: Option<Profile>, optional;
+        "test" => test: Option<Profile>, nullable;
         /// `[profile.bench]`, of `cargo bench`.
         ///
         /// [Cargo reference](https://doc.rust-lang.org/cargo/reference/profiles.html#bench).
-        "bench" => bench: Option<Profile>, optional;
+        "bench" => bench: Option<Profile>, nullable;
         /// `[profile.doc]`, of `cargo doc`.
-        "doc" => doc: Option<Profile>, optional;
+        "doc" => doc: Option<Profile>, nullable;
     }
     others {
         /// Profiles of other names. None can have one of the names above.
@@ -41,47 +41,47 @@ record! {
         /// How much is optimised: a number, `"s"` or `"z"`.
         ///
         /// [Cargo reference](https://doc.rust-lang.org/cargo/reference/profiles.html#opt-level).
-        "opt-level" also "opt_level" => opt_level: Option<Value>, optional;
+        "opt-level" also "opt_level" => opt_level: Option<Value>, nullable;
         /// How much is said for a debugger: a number, a boolean or a word.
         ///
         /// [Cargo reference](https://doc.rust-lang.org/cargo/reference/profiles.html#debug).
-        "debug" => debug: Option<Value>, optional;
+        "debug" => debug: Option<Value>, nullable;
         /// Whether the path of shared libraries is put into what is built.
         ///
         /// [Cargo reference](https://doc.rust-lang.org/cargo/reference/profiles.html#rpath).
-        "rpath" => rpath: Option<bool>, optional;
+        "rpath" => rpath: Option<bool>, nullable;
         /// The profile that this one is made of.
         ///
         /// [Cargo reference](https://doc.rust-lang.org/cargo/reference/profiles.html#custom-profiles).
-        "inherits" => inherits: Option<String>, optional;
+        "inherits" => inherits: Option<String>, nullable;
         /// How much is optimised at linking: a boolean or a word.
         ///
         /// [Cargo reference](https://doc.rust-lang.org/cargo/reference/profiles.html#lto).
-        "lto" => lto: Option<Value>, optional;
+        "lto" => lto: Option<Value>, nullable;
         /// Whether `debug_assert!` is compiled.
         ///
         /// [Cargo reference](https://doc.rust-lang.org/cargo/reference/profiles.html#debug-assertions).
-        "debug-assertions" also "debug_assertions" => debug_assertions: Option<bool>, optional;
+        "debug-assertions" also "debug_assertions" => debug_assertions: Option<bool>, nullable;
         /// Into how many parts a crate is split.
         ///
         /// [Cargo reference](https://doc.rust-lang.org/cargo/reference/profiles.html#codegen-units).
-        "codegen-units" also "codegen_units" => codegen_units: Option<u16>, optional;
+        "codegen-units" also "codegen_units" => codegen_units: Option<u16>, nullable;
         /// What a panic does: `"unwind"` or `"abort"`.
         ///
         /// [Cargo reference](https://doc.rust-lang.org/cargo/reference/profiles.html#panic).
-        "panic" => panic: Option<String>, optional;
+        "panic" => panic: Option<String>, nullable;
         /// Whether what was compiled is kept for the next time.
         ///
         /// [Cargo reference](https://doc.rust-lang.org/cargo/reference/profiles.html#incremental).
-        "incremental" => incremental: Option<bool>, optional;
+        "incremental" => incremental: Option<bool>, nullable;
         /// Whether arithmetic that overflows panics.
         ///
         /// [Cargo reference](https://doc.rust-lang.org/cargo/reference/profiles.html#overflow-checks).
-        "overflow-checks" also "overflow_checks" => overflow_checks: Option<bool>, optional;
+        "overflow-checks" also "overflow_checks" => overflow_checks: Option<bool>, nullable;
         /// What is left out of what is built.
         ///
         /// [Cargo reference](https://doc.rust-lang.org/cargo/reference/profiles.html#strip).
-        "strip" => strip: Option<StripSetting>, optional;
+        "strip" => strip: Option<StripSetting>, nullable;
         /// Settings of single packages.
         ///
         /// [Cargo reference](https://doc.rust-lang.org/cargo/reference/profiles.html#overrides).
@@ -89,11 +89,11 @@ record! {
         /// Where what is said for a debugger goes.
         ///
         /// [Cargo reference](https://doc.rust-lang.org/cargo/reference/profiles.html#split-debuginfo).
-        "split-debuginfo" => split_debuginfo: Option<String>, optional;
+        "split-debuginfo" => split_debuginfo: Option<String>, nullable;
         /// Settings of build scripts and procedural macros.
         ///
         /// [Cargo reference](https://doc.rust-lang.org/cargo/reference/profiles.html#build-dependencies).
-        "build-override" => build_override: Option<Value>, optional;
+        "build-override" => build_override: Option<Value>, nullable;
     }
 }
 

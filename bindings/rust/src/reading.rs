@@ -89,6 +89,30 @@ impl FromStr for Manifest {
     }
 }
 
+/// Reads a TOML document, whatever it means, as a table with all that stands in it.
+///
+/// ```
+/// use cargo_manifest::Value;
+///
+/// let value: Value = "a = 0.5\n[b]\nc = [1, 'x']\n".parse()?;
+/// assert_eq!((value["a"].as_float(), value["b"]["c"][1].as_str()), (Some(0.5), Some("x")));
+/// assert!("a = ".parse::<Value>().is_err());
+/// # Ok::<(), cargo_manifest::Error>(())
+/// ```
+impl FromStr for Value {
+    type Err = ParseError;
+
+    fn from_str(text: &str) -> Result<Value, ParseError> {
+        match tables::document(text.as_bytes()) {
+            Ok(document) => Ok(crate::value::decoded(&document).unwrap_or_else(|| is_broken())),
+            Err(refusal) => Err(match refused(refusal, text.as_bytes()) {
+                Error::Parse(error) => error,
+                other => ParseError::of_whole(other.to_string()),
+            }),
+        }
+    }
+}
+
 impl<PackageMetadata: Metadata> Manifest<PackageMetadata> {
     /// The same as [`from_slice`](Manifest::from_slice), with `[package.metadata]` read as a type of your own. That
     /// needs the feature `serde`.

@@ -53,11 +53,11 @@ record! {
         /// The version, as `1.9.0`.
         ///
         /// [Cargo reference](https://doc.rust-lang.org/cargo/reference/manifest.html#the-version-field).
-        "version" => version: Option<String>, optional;
+        "version" => version: Option<String>, nullable;
         /// The authors, each as `Name <mail@address>`.
         ///
         /// [Cargo reference](https://doc.rust-lang.org/cargo/reference/manifest.html#the-authors-field).
-        "authors" => authors: Option<Vec<String>>, optional;
+        "authors" => authors: Option<Vec<String>>, nullable;
         /// What the package is, in plain text.
         ///
         /// [Cargo reference](https://doc.rust-lang.org/cargo/reference/manifest.html#the-description-field).
@@ -109,6 +109,6 @@ record! {
         /// The oldest Rust that can build the package, as `1.63.0`.
         ///
         /// [Cargo reference](https://doc.rust-lang.org/cargo/reference/manifest.html#the-rust-version-field).
-        "rust-version" => rust_version: Option<String>, optional;
+        "rust-version" => rust_version: Option<String>, nullable;
     }
 }

@@ -5,7 +5,7 @@ use crate::codec::Aside;
 use crate::error::{refused, refused_table, too_deep};
 use crate::metadata::WrittenMetadata;
 use crate::reading::encode;
-use crate::value::{decoded, inline, Value};
+use crate::value::{decoded, inline, lines, short, Value};
 use crate::{Error, Manifest};
 
 impl<PackageMetadata: WrittenMetadata, WorkspaceMetadata: WrittenMetadata>
@@ -73,15 +73,16 @@ impl Manifest {
 
 /// Puts the metadata of a table into a canonical text, which has the header of that table in a line of its own.
 fn put_metadata(text: &mut String, table: &str, metadata: &Value) {
-    if let Value::Table(_) = metadata {
-        text.push_str(&format!("\n[{table}.metadata]\n{metadata}"));
+    if let Value::Table(members) = metadata {
+        text.push_str(&format!("\n[{table}.metadata]\n"));
+        // (writing to a string does not fail)
+        let _ = lines(members, short, text);
         return;
     }
     let header = format!("[{table}]\n");
     let is_line = |place: &usize| *place == 0 || text.as_bytes()[place - 1] == b'\n';
     let mut line = String::from("metadata = ");
-    // (writing to a string does not fail)
-    let _ = inline(metadata, &mut line);
+    let _ = inline(metadata, short, &mut line);
     line.push('\n');
     let found = text.match_indices(&header).map(|(place, _)| place).find(is_line);
     match found {

@@ -2,7 +2,7 @@
 
 mod stored;
 
-use cargo_manifest::{AbstractFilesystem, Error, Filesystem, Manifest, MaybeInherited, Package, Value};
+use cargo_manifest::{AbstractFilesystem, Error, Filesystem, Manifest, MaybeInherited, Package, Value, Workspace};
 use std::cell::RefCell;
 use std::collections::{BTreeMap, BTreeSet};
 use std::io::{self, ErrorKind};
@@ -230,10 +230,18 @@ fn resolving() {
 
 #[test]
 fn metadata_of_any_type_is_kept() {
+    #[derive(Default)]
     struct Opaque;
     let mut package: Package<Opaque> = Package::new("p".into(), "1.0.0".into());
     package.metadata = Some(Opaque);
-    let mut manifest: Manifest<Opaque, Opaque> = Manifest { package: Some(package), ..Manifest::default() };
+    // (the type of the workspace's metadata is inferred: it is `Value`)
+    let mut manifest = Manifest { package: Some(package), ..Default::default() };
     manifest.complete_from_abstract_filesystem(&Folders::of(&["src/lib.rs"])).unwrap();
-    assert!(manifest.lib.is_some() && manifest.package.unwrap().metadata.is_some());
+    assert!(manifest.lib.is_some() && manifest.package.as_ref().is_some_and(|package| package.metadata.is_some()));
+
+    let workspace = Workspace { metadata: Some(Opaque), ..Workspace::default() };
+    let mut member: Manifest<Opaque, Opaque> =
+        Manifest { package: manifest.package, workspace: Some(workspace), ..Manifest::default() };
+    member.resolve(&Workspace::<Opaque>::default()).unwrap();
+    assert!(member.package.unwrap().metadata.is_some() && member.workspace.unwrap().metadata.is_some());
 }

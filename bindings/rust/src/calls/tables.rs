@@ -12,8 +12,13 @@ pub(crate) fn table(bytes: &[u8]) -> Result<Vec<u8>, Refusal> {
 /// The same with an empty table in the place of metadata, and the document that has it: where metadata has a float.
 pub(crate) fn without_metadata(bytes: &[u8]) -> Result<Apart, Refusal> {
     let table = of_text(declared::manifest_table_without_metadata, bytes, ANY)?;
-    let document = of_text(declared::manifest_document, bytes, ANY)?;
+    let document = document(bytes)?;
     Ok(Apart { table, document })
+}
+
+/// The table that the bytes are as TOML, whatever it means.
+pub(crate) fn document(bytes: &[u8]) -> Result<Vec<u8>, Refusal> {
+    of_text(declared::manifest_document, bytes, ANY)
 }
 
 /// The canonical text of a table.

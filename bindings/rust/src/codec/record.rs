@@ -7,9 +7,10 @@
 /// |---|---|---|
 /// | `needed` | no such table | always |
 /// | `optional` | `None` | where it is there |
+/// | `nullable` | the same | the same; by serde also as nothing, which is `null` in JSON |
 /// | `default(x)` | `x` | always |
 /// | `unless(x)` | `x` | unless it is `x` |
-/// | `lenient` | `None`, also where the value does not fit | where it is there |
+/// | `lenient` | `None`, also where the value does not fit | as a `nullable` one |
 /// | `lenient_default(x)` | `x`, also where the value does not fit | always |
 /// | `metadata(place)` | `None` | where it is there: it is kept aside, and the field is `None` |
 ///
@@ -135,6 +136,9 @@ macro_rules! row {
     (read $members:ident $aside:ident $key:literal ($($second:literal)?) optional) => {
         $crate::codec::read::optional(&mut $members, $key, $crate::codec::row!(second $($second)?), $aside)?
     };
+    (read $members:ident $aside:ident $key:literal ($($second:literal)?) nullable) => {
+        $crate::codec::row!(read $members $aside $key ($($second)?) optional)
+    };
     (read $members:ident $aside:ident $key:literal ($($second:literal)?) lenient) => {
         $crate::codec::read::optional(&mut $members, $key, None, $aside).unwrap_or_default()
     };
@@ -161,10 +165,11 @@ macro_rules! row {
             $members.push($key, value);
         }
     };
+    (encode $writer:ident $members:ident $key:literal ($value:expr) nullable) => {
+        $crate::codec::row!(encode $writer $members $key ($value) optional)
+    };
     (encode $writer:ident $members:ident $key:literal ($value:expr) lenient) => {
-        if let Some(value) = $value {
-            $members.push($key, value);
-        }
+        $crate::codec::row!(encode $writer $members $key ($value) optional)
     };
     (encode $writer:ident $members:ident $key:literal ($value:expr) unless($with:expr)) => {
         if *$value != $with {
@@ -175,9 +180,6 @@ macro_rules! row {
         $members.push($key, $value)
     };
     (serialize $members:ident $key:literal ($value:expr) metadata($place:ident)) => {
-        $crate::codec::row!(serialize $members $key ($value) optional)
-    };
-    (serialize $members:ident $key:literal ($value:expr) lenient) => {
         $crate::codec::row!(serialize $members $key ($value) optional)
     };
     (serialize $members:ident $key:literal ($value:expr) optional) => {

@@ -1,7 +1,8 @@
 //! What a value is asked for.
 
 use super::{Datetime, Map, Value};
-use std::collections::BTreeMap;
+use std::collections::{BTreeMap, HashMap};
+use std::hash::Hash;
 use std::ops;
 
 impl Value {
@@ -197,6 +198,12 @@ impl<V: Into<Value>> From<Vec<V>> for Value {
 
 impl<K: Into<String>, V: Into<Value>> From<BTreeMap<K, V>> for Value {
     fn from(table: BTreeMap<K, V>) -> Value {
+        table.into_iter().collect()
+    }
+}
+
+impl<K: Into<String> + Hash + Eq, V: Into<Value>> From<HashMap<K, V>> for Value {
+    fn from(table: HashMap<K, V>) -> Value {
         table.into_iter().collect()
     }
 }

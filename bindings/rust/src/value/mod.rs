@@ -11,7 +11,7 @@ pub use access::Index;
 pub(crate) use codec::decoded;
 pub use datetime::{Date, Datetime, DatetimeParseError, Offset, Time};
 use std::collections::BTreeMap;
-pub(crate) use text::inline;
+pub(crate) use text::{inline, lines, short};
 
 /// Keys and their values, in the order of the keys' bytes.
 pub type Map = BTreeMap<String, Value>;
