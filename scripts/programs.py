@@ -12,11 +12,17 @@ from runs import ANSWERS, make, stored
 
 PROGRAMS = TOP / "tests" / "programs"
 # the programs that a user of either crate could have written
-BOTH = ("debug", "registry", "planner")
+BOTH = ("debug", "registry", "planner", "api", "values")
+# those of them that want serde and toml
+WITH_SERDE = ("features", "serialized")
 # those that ask for more than the original has
 OURS = ("changes", "threads", "stack")
-# of the changes that are made at random
+# of the changes and the values that are made at random
 SEED = "1"
+# how many values are printed
+VALUES = 300
+# how a line of `values` begins whose text is not read back
+NOT_READ = "not read back: "
 # how many faults of a file are reported
 TOLD = 5
 
@@ -54,11 +60,18 @@ def uses():
     return folders("usual.jsonl") + folders() + kept
 
 
-def built(room, dependency, names, cwd, settings=None, release=False):
-    """Builds programs over a crate, which is the right side of a line of Cargo.toml, in a folder where cargo finds what it
-    needs: the run, and the folder of what it built."""
+def alike():
+    """All stored texts of which this project says what the crate says, field by field."""
+    otherwise = {case["manifest"] for case in stored("otherwise.jsonl")}
+    kept = [pair for number, pair in enumerate(manifests(), 1) if number not in otherwise]
+    return folders("usual.jsonl") + folders() + kept
+
+
+def built(room, dependency, names, cwd, settings=None, release=False, more=None):
+    """Builds programs over a crate, which is the right side of a line of Cargo.toml, and over more crates by their names, in a
+    folder where cargo finds what it needs: the run, and the folder of what it built."""
     lines = ["[package]", 'name = "programs"', 'version = "0.1.0"', 'edition = "2021"', "autobins = false", "", "[workspace]"]
-    lines += ["", "[dependencies]", f"cargo-manifest = {dependency}"]
+    lines += ["", "[dependencies]", f"cargo-manifest = {dependency}", *(f"{name} = {of}" for name, of in (more or {}).items())]
     for name in names:
         lines += ["", "[[bin]]", f'name = "{name}"', f'path = "{PROGRAMS / name}.rs"']
     room.mkdir(exist_ok=True)
@@ -105,6 +118,12 @@ def on_disk(program):
         return answer(program, ["paths"], paths)
 
 
+def in_folder(program):
+    """What a program prints that may make files in a folder."""
+    with tempfile.TemporaryDirectory() as folder:
+        return answer(program, [str(Path(folder) / "a")])
+
+
 def answers(built_in):
     """What the programs of BOTH answer, each with the name of the stored file and a function that runs one."""
     debug = built_in / "debug"
@@ -114,6 +133,8 @@ def answers(built_in):
         "debug-usual.txt": lambda: answer(debug, ["lists"], folders("usual.jsonl")),
         "debug-queries.txt": lambda: answer(debug, ["queries"], manifests()),
         "debug-defaults.txt": lambda: answer(debug, ["defaults"]),
+        "api.txt": lambda: in_folder(built_in / "api"),
+        "values.txt": lambda: answer(built_in / "values", [SEED, str(VALUES)]),
         "registry.txt": lambda: answer(built_in / "registry", [], uses()),
         "planner.txt": lambda: answer(built_in / "planner", [], uses()),
     }

@@ -1,9 +1,8 @@
-//! The features: serde's traits on every type, metadata of types of one's own, and the values of `toml`.
+//! The feature `serde`: what every type is read from and written as, in JSON and by the crate `toml`.
 #![cfg(all(feature = "serde", feature = "toml"))]
 
-use cargo_manifest::{Cause, Dependency, DependencyDetail, Edition, Error, Lint, LintLevel, Manifest, MaybeInherited};
-use cargo_manifest::{Package, Profile, Publish, StripSetting, True, Value};
-use serde::{Deserialize, Serialize};
+use cargo_manifest::{Badge, Badges, Dependency, DependencyDetail, Edition, Lint, LintLevel, Manifest, MaybeInherited, Package};
+use cargo_manifest::{Product, Profile, Profiles, Publish, StripSetting, True, Value, Workspace, WorkspacePackage};
 use serde_json::json;
 use std::fs;
 
@@ -53,7 +52,8 @@ fn rows_in_json() {
     let dependency: Dependency = serde_json::from_value(json!({ "version": "1", "default_features": false })).unwrap();
     let detail = DependencyDetail { version: Some("1".into()), default_features: Some(false), ..Default::default() };
     assert_eq!(dependency, Dependency::Detailed(detail));
-    assert_eq!(serde_json::to_value(&dependency).unwrap(), json!({ "version": "1", "default-features": false }));
+    let written = json!({ "version": "1", "default-features": false, "registry-index": null });
+    assert_eq!(serde_json::to_value(&dependency).unwrap(), written);
     let inherited: MaybeInherited<Edition> = serde_json::from_value(json!({ "workspace": true })).unwrap();
     assert_eq!(inherited, MaybeInherited::Inherited { workspace: True });
     assert_eq!(serde_json::to_value(&inherited).unwrap(), json!({ "workspace": true }));
@@ -63,6 +63,55 @@ fn rows_in_json() {
     assert_eq!(serde_json::from_value::<Publish>(json!(["mine"])).unwrap(), Publish::Registry(vec!["mine".into()]));
     assert_eq!(serde_json::from_value::<StripSetting>(json!("symbols")).unwrap(), StripSetting::Symbols);
     assert_eq!(serde_json::to_value(StripSetting::Symbols).unwrap(), json!(true));
+}
+
+/// The keys of an object that are `null`, in order.
+fn nulls(value: impl serde::Serialize) -> Vec<String> {
+    let value = serde_json::to_value(value).unwrap();
+    let members = value.as_object().unwrap().iter();
+    members.filter(|(_, value)| value.is_null()).map(|(key, _)| key.clone()).collect()
+}
+
+/// The options that the crate `cargo-manifest` 0.20.0 has no `skip_serializing_if` for.
+#[test]
+fn what_is_null_in_json() {
+    let badge: Badge = serde_json::from_value(json!({ "repository": "r" })).unwrap();
+    assert_eq!(nulls(badge), ["id", "project-name", "service"]);
+    let of_badges = [
+        "appveyor",
+        "circle-ci",
+        "codecov",
+        "coveralls",
+        "gitlab",
+        "is-it-maintained-issue-resolution",
+        "is-it-maintained-open-issues",
+        "travis-ci",
+    ];
+    assert_eq!(nulls(Badges::default()), of_badges);
+    assert_eq!(nulls(DependencyDetail::default()), ["registry-index"]);
+    assert_eq!(nulls(Package::<Value>::new("a".into(), "1.0.0".into())), ["rust-version"]);
+    assert_eq!(nulls(Product { edition: None, ..Product::default() }), ["edition", "name", "path"]);
+    assert_eq!(nulls(Profiles::default()), ["bench", "dev", "doc", "release", "test"]);
+    let profile: Profile = serde_json::from_value(json!({})).unwrap();
+    let of_profile = [
+        "build-override",
+        "codegen-units",
+        "debug",
+        "debug-assertions",
+        "incremental",
+        "inherits",
+        "lto",
+        "opt-level",
+        "overflow-checks",
+        "panic",
+        "rpath",
+        "split-debuginfo",
+        "strip",
+    ];
+    assert_eq!(nulls(profile), of_profile);
+    assert_eq!(nulls(WorkspacePackage::default()), ["authors", "rust-version", "version"]);
+    let manifest: Manifest = Manifest::default();
+    assert!(nulls(Workspace::<u8>::default()).is_empty() && nulls(manifest).is_empty());
 }
 
 #[test]
@@ -81,60 +130,4 @@ fn a_misfit_says_where() {
     assert_eq!(of(json!({ "package": {} })), "missing field `package.name`");
     let choice = of(json!({ "package": { "name": "a", "resolver": "4" } }));
     assert_eq!(choice, "`package.resolver` is none of `1`, `2`, `3`");
-}
-
-#[derive(Debug, PartialEq, Deserialize, Serialize)]
-struct Own {
-    keep: Vec<u8>,
-    #[serde(default, skip_serializing_if = "Option::is_none")]
-    of: Option<Kind>,
-}
-
-#[derive(Debug, PartialEq, Deserialize, Serialize)]
-#[serde(rename_all = "lowercase")]
-enum Kind {
-    Plain,
-    Deep { depth: f32 },
-}
-
-#[test]
-fn metadata_of_its_own_type() {
-    let text = "[package]\nname = 'a'\n[package.metadata]\nkeep = [1, 2]\nof = 'plain'\n";
-    let mut manifest = Manifest::<Own>::from_slice_with_metadata(text.as_bytes()).unwrap();
-    let metadata = |manifest: &mut Manifest<Own>| manifest.package.as_mut().unwrap().metadata.take();
-    let written = manifest.to_toml_string().unwrap();
-    assert_eq!(written, "[package]\nname = \"a\"\n\n[package.metadata]\nkeep = [1, 2]\nof = \"plain\"\n");
-    assert_eq!(metadata(&mut manifest), Some(Own { keep: vec![1, 2], of: Some(Kind::Plain) }));
-}
-
-#[test]
-fn metadata_that_its_type_refuses() {
-    let text = "[package]\nname = 'a'\n[package.metadata]\nkeep = [1, 300]\n";
-    let Err(Error::Parse(error)) = Manifest::<Own>::from_slice_with_metadata(text.as_bytes()) else { panic!() };
-    assert_eq!((error.cause(), error.key_path()), (Some(Cause::Metadata), Some("package.metadata")));
-    assert!(error.message().starts_with("invalid metadata in `package.metadata`: "), "{error}");
-    assert!(error.message().contains("300") && error.message().contains("`keep[1]`"), "{error}");
-}
-
-#[test]
-fn a_float_is_written_behind_the_text() {
-    let deep = Own { keep: vec![], of: Some(Kind::Deep { depth: 0.5 }) };
-    let mut package: Package<Own> = Package::new("a".into(), "1.0.0".into());
-    package.metadata = Some(deep);
-    let manifest: Manifest<Own> = Manifest { package: Some(package), ..Manifest::default() };
-    let text = manifest.to_toml_string().unwrap();
-    let wanted = "[package]\nname = \"a\"\nversion = \"1.0.0\"\n\n[package.metadata]\nkeep = []\nof = { deep = { depth = 0.5 } }\n";
-    assert_eq!(text, wanted);
-    assert_eq!(toml::from_str::<Manifest<Own>>(&text).unwrap(), manifest);
-}
-
-#[test]
-fn values_of_toml() {
-    let text = "a = 1979-05-27T07:32:00.5-07:00\nb = [1, 2.5, true, 'x']\nc = { d = 07:32:00 }\ne = 1979-05-27\n";
-    let of_toml: toml::Value = toml::from_str(text).unwrap();
-    let value = Value::from(of_toml.clone());
-    assert_eq!(format!("{value:?}"), format!("{of_toml:?}"));
-    assert_eq!(toml::Value::from(value.clone()), of_toml);
-    assert_eq!(toml::from_str::<Value>(&value.to_string()).unwrap(), value);
-    assert_eq!(toml::from_str::<toml::Value>(&toml::to_string(&value).unwrap()).unwrap(), of_toml);
 }

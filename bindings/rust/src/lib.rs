@@ -127,7 +127,7 @@
 //! # Threads, memory, stack
 //!
 //! Nothing is kept between calls, so each may be made from any thread at any time. Where no memory is left for the library,
-//! the error is [`Error::Io`] of the kind `OutOfMemory`.
+//! the error is [`Error::Io`] of the kind `OutOfMemory`; where a [`Value`] is parsed, the [`ParseError`] says so.
 //!
 //! What nests more than 128 deep, or has brackets and dotted keys by which it could, is refused
 //! ([`DEPTH_LIMIT`](calls::DEPTH_LIMIT)). So 256 KiB of stack are enough for each call of the library, and 512 KiB to read,
@@ -140,10 +140,15 @@
 //! # Features
 //!
 //! The package `cargo-manifest-proved` has no dependency and no features. The package `cargo-manifest` of the same repository
-//! is made of the same sources, and has two, which are both on unless `default-features = false`:
+//! is made of the same sources, and has three, of which the first two are on unless `default-features = false`:
 //!
 //! - `serde`: `Serialize` and `Deserialize` for every type, and metadata of any type that serde reads and writes;
-//! - `toml`: [`Value`] from and to the `Value` of the crate `toml`, of the versions 0.5.11 to 0.9.
+//! - `toml`: [`Value`] from and to the `Value` of the crate `toml`, and [`Error`] from its errors, of one version from 0.5.11 to
+//!   0.9: the one that `Cargo.lock` has, or else the newest (`cargo update toml@0.9.8 --precise 0.5.11` changes it);
+//! - `toml_1`: the same for `toml` 1.
+//!
+//! By serde a value goes to every version of `toml`, and comes from it: `toml::Value::try_from(&value)?` and
+//! `Value::try_from(&of_toml)?`.
 
 // (a variant in a box would be another type than the crate cargo-manifest has)
 #![allow(clippy::large_enum_variant)]

@@ -3,7 +3,7 @@
 use cargo_manifest::{Dependency, DependencyDetail, Edition, InheritedDependencyDetail, Lint, LintConfig, LintLevel};
 use cargo_manifest::{Manifest, MaybeInherited, MaybeInheritedLintsSet, Package, Product, Publish, Resolver};
 use cargo_manifest::{StripSetting, Target, True, Value, Workspace};
-use std::collections::BTreeMap;
+use std::collections::{BTreeMap, HashMap};
 
 /// The dependency of a key.
 fn dependency(text: &str) -> Dependency {
@@ -142,4 +142,33 @@ fn defaults() {
         build_dependencies: BTreeMap::new(),
     };
     assert_eq!(target.target.unwrap()["x"], empty);
+}
+
+#[test]
+fn documents_as_values() {
+    // (no manifest, and with a float)
+    let text = "a = [0.5, 1979-05-27]\n[[b.c]]\nd = 'x'\n[[b.c]]\n[e]\n";
+    let value: Value = text.parse().unwrap();
+    assert_eq!((value["a"][0].as_float(), value["b"]["c"][0]["d"].as_str()), (Some(0.5), Some("x")));
+    assert_eq!((value["b"]["c"].as_array().map(Vec::len), value["e"].as_table().map(BTreeMap::len)), (Some(2), Some(0)));
+    // (as `toml` 0.5 prints it)
+    assert_eq!(value.to_string(), "a = [0.5, 1979-05-27]\n[[b.c]]\nd = \"x\"\n\n[[b.c]]\n\n[e]\n");
+    assert_eq!("".parse(), Ok(Value::Table(BTreeMap::new())));
+
+    let error = "a = 1\nb = \n".parse::<Value>().unwrap_err();
+    assert_eq!((error.line_column(b"a = 1\nb = \n"), error.key_path()), (Some((2, 5)), None));
+    let key = ["a"; 70].join(".");
+    let error = format!("[{key}]\n{key} = 1\n").parse::<Value>().unwrap_err();
+    assert_eq!((error.span(), error.key_path(), error.cause()), (None, None, None));
+    assert!(error.message().contains("128"), "{error}");
+}
+
+#[test]
+fn values_of_maps() {
+    let table = Value::from(HashMap::from([("k", 1), ("j", 2)]));
+    assert_eq!(table, Value::from(BTreeMap::from([("j".to_owned(), 2), ("k".to_owned(), 1)])));
+    // tables that stand in no table of their own are printed in one line, which is read back
+    let mixed = Value::from_iter([("a", vec![Value::from_iter([("x", 1)]), Value::from(2)])]);
+    assert_eq!(mixed.to_string(), "a = [{ x = 1 }, 2]\n");
+    assert_eq!(mixed.to_string().parse(), Ok(mixed));
 }

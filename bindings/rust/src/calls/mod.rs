@@ -19,7 +19,7 @@ mod declared;
 mod folders;
 #[cfg(test)]
 #[allow(unsafe_code)] // (it stands in the place of functions in C)
-mod heap;
+pub(crate) mod heap;
 mod listings;
 mod refusal;
 pub(crate) mod tables;

@@ -1,6 +1,7 @@
 //! What a value and a type of serde cannot agree on.
 
 use crate::codec::{path_text, Step};
+use crate::ParseError;
 use std::error::Error;
 use std::fmt::{self, Display};
 
@@ -46,5 +47,18 @@ impl ::serde::de::Error for ValueError {
 impl ::serde::ser::Error for ValueError {
     fn custom<T: Display>(message: T) -> ValueError {
         ValueError::new(message.to_string())
+    }
+}
+
+/// As the errors of reading a manifest, which is also data that does not fit.
+impl From<ValueError> for ParseError {
+    fn from(error: ValueError) -> ParseError {
+        ParseError::of_whole(error.to_string())
+    }
+}
+
+impl From<ValueError> for crate::Error {
+    fn from(error: ValueError) -> crate::Error {
+        crate::Error::Parse(error.into())
     }
 }

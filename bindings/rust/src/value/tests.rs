@@ -2,6 +2,7 @@
 //! more, as `docs/LIBRARY.md` says it, and nothing of that is taken from the crate.
 
 use super::{decoded, Date, Datetime, Offset, Time, Value};
+use crate::calls::heap::refusals::with_refused;
 use crate::codec::{Encode, Reader, Writer};
 use std::collections::BTreeMap;
 
@@ -413,4 +414,25 @@ fn no_room_is_made_for_what_is_not_there() {
     for (count, at_most) in [(0, 0), (9, 9), (10, 10), (11, 10), (u64::MAX, 10)] {
         assert_eq!(reader.at_most::<[u8; 24]>(count), at_most);
     }
+}
+
+/// Each request for memory is refused in turn.
+#[test]
+fn a_document_where_no_memory_is_left() {
+    let text = "a = [1, 'x']\n[b]\nc = 0.5\n";
+    let due = Value::from_iter([
+        ("a", Value::from(vec![Value::from(1), Value::from("x")])),
+        ("b", Value::from_iter([("c", 0.5)])),
+    ]);
+    let mut granted = 0;
+    loop {
+        let (read, was_refused) = with_refused(granted, || text.parse::<Value>());
+        if !was_refused {
+            assert_eq!(read, Ok(due));
+            break;
+        }
+        assert_eq!(read.map_err(|error| error.to_string()), Err("out of memory".to_owned()));
+        granted += 1;
+    }
+    assert!(granted > 3, "{granted}");
 }
