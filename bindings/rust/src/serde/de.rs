@@ -49,7 +49,7 @@ impl<'de> Deserializer<'de> for Value {
             Value::String(name) => visitor.visit_enum(Variant { name, content: None }),
             Value::Table(members) if members.len() == 1 => match members.into_iter().next() {
                 Some((name, content)) => visitor.visit_enum(Variant { name, content: Some(content) }),
-                None => Err(ValueError::new("a table of one key is wanted")),
+                None => Err(ValueError::new("invalid type: table, expected one with a single key")),
             },
             other => Err(ValueError::invalid_type(unexpected(&other), &"a string, or a table of one key")),
         }
@@ -124,7 +124,7 @@ impl<'de> MapAccess<'de> for Members {
 
     fn next_value_seed<V: DeserializeSeed<'de>>(&mut self, seed: V) -> Result<V::Value, ValueError> {
         let Some((key, value)) = self.next.take() else {
-            return Err(ValueError::new("a key is read before its value"));
+            return Err(ValueError::new("the value of a map is asked for before its key"));
         };
         seed.deserialize(value).map_err(|error| error.below(Step::Key(key)))
     }
@@ -154,7 +154,7 @@ struct Content(Option<Value>);
 
 impl Content {
     fn value(self) -> Result<Value, ValueError> {
-        self.0.ok_or_else(|| ValueError::new("a variant that holds something is wanted"))
+        self.0.ok_or_else(|| ValueError::new("invalid type: unit variant, expected one with content"))
     }
 }
 
@@ -165,7 +165,7 @@ impl<'de> VariantAccess<'de> for Content {
         match self.0 {
             None => Ok(()),
             Some(value) if value.as_table().is_some_and(Map::is_empty) => Ok(()),
-            Some(value) => Err(ValueError::invalid_type(unexpected(&value), &"a variant that holds nothing")),
+            Some(value) => Err(ValueError::invalid_type(unexpected(&value), &"a unit variant")),
         }
     }
 

@@ -26,7 +26,7 @@ fn written_if_some<T: Serialize + ?Sized>(value: &T) -> Result<Option<Value>, Va
 
 /// The error of an option that has nothing. As the value of a key it leaves the key out.
 fn nothing() -> ValueError {
-    ValueError::new("TOML has no value that is nothing")
+    ValueError::new("unsupported value: TOML has no null")
 }
 
 fn table_of(variant: &str, content: Value) -> Value {
@@ -38,7 +38,7 @@ macro_rules! integers {
         $(
             fn $name(self, value: $type) -> Result<Value, ValueError> {
                 let number = i64::try_from(value);
-                number.map(Value::Integer).map_err(|_| ValueError::new(format!("{value} is no integer of TOML")))
+                number.map(Value::Integer).map_err(|_| ValueError::new(format!("invalid value: integer `{value}`, expected one of 64 bits")))
             }
         )+
     };
@@ -238,7 +238,7 @@ impl SerializeMap for Members {
     fn serialize_key<T: Serialize + ?Sized>(&mut self, key: &T) -> Result<(), ValueError> {
         self.key = match written(key)? {
             Value::String(key) => key,
-            other => return Err(ValueError::new(format!("a key is a {}, and not a string", other.type_str()))),
+            other => return Err(ValueError::new(format!("invalid type of a key: {}, expected a string", other.type_str()))),
         };
         Ok(())
     }

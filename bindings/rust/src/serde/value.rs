@@ -67,7 +67,7 @@ impl<'de> Deserialize<'de> for Datetime {
         match deserializer.deserialize_struct(NAME, &[FIELD], ValueVisitor)? {
             Value::Datetime(datetime) => Ok(datetime),
             other => {
-                Err(::serde::de::Error::custom(format!("a {} stands where a date-time is wanted", other.type_str())))
+                Err(::serde::de::Error::custom(format!("invalid type: {}, expected a date-time", other.type_str())))
             }
         }
     }
@@ -92,7 +92,7 @@ impl<'de> Visitor<'de> for ValueVisitor {
 
     fn visit_u64<E: ::serde::de::Error>(self, value: u64) -> Result<Value, E> {
         let number = i64::try_from(value);
-        number.map(Value::Integer).map_err(|_| E::custom(format!("the integer {value} is larger than one of TOML")))
+        number.map(Value::Integer).map_err(|_| E::custom(format!("invalid value: integer `{value}`, expected one of 64 bits")))
     }
 
     fn visit_f64<E>(self, value: f64) -> Result<Value, E> {

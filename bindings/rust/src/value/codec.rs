@@ -196,7 +196,7 @@ fn encode_head<'a>(value: &'a Value, writer: &mut Writer) -> Option<Left<'a>> {
     match value {
         Value::String(text) => writer.string(text),
         Value::Integer(number) => number.encode(writer),
-        Value::Float(_) => writer.refuse("a float stands where a manifest has none: in metadata alone it may".into()),
+        Value::Float(_) => writer.refuse("a float is supported in metadata alone".into()),
         Value::Boolean(boolean) => writer.boolean(*boolean),
         Value::Datetime(datetime) => datetime.encode(writer),
         Value::Array(items) => {
