@@ -47,7 +47,7 @@ class Cause(enum.Enum):
     INHERITED_IN_WORKSPACE = "inherited in workspace"
     """The manifest inherits a dependency that the workspace itself says to inherit."""
     MIXED_LINTS = "mixed lints"
-    """The manifest inherits its lints, and has lints of a tool beside."""
+    """The manifest inherits its lints, and has lints of a tool as well."""
     TOOL_NAMED_WORKSPACE = "tool named workspace"
     """The manifest inherits its lints, and the workspace has lints of a tool named `workspace`."""
     DATE_WITHOUT_TEXT = "date-time without a text"
