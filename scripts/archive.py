@@ -55,8 +55,24 @@ def run(words, **more):
     return subprocess.run(words, capture_output=True, text=True, timeout=600, **more)
 
 
+def check_words(usage, words):
+    """Ends where help is asked for, or where a word is an option, of which there is none but that."""
+    if words == ["--help"]:
+        print(f"usage: {usage}")
+        sys.exit(0)
+    if any(word.startswith("-") for word in words):
+        wrong_words(usage)
+
+
+def wrong_words(usage):
+    """Ends where the words of the command are not such as its usage says."""
+    print(f"usage: {usage}", file=sys.stderr)
+    sys.exit(2)
+
+
 def built_files(words):
     """The folder of the built files that is named, or else prebuilt/."""
+    check_words(f"scripts/{Path(sys.argv[0]).name} [FOLDER]", words)
     return (Path(words[0]) if words else TOP / "prebuilt").resolve()
 
 
@@ -66,10 +82,10 @@ def declared_calls():
     return set(re.findall(r"^(?:struct manifest_answer|uint32_t) (\w+)\(", header, re.M))
 
 
-def check_example(name, program):
+def check_example(name, program, **more):
     """The example answers each input as expected."""
     for text, status, out, err in EXAMPLES:
-        said = run([program], input=text)
+        said = run([program], input=text, **more)
         is_right = (said.returncode, said.stdout) == (status, out) and err in said.stderr
         told(f"{name} on {text!r}", None if is_right else f"{said.returncode} {said.stdout!r} {said.stderr!r}")
 

@@ -6,7 +6,8 @@
 
        cc program.c $(pkg-config --cflags --libs cargo_manifest)
 
-   links libcargo_manifest.so. In CMake, find_package(cargo_manifest) gives the targets cargo_manifest::cargo_manifest and
+   links libcargo_manifest.so, which has to stand where the loader looks, as after ldconfig, or in a folder that
+   LD_LIBRARY_PATH names. In CMake, find_package(cargo_manifest) gives the targets cargo_manifest::cargo_manifest and
    cargo_manifest::cargo_manifest_static. The archive libcargo_manifest.a links by itself: cc program.c libcargo_manifest.a.
    Both want nothing but the C library. They are for Linux on x86-64, with a processor of the level x86-64-v2 (SSE 4.2 and
    POPCNT, as all have since about 2010); there is an archive for aarch64 too.
