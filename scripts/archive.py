@@ -1,5 +1,6 @@
 """What scripts/library, scripts/installed, scripts/pack and scripts/library_speed share: where the built files and their
-users lie, which calls it has, what their examples answer, and counts of what passed and failed."""
+users lie, which calls it has, what their examples answer, and counts of what passed and failed and of what was not run."""
+import functools
 import re
 import subprocess
 import sys
@@ -11,6 +12,7 @@ BINDINGS = TOP / "bindings"
 X86 = "x86_64-unknown-linux-gnu"
 ARM = "aarch64-unknown-linux-gnu"
 NAME = "libcargo_manifest.a"
+SHARED = "libcargo_manifest.so"
 WARNINGS = ["-O2", "-Wall", "-Wextra", "-Werror", "-pedantic"]
 FLAGS = ["-std=c11", *WARNINGS]
 COUNTS = re.compile(r"^(\d+) passed, (\d+) failed$", re.M)
@@ -30,6 +32,13 @@ def told(name, fault):
     counts[fault is not None] += 1
     if fault is not None:
         print(f"{name}: {fault}")
+
+
+@functools.cache
+def not_run(what, why):
+    """Says once what is not tried, because something is missing on this machine. It counts as neither passed nor failed;
+    ./test counts these lines."""
+    print(f"not run: {what}: {why}")
 
 
 def ended(name, run):
@@ -83,9 +92,10 @@ def declared_calls():
 
 
 def check_example(name, program, **more):
-    """The example answers each input as expected."""
+    """The example, a program or a list of words that runs it, answers each input as expected."""
+    words = program if isinstance(program, list) else [program]
     for text, status, out, err in EXAMPLES:
-        said = run([program], input=text, **more)
+        said = run(words, input=text, **more)
         is_right = (said.returncode, said.stdout) == (status, out) and err in said.stderr
         told(f"{name} on {text!r}", None if is_right else f"{said.returncode} {said.stdout!r} {said.stderr!r}")
 

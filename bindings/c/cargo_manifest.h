@@ -9,8 +9,8 @@
    links libcargo_manifest.so, which has to stand where the loader looks, as after ldconfig, or in a folder that
    LD_LIBRARY_PATH names. In CMake, find_package(cargo_manifest) gives the targets cargo_manifest::cargo_manifest and
    cargo_manifest::cargo_manifest_static. The archive libcargo_manifest.a links by itself: cc program.c libcargo_manifest.a.
-   Both want nothing but the C library. They are for Linux on x86-64, with a processor of the level x86-64-v2 (SSE 4.2 and
-   POPCNT, as all have since about 2010); there is an archive for aarch64 too.
+   Both want nothing but a C library, the GNU one or musl. They are for Linux on x86-64, with a processor of the level
+   x86-64-v2 (SSE 4.2 and POPCNT, as all have since about 2010), and on aarch64.
 
    A CALL takes bytes and memory for its text, and answers at once:
 
