@@ -116,7 +116,9 @@ enum manifest_status {
     MANIFEST_TOO_LONG = 32
 };
 
-/* How deep arrays and tables may stand in one another, the whole table not counted: `a = [{}]` is 2 deep.
+/* How deep arrays and tables may stand in one another in a table that is passed in, the whole table not counted: `a = [{}]` is
+   2 deep. So may they in a text, but its reader has two limits of its own: 80 arrays and inline tables in one another, and
+   keys of 80 parts. What is over these is refused with MANIFEST_NO_TOML.
 
    A text is refused before it is read where (B + 3) * (D + 1) is more than 384. B is how many brackets, `[` and `{`, are open
    at one place at most, and D how many dots stand at most between one of `,`, `=`, `[`, `{`, `#` and line ends and the next. Those in
