@@ -1,5 +1,6 @@
 """What scripts/library, scripts/installed, scripts/pack and scripts/library_speed share: where the built files and their
-users lie, which calls it has, what their examples answer, and counts of what passed and failed."""
+users lie, which calls it has, what their examples answer, and counts of what passed and failed and of what was not run."""
+import functools
 import re
 import subprocess
 import sys
@@ -11,6 +12,7 @@ BINDINGS = TOP / "bindings"
 X86 = "x86_64-unknown-linux-gnu"
 ARM = "aarch64-unknown-linux-gnu"
 NAME = "libcargo_manifest.a"
+SHARED = "libcargo_manifest.so"
 WARNINGS = ["-O2", "-Wall", "-Wextra", "-Werror", "-pedantic"]
 FLAGS = ["-std=c11", *WARNINGS]
 COUNTS = re.compile(r"^(\d+) passed, (\d+) failed$", re.M)
@@ -30,6 +32,13 @@ def told(name, fault):
     counts[fault is not None] += 1
     if fault is not None:
         print(f"{name}: {fault}")
+
+
+@functools.cache
+def not_run(what, why):
+    """Says once what is not tried, because something is missing on this machine. It counts as neither passed nor failed;
+    ./test counts these lines."""
+    print(f"not run: {what}: {why}")
 
 
 def ended(name, run):
@@ -55,8 +64,24 @@ def run(words, **more):
     return subprocess.run(words, capture_output=True, text=True, timeout=600, **more)
 
 
+def check_words(usage, words):
+    """Ends where help is asked for, or where a word is an option, of which there is none but that."""
+    if words == ["--help"]:
+        print(f"usage: {usage}")
+        sys.exit(0)
+    if any(word.startswith("-") for word in words):
+        wrong_words(usage)
+
+
+def wrong_words(usage):
+    """Ends where the words of the command are not such as its usage says."""
+    print(f"usage: {usage}", file=sys.stderr)
+    sys.exit(2)
+
+
 def built_files(words):
     """The folder of the built files that is named, or else prebuilt/."""
+    check_words(f"scripts/{Path(sys.argv[0]).name} [FOLDER]", words)
     return (Path(words[0]) if words else TOP / "prebuilt").resolve()
 
 
@@ -66,10 +91,11 @@ def declared_calls():
     return set(re.findall(r"^(?:struct manifest_answer|uint32_t) (\w+)\(", header, re.M))
 
 
-def check_example(name, program):
-    """The example answers each input as expected."""
+def check_example(name, program, **more):
+    """The example, a program or a list of words that runs it, answers each input as expected."""
+    words = program if isinstance(program, list) else [program]
     for text, status, out, err in EXAMPLES:
-        said = run([program], input=text)
+        said = run(words, input=text, **more)
         is_right = (said.returncode, said.stdout) == (status, out) and err in said.stderr
         told(f"{name} on {text!r}", None if is_right else f"{said.returncode} {said.stdout!r} {said.stderr!r}")
 

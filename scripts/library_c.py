@@ -1,11 +1,12 @@
-"""What scripts/library does with C: the header as each standard of C and C++ reads it, and the programs of bindings/c over
-an archive, on this processor and, by an emulator, on aarch64."""
+"""What scripts/library does with C: the header as each standard of C and C++ reads it, the programs of bindings/c over an
+archive, on this processor and, by an emulator, on aarch64, and the shared libraries, linked to and loaded."""
 import os
 import re
 import shutil
 from concurrent.futures import ThreadPoolExecutor
+from pathlib import Path
 
-from archive import BINDINGS, COUNTS, FLAGS, WARNINGS, check_example, counted, ended, run, told
+from archive import BINDINGS, COUNTS, FLAGS, TOP, WARNINGS, check_example, counted, ended, not_run, run, told
 from runs import NO_LIBRARY, stored
 from runs import run as run_on
 from wanted import CAUSES, differs, wanted_of, wanted_of_manifests
@@ -13,6 +14,13 @@ from wanted import CAUSES, differs, wanted_of, wanted_of_manifests
 C = BINDINGS / "c"
 STANDARDS = {"c": ["c99", "c11", "c17"], "c++": ["c++98", "c++11", "c++17"]}
 COMPILERS = {"c": ["gcc", "clang"], "c++": ["g++", "clang++"]}
+# the programs of bindings/c: those that call the library alone, and those of the heap functions that an archive has
+CALLERS = ("calls", "canonical", "listed")
+OF_HEAP = ("own_heap", "blocks")
+LOADED = TOP / "scripts" / "loaded.c"
+SONAME = "libcargo_manifest.so.3"
+ARM_COMPILER = "aarch64-linux-gnu-gcc"
+ARM_COMMANDS = (ARM_COMPILER, "qemu-aarch64")
 TWICE = '#include "cargo_manifest.h"\n' * 2
 # with other places of the fields than those that the library was compiled with
 PACKED = f"#include <stddef.h>\n#include <stdint.h>\n#pragma pack(1)\n{TWICE}"
@@ -25,7 +33,7 @@ def check_header():
     for language, standards in STANDARDS.items():
         there = [name for name in COMPILERS[language] if shutil.which(name)]
         if not there:
-            print(f"the header is not read as {language}: there is no command {' or '.join(COMPILERS[language])}")
+            not_run(f"the header as {language}", f"there is no command {' or '.join(COMPILERS[language])}")
         for compiler in there:
             for standard in standards:
                 words = [compiler, f"-std={standard}", *WARNINGS, f"-I{C}", "-fsyntax-only", "-x", language, "-"]
@@ -34,12 +42,12 @@ def check_header():
                 told(f"the header with other places, as {compiler} reads {standard}", "it is read" if is_read else None)
 
 
-def built(compiler, archive, room, *more):
-    """Compiles the programs of bindings/c over the archive alone, and says whether it could. The heap functions, which are in
-    the archive, are compiled too."""
+def built(compiler, library, room, *more, names=(*CALLERS, *OF_HEAP)):
+    """Compiles programs of bindings/c over the library alone, and says whether it could. The heap functions, which are in it,
+    are compiled too."""
     ended(f"heap.c, by {compiler}", run([compiler, *FLAGS, "-c", "-o", os.devnull, C / "heap.c"]))
-    for name in ("calls", "canonical", "listed", "own_heap", "blocks"):
-        words = [compiler, *FLAGS, *more, "-o", room / name, C / f"{name}.c", archive, "-pthread"]
+    for name in names:
+        words = [compiler, *FLAGS, *more, "-o", room / name, C / f"{name}.c", library, "-pthread"]
         if not ended(f"{name}.c, by {compiler}", run(words)):
             return False
     return True
@@ -83,19 +91,24 @@ def replay_folders(name, words, room):
     replay(cases)
 
 
-def run_all(name, runner, room):
-    """Runs the programs that were built, by a runner or by themselves."""
+def run_callers(name, runner, room):
+    """Runs the programs that call the library and nothing else of it, by a runner or by themselves."""
     counted(f"calls from {name}", run([*runner, room / "calls"]), COUNTS)
-    counted(f"calls from {name} over a heap of its own", run([*runner, room / "own_heap"]), COUNTS)
-    counted(f"blocks of the library's heap, from {name}", run([*runner, room / "blocks"]), COUNTS)
     replay_manifests(name, [*runner, room / "canonical"])
     replay_folders(name, [*runner, room / "listed"], room)
+
+
+def run_all(name, runner, room):
+    """Runs the programs that were built over an archive, whose heap functions can be called and replaced."""
+    run_callers(name, runner, room)
+    counted(f"calls from {name} over a heap of its own", run([*runner, room / "own_heap"]), COUNTS)
+    counted(f"blocks of the library's heap, from {name}", run([*runner, room / "blocks"]), COUNTS)
 
 
 def check_valgrind(room):
     """No program of bindings/c reads what is not set, writes outside its memory, or loses any."""
     if not shutil.which("valgrind"):
-        print("the calls from C are not run under valgrind: it is not there")
+        not_run("the calls from C under valgrind", "there is no command valgrind")
         return
     checked = ["valgrind", "-q", "--error-exitcode=9", "--leak-check=full"]
     for name in ("calls", "own_heap", "blocks"):
@@ -112,7 +125,7 @@ def check_c(archive, room):
     """The header, and the programs in C over the archive alone; what is said of the layout."""
     check_header()
     if not shutil.which("cc"):
-        print("nothing is called from C: there is no command cc")
+        not_run("the calls from C", "there is no command cc")
         return None
     if not built("cc", archive, room):
         return None
@@ -127,16 +140,42 @@ def check_c(archive, room):
 def check_musl(archive, room):
     """The same programs, linked statically with musl."""
     if not shutil.which("musl-gcc"):
-        print("the archive is not linked with musl: there is no command musl-gcc")
+        not_run("the archive linked with musl", "there is no command musl-gcc")
     elif built("musl-gcc", archive, room, "-static"):
         run_all("C with musl", [], room)
 
 
+def check_loaded(compiler, runner, library, room):
+    """A program loads a shared library while it runs, and answers by it."""
+    if not shutil.which(compiler):
+        not_run(f"{library.name} in a program that {compiler} makes", f"there is no command {compiler}")
+        return
+    program = room / f"loaded-{compiler}"
+    if ended(f"loaded.c, by {compiler}", run([compiler, *FLAGS, "-o", program, LOADED, "-pthread", "-ldl"])):
+        check_example(f"{library}, loaded by a program of {compiler}", [*runner, program, library])
+
+
+def has_arm():
+    """Whether programs for aarch64 can be compiled and run."""
+    lacking = [command for command in ARM_COMMANDS if not shutil.which(command)]
+    if lacking:
+        not_run("the libraries for aarch64", f"there is no command {' and no '.join(lacking)}")
+    return not lacking
+
+
 def check_arm(archive, room):
     """The programs in C over the archive for aarch64."""
-    for command in ("aarch64-linux-gnu-gcc", "qemu-aarch64"):
-        if not shutil.which(command):
-            print(f"the archive for aarch64 is not called: there is no command {command}")
-            return
-    if built("aarch64-linux-gnu-gcc", archive, room, "-static"):
+    if has_arm() and built(ARM_COMPILER, archive, room, "-static"):
         run_all("C on aarch64", ["qemu-aarch64"], room)
+
+
+def check_arm_shared(library, room):
+    """The programs in C over the shared library for aarch64, and one that loads it while it runs."""
+    if not has_arm():
+        return
+    loader = run([ARM_COMPILER, "-print-file-name=ld-linux-aarch64.so.1"]).stdout.strip()
+    emulator = ["qemu-aarch64", "-L", Path(loader).resolve().parent.parent]
+    check_loaded(ARM_COMPILER, emulator, library, room)
+    shutil.copy(library, room / SONAME)
+    if built(ARM_COMPILER, room / SONAME, room, names=CALLERS):
+        run_callers("C on aarch64, by the shared library", [*emulator, "-E", f"LD_LIBRARY_PATH={room}"], room)

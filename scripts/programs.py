@@ -7,7 +7,7 @@ import subprocess
 import tempfile
 from pathlib import Path
 
-from archive import BINDINGS, TOP, counts, told
+from archive import BINDINGS, TOP, counts, not_run, told
 from runs import ANSWERS, make, stored
 
 PROGRAMS = TOP / "tests" / "programs"
@@ -146,10 +146,10 @@ def stored_text(name):
 
 
 def have_cargo(what):
-    """Whether cargo is there, and a sentence where it is not."""
+    """Whether cargo is there; where it is not, this is not run."""
     if shutil.which("cargo"):
         return True
-    print(f"{what}: there is no command cargo")
+    not_run(what, "there is no command cargo")
     return False
 
 

@@ -6,10 +6,11 @@
 
        cc program.c $(pkg-config --cflags --libs cargo_manifest)
 
-   links libcargo_manifest.so. In CMake, find_package(cargo_manifest) gives the targets cargo_manifest::cargo_manifest and
+   links libcargo_manifest.so, which has to stand where the loader looks, as after ldconfig, or in a folder that
+   LD_LIBRARY_PATH names. In CMake, find_package(cargo_manifest) gives the targets cargo_manifest::cargo_manifest and
    cargo_manifest::cargo_manifest_static. The archive libcargo_manifest.a links by itself: cc program.c libcargo_manifest.a.
-   Both want nothing but the C library. They are for Linux on x86-64, with a processor of the level x86-64-v2 (SSE 4.2 and
-   POPCNT, as all have since about 2010); there is an archive for aarch64 too.
+   Both want nothing but a C library, the GNU one or musl. They are for Linux on x86-64, with a processor of the level
+   x86-64-v2 (SSE 4.2 and POPCNT, as all have since about 2010), and on aarch64.
 
    A CALL takes bytes and memory for its text, and answers at once:
 
@@ -116,7 +117,9 @@ enum manifest_status {
     MANIFEST_TOO_LONG = 32
 };
 
-/* How deep arrays and tables may stand in one another, the whole table not counted: `a = [{}]` is 2 deep.
+/* How deep arrays and tables may stand in one another in a table that is passed in, the whole table not counted: `a = [{}]` is
+   2 deep. So may they in a text, but its reader has two limits of its own: 80 arrays and inline tables in one another, and
+   keys of 80 parts. What is over these is refused with MANIFEST_NO_TOML.
 
    A text is refused before it is read where (B + 3) * (D + 1) is more than 384. B is how many brackets, `[` and `{`, are open
    at one place at most, and D how many dots stand at most between one of `,`, `=`, `[`, `{`, `#` and line ends and the next. Those in

@@ -37,8 +37,13 @@ struct heap {
     size_t blocks;
 };
 
-/* (few bytes, and found without a call, wherever the library is linked into) */
-static _Thread_local __attribute__((tls_model("initial-exec"))) struct heap heap;
+/* How a thread finds what it has: few bytes, and without a call, wherever the archive is linked into. scripts/build names
+   another model for the shared library, which musl cannot load into a running program with this one. */
+#ifndef HEAP_TLS_MODEL
+#define HEAP_TLS_MODEL "initial-exec"
+#endif
+
+static _Thread_local __attribute__((tls_model(HEAP_TLS_MODEL))) struct heap heap;
 
 /* Where there is no memory, the pointer is the one to this byte, since it must not be null. */
 static char nowhere;

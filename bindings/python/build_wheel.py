@@ -24,12 +24,17 @@ LICENCES = ("LICENSE-APACHE", "LICENSE-MIT")
 BEGAN = (1980, 1, 1, 0, 0, 0)
 BEGAN_SECONDS = 315_532_800
 
-# the oldest C library that is supported, as `manylinux` counts them
+# the oldest C libraries that are supported, as `manylinux` and `musllinux` count them
 OLDEST = (2, 17)
+OLDEST_MUSL = "1_1"
+
+# the processors that there is a library for, by what a file has in the place of the processor
+MACHINES = {b"\x3e\x00": "x86_64", b"\xb7\x00": "aarch64"}
 
 Files = dict[str, bytes]
 
 FOUND = runpy.run_path(str(PACKAGE / "_found.py"))
+PLACES = {machine: f"prebuilt/{machine}-unknown-linux-gnu/{FOUND['NAME']}" for machine in MACHINES.values()}
 
 
 def project() -> dict[str, str]:
@@ -49,6 +54,16 @@ def library() -> bytes:
     """The library that is packed."""
     held: bytes = FOUND["library_file"](PACKAGE).read_bytes()
     return held
+
+
+def libraries() -> Files:
+    """The library that is packed, and those for other processors that come with it in prebuilt/, each by its place there."""
+    file: Path = FOUND["library_file"](PACKAGE)
+    files = {PLACES[machine_of(library())]: library()}
+    if file.parent.parent.name == "prebuilt":
+        others = [place for place in PLACES.values() if (file.parents[2] / place).is_file()]
+        files.update((place, (file.parents[2] / place).read_bytes()) for place in others)
+    return files
 
 
 def licences() -> Files:
@@ -81,14 +96,21 @@ def metadata() -> bytes:
     return "\n".join(lines).encode("utf-8")
 
 
-def tag_of(held: bytes) -> str:
-    """For which systems a library is: x86-64 Linux with the newest C library that its symbols ask for."""
-    is_elf, machine = held[:5] == b"\x7fELF\x02", held[18:20]
-    if not is_elf or machine != b"\x3e\x00":
-        raise ValueError(f"{FOUND['NAME']} is no library for x86-64 Linux")
+def machine_of(held: bytes) -> str:
+    """For which processor a library is."""
+    machine = MACHINES.get(held[18:20]) if held[:6] == b"\x7fELF\x02\x01" else None
+    if machine is None:
+        raise ValueError(f"{FOUND['NAME']} is no library for Linux on x86-64 or arm64")
+    return machine
+
+
+def tags_of(held: bytes) -> list[str]:
+    """For which systems a library is: Linux on its processor, with the newest C library that its symbols ask for or a newer
+    one, or with musl, which takes the same file."""
+    machine = machine_of(held)
     asked = re.findall(rb"\0GLIBC_(\d+)\.(\d+)", held)
     major, minor = max([OLDEST, *((int(major), int(minor)) for major, minor in asked)])
-    return f"py3-none-manylinux_{major}_{minor}_x86_64"
+    return [f"manylinux_{major}_{minor}_{machine}", f"musllinux_{OLDEST_MUSL}_{machine}"]
 
 
 def record(files: Files, own: str) -> bytes:
@@ -100,18 +122,19 @@ def record(files: Files, own: str) -> bytes:
     return "".join([*lines, f"{own},,\n"]).encode("utf-8")
 
 
-def write_wheel(folder: str, tag: str, held: Files) -> str:
-    """A wheel of these files, and what every wheel also has. Returns its name."""
+def write_wheel(folder: str, systems: list[str], held: Files) -> str:
+    """A wheel of these files for some systems, and what every wheel also has. Returns its name."""
     about = f"{base_name()}.dist-info"
     files = dict(sorted(held.items()))
     files[f"{about}/METADATA"] = metadata()
+    tags = "".join(f"Tag: py3-none-{system}\n" for system in systems)
     files[f"{about}/WHEEL"] = (
-        f"Wheel-Version: 1.0\nGenerator: {base_name()}\nRoot-Is-Purelib: false\nTag: {tag}\n".encode("ascii")
+        f"Wheel-Version: 1.0\nGenerator: {base_name()}\nRoot-Is-Purelib: false\n{tags}".encode("ascii")
     )
     for name, text in licences().items():
         files[f"{about}/licenses/{name}"] = text
     files[f"{about}/RECORD"] = record(files, f"{about}/RECORD")
-    wheel = f"{base_name()}-{tag}.whl"
+    wheel = f"{base_name()}-py3-none-{'.'.join(systems)}.whl"
     with zipfile.ZipFile(Path(folder) / wheel, "w", zipfile.ZIP_DEFLATED, compresslevel=9) as packed:
         for path, bytes_in_it in files.items():
             entry = zipfile.ZipInfo(path, BEGAN)
@@ -123,17 +146,17 @@ def write_wheel(folder: str, tag: str, held: Files) -> str:
 def build_wheel(wheel_directory: str, config_settings: Any = None, metadata_directory: Optional[str] = None) -> str:
     """The package with its library."""
     held = library()
-    return write_wheel(wheel_directory, tag_of(held), {**modules(), f"{PACKAGE.name}/{FOUND['NAME']}": held})
+    return write_wheel(wheel_directory, tags_of(held), {**modules(), f"{PACKAGE.name}/{FOUND['NAME']}": held})
 
 
 def build_editable(wheel_directory: str, config_settings: Any = None, metadata_directory: Optional[str] = None) -> str:
     """A wheel that leads to the package where it stands, with the library that it finds from there."""
-    return write_wheel(wheel_directory, "py3-none-any", {f"{PACKAGE.name}.pth": f"{HERE}\n".encode("utf-8")})
+    return write_wheel(wheel_directory, ["any"], {f"{PACKAGE.name}.pth": f"{HERE}\n".encode("utf-8")})
 
 
 def build_sdist(sdist_directory: str, config_settings: Any = None) -> str:
     """All that a wheel is built of."""
-    files = {**modules(), **licences(), "PKG-INFO": metadata(), FOUND["PREBUILT"]: library()}
+    files = {**modules(), **licences(), "PKG-INFO": metadata(), **libraries()}
     for name in ("README.md", "build_wheel.py", "pyproject.toml"):
         files[name] = (HERE / name).read_bytes()
     sdist = f"{base_name()}.tar.gz"

@@ -118,8 +118,7 @@ fn named(folder: &Path) -> (PathBuf, Vec<u8>) {
 /// The SHA-256 sum of bytes, as FIPS 180-4 has it, in hexadecimal.
 pub fn sha256(bytes: &[u8]) -> String {
     // (the first 32 bits of the fractional parts of the square roots of the first 8 primes)
-    let mut state =
-        [0x6a09e667, 0xbb67ae85, 0x3c6ef372, 0xa54ff53a, 0x510e527f, 0x9b05688c, 0x1f83d9ab, 0x5be0cd19];
+    let mut state = [0x6a09e667, 0xbb67ae85, 0x3c6ef372, 0xa54ff53a, 0x510e527f, 0x9b05688c, 0x1f83d9ab, 0x5be0cd19];
     let mut padded = bytes.to_vec();
     padded.push(0x80);
     while padded.len() % 64 != 56 {

@@ -17,8 +17,28 @@ const COPIES: u64 = 6;
 const MOST_CHANGES: usize = 9;
 
 const STRINGS: [&str; 22] = [
-    "", "a", "b", "foo-bar", "foo_bar", "1", "^1.2, <2", "2021", "true", "MIT OR Apache-2.0", "src/lib.rs", "a.b", "q\"uote", "'",
-    "'''", "\"\"\"", "back\\slash", "tab\t, line\n, \r\n", "\0\u{1f}\u{7f}", "日本語 é e\u{301} 😀", "\u{feff}\u{2028}\u{ffff}\u{10ffff}", "[x] # no comment",
+    "",
+    "a",
+    "b",
+    "foo-bar",
+    "foo_bar",
+    "1",
+    "^1.2, <2",
+    "2021",
+    "true",
+    "MIT OR Apache-2.0",
+    "src/lib.rs",
+    "a.b",
+    "q\"uote",
+    "'",
+    "'''",
+    "\"\"\"",
+    "back\\slash",
+    "tab\t, line\n, \r\n",
+    "\0\u{1f}\u{7f}",
+    "日本語 é e\u{301} 😀",
+    "\u{feff}\u{2028}\u{ffff}\u{10ffff}",
+    "[x] # no comment",
 ];
 const INTEGERS: [i64; 9] = [0, 1, -1, 127, 128, 65536, 1 << 53, i64::MAX, i64::MIN];
 
@@ -168,9 +188,8 @@ impl Random {
             panic: self.option(Random::string),
             incremental: self.option(Random::flag),
             overflow_checks: self.option(Random::flag),
-            strip: self.option(|random| {
-                random.one_of(&[StripSetting::None, StripSetting::Debuginfo, StripSetting::Symbols])
-            }),
+            strip: self
+                .option(|random| random.one_of(&[StripSetting::None, StripSetting::Debuginfo, StripSetting::Symbols])),
             package: self.map(|random| random.value(3)),
             split_debuginfo: self.option(Random::string),
             build_override: self.option(|random| random.value(2)),
@@ -326,10 +345,8 @@ fn change_profiles(profiles: &mut Profiles, random: &mut Random) {
 }
 
 fn change_lints(lints: &mut Option<MaybeInheritedLintsSet>, random: &mut Random) {
-    *lints = random.option(|random| MaybeInheritedLintsSet {
-        workspace: random.option(|_| True),
-        lints: random.lints(),
-    });
+    *lints =
+        random.option(|random| MaybeInheritedLintsSet { workspace: random.option(|_| True), lints: random.lints() });
 }
 
 /// Changes one part of a manifest. It stays one: with a package or a workspace.

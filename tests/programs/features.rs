@@ -32,7 +32,8 @@ fn traits() {
         MaybeInheritedLintsSet, Value);
 }
 
-const TEXT: &str = "[package]\nname = 'a'\n[package.metadata]\nkeep = [1, 2]\n[workspace]\n[workspace.metadata]\nkeep = [3]\n\
+const TEXT: &str =
+    "[package]\nname = 'a'\n[package.metadata]\nkeep = [1, 2]\n[workspace]\n[workspace.metadata]\nkeep = [3]\n\
                     named = 'w'\n";
 
 /// What is passed on by `?` as an error of the crate.
@@ -86,7 +87,12 @@ fn values() -> Vec<String> {
         format!("{value:?} {none:?} {:?}", value["keep"]),
         format!("{:?}", read_from_value::<Own>(value.clone()).expect("the same")),
         format!("{:?}", read_by_deserializer::<Own>(value).expect("the same")),
-        format!("{} {} {}", there == of_toml, here["package"]["metadata"]["keep"][1], format!("{here:?}") == format!("{there:?}")),
+        format!(
+            "{} {} {}",
+            there == of_toml,
+            here["package"]["metadata"]["keep"][1],
+            format!("{here:?}") == format!("{there:?}")
+        ),
         format!("{:?}", toml::from_str::<Value>(TEXT).expect("a value") == here),
         format!("{:?} {:?}", Value::try_from(1_u64 << 63).is_err(), Value::try_from(Edition::E2021).ok()),
     ]
@@ -111,7 +117,11 @@ fn written() -> Vec<String> {
     )
     .expect("a manifest");
     let text = toml::to_string(&manifest).unwrap_or_else(|_| "refused".to_string());
-    vec![format!("{manifest:?}"), text, toml::Value::try_from(&manifest).map_or("refused".to_string(), |value| format!("{value:?}"))]
+    vec![
+        format!("{manifest:?}"),
+        text,
+        toml::Value::try_from(&manifest).map_or("refused".to_string(), |value| format!("{value:?}")),
+    ]
 }
 
 fn main() {

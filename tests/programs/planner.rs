@@ -59,9 +59,8 @@ fn without_version(mut dependency: Dependency, name: &str, local: &BTreeSet<Stri
 }
 
 fn set_of(dependencies: &DepsSet, local: &BTreeSet<String>) -> DepsSet {
-    let entry = |(name, dependency): (&String, &Dependency)| {
-        (name.clone(), without_version(dependency.clone(), name, local))
-    };
+    let entry =
+        |(name, dependency): (&String, &Dependency)| (name.clone(), without_version(dependency.clone(), name, local));
     dependencies.iter().map(entry).collect()
 }
 
@@ -182,9 +181,10 @@ fn features_of(features: &FeatureSet) -> FeatureSet {
 
 /// Lints that let everything pass, by the tools that the manifest names.
 fn lints_of(lints: &MaybeInheritedLintsSet) -> MaybeInheritedLintsSet {
-    let tools = lints.lints.keys().map(|tool| {
-        (tool.clone(), BTreeMap::from([("all".to_string(), Lint::Level(LintLevel::Allow))]))
-    });
+    let tools = lints
+        .lints
+        .keys()
+        .map(|tool| (tool.clone(), BTreeMap::from([("all".to_string(), Lint::Level(LintLevel::Allow))])));
     MaybeInheritedLintsSet { workspace: lints.workspace.clone(), lints: tools.collect() }
 }
 
@@ -317,7 +317,10 @@ fn print_products(manifest: &Manifest) {
 fn print_manifest(manifest: &Manifest) {
     if let Some(package) = &manifest.package {
         let MaybeInherited::Local(version) = package.version() else { panic!("a version") };
-        println!("  package {:?} {version}, {:?}, {:?}, {:?}", package.name, package.edition, package.build, package.links);
+        println!(
+            "  package {:?} {version}, {:?}, {:?}, {:?}",
+            package.name, package.edition, package.build, package.links
+        );
     }
     if let Some(workspace) = &manifest.workspace {
         println!("  workspace {:?} without {:?}, {:?}", workspace.members, workspace.exclude, workspace.resolver);

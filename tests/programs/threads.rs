@@ -26,7 +26,10 @@ fn main() {
                 start.wait();
                 for place in 0..cases.len() {
                     let place = (place + number * cases.len() / THREADS) % cases.len();
-                    assert!(read(&cases[place].text) == wanted[place], "text {place} is read otherwise by thread {number}");
+                    assert!(
+                        read(&cases[place].text) == wanted[place],
+                        "text {place} is read otherwise by thread {number}"
+                    );
                 }
             };
             thread::Builder::new().stack_size(STACK).spawn_scoped(scope, work).expect("a thread");

@@ -28,24 +28,69 @@ impl Random {
 
     fn text(&mut self) -> String {
         let pieces = [
-            "a", "b", "é", "\u{10000}", " ", ".", "'", "\"", "\\", "\n", "\r", "\t", "\0", "\u{8}", "\u{b}", "\u{c}", "\u{1b}",
-            "\u{7f}", "\u{80}", "#", "''", "=", "\r\n", "\u{feff}",
+            "a",
+            "b",
+            "é",
+            "\u{10000}",
+            " ",
+            ".",
+            "'",
+            "\"",
+            "\\",
+            "\n",
+            "\r",
+            "\t",
+            "\0",
+            "\u{8}",
+            "\u{b}",
+            "\u{c}",
+            "\u{1b}",
+            "\u{7f}",
+            "\u{80}",
+            "#",
+            "''",
+            "=",
+            "\r\n",
+            "\u{feff}",
         ];
         (0..self.below(5)).map(|_| self.one_of(&pieces)).collect()
     }
 
     fn key(&mut self) -> String {
         let usual = ["a", "b", "c", "d-e", "f_g", "1", "H"];
-        if self.below(8) == 0 { self.text() } else { self.one_of(&usual).to_string() }
+        if self.below(8) == 0 {
+            self.text()
+        } else {
+            self.one_of(&usual).to_string()
+        }
     }
 
     fn integer(&mut self) -> i64 {
         let usual = [0, 1, -1, 42, i64::MIN, i64::MAX];
-        if self.below(2) == 0 { self.one_of(&usual) } else { self.next() as i64 >> self.below(64) }
+        if self.below(2) == 0 {
+            self.one_of(&usual)
+        } else {
+            self.next() as i64 >> self.below(64)
+        }
     }
 
     fn float(&mut self) -> f64 {
-        let usual = [0.0, -0.0, 0.5, -1.5, 1.0, 1e15, 1e16, 1e17, 1e300, 1e-7, 5e-324, f64::MAX, f64::INFINITY, f64::NEG_INFINITY];
+        let usual = [
+            0.0,
+            -0.0,
+            0.5,
+            -1.5,
+            1.0,
+            1e15,
+            1e16,
+            1e17,
+            1e300,
+            1e-7,
+            5e-324,
+            f64::MAX,
+            f64::INFINITY,
+            f64::NEG_INFINITY,
+        ];
         match self.below(3) {
             0 => self.one_of(&usual),
             1 => self.integer() as f64 / 64.0,

@@ -1,7 +1,9 @@
 //! The feature `serde`: what every type is read from and written as, in JSON and by the crate `toml`.
 #![cfg(all(feature = "serde", feature = "toml"))]
 
-use cargo_manifest::{Badge, Badges, Dependency, DependencyDetail, Edition, Lint, LintLevel, Manifest, MaybeInherited, Package};
+use cargo_manifest::{
+    Badge, Badges, Dependency, DependencyDetail, Edition, Lint, LintLevel, Manifest, MaybeInherited, Package,
+};
 use cargo_manifest::{Product, Profile, Profiles, Publish, StripSetting, True, Value, Workspace, WorkspacePackage};
 use serde_json::json;
 use std::fs;
@@ -126,7 +128,10 @@ fn a_misfit_says_where() {
     let wrong = of(json!({ "package": { "name": "a", "authors": [true] } }));
     assert_eq!(wrong, "invalid type for `package.authors[0]`: expected a string");
     let both = of(json!({ "dependencies": { "a b": { "default-features": true, "default_features": true } } }));
-    assert_eq!(both, "`dependencies.\"a b\".default-features` is given twice, as `default-features` and as `default_features`");
+    assert_eq!(
+        both,
+        "`dependencies.\"a b\".default-features` is given twice, as `default-features` and as `default_features`"
+    );
     assert_eq!(of(json!({ "package": {} })), "missing field `package.name`");
     let choice = of(json!({ "package": { "name": "a", "resolver": "4" } }));
     assert_eq!(choice, "`package.resolver` is none of `1`, `2`, `3`");

@@ -69,7 +69,10 @@ fn what_is_nothing_is_no_key_of_toml() {
                 branch = 'b'\n[workspace.package]\nedition = '2021'\n[dependencies]\nc = { path = '../c' }\n";
     let manifest: Manifest = text.parse().unwrap();
     let written = toml::to_string(&manifest).unwrap();
-    assert!(!written.contains("null") && !written.contains("rust-version") && !written.contains("registry-index"), "{written}");
+    assert!(
+        !written.contains("null") && !written.contains("rust-version") && !written.contains("registry-index"),
+        "{written}"
+    );
     assert_eq!(toml::from_str::<Manifest>(&written).unwrap(), manifest);
     let value = toml::Value::try_from(&manifest).unwrap();
     assert_eq!(value["profile"], toml::from_str::<toml::Value>("dev = { lto = true, package = {} }").unwrap());

@@ -18,7 +18,7 @@ def main() -> None:
     suite = unittest.defaultTestLoader.discover(str(HERE), top_level_dir=str(HERE.parent))
     result = unittest.TextTestRunner(sys.stdout, buffer=True).run(suite)
     for test, why in result.skipped:
-        print(f"skipped: {test}: {why}")
+        print(f"not run: {test}: {why}")
     # (a test can fail in more than one of its cases)
     failed = {str(getattr(test, "test_case", test)) for test, _ in result.failures + result.errors}
     failed.update(str(test) for test in result.unexpectedSuccesses)

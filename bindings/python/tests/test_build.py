@@ -24,7 +24,10 @@ if not (PROJECT / "build_wheel.py").is_file():
 with mock.patch.object(sys, "path", [str(PROJECT), *sys.path]):
     import build_wheel
 
-BASE = "cargo_manifest_proved-0.1.0"
+VERSION = re.findall(r'^version = "(.*)"$', (PROJECT / "pyproject.toml").read_text(encoding="utf-8"), re.M)[0]
+BASE = f"cargo_manifest_proved-{VERSION}"
+# the beginning of a library for Linux, up to where it names its processor
+HEAD = b"\x7fELF\x02\x01\x01" + bytes(11)
 SHOWN = "import cargo_manifest\nprint(cargo_manifest.__file__, cargo_manifest.canonical(\"name = 'a'\"), end='')"
 
 
@@ -82,26 +85,34 @@ class Wheel(Built):
 
     def test_name_and_tag(self) -> None:
         wheel = self.wheel()
-        tag = "py3-none-manylinux_2_17_x86_64"
-        self.assertEqual(wheel.name, f"{BASE}-{tag}.whl")
+        self.assertEqual(wheel.name, f"{BASE}-py3-none-manylinux_2_17_x86_64.musllinux_1_1_x86_64.whl")
         with zipfile.ZipFile(wheel) as packed:
             told = email.message_from_bytes(packed.read(f"{BASE}.dist-info/WHEEL"))
-        self.assertEqual((told["Wheel-Version"], told["Root-Is-Purelib"], told["Tag"]), ("1.0", "false", tag))
+        self.assertEqual((told["Wheel-Version"], told["Root-Is-Purelib"]), ("1.0", "false"))
+        tags = ["py3-none-manylinux_2_17_x86_64", "py3-none-musllinux_1_1_x86_64"]
+        self.assertEqual(told.get_all("Tag"), tags)
+
+    def test_taken_by_pip(self) -> None:
+        for system in ("manylinux_2_17_x86_64", "musllinux_1_1_x86_64"):
+            words = ["--platform", system, "--only-binary", ":all:", "--target", system]
+            self.install(self.wheel(f"for {system}"), *words)
+            self.assertEqual((self.room / system / "cargo_manifest" / NAME).read_bytes(), Path(LIBRARY).read_bytes())
 
     def test_tags_of_libraries(self) -> None:
-        head = b"\x7fELF\x02\x01\x01" + bytes(11) + b"\x3e\0"
         asked = {b"": "2_17", b"\0GLIBC_2.2.5\0GLIBC_2.14\0": "2_17", b"\0GLIBC_2.34\0GLIBC_2.4\0": "2_34"}
         for symbols, system in asked.items():
-            self.assertEqual(build_wheel.tag_of(head + symbols), f"py3-none-manylinux_{system}_x86_64")
-        for other in (b"", b"MZ", head[:18] + b"\xb7\0"):
-            with self.assertRaisesRegex(ValueError, "x86-64"):
-                build_wheel.tag_of(other)
+            for machine, byte in (("x86_64", b"\x3e"), ("aarch64", b"\xb7")):
+                tags = build_wheel.tags_of(HEAD + byte + b"\0" + symbols)
+                self.assertEqual(tags, [f"manylinux_{system}_{machine}", f"musllinux_1_1_{machine}"])
+        for other in (b"", b"MZ", HEAD + b"\xf3\0", HEAD[:4] + b"\x01" + HEAD[5:] + b"\x3e\0"):
+            with self.assertRaisesRegex(ValueError, "x86-64 or arm64"):
+                build_wheel.tags_of(other)
 
     def test_metadata(self) -> None:
         with zipfile.ZipFile(self.wheel()) as packed:
             told = email.message_from_string(packed.read(f"{BASE}.dist-info/METADATA").decode("utf-8"))
         readme = (PROJECT / "README.md").read_text(encoding="utf-8")
-        self.assertEqual((told["Name"], told["Version"]), ("cargo-manifest-proved", "0.1.0"))
+        self.assertEqual((told["Name"], told["Version"]), ("cargo-manifest-proved", VERSION))
         self.assertEqual((told["License-Expression"], told["Requires-Python"]), ("MIT OR Apache-2.0", ">=3.9"))
         self.assertEqual(told.get_all("License-File"), ["LICENSE-APACHE", "LICENSE-MIT"])
         self.assertEqual(told.get_payload(), readme)

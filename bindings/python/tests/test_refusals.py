@@ -167,6 +167,23 @@ class OfDepthAndLength(Refused):
     # brackets that are open at one place, dots in a row, and a header and a key that make 129 tables in one another
     DEEP = ("a = " + "[" * 510, "a" + ".a" * 170 + " = 1", "[a" + ".a" * 79 + "]\na" + ".a" * 49 + " = 1")
 
+    # 80 arrays, inline tables, or both by turns
+    NESTED = (("[" * 80, "]" * 80), ("{a = " * 80, "}" * 80), ("[{a = " * 40, "}]" * 40))
+
+    def test_what_the_reader_of_a_text_does_not_read(self) -> None:
+        for begins, ends in self.NESTED:
+            self.one_more_is_no_toml(f"x = {begins}1{ends}", f"x = [{begins}1{ends}]")
+        key = ".".join(["x"] * 80)
+        self.one_more_is_no_toml(f"{key} = 1", f"x.{key} = 1")
+
+    def one_more_is_no_toml(self, text: str, longer: str) -> None:
+        """A text in metadata is read, and the longer one is refused as no TOML."""
+        head = f"{PACKAGE}[package.metadata]\n"
+        self.assertIn("metadata", canonical(head + text))
+        with self.assertRaises(ManifestError) as caught:
+            canonical(head + longer)
+        self.assertIs(caught.exception.cause, Cause.NO_TOML)
+
     def test_what_nests_too_deep(self) -> None:
         cause, line = Cause.TOO_DEEP, "nested too deep: the limit is 128 arrays and tables within one another"
         for text in self.DEEP:

@@ -50,9 +50,7 @@ macro_rules! of_toml {
                         let text = datetime.to_string();
                         text.parse().map_or(::$toml::Value::String(text), ::$toml::Value::Datetime)
                     }
-                    Value::Array(items) => {
-                        ::$toml::Value::Array(items.into_iter().map(::$toml::Value::from).collect())
-                    }
+                    Value::Array(items) => ::$toml::Value::Array(items.into_iter().map(::$toml::Value::from).collect()),
                     Value::Table(members) => ::$toml::Value::Table(
                         members.into_iter().map(|(key, value)| (key, ::$toml::Value::from(value))).collect(),
                     ),

@@ -172,7 +172,8 @@ fn a_text_that_is_not_a_choice_has_the_choices() {
     ];
     let wanted = wanted.map(|(steps, choices)| fault(steps, Cause::NotAChoice, choices));
     assert_eq!(faults(text).unwrap(), wanted);
-    let words = ["none", "actively-developed", "passively-maintained", "as-is", "experimental", "looking-for-maintainer"];
+    let words =
+        ["none", "actively-developed", "passively-maintained", "as-is", "experimental", "looking-for-maintainer"];
     let status = [&words[..], &["deprecated"]].concat();
     assert_eq!(ignored(text).unwrap(), [fault(&["badges", "maintenance", "status"], Cause::NotAChoice, &status)]);
 }
@@ -191,7 +192,8 @@ fn what_is_found_is_no_longer_than_some_times_the_document() {
     assert_eq!(keys[0], path(&["target", &long, "a0"]));
 
     let floats = "0.5, ".repeat(20_000);
-    let text = format!("[package]\nname = 'p'\n[profile.a.package{}]\na{} = [{floats}]", ".a".repeat(75), ".a".repeat(23));
+    let text =
+        format!("[package]\nname = 'p'\n[profile.a.package{}]\na{} = [{floats}]", ".a".repeat(75), ".a".repeat(23));
     let found = AtMost(4 * text.len()).findings(text.as_bytes()).unwrap();
     assert_eq!((found.len(), faults(text.as_bytes()).unwrap().len()), (20_000, 20_000));
     let Some(Finding::Fault(last)) = found.last() else { panic!() };
@@ -231,7 +233,10 @@ fn a_float_in_metadata() {
         assert!(text.parse::<Manifest>().is_ok());
     }
     let text = b"package.name = 'p'\n[workspace]\nmetadata = inf\n[profile.metadata]\ndebug = 0.5";
-    assert_eq!(lines(&faults(text).unwrap()), "invalid type for `profile.metadata.debug`: expected a value without a float\n");
+    assert_eq!(
+        lines(&faults(text).unwrap()),
+        "invalid type for `profile.metadata.debug`: expected a value without a float\n"
+    );
 }
 
 /// There are faults exactly where a text is refused, and the first one is that with which it is refused. Where there is none,

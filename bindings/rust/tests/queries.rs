@@ -150,7 +150,10 @@ fn documents_as_values() {
     let text = "a = [0.5, 1979-05-27]\n[[b.c]]\nd = 'x'\n[[b.c]]\n[e]\n";
     let value: Value = text.parse().unwrap();
     assert_eq!((value["a"][0].as_float(), value["b"]["c"][0]["d"].as_str()), (Some(0.5), Some("x")));
-    assert_eq!((value["b"]["c"].as_array().map(Vec::len), value["e"].as_table().map(BTreeMap::len)), (Some(2), Some(0)));
+    assert_eq!(
+        (value["b"]["c"].as_array().map(Vec::len), value["e"].as_table().map(BTreeMap::len)),
+        (Some(2), Some(0))
+    );
     // (as `toml` 0.5 prints it)
     assert_eq!(value.to_string(), "a = [0.5, 1979-05-27]\n[[b.c]]\nd = \"x\"\n\n[[b.c]]\n\n[e]\n");
     assert_eq!("".parse(), Ok(Value::Table(BTreeMap::new())));

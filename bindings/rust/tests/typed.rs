@@ -248,10 +248,7 @@ fn errors_say_what_is_wrong_where_and_what_is_expected() {
         ("", "missing field `name`"),
         ("[project]\nname = 1", "invalid type for `project.name`: expected a string"),
         ("[package]\n", "missing field `package.name`"),
-        (
-            "[package]\nname = 'a'\nedition = '2022'",
-            "`package.edition` is none of `2015`, `2018`, `2021`, `2024`",
-        ),
+        ("[package]\nname = 'a'\nedition = '2022'", "`package.edition` is none of `2015`, `2018`, `2021`, `2024`"),
         (
             "[package]\nname = 'a'\n[profile.x]\ncodegen-units = 65536",
             "invalid value for `profile.x.codegen-units`: expected an integer from 0 to 65535",
@@ -260,10 +257,7 @@ fn errors_say_what_is_wrong_where_and_what_is_expected() {
             "[package]\nname = 'a'\n[profile.x]\ndebug = [1.5]",
             "invalid type for `profile.x.debug[0]`: expected a value without a float",
         ),
-        (
-            "[package]\nname = 'a'\n[lints]\nworkspace = false",
-            "invalid value for `lints.workspace`: expected `true`",
-        ),
+        ("[package]\nname = 'a'\n[lints]\nworkspace = false", "invalid value for `lints.workspace`: expected `true`"),
         (
             "[package]\nname = 'a'\n[target.'cfg(unix)'.dependencies]\n'b c' = 1",
             "invalid type for `target.\"cfg(unix)\".dependencies.\"b c\"`: expected a string or a table",

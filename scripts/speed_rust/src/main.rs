@@ -33,10 +33,7 @@ impl Listings {
 
 impl AbstractFilesystem for Listings {
     fn file_names_in<T: AsRef<Path>>(&self, path: T) -> io::Result<BTreeSet<Box<str>>> {
-        let names = path
-            .as_ref()
-            .to_str()
-            .and_then(|path| self.listed.get(path));
+        let names = path.as_ref().to_str().and_then(|path| self.listed.get(path));
         names.cloned().ok_or_else(|| io::ErrorKind::NotFound.into())
     }
 }
@@ -45,12 +42,8 @@ impl AbstractFilesystem for Listings {
 type Step<'a> = Box<dyn Fn() -> usize + 'a>;
 
 fn toml_alone(bytes: &[u8]) -> usize {
-    let read = std::str::from_utf8(bytes)
-        .ok()
-        .and_then(|text| toml::from_str::<Value>(text).ok());
-    read.as_ref()
-        .and_then(Value::as_table)
-        .map_or(0, |table| table.len())
+    let read = std::str::from_utf8(bytes).ok().and_then(|text| toml::from_str::<Value>(text).ok());
+    read.as_ref().and_then(Value::as_table).map_or(0, |table| table.len())
 }
 
 fn read(bytes: &[u8]) -> usize {
@@ -62,16 +55,12 @@ fn text(manifest: &Manifest, at_once: bool) -> Option<String> {
     if at_once {
         toml::to_string(manifest).ok()
     } else {
-        Value::try_from(manifest)
-            .ok()
-            .and_then(|value| toml::to_string(&value).ok())
+        Value::try_from(manifest).ok().and_then(|value| toml::to_string(&value).ok())
     }
 }
 
 fn rewrite(bytes: &[u8], at_once: bool) -> usize {
-    let text = Manifest::from_slice(bytes)
-        .ok()
-        .and_then(|manifest| text(&manifest, at_once));
+    let text = Manifest::from_slice(bytes).ok().and_then(|manifest| text(&manifest, at_once));
     text.map_or(0, |text| text.len())
 }
 
@@ -126,14 +115,8 @@ fn time(file: &str, calls: u32, turns: usize) -> Option<()> {
 fn time_completion(file: &str, names: &str, calls: u32, turns: usize) -> Option<()> {
     let (bytes, names) = (fs::read(file).ok()?, fs::read(names).ok()?);
     let steps: [(&str, Step); 2] = [
-        (
-            "prepared",
-            Box::new(|| complete(black_box(&bytes), &names, false).unwrap_or(0)),
-        ),
-        (
-            "completed",
-            Box::new(|| complete(black_box(&bytes), &names, true).unwrap_or(0)),
-        ),
+        ("prepared", Box::new(|| complete(black_box(&bytes), &names, false).unwrap_or(0))),
+        ("completed", Box::new(|| complete(black_box(&bytes), &names, true).unwrap_or(0))),
     ];
     take(&steps, calls, turns)
 }
@@ -162,9 +145,7 @@ fn once(step: &str, calls: u32, file: &str, names: Option<&str>) -> Option<()> {
 /// The most memory that this process has had, in kB.
 fn peak() -> Option<u64> {
     let status = fs::read_to_string("/proc/self/status").ok()?;
-    let line = status
-        .lines()
-        .find_map(|line| line.strip_prefix("VmHWM:"))?;
+    let line = status.lines().find_map(|line| line.strip_prefix("VmHWM:"))?;
     line.trim().strip_suffix(" kB")?.parse().ok()
 }
 
@@ -174,9 +155,7 @@ fn main() -> ExitCode {
     let number = |word: &str| word.parse().unwrap_or(0).clamp(1, 1_000_000);
     let ran = match words[..] {
         ["time", file, calls, turns] => time(file, number(calls), number(turns) as usize),
-        ["complete", file, names, calls, turns] => {
-            time_completion(file, names, number(calls), number(turns) as usize)
-        }
+        ["complete", file, names, calls, turns] => time_completion(file, names, number(calls), number(turns) as usize),
         ["once", step, calls, file] => once(step, number(calls), file, None),
         ["once", step, calls, file, names] => once(step, number(calls), file, Some(names)),
         _ => None,

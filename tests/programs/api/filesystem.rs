@@ -36,9 +36,13 @@ pub fn lines(folder: &Path) -> Vec<String> {
         Manifest::from_path(path.to_str().expect("UTF-8")).expect("a manifest"),
         Manifest::from_path(path.clone()).expect("a manifest"),
         Manifest::<Value>::from_path_with_metadata(&path).expect("a manifest"),
-        completed(Manifest::from_slice(TEXT.as_bytes()).expect("a manifest"), &Noted(Filesystem::new(folder))).expect("a folder"),
-        completed(Manifest::<Value>::from_slice_with_metadata(TEXT.as_bytes()).expect("a manifest"), &Filesystem::new(folder))
+        completed(Manifest::from_slice(TEXT.as_bytes()).expect("a manifest"), &Noted(Filesystem::new(folder)))
             .expect("a folder"),
+        completed(
+            Manifest::<Value>::from_slice_with_metadata(TEXT.as_bytes()).expect("a manifest"),
+            &Filesystem::new(folder),
+        )
+        .expect("a folder"),
     ];
     let names = Filesystem::new(folder).file_names_in(Path::new("src")).expect("a folder");
     let missing = Manifest::from_path(folder.join("no/Cargo.toml"));

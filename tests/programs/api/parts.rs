@@ -1,8 +1,12 @@
 //! Each type of a manifest: made by all of its fields or by each of its variants, and what it answers of itself.
 
-use cargo_manifest::{Badge, Badges, Dependency, DependencyDetail, DepsSet, Edition, FeatureSet, InheritedDependencyDetail, Lint};
+use cargo_manifest::{
+    Badge, Badges, Dependency, DependencyDetail, DepsSet, Edition, FeatureSet, InheritedDependencyDetail, Lint,
+};
 use cargo_manifest::{LintConfig, LintLevel, LintsSet, Maintenance, MaintenanceStatus, Manifest, MaybeInherited};
-use cargo_manifest::{MaybeInheritedLintsSet, Package, PatchSet, Product, Profile, Profiles, Publish, Resolver, StringOrBool};
+use cargo_manifest::{
+    MaybeInheritedLintsSet, Package, PatchSet, Product, Profile, Profiles, Publish, Resolver, StringOrBool,
+};
 use cargo_manifest::{StripSetting, Target, TargetDepsSet, ToolLintsSet, True, Value, Workspace, WorkspacePackage};
 use std::collections::BTreeMap;
 
@@ -33,8 +37,12 @@ fn detail() -> DependencyDetail {
 
 fn dependencies() -> DepsSet {
     // (a pattern or a literal of the inherited one ends with `..`: DIFFERENCES.md says why)
-    let inherited =
-        InheritedDependencyDetail { workspace: True, features: Some(texts(&["g"])), optional: None, ..Default::default() };
+    let inherited = InheritedDependencyDetail {
+        workspace: True,
+        features: Some(texts(&["g"])),
+        optional: None,
+        ..Default::default()
+    };
     BTreeMap::from([
         ("a".to_string(), Dependency::Simple("1".to_string())),
         ("b".to_string(), Dependency::Detailed(detail())),
@@ -184,7 +192,8 @@ fn workspace() -> Workspace<u8> {
 
 /// A manifest with both metadata of types of their own.
 fn manifest() -> Manifest<&'static str, u8> {
-    let target = Target { dependencies: dependencies(), dev_dependencies: DepsSet::new(), build_dependencies: DepsSet::new() };
+    let target =
+        Target { dependencies: dependencies(), dev_dependencies: DepsSet::new(), build_dependencies: DepsSet::new() };
     let targets: TargetDepsSet = BTreeMap::from([("cfg(unix)".to_string(), target)]);
     let features: FeatureSet = BTreeMap::from([("default".to_string(), texts(&["f"]))]);
     let patch: PatchSet = BTreeMap::from([("crates-io".to_string(), dependencies())]);
@@ -250,16 +259,23 @@ fn answers() -> Vec<String> {
         let kind = match dependency {
             Dependency::Simple(version) => version.clone(),
             Dependency::Detailed(DependencyDetail { path, .. }) => format!("{path:?}"),
-            Dependency::Inherited(InheritedDependencyDetail { workspace: True, features, .. }) => format!("{features:?}"),
+            Dependency::Inherited(InheritedDependencyDetail { workspace: True, features, .. }) => {
+                format!("{features:?}")
+            }
         };
         let (req, features, optional) = (dependency.req(), dependency.req_features(), dependency.optional());
         let (package, git, detail) = (dependency.package(), dependency.git(), dependency.detail());
         let simple = dependency.clone().simplify();
-        format!("{kind} {req} {features:?} {optional} {package:?} {git:?} {detail:?} {} {simple:?}", dependency.is_crates_io())
+        format!(
+            "{kind} {req} {features:?} {optional} {package:?} {git:?} {detail:?} {} {simple:?}",
+            dependency.is_crates_io()
+        )
     };
     let of_lint = |lint: &Lint| match lint {
         Lint::Level(level) => format!("{level:?} {:?} {}", lint.level(), lint.priority()),
-        Lint::Config(LintConfig { level, priority }) => format!("{level:?} {priority} {:?} {}", lint.level(), lint.priority()),
+        Lint::Config(LintConfig { level, priority }) => {
+            format!("{level:?} {priority} {:?} {}", lint.level(), lint.priority())
+        }
     };
     let mut lines: Vec<String> = all.values().map(of).collect();
     lines.extend(lints()["rust"].values().map(of_lint));
@@ -267,7 +283,11 @@ fn answers() -> Vec<String> {
     let version: MaybeInherited<&str> = own.version();
     let flags = (Publish::Flag(true) == true, true == Publish::Registry(vec![]), Publish::default() == false);
     let inherited = MaybeInheritedLintsSet { workspace: Some(True), lints: LintsSet::new() }.is_inherited();
-    lines.push(format!("{version:?} {:?} {flags:?} {inherited} {}", package().version(), badges() == Badges::default()));
+    lines.push(format!(
+        "{version:?} {:?} {flags:?} {inherited} {}",
+        package().version(),
+        badges() == Badges::default()
+    ));
     lines
 }
 

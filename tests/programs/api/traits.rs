@@ -99,8 +99,10 @@ pub fn lines() -> Vec<String> {
     fault::<Error>();
     let copied = Maintenance::default();
     let (one, other) = (copied, copied);
-    lines.extend(each!(default: Manifest, WorkspacePackage, Profiles, Product, DependencyDetail, Publish, Badges, Maintenance,
-        MaintenanceStatus, Edition, Resolver, True));
+    lines.extend(
+        each!(default: Manifest, WorkspacePackage, Profiles, Product, DependencyDetail, Publish, Badges, Maintenance,
+        MaintenanceStatus, Edition, Resolver, True),
+    );
     lines.push(format!("{} {:?}", one == other, StripSetting::None.cmp(&StripSetting::Symbols) == Ordering::Less));
     lines.push(of_metadata());
     lines.push(constants());

@@ -17,7 +17,8 @@ fn kind(value: &Value) -> &'static str {
 }
 
 fn made() -> Vec<Value> {
-    let datetime = "a = 1979-05-27".parse::<Value>().expect("a document")["a"].as_datetime().expect("a date-time").clone();
+    let datetime =
+        "a = 1979-05-27".parse::<Value>().expect("a document")["a"].as_datetime().expect("a date-time").clone();
     vec![
         Value::from("s"),
         Value::from("s".to_string()),
@@ -66,7 +67,8 @@ fn answers(value: &Value) -> String {
 fn places() -> String {
     let mut value: Value = "a = [1, 2]\n[b]\nc = 'x'\n[[d]]\ne = 1\n".parse().expect("a document");
     let (key, place) = ("b".to_string(), 1_usize);
-    let asked = (value.get("b").is_some(), value.get(&key).is_some(), value.get(0).is_none(), value["a"][place].clone());
+    let asked =
+        (value.get("b").is_some(), value.get(&key).is_some(), value.get(0).is_none(), value["a"][place].clone());
     value["b"]["c"] = Value::from(2);
     *value.get_mut("a").and_then(|array| array.get_mut(0)).expect("an item") = Value::from("first");
     let table = value.as_table_mut().expect("a table");

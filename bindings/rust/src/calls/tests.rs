@@ -3,7 +3,9 @@
 use super::declared::{manifest_canonical, room_for, room_for_table, Answer};
 use super::folders::{Folder, Slice};
 use super::heap::refusals::{blocks, with_refused};
-use super::{canonical, findings, resolved_completed, resolved_completed_table, table, ListingError, Listings, Refusal};
+use super::{
+    canonical, findings, resolved_completed, resolved_completed_table, table, ListingError, Listings, Refusal,
+};
 use crate::value::{decoded, Value};
 use std::fmt::Debug;
 use std::mem::{offset_of, size_of};

@@ -78,7 +78,8 @@ fn a_tree_is_read_in_its_order() {
 
 #[test]
 fn the_example_of_the_page() {
-    let bytes = b"\x07\x01\x07\x03\x02\x03\x01\x07package\x07\x02\x07\x03\x02\x03\x01\x04name\x07\x01\x07\x02\x02\x00\x02\x01\
+    let bytes =
+        b"\x07\x01\x07\x03\x02\x03\x01\x07package\x07\x02\x07\x03\x02\x03\x01\x04name\x07\x01\x07\x02\x02\x00\x02\x01\
                   \x07\x02\x02\x02\x01\x06edtion";
     let lines: Vec<_> = decoded(bytes).expect("a tree").iter().map(ToString::to_string).collect();
     assert_eq!(lines, ["invalid type for `package.name`: expected a string", "unused manifest key: package.edtion"]);

@@ -238,7 +238,9 @@ impl SerializeMap for Members {
     fn serialize_key<T: Serialize + ?Sized>(&mut self, key: &T) -> Result<(), ValueError> {
         self.key = match written(key)? {
             Value::String(key) => key,
-            other => return Err(ValueError::new(format!("invalid type of a key: {}, expected a string", other.type_str()))),
+            other => {
+                return Err(ValueError::new(format!("invalid type of a key: {}, expected a string", other.type_str())))
+            }
         };
         Ok(())
     }

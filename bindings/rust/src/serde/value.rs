@@ -92,7 +92,9 @@ impl<'de> Visitor<'de> for ValueVisitor {
 
     fn visit_u64<E: ::serde::de::Error>(self, value: u64) -> Result<Value, E> {
         let number = i64::try_from(value);
-        number.map(Value::Integer).map_err(|_| E::custom(format!("invalid value: integer `{value}`, expected one of 64 bits")))
+        number
+            .map(Value::Integer)
+            .map_err(|_| E::custom(format!("invalid value: integer `{value}`, expected one of 64 bits")))
     }
 
     fn visit_f64<E>(self, value: f64) -> Result<Value, E> {
