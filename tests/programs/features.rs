@@ -6,6 +6,7 @@
 use cargo_manifest::*;
 use serde::de::DeserializeOwned;
 use serde::{Deserialize, Serialize};
+use std::collections::BTreeMap;
 use std::env;
 use std::fs;
 use std::path::PathBuf;
@@ -124,6 +125,79 @@ fn written() -> Vec<String> {
     ]
 }
 
+/// Types of one's own that hold those of the crate in each way that serde has.
+#[derive(Debug, Deserialize, Serialize)]
+struct Flat {
+    #[serde(flatten)]
+    manifest: Manifest,
+    extra: Option<i32>,
+}
+
+#[derive(Debug, Deserialize, Serialize)]
+#[serde(tag = "kind")]
+enum Tagged {
+    Product(Product),
+    Config(LintConfig),
+}
+
+#[derive(Debug, Deserialize, Serialize)]
+#[serde(untagged)]
+enum Either {
+    Number(i32),
+    Manifest(Box<Manifest>),
+}
+
+#[derive(Debug, Deserialize, Serialize)]
+struct Parts {
+    #[serde(flatten)]
+    detail: DependencyDetail,
+    edition: Option<Edition>,
+    maybe: MaybeInherited<Edition>,
+    #[serde(flatten)]
+    rest: BTreeMap<String, Value>,
+}
+
+fn shapes() -> Vec<String> {
+    fn both<T: DeserializeOwned + Serialize + std::fmt::Debug>(text: &str) -> String {
+        match toml::from_str::<T>(text) {
+            Ok(read) => format!("{read:?} {:?}", toml::to_string(&read).map_err(|_| "refused")),
+            Err(_) => "refused".to_string(),
+        }
+    }
+    vec![
+        both::<Flat>("extra = 1\n[package]\nname = 'a'\n[dependencies]\nb = '1'\n"),
+        both::<Flat>("[lib]\nname = 1\n"),
+        both::<Tagged>("kind = 'Product'\nname = 'a'\n"),
+        both::<Tagged>("kind = 'Config'\nlevel = 'deny'\n"),
+        both::<Tagged>("kind = 'Config'\nlevel = 'all'\n"),
+        both::<Either>("[package]\nname = 'a'\n"),
+        both::<Parts>("version = '1'\nedition = '2021'\nmaybe = '2018'\nx = { y = 1.5 }\n"),
+        both::<Parts>("maybe = { workspace = true }\n"),
+        both::<BTreeMap<String, Target>>("x = {}\n"),
+        both::<Workspace<String>>("metadata = 'x'\nmembers = ['m']\n"),
+    ]
+}
+
+/// Values of all kinds, as types of Rust and from them.
+fn kinds() -> Vec<String> {
+    fn read<T: DeserializeOwned + std::fmt::Debug>(value: impl Into<Value>) -> String {
+        value.into().try_into::<T>().map_or("refused".to_string(), |read| format!("{read:?}"))
+    }
+    fn made<T: Serialize>(of: T) -> String {
+        Value::try_from(of).map_or("refused".to_string(), |made| format!("{made:?}"))
+    }
+    vec![
+        [read::<u8>(3), read::<u8>(300), read::<Option<u8>>(3), read::<f64>(1), read::<i64>(1.0), read::<char>("x")]
+            .join(" "),
+        [read::<Edition>("2021"), read::<Resolver>("2"), read::<True>(true), read::<True>(false)].join(" "),
+        [read::<StringOrBool>(true), read::<StripSetting>(true), read::<StripSetting>("all")].join(" "),
+        [read::<Vec<(i64, String)>>(vec![vec![1]]), read::<(i64, i64)>(vec![1, 2]), read::<()>(1)].join(" "),
+        [made(1.5_f32), made("x"), made('c'), made(b"ab"), made(Some(1)), made(None::<u8>)].join(" "),
+        [made(u64::MAX), made(()), made((1, "a")), made(BTreeMap::from([(1, 2)])), made(&[Some(1), None][..])]
+            .join(" "),
+    ]
+}
+
 fn main() {
     traits();
     let folder = PathBuf::from(env::args().nth(1).expect("usage: features FOLDER"));
@@ -131,5 +205,7 @@ fn main() {
     lines.extend(values());
     lines.extend(refused());
     lines.extend(written());
+    lines.extend(shapes());
+    lines.extend(kinds());
     lines.iter().for_each(|line| println!("{line:?}"));
 }

@@ -1,8 +1,9 @@
 //! The features `serde` and `toml`: metadata of types of one's own, and values and errors of `toml`.
 #![cfg(all(feature = "serde", feature = "toml"))]
 
-use cargo_manifest::{Cause, Error, Manifest, Package, Value};
+use cargo_manifest::{Cause, DependencyDetail, Error, Manifest, Package, Value};
 use serde::{Deserialize, Serialize};
+use std::collections::BTreeMap;
 
 #[derive(Debug, PartialEq, Deserialize, Serialize)]
 struct Own {
@@ -49,18 +50,27 @@ fn a_float_is_written_behind_the_text() {
     assert_eq!(toml::from_str::<Manifest<Own>>(&text).unwrap(), manifest);
 }
 
+const TEXT: &str = "a = 1979-05-27T07:32:00.5-07:00\nb = [1, 2.5, true, 'x']\nc = { d = 07:32:00 }\ne = 1979-05-27\n";
+
 #[test]
 fn values_of_toml() {
-    let text = "a = 1979-05-27T07:32:00.5-07:00\nb = [1, 2.5, true, 'x']\nc = { d = 07:32:00 }\ne = 1979-05-27\n";
-    let of_toml: toml::Value = toml::from_str(text).unwrap();
+    let of_toml: toml::Value = toml::from_str(TEXT).unwrap();
     let value = Value::from(of_toml.clone());
-    assert_eq!(value, text.parse().unwrap());
+    assert_eq!(value, TEXT.parse().unwrap());
     assert_eq!(toml::Value::from(value.clone()), of_toml);
     assert_eq!(toml::from_str::<Value>(&value.to_string()).unwrap(), value);
-    // by serde, as for the other versions of `toml`
-    assert_eq!(toml::Value::try_from(&value).unwrap(), of_toml);
-    assert_eq!(Value::try_from(&of_toml).unwrap(), value);
     assert_eq!(toml::from_str::<toml::Value>(&toml::to_string(&value).unwrap()).unwrap(), of_toml);
+}
+
+/// As with the versions of `toml` that no feature names.
+#[test]
+fn values_of_toml_by_serde() {
+    let of_toml: toml::Value = toml::from_str(TEXT).unwrap();
+    assert_eq!(Value::try_from(&of_toml).unwrap(), TEXT.parse().unwrap());
+    // (some versions of `toml` make tables of date-times)
+    let value: Value = "b = [1, 2.5, true, 'x']\n[c]\nd = -1\n".parse().unwrap();
+    let of_toml: toml::Value = toml::from_str("c = { d = -1 }\nb = [1, 2.5, true, 'x']\n").unwrap();
+    assert_eq!(toml::Value::try_from(&value).unwrap(), of_toml);
 }
 
 #[test]
@@ -76,6 +86,22 @@ fn what_is_nothing_is_no_key_of_toml() {
     assert_eq!(toml::from_str::<Manifest>(&written).unwrap(), manifest);
     let value = toml::Value::try_from(&manifest).unwrap();
     assert_eq!(value["profile"], toml::from_str::<toml::Value>("dev = { lto = true, package = {} }").unwrap());
+}
+
+#[derive(Deserialize)]
+struct More {
+    #[serde(flatten)]
+    detail: DependencyDetail,
+    #[serde(flatten)]
+    rest: BTreeMap<String, Value>,
+}
+
+/// A type that is flattened into another one takes its keys, by both spellings, and leaves the others.
+#[test]
+fn keys_of_a_flattened_type() {
+    let more: More = toml::from_str("version = '1'\ndefault_features = false\nx = 1\n").unwrap();
+    assert_eq!((more.detail.version.as_deref(), more.detail.default_features), (Some("1"), Some(false)));
+    assert_eq!(more.rest, BTreeMap::from([("x".to_owned(), Value::Integer(1))]));
 }
 
 /// Errors of `toml` are the crate's errors, by `?`.

@@ -147,8 +147,8 @@
 //!   0.9: the one that `Cargo.lock` has, or else the newest (`cargo update toml@0.9.8 --precise 0.5.11` changes it);
 //! - `toml_1`: the same for `toml` 1.
 //!
-//! By serde a value goes to every version of `toml`, and comes from it: `toml::Value::try_from(&value)?` and
-//! `Value::try_from(&of_toml)?`.
+//! By serde a value goes to every version of `toml`, and comes from it: `toml::Value::try_from(&value)?` (which makes tables of
+//! date-times in `toml` 0.8, of its own as well) and `Value::try_from(&of_toml)?`.
 
 // (a variant in a box would be another type than the crate cargo-manifest has)
 #![allow(clippy::large_enum_variant)]

@@ -37,6 +37,12 @@ pub(crate) trait Form: Sized {
     /// What is expected.
     fn expected() -> Expected;
 
+    /// The name of a table that has these keys and no others, by all of their spellings.
+    #[cfg(feature = "serde")]
+    fn keys() -> Option<(&'static str, &'static [&'static str])> {
+        None
+    }
+
     /// What is expected at a path below, if that is known.
     fn expected_at(path: &[Step]) -> Option<Expected> {
         path.is_empty().then(Self::expected)

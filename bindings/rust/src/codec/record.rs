@@ -61,6 +61,12 @@ macro_rules! record {
                 $crate::codec::Expected::table(stringify!($name))
             }
 
+            #[cfg(feature = "serde")]
+            fn keys() -> Option<(&'static str, &'static [&'static str])> {
+                const KEYS: &[&str] = &[$($key, $($second,)?)+];
+                $crate::codec::others_of!(keys (stringify!($name), KEYS) $($other)?)
+            }
+
             fn expected_at(path: &[$crate::codec::Step]) -> Option<$crate::codec::Expected> {
                 let [$crate::codec::Step::Key(key), path @ ..] = path else {
                     return path.is_empty().then(Self::expected);
@@ -200,6 +206,13 @@ pub(crate) use row;
 
 /// What is done with a key that no row has.
 macro_rules! others_of {
+    (keys $keys:tt) => {
+        Some($keys)
+    };
+    (keys ($name:expr, $keys:ident) $other:ty) => {{
+        let _ = $keys;
+        None
+    }};
     (expected $path:ident) => {
         None
     };

@@ -1,5 +1,6 @@
 //! The types of a manifest.
 
+use super::value::ValueVisitor;
 use super::ValueError;
 use crate::codec::{read, Aside, Form};
 use crate::value::Value;
@@ -13,7 +14,11 @@ use ::serde::{Deserialize, Serialize};
 
 /// The value that is read next, as a type of a manifest, with the metadata that was met in it.
 fn read_form<'de, T: Form, D: Deserializer<'de>>(deserializer: D) -> Result<(T, Aside), D::Error> {
-    let value = Value::deserialize(deserializer)?;
+    let value = match T::keys() {
+        // (so the keys are taken out of what else is flattened into one type)
+        Some((name, keys)) => deserializer.deserialize_struct(name, keys, ValueVisitor("a table"))?,
+        None => Value::deserialize(deserializer)?,
+    };
     let mut aside = Aside::default();
     let read = T::read(value, &mut aside).map_err(|misfit| D::Error::custom(ParseError::from(misfit)))?;
     Ok((read, aside))

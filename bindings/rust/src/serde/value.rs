@@ -58,13 +58,13 @@ fn in_order(members: &Map) -> impl Iterator<Item = (&String, &Value)> {
 
 impl<'de> Deserialize<'de> for Value {
     fn deserialize<D: Deserializer<'de>>(deserializer: D) -> Result<Value, D::Error> {
-        deserializer.deserialize_any(ValueVisitor)
+        deserializer.deserialize_any(ValueVisitor("a value of TOML"))
     }
 }
 
 impl<'de> Deserialize<'de> for Datetime {
     fn deserialize<D: Deserializer<'de>>(deserializer: D) -> Result<Datetime, D::Error> {
-        match deserializer.deserialize_struct(NAME, &[FIELD], ValueVisitor)? {
+        match deserializer.deserialize_struct(NAME, &[FIELD], ValueVisitor("a date-time"))? {
             Value::Datetime(datetime) => Ok(datetime),
             other => {
                 Err(::serde::de::Error::custom(format!("invalid type: {}, expected a date-time", other.type_str())))
@@ -73,13 +73,14 @@ impl<'de> Deserialize<'de> for Datetime {
     }
 }
 
-struct ValueVisitor;
+/// Takes any value. The text says what is expected where the format finds out by itself that it is another.
+pub(super) struct ValueVisitor(pub(super) &'static str);
 
 impl<'de> Visitor<'de> for ValueVisitor {
     type Value = Value;
 
     fn expecting(&self, f: &mut fmt::Formatter<'_>) -> fmt::Result {
-        f.write_str("a value of TOML")
+        f.write_str(self.0)
     }
 
     fn visit_bool<E>(self, value: bool) -> Result<Value, E> {
