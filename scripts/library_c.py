@@ -14,9 +14,9 @@ from wanted import CAUSES, differs, wanted_of, wanted_of_manifests
 C = BINDINGS / "c"
 STANDARDS = {"c": ["c99", "c11", "c17"], "c++": ["c++98", "c++11", "c++17"]}
 COMPILERS = {"c": ["gcc", "clang"], "c++": ["g++", "clang++"]}
-# the programs of bindings/c: those that call the library alone, and those of the heap functions that an archive has
-CALLERS = ("calls", "canonical", "listed")
-OF_HEAP = ("own_heap", "blocks")
+# the programs of bindings/c: all of them, and those that are tried over a shared library, which has no heap functions to call
+PROGRAMS = ("calls", "canonical", "listed", "own_heap", "blocks")
+CALLERS = ("calls", "canonical")
 LOADED = TOP / "scripts" / "loaded.c"
 SONAME = "libcargo_manifest.so.3"
 ARM_COMPILER = "aarch64-linux-gnu-gcc"
@@ -42,9 +42,9 @@ def check_header():
                 told(f"the header with other places, as {compiler} reads {standard}", "it is read" if is_read else None)
 
 
-def built(compiler, library, room, *more, names=(*CALLERS, *OF_HEAP)):
-    """Compiles programs of bindings/c over the library alone, and says whether it could. The heap functions, which are in it,
-    are compiled too."""
+def built(compiler, library, room, *more, names=PROGRAMS):
+    """Compiles programs of bindings/c over a library alone, and says whether it could. The heap functions, which are in it, are
+    compiled too."""
     ended(f"heap.c, by {compiler}", run([compiler, *FLAGS, "-c", "-o", os.devnull, C / "heap.c"]))
     for name in names:
         words = [compiler, *FLAGS, *more, "-o", room / name, C / f"{name}.c", library, "-pthread"]
@@ -91,18 +91,13 @@ def replay_folders(name, words, room):
     replay(cases)
 
 
-def run_callers(name, runner, room):
-    """Runs the programs that call the library and nothing else of it, by a runner or by themselves."""
-    counted(f"calls from {name}", run([*runner, room / "calls"]), COUNTS)
-    replay_manifests(name, [*runner, room / "canonical"])
-    replay_folders(name, [*runner, room / "listed"], room)
-
-
 def run_all(name, runner, room):
-    """Runs the programs that were built over an archive, whose heap functions can be called and replaced."""
-    run_callers(name, runner, room)
+    """Runs the programs that were built, by a runner or by themselves."""
+    counted(f"calls from {name}", run([*runner, room / "calls"]), COUNTS)
     counted(f"calls from {name} over a heap of its own", run([*runner, room / "own_heap"]), COUNTS)
     counted(f"blocks of the library's heap, from {name}", run([*runner, room / "blocks"]), COUNTS)
+    replay_manifests(name, [*runner, room / "canonical"])
+    replay_folders(name, [*runner, room / "listed"], room)
 
 
 def check_valgrind(room):
@@ -178,4 +173,7 @@ def check_arm_shared(library, room):
     check_loaded(ARM_COMPILER, emulator, library, room)
     shutil.copy(library, room / SONAME)
     if built(ARM_COMPILER, room / SONAME, room, names=CALLERS):
-        run_callers("C on aarch64, by the shared library", [*emulator, "-E", f"LD_LIBRARY_PATH={room}"], room)
+        name, runner = "C on aarch64, by the shared library", [*emulator, "-E", f"LD_LIBRARY_PATH={room}"]
+        counted(f"calls from {name}", run([*runner, room / "calls"]), COUNTS)
+        # (the stored answers are replayed over the archive, which has the same code)
+        check_example(f"the example in {name}", [*runner, room / "canonical"])

@@ -8,13 +8,15 @@ from pathlib import Path
 
 NAME = "libcargo_manifest.so"
 VARIABLE = "CARGO_MANIFEST_LIBRARY"
-PREBUILT = f"prebuilt/x86_64-unknown-linux-gnu/{NAME}"
+# the targets that come with the package, by what platform.machine() calls the processor
+TARGETS = {"x86_64": "x86_64-unknown-linux-gnu", "aarch64": "aarch64-unknown-linux-gnu"}
+PREBUILT = f"prebuilt/{TARGETS.get(platform.machine(), TARGETS['x86_64'])}/{NAME}"
 
 
 def is_for_this_machine() -> bool:
-    """Whether the library may be loaded: what comes with the package is for one machine, what is named for any."""
+    """Whether the library may be loaded: what comes with the package is for some machines, what is named for any."""
     is_named = bool(os.environ.get(VARIABLE))
-    return is_named or (sys.platform == "linux" and platform.machine() == "x86_64")
+    return is_named or (sys.platform == "linux" and platform.machine() in TARGETS)
 
 
 def packed_file(package: Path) -> Path:

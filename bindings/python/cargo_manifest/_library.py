@@ -61,7 +61,7 @@ def _loaded() -> ctypes.CDLL:
     """The library, or an ImportError that says what to do."""
     advice = f"name a {NAME} that is built for this machine by the environment variable {VARIABLE}"
     if not is_for_this_machine():
-        raise ImportError(f"the library that comes with cargo_manifest is for x86-64 Linux alone: {advice}")
+        raise ImportError(f"the library that comes with cargo_manifest is for Linux on x86-64 and on arm64 alone: {advice}")
     file = library_file(Path(__file__).resolve().parent)
     try:
         return ctypes.CDLL(str(file))

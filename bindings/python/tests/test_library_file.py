@@ -75,9 +75,9 @@ class WithoutThisLibrary(unittest.TestCase):
 
     def test_another_machine(self) -> None:
         shutil.copy(LIBRARY, self.modules / PACKAGE.name / NAME)
-        for change in ("import platform; platform.machine = lambda: 'aarch64'\n", "sys.platform = 'darwin'\n"):
+        for change in ("import platform; platform.machine = lambda: 'riscv64'\n", "sys.platform = 'darwin'\n"):
             fault = self.fault(change + SHOWN)
-            self.assertIn("x86-64 Linux", fault)
+            self.assertIn("Linux on x86-64 and on arm64", fault)
             self.assertIn(VARIABLE, fault)
             self.assertIn(LIBRARY, python(change + SHOWN, library=LIBRARY, modules=self.modules)[0])
 
