@@ -1,0 +1,49 @@
+//! Listings, as the library takes them.
+
+use super::listings::Listings;
+use super::refusal::ListingError;
+
+/// A slice that is borrowed: `struct manifest_bytes` and `struct manifest_names` of `bindings/c/cargo_manifest.h`.
+#[repr(C)]
+pub(crate) struct Slice<T> {
+    pub(crate) at: *const T,
+    pub(crate) length: usize,
+}
+
+impl<T> Slice<T> {
+    fn of(items: &[T]) -> Slice<T> {
+        Slice { at: items.as_ptr(), length: items.len() }
+    }
+}
+
+/// `struct manifest_folder`.
+#[repr(C)]
+pub(crate) struct Folder {
+    pub(crate) path: Slice<u8>,
+    pub(crate) names: Slice<Slice<u8>>,
+    pub(crate) fault: u8,
+}
+
+fn number_of(error: ListingError) -> u8 {
+    match error {
+        ListingError::NotFound => 1,
+        ListingError::OutOfMemory => 2,
+        ListingError::Other => 3,
+    }
+}
+
+/// Runs with the listings as folders. What they point to lives as long as the run.
+pub(crate) fn with_folders<T>(listings: &Listings, run: impl FnOnce(&[Folder]) -> T) -> T {
+    let entries = || listings.entries();
+    let names: Vec<Vec<Slice<u8>>> =
+        entries().map(|(_, listed)| listed.iter().flatten().map(|name| Slice::of(name.as_bytes())).collect()).collect();
+    let folders: Vec<Folder> = entries()
+        .zip(&names)
+        .map(|((path, listed), names)| Folder {
+            path: Slice::of(path.as_bytes()),
+            names: Slice::of(names),
+            fault: listed.as_ref().map_or_else(|fault| number_of(*fault), |_| 0),
+        })
+        .collect();
+    run(&folders)
+}

@@ -1,0 +1,87 @@
+//! Listings of folders, gathered before the call.
+
+use super::refusal::ListingError;
+use std::collections::{BTreeMap, BTreeSet};
+use std::fs;
+use std::io;
+use std::path::Path;
+
+/// What was found in a folder.
+type Listed = Result<BTreeSet<String>, ListingError>;
+
+/// What the folders of a manifest hold, each by its path from the folder of the manifest, with `/` between its parts, as
+/// `src/bin`; that folder itself is `.`. A path that is not among them is not there.
+///
+/// ```
+/// use cargo_manifest::calls::{completed, Listings};
+///
+/// let mut listings = Listings::new();
+/// listings.put("src", ["lib.rs"]);
+/// listings.put(".", ["Cargo.toml", "src"]);
+/// let text = completed(b"[package]\nname = 'a-b'\nedition = '2021'", &listings)?;
+/// assert!(text.contains("name = \"a_b\"\npath = \"src/lib.rs\""));
+/// # Ok::<(), cargo_manifest::calls::Refusal>(())
+/// ```
+#[derive(Clone, Debug, Default, PartialEq, Eq)]
+pub struct Listings {
+    by_path: BTreeMap<String, Listed>,
+}
+
+impl Listings {
+    /// Listings where nothing is there.
+    pub fn new() -> Listings {
+        Listings::default()
+    }
+
+    /// Puts the names of a folder, in the place of what was put at its path before.
+    pub fn put<N: Into<String>>(&mut self, path: impl Into<String>, names: impl IntoIterator<Item = N>) {
+        let names = names.into_iter().map(Into::into).collect();
+        self.by_path.insert(path.into(), Ok(names));
+    }
+
+    /// Puts the error of a folder, in the place of what was put at its path before.
+    pub fn put_error(&mut self, path: impl Into<String>, error: ListingError) {
+        self.by_path.insert(path.into(), Err(error));
+    }
+
+    /// All that a completion may ask for, from what lists a folder.
+    pub fn gather(mut list: impl FnMut(&str) -> io::Result<Vec<String>>) -> Listings {
+        let mut all = Listings::new();
+        let mut ask = |path: &str| {
+            let listed: Listed = match list(path) {
+                Ok(names) => Ok(names.into_iter().collect()),
+                Err(fault) => Err(fault.kind().into()),
+            };
+            let names: Vec<String> = listed.iter().flatten().cloned().collect();
+            all.by_path.insert(path.into(), listed);
+            names
+        };
+        ask("src");
+        for folder in ["src/bin", "examples", "tests", "benches"] {
+            for name in ask(folder) {
+                ask(&format!("{folder}/{name}"));
+            }
+        }
+        ask(".");
+        all
+    }
+
+    /// The same, from the folders below one on the disk. Names that are not UTF-8, and entries that cannot be read, are left
+    /// out.
+    pub fn of_folder(folder: &Path) -> Listings {
+        Listings::gather(|path| {
+            let entries = fs::read_dir(folder.join(path))?;
+            Ok(entries.flatten().filter_map(|entry| entry.file_name().into_string().ok()).collect())
+        })
+    }
+
+    /// How many names there are.
+    pub(crate) fn len(&self) -> usize {
+        self.by_path.values().flatten().map(BTreeSet::len).sum()
+    }
+
+    /// Each path with what was found there.
+    pub(crate) fn entries(&self) -> impl Iterator<Item = (&String, &Listed)> {
+        self.by_path.iter()
+    }
+}

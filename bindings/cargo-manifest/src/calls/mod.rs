@@ -1,0 +1,121 @@
+//! The library's calls, whose answers are texts and untyped values: what the types of this crate stand on.
+//!
+//! ```
+//! use cargo_manifest::calls;
+//!
+//! let text = calls::canonical(b"name = 'a'\nedition = '2021'")?; // an old header
+//! assert_eq!(text, "[package]\nedition = \"2021\"\nname = \"a\"\n");
+//! # Ok::<(), calls::Refusal>(())
+//! ```
+//!
+//! Nothing of a manifest is kept between calls, so each may be made from any thread, also while others run; not from a
+//! signal handler, nor from the forked child of a process that has threads. 256 KiB of stack are enough for each of them,
+//! whatever its bytes are, which is tested: what nests too deep is refused. How long an answer may be [`AtMost`] bounds.
+
+mod at_most;
+// (a call of the library takes pointers and lengths, and no compiler sees that they fit: at each call stands why they do)
+#[allow(unsafe_code)]
+mod declared;
+mod folders;
+#[cfg(test)]
+#[allow(unsafe_code)] // (it stands in the place of functions in C)
+pub(crate) mod heap;
+mod listings;
+mod refusal;
+pub(crate) mod tables;
+#[cfg(test)]
+#[allow(unsafe_code)] // (one call is made with less memory than its text takes)
+mod tests;
+
+use crate::found::Finding;
+use crate::value::{decoded, Value};
+pub use at_most::AtMost;
+pub(crate) use declared::is_broken;
+use declared::ANY;
+pub use listings::Listings;
+pub use refusal::{Cause, ListingError, Part, Refusal, DEPTH_LIMIT};
+
+/// The canonical text of the manifest that the bytes are.
+pub fn canonical(bytes: &[u8]) -> Result<String, Refusal> {
+    AtMost(ANY).canonical(bytes)
+}
+
+/// The canonical text of the manifest that the bytes are, completed over listings.
+pub fn completed(bytes: &[u8], listings: &Listings) -> Result<String, Refusal> {
+    AtMost(ANY).completed(bytes, listings)
+}
+
+/// The canonical text of the manifest that the bytes are, with what it inherits from the workspace of the root put in.
+pub fn resolved(bytes: &[u8], root: &[u8]) -> Result<String, Refusal> {
+    AtMost(ANY).resolved(bytes, root)
+}
+
+/// The same, resolved and then completed.
+pub fn resolved_completed(bytes: &[u8], root: &[u8], listings: &Listings) -> Result<String, Refusal> {
+    AtMost(ANY).resolved_completed(bytes, root, listings)
+}
+
+/// What a document is whose metadata the library cannot keep, as tagged bytes.
+pub(crate) struct Apart {
+    /// The table of the manifest, with an empty table in the place of all metadata.
+    pub(crate) table: Vec<u8>,
+    /// The whole document.
+    pub(crate) document: Vec<u8>,
+}
+
+/// The value of tagged bytes.
+fn value_of(table: Vec<u8>) -> Value {
+    decoded(&table).unwrap_or_else(|| is_broken())
+}
+
+/// The one table of the manifest that the bytes are: what its canonical text says, by values.
+///
+/// ```
+/// use cargo_manifest::{calls::table, Value};
+///
+/// let Value::Table(all) = table(b"[package]\nname = 'a'")? else { panic!() };
+/// let Value::Table(package) = &all["package"] else { panic!() };
+/// assert_eq!(package["name"], Value::String("a".into()));
+/// # Ok::<(), cargo_manifest::calls::Refusal>(())
+/// ```
+pub fn table(bytes: &[u8]) -> Result<Value, Refusal> {
+    AtMost(ANY).table(bytes)
+}
+
+/// The table of the completed manifest: what [`completed`] says, by values.
+pub fn completed_table(bytes: &[u8], listings: &Listings) -> Result<Value, Refusal> {
+    AtMost(ANY).completed_table(bytes, listings)
+}
+
+/// The table of the resolved manifest: what [`resolved`] says, by values.
+pub fn resolved_table(bytes: &[u8], root: &[u8]) -> Result<Value, Refusal> {
+    AtMost(ANY).resolved_table(bytes, root)
+}
+
+/// The table of the resolved and completed manifest: what [`resolved_completed`] says, by values.
+pub fn resolved_completed_table(bytes: &[u8], root: &[u8], listings: &Listings) -> Result<Value, Refusal> {
+    AtMost(ANY).resolved_completed_table(bytes, root, listings)
+}
+
+/// What is found in the document that the bytes are, as in a manifest: every fault, what is ignored where it does not fit,
+/// and every key that nothing reads. They stand in the order in which `docs/KEYS.md` of the repository has the keys, and the
+/// keys that nothing reads after what is found in the other keys of their table.
+///
+/// Metadata is not looked at, so no float in it is a fault. A document with faults is no error here. An error is what is no
+/// TOML, or nests too deep.
+///
+/// ```
+/// use cargo_manifest::calls::findings;
+///
+/// let found = findings(b"[package]\nname = 1\nedtion = '2021'\n[badges]\ngitlab = 1")?;
+/// let lines: Vec<_> = found.iter().map(ToString::to_string).collect();
+/// assert_eq!(lines, [
+///     "invalid type for `package.name`: expected a string",
+///     "unused manifest key: package.edtion",
+///     "ignored: invalid type for `badges.gitlab`: expected a table",
+/// ]);
+/// # Ok::<(), cargo_manifest::calls::Refusal>(())
+/// ```
+pub fn findings(bytes: &[u8]) -> Result<Vec<Finding>, Refusal> {
+    AtMost(ANY).findings(bytes)
+}

@@ -1,0 +1,37 @@
+//! Calls on the tagged bytes of a whole manifest's table.
+
+use super::declared::{self, of_table, of_tables, of_text, text_of, ANY};
+use super::folders::with_folders;
+use super::{Apart, Listings, Refusal};
+
+/// The table of the manifest that the bytes are.
+pub(crate) fn table(bytes: &[u8]) -> Result<Vec<u8>, Refusal> {
+    of_text(declared::manifest_table, bytes, ANY)
+}
+
+/// The same with an empty table in the place of metadata, and the document that has it: where metadata has a float.
+pub(crate) fn without_metadata(bytes: &[u8]) -> Result<Apart, Refusal> {
+    let table = of_text(declared::manifest_table_without_metadata, bytes, ANY)?;
+    let document = document(bytes)?;
+    Ok(Apart { table, document })
+}
+
+/// The table that the bytes are as TOML, whatever it means.
+pub(crate) fn document(bytes: &[u8]) -> Result<Vec<u8>, Refusal> {
+    of_text(declared::manifest_document, bytes, ANY)
+}
+
+/// The canonical text of a table.
+pub(crate) fn canonical(table: &[u8]) -> Result<String, Refusal> {
+    of_text(declared::manifest_canonical_of_table, table, ANY).map(text_of)
+}
+
+/// The table, completed over listings.
+pub(crate) fn completed(table: &[u8], listings: &Listings) -> Result<Vec<u8>, Refusal> {
+    with_folders(listings, |folders| of_table(table, folders, listings.len()))
+}
+
+/// The table, with what it inherits from the workspace of the root's put in.
+pub(crate) fn resolved(member: &[u8], root: &[u8]) -> Result<Vec<u8>, Refusal> {
+    of_tables(member, root)
+}
