@@ -132,7 +132,7 @@ def table(manifest: Text, *, most: Optional[int] = None, metadata: bool = True) 
 
     These are `str`, `int`, `bool`, `list` and `dict`, and `datetime`, `date` and `time` of the module `datetime`. A
     date-time with an offset is aware, and others are naive. What a second has below its millionth part is cut off.
-    They stand in one another 128 deep at most.
+    They stand in one another 128 deep at most; of a text at most 80 of them are arrays and inline tables.
 
     `manifest` and `metadata` are as in `canonical`. `most` is how many bytes the table may take as the library returns it, where a
     key or a text of less than 128 bytes takes one or two more than its own.

@@ -129,8 +129,8 @@
 //! Nothing is kept between calls, so each may be made from any thread at any time. Where no memory is left for the library,
 //! the error is [`Error::Io`] of the kind `OutOfMemory`; where a [`Value`] is parsed, the [`ParseError`] says so.
 //!
-//! What nests more than 128 deep, or has brackets and dotted keys by which it could, is refused
-//! ([`DEPTH_LIMIT`](calls::DEPTH_LIMIT)). So 256 KiB of stack are enough for each call of the library, and 512 KiB to read,
+//! What nests more than 128 deep (of arrays and inline tables in a text: more than 80), or has brackets and dotted keys by which
+//! it could, is refused ([`DEPTH_LIMIT`](calls::DEPTH_LIMIT)). So 256 KiB of stack are enough for each call of the library, and 512 KiB to read,
 //! copy, compare, print, write and drop a [`Manifest`] that was read, in a debug build too. (Values that a program makes itself
 //! may nest deeper: they are dropped, copied and compared as deep as they go, and refused where they are written.)
 //!

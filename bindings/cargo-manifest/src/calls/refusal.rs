@@ -108,6 +108,7 @@ impl fmt::Display for ListingError {
 }
 
 /// How deep arrays and tables may stand in one another, the whole table not counted: `a = [{}]` is 2 deep.
+/// The reader of texts takes at most 80 arrays and inline tables in one another.
 ///
 /// A text is refused before it is read where (B + 3) * (D + 1) is more than 384: B is how many brackets, `[` and `{`, are open
 /// at one place at most, and D how many dots stand at most between one of `,`, `=`, `[`, `{`, `#` and line ends and the next.
