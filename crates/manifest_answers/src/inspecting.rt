@@ -12,9 +12,7 @@ use crate::making::tagged_bytes;
 use crate::reading::document;
 use crate::refusal::Refusal;
 use crate::telling::cause_number;
-use cargo_manifest::{
-    Cause, Choices, FindingNode, Step, Unread, Value, inspect_with_metadata,
-};
+use cargo_manifest::{Cause, Choices, FindingNode, Step, Unread, Value, inspect_with_metadata};
 use std::alloc::{AllocError, Global};
 use toml::Table;
 
