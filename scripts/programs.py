@@ -171,12 +171,14 @@ def without_field(line):
     return INHERITED.sub(shorter, line), values
 
 
-def deepest(value="1"):
-    """Documents with 128 arrays and tables in one another in the whole table, around a value, which is as deep as is read: by a
-    header and a dotted key, by inline tables, whose keys have one part or two, and by inline tables and arrays in turns."""
+def deepest(value="1", start=("package", "metadata")):
+    """Documents with 128 arrays and tables in one another in the whole table, around a value below a first few keys, which is as
+    deep as is read: by a header and a dotted key, by inline tables, whose keys have one part or two, and by inline tables and
+    arrays in turns."""
     def document(header, key, opening, closing):
-        path = ".".join(["package", "metadata"] + ["a"] * header)
-        return f'[package]\nname = "p"\n[{path}]\n{".".join(["a"] * key)} = {opening}{value}{closing}\n'
+        keys = [*start] + ["a"] * (2 + header + key - len(start))
+        path, rest = ".".join(keys[: 2 + header]), ".".join(keys[2 + header :])
+        return f'[package]\nname = "p"\n[{path}]\n{rest} = {opening}{value}{closing}\n'
 
     inline = "{a.a = " * 46 + "{a = " * 34
     both = "{a.a = [" * 34 + "{a.a = " * 12
@@ -198,7 +200,8 @@ def densest():
 def stack_fault(program, step, stack):
     """What is wrong where `stack` does a step, with the texts with which it takes most stack, in a thread with so much of it; or
     None."""
-    texts = {"call": deepest() + densest(), "find": deepest("0.5")}.get(step) or deepest()
+    found = deepest("0.5", ("profile", "dev", "build-override"))
+    texts = {"call": deepest() + densest(), "find": found}.get(step) or deepest()
     given = cases([(text, []) for text in texts])
     run = subprocess.run([program, step, str(stack)], input=given, capture_output=True, timeout=600)
     if (run.returncode, run.stdout) == (0, f"{len(texts)}\n".encode()):

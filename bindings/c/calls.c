@@ -200,8 +200,9 @@ static const struct call FINDINGS_OF[] = {
            NO_CHOICE("\x00", "\x04") "\x01\x06" "forbid\x01\x04" "deny\x01\x04warn\x01\x05" "allow")},
     {FINDINGS, .bytes = NAME "[badges]\ngitlab = 1\nx = 1",
      BYTES("\x07\x01" BELOW("\x06" "badges", "\x02") BELOW("\x06gitlab", "\x01") IGNORED("\x01") UNUSED("\x01x"))},
-    {FINDINGS, .bytes = NAME "metadata = nan",
-     BYTES("\x07\x01" BELOW("\x07package", "\x01") BELOW("\x08metadata", "\x01") FAULT("\x07"))},
+    {FINDINGS, .bytes = NAME "metadata = nan", BYTES("\x07\x00")},
+    {FINDINGS, .bytes = NAME "[profile.a]\nlto = nan",
+     BYTES("\x07\x01" BELOW("\x07profile", "\x01") BELOW("\x01" "a", "\x01") BELOW("\x03lto", "\x01") FAULT("\x07"))},
     {FINDINGS, .bytes = "\xff", .status = MANIFEST_NOT_UTF8, .text = ""},
     {FINDINGS, .bytes = "[package\nname = 'p'", .status = MANIFEST_NO_TOML, .start = 8},
 };
