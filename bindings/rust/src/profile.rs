@@ -1,7 +1,7 @@
 //! Profiles.
 
 use crate::codec::{record, Aside, Encode, Expected, Form, Misfit, Reader, Writer, STRING};
-use crate::message::{message, none_of};
+use crate::message::{listed, message};
 use crate::{Cause, Error, Value};
 use std::collections::BTreeMap;
 
@@ -134,9 +134,8 @@ impl TryFrom<Value> for StripSetting {
         let expected = StripSetting::expected();
         match &value {
             Value::Boolean(flag) => Ok(StripSetting::of_flag(*flag)),
-            Value::String(word) => {
-                StripSetting::of_word(word).ok_or_else(|| Error::Other(none_of(word, expected.choices)))
-            }
+            Value::String(word) => StripSetting::of_word(word)
+                .ok_or_else(|| Error::Other(format!("`{word}` is none of {}", listed(expected.choices)))),
             _ => Err(Error::Other(message(Cause::WrongKind, "strip", Some(&expected)))),
         }
     }

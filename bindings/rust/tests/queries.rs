@@ -116,6 +116,7 @@ fn strip() {
     assert_eq!(strip("none".into()), Ok(StripSetting::None));
     assert_eq!(strip("symbols".into()), Ok(StripSetting::Symbols));
     assert_eq!(strip("all".into()).unwrap_err(), "`all` is none of `none`, `symbols`, `debuginfo`");
+    assert_eq!(strip("".into()).unwrap_err(), "`` is none of `none`, `symbols`, `debuginfo`");
     let wanted = "invalid type for `strip`: expected a boolean, or one of the strings `none`, `symbols`, `debuginfo`";
     assert_eq!(strip(1.into()).unwrap_err(), wanted);
     assert!(StripSetting::None < StripSetting::Debuginfo && StripSetting::Debuginfo < StripSetting::Symbols);
