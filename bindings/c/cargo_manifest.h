@@ -20,9 +20,7 @@
            fwrite(out, 1, answer.length, stdout);
 
    - Each slice that is passed in is a pointer and a length. It may be empty: the length is 0, and the pointer may be null.
-   - `most` is how many bytes the text or the table may take at most: SIZE_MAX for any number. A text that could take more is
-     not made, and the status is MANIFEST_TOO_LONG. Some kilobytes can mean a text of many megabytes, as where a long key
-     stands above many tables. The text of a refusal is put whatever `most` is.
+   - `most` is how many bytes the text or the table may take, as LIMITS says; SIZE_MAX for any number.
    - `out` is memory for the text. It need not be set before: it is only written, which is tested. It overlaps nothing else
      that is passed in. Without any (null and 0) the call returns how long the text is. As one call can run out of memory and
      the next not, `length` is looked at after each call.
@@ -36,9 +34,29 @@
    a call that is broken off, by longjmp or by cancelling its thread, does not free its memory, and of later calls of that
    thread nothing is said.
 
-   STACK. 256 KiB of stack were enough for each call on all inputs that were tried: what nests deeper than
-   MANIFEST_DEPTH_LIMIT is refused, and a text that could nest more than 384 deep is not even parsed. Over musl a thread
-   has 128 KiB, unless pthread_attr_setstacksize gives it more.
+   LIMITS
+   (limits: of docs/LIBRARY.md)
+
+   `most` is how many bytes the text or the table may take. What could take more is refused as too long. Of what a manifest
+   inherits the texts of the workspace's dependencies are counted, at each place that inherits one, before any of them is
+   copied. Of a text a bound is counted before it is printed: its keys and values, and for each table a header with its whole
+   path. Of a table the exact length of its bytes is compared, after they are made. The text of a refusal is given whatever
+   `most` is. Some kilobytes can mean many megabytes, since a header repeats the keys above it: a program that takes
+   manifests from others bounds their length, and sets `most`.
+
+   Arrays and tables may stand 128 deep in one another, the whole table not counted: `a = [{}]` is 2 deep. What is deeper is
+   refused as too deep; and where the headers, dotted keys and brackets of a text lead deeper, it is refused before it is
+   parsed. `toml`, which reads texts, has two limits of its own: 80 arrays and inline tables in one another, and 80 parts of
+   a key. What is over these is refused as no TOML. Each text that the library writes of a table at most 80 deep is read
+   again.
+
+   A call takes at most 112 KiB of stack on all inputs that were tried, so a thread with 128 KiB makes each call, which is
+   what musl gives its threads if nothing is said.
+
+   A call has at most 512 bytes of memory at once for each byte that is passed in (a name of a folder counts as 16 more), and
+   64 for each byte of `most`, on all inputs that were tried.
+
+   (end of limits)
 
    MEMORY is asked for by three functions over malloc, realloc and free, which a program may replace: see the end. */
 #ifndef CARGO_MANIFEST_H
@@ -58,12 +76,12 @@ extern "C" {
        the bytes                  4, 15, 1, 15, 2, or 14 and 15, then 2
        the root                   20, 31, 17, 31, 18, or 30 and 31, then 18   (it is read also where the manifest inherits nothing)
        its workspace              9
-       what is inherited          10, 11, 12, 13
+       what is inherited          32, and then 10, 11, 12, 13
        the completion             3, 5
        the printing               32, 7
 
-   A text is refused as too deep before it is read (by its brackets and dots) or after that (by its table). Of tagged
-   bytes 14 or 15 is reported, by which is met first.
+   A text is refused as too deep before it is parsed (by its headers, dotted keys and brackets) or after that (by its table). Of
+   tagged bytes 14 or 15 is reported, by which is met first.
    MANIFEST_MEMORY may stand in the place of any of them. There are no other numbers than these. */
 enum manifest_status {
     /* the text is what was asked for */
@@ -103,8 +121,7 @@ enum manifest_status {
     /* bytes that should be a tagged table are not one: a text in them is not UTF-8, the keys of a table do not ascend, a number
        is not written in the shortest way, or they end too early or too late */
     MANIFEST_UNTAGGED = 14,
-    /* arrays and tables stand in one another deeper than MANIFEST_DEPTH_LIMIT; or a text has brackets and dotted keys by
-       which they could: see there */
+    /* arrays and tables stand in one another deeper than MANIFEST_DEPTH_LIMIT */
     MANIFEST_TOO_DEEP = 15,
     /* 1, 2, 4, 14 and 15 of the root: 16 more. `start` and `end` are places in the root */
     MANIFEST_ROOT_NO_TOML = 17,
@@ -112,19 +129,11 @@ enum manifest_status {
     MANIFEST_ROOT_NOT_UTF8 = 20,
     MANIFEST_ROOT_UNTAGGED = 30,
     MANIFEST_ROOT_TOO_DEEP = 31,
-    /* what is asked for could take more bytes than `most`. Of a text a bound is counted before it is printed: its keys and
-       its values, and for each table a header of its whole path; a table is refused exactly where its bytes are more */
+    /* what is asked for could take more bytes than `most`, or what is inherited does: see LIMITS */
     MANIFEST_TOO_LONG = 32
 };
 
-/* How deep arrays and tables may stand in one another in a table that is passed in, the whole table not counted: `a = [{}]` is
-   2 deep. So may they in a text, but its reader has two limits of its own: 80 arrays and inline tables in one another, and
-   keys of 80 parts. What is over these is refused with MANIFEST_NO_TOML.
-
-   A text is refused before it is read where (B + 3) * (D + 1) is more than 384. B is how many brackets, `[` and `{`, are open
-   at one place at most, and D how many dots stand at most between one of `,`, `=`, `[`, `{`, `#` and line ends and the next. Those in
-   strings and comments are not counted, nor any after the first string that does not end, or character that TOML allows in
-   these alone. A text that people write has less: keys of 5 parts and 8 brackets in one another give 55. */
+/* How deep arrays and tables may stand in one another, the whole table not counted: see LIMITS. */
 #define MANIFEST_DEPTH_LIMIT 128
 
 /* The cause of MANIFEST_SCHEMA and MANIFEST_ROOT_SCHEMA. */

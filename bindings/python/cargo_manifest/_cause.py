@@ -12,8 +12,7 @@ class Cause(enum.Enum):
     NOT_UTF8 = "not UTF-8"
     """The bytes are not UTF-8, or a `str` has a lone surrogate."""
     TOO_DEEP = "too deep"
-    """Arrays and tables stand in one another more than 128 deep; or the text has brackets and dotted keys by which they
-    could."""
+    """Arrays and tables stand in one another more than 128 deep."""
     TOO_LONG = "too long"
     """What is asked for could take more bytes than `most`."""
     WRONG_KIND = "wrong kind"

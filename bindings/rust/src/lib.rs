@@ -129,13 +129,33 @@
 //! Nothing is kept between calls, so each may be made from any thread at any time. Where no memory is left for the library,
 //! the error is [`Error::Io`] of the kind `OutOfMemory`; where a [`Value`] is parsed, the [`ParseError`] says so.
 //!
-//! What nests more than 128 deep (of arrays and inline tables in a text: more than 80), or has brackets and dotted keys by which
-//! it could, is refused ([`DEPTH_LIMIT`](calls::DEPTH_LIMIT)). So 256 KiB of stack are enough for each call of the library, and 512 KiB to read,
-//! copy, compare, print, write and drop a [`Manifest`] that was read, in a debug build too. (Values that a program makes itself
-//! may nest deeper: they are dropped, copied and compared as deep as they go, and refused where they are written.)
+//! <!-- limits: of docs/LIBRARY.md -->
 //!
-//! The canonical text of a manifest can be as long as the square of what it is read of, since a header repeats the keys above
-//! it. [`AtMost`](calls::AtMost) bounds it.
+//! `most` is how many bytes the text or the table may take. What could take more is refused as too long. Of what a manifest
+//! inherits the texts of the workspace's dependencies are counted, at each place that inherits one, before any of them is
+//! copied. Of a text a bound is counted before it is printed: its keys and values, and for each table a header with its
+//! whole path. Of a table the exact length of its bytes is compared, after they are made. The text of a refusal is given
+//! whatever `most` is. Some kilobytes can mean many megabytes, since a header repeats the keys above it: a program that
+//! takes manifests from others bounds their length, and sets `most`.
+//!
+//! Arrays and tables may stand 128 deep in one another, the whole table not counted: `a = [{}]` is 2 deep. What is deeper is
+//! refused as too deep; and where the headers, dotted keys and brackets of a text lead deeper, it is refused before it is
+//! parsed. `toml`, which reads texts, has two limits of its own: 80 arrays and inline tables in one another, and 80 parts of
+//! a key. What is over these is refused as no TOML. Each text that the library writes of a table at most 80 deep is read
+//! again.
+//!
+//! A call takes at most 112 KiB of stack on all inputs that were tried, so a thread with 128 KiB makes each call, which is
+//! what musl gives its threads if nothing is said.
+//!
+//! A call has at most 512 bytes of memory at once for each byte that is passed in (a name of a folder counts as 16 more),
+//! and 64 for each byte of `most`, on all inputs that were tried.
+//!
+//! <!-- end of limits -->
+//!
+//! Here `most` is set by [`AtMost`](calls::AtMost); the calls that have none set no bound. What is too deep is refused as
+//! [`Error::Parse`], and 128 is [`DEPTH_LIMIT`](calls::DEPTH_LIMIT). To read, copy, compare, print, write and drop a [`Manifest`]
+//! that was read takes more stack than the call: 512 KiB are enough, in a debug build too. (Values that a program makes itself may
+//! nest deeper: they are dropped, copied and compared as deep as they go, and refused where they are written.)
 //!
 //! # Features
 //!

@@ -42,8 +42,8 @@ completes_keeps : (stored : Option (Text → Listed)) (m n : Manifest) → Keeps
 completes_keeps None m n keeps same = subst KeepsValidDates (sym same) keeps
 completes_keeps (Some s) m n keeps becomes = completed_dates_are_valid m n (stored_map s) keeps becomes
 
-made_keeps : (bytes : List ℕ) (root : Option (List ℕ)) (folders : Option (List Folder)) (m : Manifest) → Makes Toml bytes root folders m → KeepsValidDates m
-made_keeps bytes root folders m (listings, (n, is, (r, is_root, (o, inherits, completes)))) =
+made_keeps : (most : ℕ) (bytes : List ℕ) (root : Option (List ℕ)) (folders : Option (List Folder)) (m : Manifest) → Makes most Toml bytes root folders m → KeepsValidDates m
+made_keeps most bytes root folders m (listings, (n, is, (r, is_root, (within, (o, inherits, completes))))) =
     completes_keeps _ o m (inherits_keeps r n o (read_keeps bytes n is) inherits) completes
 
 -- THE NUMBERS: no other refusal than that of a date-time is reported by 7
@@ -81,25 +81,25 @@ finishing_is_not_seven unfinished.NoWorkspace t h seven = is_other t 9 refl h.0 
 finishing_is_not_seven (unfinished.Resolve e) t h seven = resolving_is_not_seven e t h seven
 
 -- PRINTING: only what a manifest is asked for is refused as printed
-not_made_by_printing : (bytes : List ℕ) (root : Option (List ℕ)) (folders : Option (List Folder)) (e : Error) → RefusesToMake Toml bytes root folders (Printing e) → ⊥
-not_made_by_printing bytes root folders e (inl h) = h
-not_made_by_printing bytes root folders e (inr (inl h)) = h
-not_made_by_printing bytes None folders e (inr (inr (m, is, inl h))) = h
-not_made_by_printing bytes (Some b) folders e (inr (inr (m, is, inl h))) = h
-not_made_by_printing bytes root folders e (inr (inr (m, is, inr (r, is_root, h)))) = h
+not_made_by_printing : (most : ℕ) (bytes : List ℕ) (root : Option (List ℕ)) (folders : Option (List Folder)) (e : Error) → RefusesToMake most Toml bytes root folders (Printing e) → ⊥
+not_made_by_printing most bytes root folders e (inl h) = h
+not_made_by_printing most bytes root folders e (inr (inl h)) = h
+not_made_by_printing most bytes None folders e (inr (inr (m, is, inl h))) = h
+not_made_by_printing most bytes (Some b) folders e (inr (inr (m, is, inl h))) = h
+not_made_by_printing most bytes root folders e (inr (inr (m, is, inr (r, is_root, h)))) = h
 
 date_is_valid : (output : Output) (most : ℕ) (m : Manifest) (s : _) → KeepsValidDates m → RefusesOutput output most m (Printing (error.Other s)) → ⊥
 date_is_valid CanonicalText most m s keeps h = let e : true ≡ false = sym (written_dates_are_valid m keeps) ∙ h.0 in cc
 date_is_valid TaggedTable most m s keeps h = h
 
 printing_is_not_seven : (output : Output) (most : ℕ) (bytes : List ℕ) (root : Option (List ℕ)) (folders : Option (List Folder)) (e : Error) (t : Told)
-    → OrOutput output most (Makes Toml bytes root folders) (RefusesToMake Toml bytes root folders) (Printing e) → TellsPrinting e t → t.status ≡ 7 → ⊥
-printing_is_not_seven output most bytes root folders (error.Other s) t (inl r) h seven = not_made_by_printing bytes root folders (error.Other s) r
-printing_is_not_seven output most bytes root folders (error.Other s) t (inr (m, is, r)) h seven = date_is_valid output most m s (made_keeps bytes root folders m is) r
+    → OrOutput output most (Makes most Toml bytes root folders) (RefusesToMake most Toml bytes root folders) (Printing e) → TellsPrinting e t → t.status ≡ 7 → ⊥
+printing_is_not_seven output most bytes root folders (error.Other s) t (inl r) h seven = not_made_by_printing most bytes root folders (error.Other s) r
+printing_is_not_seven output most bytes root folders (error.Other s) t (inr (m, is, r)) h seven = date_is_valid output most m s (made_keeps most bytes root folders m is) r
 printing_is_not_seven output most bytes root folders e t r h seven = error_is_not_seven false e t h seven
 
 refusal_is_not_seven : (output : Output) (most : ℕ) (bytes : List ℕ) (root : Option (List ℕ)) (folders : Option (List Folder)) (e : Refusal) (t : Told)
-    → OrOutput output most (Makes Toml bytes root folders) (RefusesToMake Toml bytes root folders) e → Tells e t → t.status ≡ 7 → ⊥
+    → OrOutput output most (Makes most Toml bytes root folders) (RefusesToMake most Toml bytes root folders) e → Tells e t → t.status ≡ 7 → ⊥
 refusal_is_not_seven output most bytes root folders (Bytes e) t r h seven = input_is_not_seven false e t h seven
 refusal_is_not_seven output most bytes root folders (Root e) t r h seven = input_is_not_seven true e t h seven
 refusal_is_not_seven output most bytes root folders Listings t r h seven = is_other t 8 refl h.0 seven
@@ -110,7 +110,7 @@ refusal_is_not_seven output most bytes root folders (Memory e) t r h seven = is_
 
 -- of texts nothing is reported by 7
 pub is_not_seven : (output : Output) (most : ℕ) (bytes : List ℕ) (root : Option (List ℕ)) (folders : Option (List Folder)) (made : Result (Vec ℕ Global) Refusal) (t : Told)
-    → IsMade (Gives output most (Makes Toml bytes root folders)) (OrOutput output most (Makes Toml bytes root folders) (RefusesToMake Toml bytes root folders)) made → Outcome made t → t.status ≡ 7 → ⊥
+    → IsMade (Gives output most (Makes most Toml bytes root folders)) (OrOutput output most (Makes most Toml bytes root folders) (RefusesToMake most Toml bytes root folders)) made → Outcome made t → t.status ≡ 7 → ⊥
 is_not_seven output most bytes root folders (Ok v) t r h seven = is_other t 0 refl h.0 seven
 is_not_seven output most bytes root folders (Err e) t r (inl memory, utf8) seven = is_other t 6 refl memory.0 seven
 is_not_seven output most bytes root folders (Err e) t r (inr h, utf8) seven = refusal_is_not_seven output most bytes root folders e t r h seven

@@ -60,8 +60,8 @@ completes_formed (Some s) m n formed becomes =
     let kept_tree = tree_lawful kept_lawful in
     (completed_fixed kept_metadata kept_metadata kept_tree kept_tree m n (stored_map s) formed becomes).formed
 
-made_formed : (input : Input) (bytes : List ℕ) (root : Option (List ℕ)) (folders : Option (List Folder)) (m : Manifest) → Makes input bytes root folders m → IsFormed m
-made_formed input bytes root folders m (listings, (n, is, (r, is_root, (o, inherits, completes)))) =
+made_formed : (most : ℕ) (input : Input) (bytes : List ℕ) (root : Option (List ℕ)) (folders : Option (List Folder)) (m : Manifest) → Makes most input bytes root folders m → IsFormed m
+made_formed most input bytes root folders m (listings, (n, is, (r, is_root, (within, (o, inherits, completes))))) =
     completes_formed _ o m (inherits_formed r n o (root_formed input root r is_root) (read_formed input bytes n is) inherits) completes
 
 -- THE LAST STEP
@@ -80,10 +80,10 @@ given_of output most makes refuses m (Err e) is g h = inr (m, is, h)
 
 -- of what was made, or why nothing was, comes what a call gives, or one of its refusals
 pub finished : {X : Type 0} (content : X → Manifest) (output : Output) (most : ℕ) (input : Input) (bytes : List ℕ) (root : Option (List ℕ)) (folders : Option (List Folder)) (refuses : Refusals) (made : Result X Refusal) (r : Result (Vec ℕ Global) Refusal)
-    → IfOk made (λ x. Makes input bytes root folders (content x)) → IfErr made refuses
+    → IfOk made (λ x. Makes most input bytes root folders (content x)) → IfErr made refuses
     → IfOk made (λ x. IsMade (Writes output most (content x)) (RefusesOutput output most (content x)) r) → IfErr made (λ e. r ≡ Err e)
-    → IsMade (Gives output most (Makes input bytes root folders)) (OrOutput output most (Makes input bytes root folders) refuses) r
-finished content output most input bytes root folders refuses (Ok x) r is refused writes kept =
-    given_of output most (Makes input bytes root folders) refuses (content x) r is (made_formed input bytes root folders (content x) is) writes
-finished content output most input bytes root folders refuses (Err e) r is refused writes kept =
-    subst (IsMade (Gives output most (Makes input bytes root folders)) (OrOutput output most (Makes input bytes root folders) refuses)) (sym kept) (inl refused)
+    → IsMade (Gives output most (Makes most input bytes root folders)) (OrOutput output most (Makes most input bytes root folders) refuses) r
+finished content output most input bytes root folders refuses (Ok x) r is refused writes _ =
+    given_of output most (Makes most input bytes root folders) refuses (content x) r is (made_formed most input bytes root folders (content x) is) writes
+finished content output most input bytes root folders refuses (Err e) r is refused writes same =
+    subst (IsMade (Gives output most (Makes most input bytes root folders)) (OrOutput output most (Makes most input bytes root folders) refuses)) (sym same) (inl refused)

@@ -5,7 +5,6 @@ pub use Rattle.manifest_bytes.specs.Decoded
 pub mod Given
 pub mod Told
 pub mod Answered
-pub mod Nesting
 pub mod Read
 pub mod Made
 pub mod Unread

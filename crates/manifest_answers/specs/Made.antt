@@ -1,12 +1,15 @@
 -- What a call makes of bytes, what it writes of that, and why it does not.
-use Rattle.manifest_schema.specs.Prelude.{Bor, Global, table, Text, Manifest}
-use Rattle.std.specs.Prelude.{◌≡◌, ◌⊎◌, ℕ, ◌<◌, ◌≤◌, List, length, Option, Some, None, option_map, Vec, Result, Ok, Err, IsUtf8}
+use Rattle.manifest_schema.specs.Prelude.{Bor, Global, view, Value, table, Text, Workspace, Manifest}
+use Rattle.std.specs.Prelude.{◌≡◌, ◌⊎◌, ℕ, ◌<◌, ◌≤◌, true, false, IfSome, List, length, Option, Some, None, option_map, Box, Vec, Result, Ok, Err, IsUtf8}
 use Rattle.manifest_completion.specs.Listings.{Answer}
 use Rattle.manifest_completion.specs.Completed.{completed, completed_to}
 use Rattle.manifest_completion.specs.Stored.{stored_map}
 use Rattle.manifest_completion.specs.Outcome.{IsRefusalOf}
 use Rattle.cargo_manifest.specs.Answers.{IsOver, RefusesToPrint}
 use Rattle.cargo_manifest.specs.Canonical.{rewritten, IsTextOf}
+use Rattle.cargo_manifest.specs.Whole.{manifest_content}
+use Rattle.cargo_manifest.specs.declared.manifest.Manifest.{Manifest as ManifestOfCode}
+use Rattle.manifest_inherit.specs.Sizes.{inherits_at_most}
 use Rattle.manifest_inherit.specs.Finished.{Inherits, RefusesToInherit}
 use Rattle.manifest_inherit.specs.declared.error.FinishError.{FinishError}
 use Rattle.manifest_inherit.specs.declared.error.FinishError.TheVariants.{Manifest as Incomplete}
@@ -47,15 +50,30 @@ RefusesToCompleteStored (Some stored) m (Incomplete e) =
     IsRefusalOf (completed m (stored_map stored)) e
 RefusesToCompleteStored _ m _ = ⊥
 
--- BOTH STEPS: with what is inherited from the root's workspace, where there is a root, and then completed
-abbrev pub FinishesStored : Option Manifest → Option (Text → Answer) → Manifest → Manifest → Type 0
-FinishesStored root stored m n = (o : Manifest) × Inherits root m o × CompletesStored stored o n
+-- WITHIN A BOUND in bytes: what is inherited of the root's workspace, where there is one, takes no more
+abbrev pub InheritsWithin : ℕ → Option Manifest → Manifest → Type 0
+InheritsWithin most None m = Unit {0}
+InheritsWithin most (Some root) m =
+    IfSome root.workspace (λ w. inherits_at_most m w most ≡ true)
 
-abbrev pub RefusesToFinishStored : Option Manifest → Option (Text → Answer) → Manifest → Refusals
-RefusesToFinishStored root stored m (Finishing e) =
+abbrev pub InheritsMore : ℕ → Option Manifest → Manifest → Type 0
+InheritsMore most None m = ⊥
+InheritsMore most (Some root) m =
+    (w : Workspace) × (root.workspace ≡ Some w) × (inherits_at_most m w most ≡ false)
+
+-- BOTH STEPS: with what is inherited from the root's workspace, where there is a root, and then completed
+abbrev pub FinishesStored :
+    ℕ → Option Manifest → Option (Text → Answer) → Manifest → Manifest → Type 0
+FinishesStored most root stored m n =
+    InheritsWithin most root m
+    × ((o : Manifest) × Inherits root m o × CompletesStored stored o n)
+
+abbrev pub RefusesToFinishStored : ℕ → Option Manifest → Option (Text → Answer) → Manifest → Refusals
+RefusesToFinishStored most root stored m TooLong = InheritsMore most root m
+RefusesToFinishStored most root stored m (Finishing e) =
     ((n : Manifest) × RefusesToInherit root m n e)
     ⊎ ((n : Manifest) × Inherits root m n × RefusesToCompleteStored stored n e)
-RefusesToFinishStored root stored m _ = ⊥
+RefusesToFinishStored most root stored m _ = ⊥
 
 -- THE ROOT is what its bytes are, where there are any
 abbrev pub IsRoot : Input → Option (List ℕ) → Option Manifest → Type 0
@@ -68,24 +86,26 @@ RefusesRoot input (Some bytes) (Root e) = RefusesToRead input bytes e
 RefusesRoot input _ _ = ⊥
 
 abbrev pub FinishesByBytes :
-    Input → Option (List ℕ) → Option (Text → Answer) → Manifest → Manifest → Type 0
-FinishesByBytes input root stored m n =
-    (r : Option Manifest) × IsRoot input root r × FinishesStored r stored m n
+    ℕ → Input → Option (List ℕ) → Option (Text → Answer) → Manifest → Manifest → Type 0
+FinishesByBytes most input root stored m n =
+    (r : Option Manifest) × IsRoot input root r × FinishesStored most r stored m n
 
-abbrev pub RefusesByBytes : Input → Option (List ℕ) → Option (Text → Answer) → Manifest → Refusals
-RefusesByBytes input root stored m e =
+abbrev pub RefusesByBytes :
+    ℕ → Input → Option (List ℕ) → Option (Text → Answer) → Manifest → Refusals
+RefusesByBytes most input root stored m e =
     RefusesRoot input root e
-    ⊎ ((r : Option Manifest) × IsRoot input root r × RefusesToFinishStored r stored m e)
+    ⊎ ((r : Option Manifest) × IsRoot input root r × RefusesToFinishStored most r stored m e)
 
 -- THE MANIFESTS THAT ARE MADE of the bytes, over what is stored for the paths
-abbrev pub MakesOver : Input → List ℕ → Option (List ℕ) → Option (Text → Answer) → Manifest → Type 0
-MakesOver input bytes root stored n =
-    (m : Manifest) × Are input bytes m × FinishesByBytes input root stored m n
+abbrev pub MakesOver :
+    ℕ → Input → List ℕ → Option (List ℕ) → Option (Text → Answer) → Manifest → Type 0
+MakesOver most input bytes root stored n =
+    (m : Manifest) × Are input bytes m × FinishesByBytes most input root stored m n
 
-abbrev pub RefusesOver : Input → List ℕ → Option (List ℕ) → Option (Text → Answer) → Refusals
-RefusesOver input bytes root stored e =
+abbrev pub RefusesOver : ℕ → Input → List ℕ → Option (List ℕ) → Option (Text → Answer) → Refusals
+RefusesOver most input bytes root stored e =
     OfBytes (RefusesToRead input bytes) e
-    ⊎ ((m : Manifest) × Are input bytes m × RefusesByBytes input root stored m e)
+    ⊎ ((m : Manifest) × Are input bytes m × RefusesByBytes most input root stored m e)
 
 -- folders are listings, where there are any
 abbrev pub AreAllListings : Option (List Folder) → Type 0
@@ -97,15 +117,15 @@ abbrev pub RefusesUnless : Type 0 → Refusals
 RefusesUnless P Listings = ¬ P
 RefusesUnless P e = IsOutOfMemory e
 
--- THE MANIFESTS THAT A CALL MAKES of its bytes, its root and its folders
-abbrev pub Makes : Input → List ℕ → Option (List ℕ) → Option (List Folder) → Manifest → Type 0
-Makes input bytes root folders m =
-    AreAllListings folders × MakesOver input bytes root (option_map given folders) m
+-- THE MANIFESTS THAT A CALL MAKES of its bytes, its root and its folders, within a bound in bytes
+abbrev pub Makes : ℕ → Input → List ℕ → Option (List ℕ) → Option (List Folder) → Manifest → Type 0
+Makes most input bytes root folders m =
+    AreAllListings folders × MakesOver most input bytes root (option_map given folders) m
 
-abbrev pub RefusesToMake : Input → List ℕ → Option (List ℕ) → Option (List Folder) → Refusals
-RefusesToMake input bytes root folders e =
+abbrev pub RefusesToMake : ℕ → Input → List ℕ → Option (List ℕ) → Option (List Folder) → Refusals
+RefusesToMake most input bytes root folders e =
     RefusesUnless (AreAllListings folders) e
-    ⊎ RefusesOver input bytes root (option_map given folders) e
+    ⊎ RefusesOver most input bytes root (option_map given folders) e
 
 -- TAGGED BYTES, at most a given number; refused where they are more, and else only when out of memory
 abbrev pub AreWithin : ℕ → List ℕ → Text → Type 0
@@ -150,3 +170,7 @@ OrOutput output most makes refuses e =
 -- in the code: what is stored by the folders that are given
 abbrev pub stored_by : Option (Bor GivenFolders) → Option (Text → Answer)
 stored_by folders = option_map (λ f. given_by f.now) folders
+
+-- and the content of a manifest on the heap
+abbrev pub boxed_content : Box (ManifestOfCode Value Value) Global → Manifest
+boxed_content m = manifest_content view view m.value

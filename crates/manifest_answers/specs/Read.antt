@@ -13,23 +13,23 @@ use Rattle.manifest_answers.specs.declared.reading.Input.{Input}
 use Rattle.manifest_answers.specs.declared.reading.Input.TheVariants.{Toml, Tagged}
 use Rattle.manifest_answers.specs.declared.refusal.InputError.{InputError}
 use Rattle.manifest_answers.specs.declared.refusal.InputError.TheVariants.{Manifest as NoManifest, TooDeep}
-use Rattle.manifest_answers.specs.Nesting.{nests_densely}
+use Rattle.manifest_nesting.specs.Nesting.{nests_too_deep}
 
 -- memory ran out
 abbrev pub ReadingRanOut : InputError → Type 0
 ReadingRanOut e = (refused : AllocError) × (e ≡ NoManifest (Memory refused))
 
--- THE BYTES ARE THE DOCUMENT of the table: it does not nest densely, and its table nests at most 128 deep
+-- THE BYTES ARE THE DOCUMENT of the table, which nests at most 128 deep, as its bytes say before it is parsed
 pub record IsDocument (bytes : Text) (document : Members) : Type 0 where
   pub utf8 : IsUtf8 bytes
-  pub sparse : nests_densely bytes ≡ false
+  pub counted : nests_too_deep bytes ≡ false
   pub parsed : parse_document bytes ≡ Some document
   pub shallow : members_depth document ≤ 128
 
--- the bytes nest too deep: densely, or they are a document of a table that nests deeper
+-- the bytes nest too deep: they say so themselves, or they are a document of a table that nests deeper
 abbrev pub AreTooDeep : Text → Type 0
 AreTooDeep bytes =
-    (nests_densely bytes ≡ true)
+    (nests_too_deep bytes ≡ true)
     ⊎ ((document : Members) × (parse_document bytes ≡ Some document)
     × (128 < members_depth document))
 
@@ -52,6 +52,12 @@ pub record IsSourceOf (K W : Kind Data) (bytes : Text) (m : Manifest) : Type 0 w
   pub document : Members
   pub is_document : IsDocument bytes document
   pub meant : means K W document m
+
+-- the table means none: it has this fault, or memory ran out
+abbrev pub RefusesMeaning : Kind Data → Kind Data → Members → InputError → Type 0
+RefusesMeaning K W document (NoManifest (Parse (Schema f))) = IsFaulty K W document f
+RefusesMeaning K W document (NoManifest (Memory e)) = Unit {0}
+RefusesMeaning K W document _ = ⊥
 
 -- they are not: they are a document of a table with this fault, or no document
 abbrev pub RefusesSource : Kind Data → Kind Data → Text → InputError → Type 0

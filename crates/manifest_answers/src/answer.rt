@@ -99,13 +99,13 @@ pub fn respond(
     out: &mut [u8],
 ) -> Answer
     ensures answers { Answers asked.output asked.most
-        (Makes asked.input bytes.now (option_copied root.entry) (option_copied folders.entry))
-        (RefusesToMake asked.input bytes.now
+        (Makes asked.most asked.input bytes.now (option_copied root.entry) (option_copied folders.entry))
+        (RefusesToMake asked.most asked.input bytes.now
         (option_copied root.entry) (option_copied folders.entry))
         out.old out.new result }
     ensures dates { asked.input ≡ Toml → ¬ (result.status ≡ 7) }
 {
-    let made = make(alloc, asked.input, bytes, root, folders);
+    let made = make(alloc, asked.most, asked.input, bytes, root, folders);
     let text = output_or_refusal(alloc, asked.output, asked.most, made);
     let told = outcome(alloc, text);
     write_answer(&told, out)

@@ -6,7 +6,6 @@ mod answer;
 mod folders;
 mod inspecting;
 mod making;
-mod nesting;
 mod reading;
 mod refusal;
 mod telling;

@@ -2,20 +2,21 @@
 
 ghost use Rattle.manifest_schema.specs.Prelude.{table, view};
 ghost use Rattle.std.specs.Prelude.{◌≡◌, Err, IfOk, IfErr, OnOk, option_copied, option_map};
+ghost use Rattle.std.specs.Bool.{MatchBool};
 ghost use Rattle.manifest_bytes.specs.Encoded.{encoded};
 ghost use Rattle.cargo_manifest.specs.Whole.{manifest_content};
 ghost use Rattle.cargo_manifest.specs.Canonical.{rewritten};
 ghost use Rattle.manifest_inherit.specs.Finished.{root_of};
 ghost use Rattle.manifest_answers.specs.declared.making.Output.TheVariants.{CanonicalText};
-ghost use Rattle.manifest_answers.specs.Made.{stored_by, FinishesStored, RefusesToFinishStored, FinishesByBytes, RefusesByBytes, MakesOver, RefusesOver, Makes, RefusesToMake, AreWithin, RefusesTagged, Writes, RefusesOutput, IsMade};
+ghost use Rattle.manifest_answers.specs.Made.{stored_by, InheritsWithin, InheritsMore, FinishesStored, RefusesToFinishStored, FinishesByBytes, RefusesByBytes, MakesOver, RefusesOver, Makes, RefusesToMake, AreWithin, RefusesTagged, Writes, RefusesOutput, IsMade};
 
 use crate::folders::{Folder, GivenFolders};
-use crate::reading::{Input, read};
+use crate::reading::{Input, read, release};
 use crate::refusal::Refusal;
 use cargo_manifest::laws::stored_decides;
 use cargo_manifest::{Manifest, Schema, Value};
 use manifest_bytes::value_bytes;
-use manifest_inherit::finish;
+use manifest_inherit::{finish, inherits_at_most};
 use std::alloc::Global;
 
 /// What is asked for of a manifest.
@@ -27,20 +28,41 @@ pub enum Output {
     TaggedTable,
 }
 
+/// Whether what a manifest inherits of the dependencies of the root's workspace, where there is one, takes at most `most`
+/// bytes.
+fn inherits_within(most: usize, root: Option<&Manifest>, manifest: &Manifest) -> bool
+    ensures { let m = manifest_content view view manifest.now in
+        MatchBool result (InheritsWithin most (root_of root.entry) m)
+        (InheritsMore most (root_of root.entry) m) }
+{
+    match root {
+        Some(root) => match &root.workspace {
+            Some(workspace) => inherits_at_most(manifest, workspace, most),
+            None => true,
+        },
+        None => true,
+    }
+}
+
 /// Puts into a manifest what it inherits from the workspace of the root, where there is one, and then completes it over
-/// the folders, where there are any.
+/// the folders, where there are any. Refuses with `TooLong` where what it inherits takes more than `most` bytes, before
+/// any of it is copied.
 fn finish_by(
     alloc: Global,
+    most: usize,
     manifest: &mut Manifest,
     root: Option<&Manifest>,
     folders: Option<&GivenFolders<'_>>,
 ) -> Result<(), Refusal>
-    ensures ok { OnOk result (FinishesStored (root_of root.entry) (stored_by folders.entry)
+    ensures ok { OnOk result (FinishesStored most (root_of root.entry) (stored_by folders.entry)
         (manifest_content view view manifest.old) (manifest_content view view manifest.new)) }
     ensures refused { IfErr result
-        (RefusesToFinishStored (root_of root.entry) (stored_by folders.entry)
+        (RefusesToFinishStored most (root_of root.entry) (stored_by folders.entry)
         (manifest_content view view manifest.old)) }
 {
+    if !inherits_within(most, root, manifest) {
+        return Err(Refusal::TooLong);
+    }
     stored_decides();
     match finish(alloc, manifest, root, folders) {
         Ok(()) => Ok(()),
@@ -51,28 +73,29 @@ fn finish_by(
 /// Finishes a manifest as [`finish_by`] does, with a root that is still bytes: it is read first.
 fn finish_by_bytes(
     alloc: Global,
+    most: usize,
     input: Input,
     manifest: &mut Manifest,
     root: Option<&[u8]>,
     folders: Option<&GivenFolders<'_>>,
 ) -> Result<(), Refusal>
     ensures ok { OnOk result
-        (FinishesByBytes input (option_copied root.entry) (stored_by folders.entry)
+        (FinishesByBytes most input (option_copied root.entry) (stored_by folders.entry)
         (manifest_content view view manifest.old) (manifest_content view view manifest.new)) }
     ensures refused { IfErr result
-        (RefusesByBytes input (option_copied root.entry) (stored_by folders.entry)
+        (RefusesByBytes most input (option_copied root.entry) (stored_by folders.entry)
         (manifest_content view view manifest.old)) }
 {
     match root {
         Some(bytes) => match read(alloc, input, bytes) {
             Ok(root) => {
-                let finished = finish_by(alloc, manifest, Some(&root), folders);
-                drop(root);
+                let finished = finish_by(alloc, most, manifest, Some(&root), folders);
+                release(root);
                 finished
             }
             Err(refused) => Err(Refusal::Root(refused)),
         },
-        None => finish_by(alloc, manifest, None, folders),
+        None => finish_by(alloc, most, manifest, None, folders),
     }
 }
 
@@ -80,25 +103,26 @@ fn finish_by_bytes(
 /// folders, where they are passed in. Refuses as the reading or the finishing does.
 fn make_over(
     alloc: Global,
+    most: usize,
     input: Input,
     bytes: &[u8],
     root: Option<&[u8]>,
     folders: Option<&GivenFolders<'_>>,
-) -> Result<Manifest, Refusal>
+) -> Result<Box<Manifest>, Refusal>
     ensures ok { IfOk result (λ m.
-        MakesOver input bytes.now (option_copied root.entry) (stored_by folders.entry)
-        (manifest_content view view m)) }
+        MakesOver most input bytes.now (option_copied root.entry) (stored_by folders.entry)
+        (manifest_content view view m.value)) }
     ensures refused { IfErr result
-        (RefusesOver input bytes.now (option_copied root.entry) (stored_by folders.entry)) }
+        (RefusesOver most input bytes.now (option_copied root.entry) (stored_by folders.entry)) }
 {
     let mut manifest = match read(alloc, input, bytes) {
         Ok(manifest) => manifest,
         Err(refused) => return Err(Refusal::Bytes(refused)),
     };
-    match finish_by_bytes(alloc, input, &mut manifest, root, folders) {
+    match finish_by_bytes(alloc, most, input, &mut manifest, root, folders) {
         Ok(()) => Ok(manifest),
         Err(refusal) => {
-            drop(manifest);
+            release(manifest);
             Err(refusal)
         }
     }
@@ -108,23 +132,24 @@ fn make_over(
 /// root; and completed over the folders, where there are any.
 pub(crate) fn make(
     alloc: Global,
+    most: usize,
     input: Input,
     bytes: &[u8],
     root: Option<&[u8]>,
     folders: Option<&[Folder<'_>]>,
-) -> Result<Manifest, Refusal>
+) -> Result<Box<Manifest>, Refusal>
     ensures ok { IfOk result (λ m.
-        Makes input bytes.now (option_copied root.entry) (option_copied folders.entry)
-        (manifest_content view view m)) }
+        Makes most input bytes.now (option_copied root.entry) (option_copied folders.entry)
+        (manifest_content view view m.value)) }
     ensures refused { IfErr result
-        (RefusesToMake input bytes.now (option_copied root.entry) (option_copied folders.entry)) }
+        (RefusesToMake most input bytes.now (option_copied root.entry) (option_copied folders.entry)) }
 {
     match folders {
         Some(folders) => match GivenFolders::new(alloc, folders) {
-            Ok(given) => make_over(alloc, input, bytes, root, Some(&given)),
+            Ok(given) => make_over(alloc, most, input, bytes, root, Some(&given)),
             Err(refusal) => Err(refusal),
         },
-        None => make_over(alloc, input, bytes, root, None),
+        None => make_over(alloc, most, input, bytes, root, None),
     }
 }
 
@@ -183,9 +208,9 @@ pub(crate) fn output_or_refusal(
     alloc: Global,
     output: Output,
     most: usize,
-    made: Result<Manifest, Refusal>,
+    made: Result<Box<Manifest>, Refusal>,
 ) -> Result<Vec<u8>, Refusal>
-    ensures made { IfOk made (λ m. let m = manifest_content view view m in
+    ensures made { IfOk made (λ m. let m = manifest_content view view m.value in
         IsMade (Writes output most m) (RefusesOutput output most m) result) }
     ensures refused { IfErr made (λ refusal. result ≡ Err refusal) }
 {
@@ -194,6 +219,6 @@ pub(crate) fn output_or_refusal(
         Err(refusal) => return Err(refusal),
     };
     let text = output_of(alloc, output, most, &manifest);
-    drop(manifest);
+    release(manifest);
     text
 }

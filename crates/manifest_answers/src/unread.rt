@@ -9,7 +9,7 @@ ghost use Rattle.manifest_answers.specs.Made.{AreWithin, RefusesTagged, IsMade};
 ghost use Rattle.manifest_answers.specs.Unread.{no_metadata, GivesUnread, RefusesUnread, GivesDocument, RefusesDocument};
 
 use crate::making::tagged_bytes;
-use crate::reading::{document, from_text};
+use crate::reading::{document, from_text, release};
 use crate::refusal::Refusal;
 use cargo_manifest::{Manifest, Schema, Unread, Value};
 use std::alloc::Global;
@@ -33,12 +33,12 @@ fn table_of_unread(
 pub(crate) fn unread_table(alloc: Global, bytes: &[u8], most: usize) -> Result<Vec<u8>, Refusal>
     ensures { IsMade (GivesUnread most bytes.now) (RefusesUnread most bytes.now) result }
 {
-    let manifest: Manifest<Unread, Unread> = match from_text(alloc, bytes) {
+    let manifest: Box<Manifest<Unread, Unread>> = match from_text(alloc, bytes) {
         Ok(manifest) => manifest,
         Err(refused) => return Err(Refusal::Bytes(refused)),
     };
     let table = table_of_unread(alloc, &manifest, most);
-    drop(manifest);
+    release(manifest);
     table
 }
 

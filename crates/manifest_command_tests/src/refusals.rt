@@ -1,6 +1,6 @@
-//! The examples of resolving a member over its workspace, and of all its refusals.
+//! The examples of resolving a member over its workspace, of all its refusals, and of how much it inherits.
 use cargo_manifest::{Manifest, Value, Workspace};
-use manifest_inherit::{ResolveError, ResolveFault, refusals, resolve};
+use manifest_inherit::{ResolveError, ResolveFault, inherits_at_most, refusals, resolve};
 use std::alloc::{AllocError, Global};
 use std::test::Fail;
 
@@ -80,5 +80,35 @@ fn members_of_the_examples(rt: HostRuntime) -> Result<(), Fail> {
         let got = answer_of_document(rt.alloc(), member, root)?;
         assert_eq!(rt; got.as_str(), expected, "over {root}");
     }
+    Ok(())
+}
+
+/// The example of the question: whether what a member inherits of the workspace of a root takes at most this many bytes.
+fn is_short(alloc: Global, member: &str, root: &str, most: usize) -> Result<bool, Fail> {
+    let member = Manifest::from_str(alloc, member)?;
+    let root = Manifest::from_str(alloc, root)?;
+    let answer = match &root.workspace {
+        Some(workspace) => {
+            let manifest = &member;
+            let is_short = inherits_at_most(manifest, workspace, most); // 5 bytes for each place that inherits `a = '2.0'`
+            Ok(is_short)
+        }
+        None => Err(Fail::from("no workspace")),
+    };
+    drop(root);
+    drop(member);
+    answer
+}
+
+#[test]
+fn each_place_is_counted(rt: HostRuntime) -> Result<(), Fail> {
+    let member =
+        "[dependencies]\na.workspace = true\n[target.x.dependencies]\na.workspace = true\nb = '1'";
+    let root = "[workspace.dependencies]\na = '2.0'\nb = { git = 'c', features = ['d', ''] }";
+    assert!(rt; is_short(rt.alloc(), member, root, 10)?);
+    assert!(rt; !is_short(rt.alloc(), member, root, 9)?);
+    let member = "[dev-dependencies]\nb.workspace = true";
+    assert!(rt; is_short(rt.alloc(), member, root, 8)?);
+    assert!(rt; !is_short(rt.alloc(), member, root, 7)?);
     Ok(())
 }

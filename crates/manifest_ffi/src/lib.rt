@@ -32,8 +32,8 @@ pub extern "C" fn manifest_canonical(
     most: usize,
     out: &mut [u8],
 ) -> Answer
-    ensures answers { Answers CanonicalText most (Makes Toml bytes.now None None)
-        (RefusesToMake Toml bytes.now None None) out.old out.new result }
+    ensures answers { Answers CanonicalText most (Makes most Toml bytes.now None None)
+        (RefusesToMake most Toml bytes.now None None) out.old out.new result }
     ensures dates { ¬ (result.status ≡ 7) }
 {
     let asked = Asked {
@@ -58,8 +58,8 @@ pub extern "C" fn manifest_completed(
     most: usize,
     out: &mut [u8],
 ) -> Answer
-    ensures answers { Answers CanonicalText most (Makes Toml bytes.now None (Some folders.now))
-        (RefusesToMake Toml bytes.now None (Some folders.now)) out.old out.new result }
+    ensures answers { Answers CanonicalText most (Makes most Toml bytes.now None (Some folders.now))
+        (RefusesToMake most Toml bytes.now None (Some folders.now)) out.old out.new result }
     ensures dates { ¬ (result.status ≡ 7) }
 {
     let asked = Asked {
@@ -84,8 +84,8 @@ pub extern "C" fn manifest_resolved(
     most: usize,
     out: &mut [u8],
 ) -> Answer
-    ensures answers { Answers CanonicalText most (Makes Toml bytes.now (Some root.now) None)
-        (RefusesToMake Toml bytes.now (Some root.now) None) out.old out.new result }
+    ensures answers { Answers CanonicalText most (Makes most Toml bytes.now (Some root.now) None)
+        (RefusesToMake most Toml bytes.now (Some root.now) None) out.old out.new result }
     ensures dates { ¬ (result.status ≡ 7) }
 {
     let asked = Asked {
@@ -112,8 +112,8 @@ pub extern "C" fn manifest_resolved_completed(
     out: &mut [u8],
 ) -> Answer
     ensures answers { Answers CanonicalText most
-        (Makes Toml bytes.now (Some root.now) (Some folders.now))
-        (RefusesToMake Toml bytes.now (Some root.now) (Some folders.now)) out.old out.new result }
+        (Makes most Toml bytes.now (Some root.now) (Some folders.now))
+        (RefusesToMake most Toml bytes.now (Some root.now) (Some folders.now)) out.old out.new result }
     ensures dates { ¬ (result.status ≡ 7) }
 {
     let asked = Asked {
@@ -132,8 +132,8 @@ pub extern "C" fn manifest_resolved_completed(
 /// ```
 #[unsafe(no_mangle)]
 pub extern "C" fn manifest_table(alloc: Global, bytes: &[u8], most: usize, out: &mut [u8]) -> Answer
-    ensures { Answers TaggedTable most (Makes Toml bytes.now None None)
-        (RefusesToMake Toml bytes.now None None) out.old out.new result }
+    ensures { Answers TaggedTable most (Makes most Toml bytes.now None None)
+        (RefusesToMake most Toml bytes.now None None) out.old out.new result }
 {
     let asked = Asked {
         input: Input::Toml,
@@ -157,8 +157,8 @@ pub extern "C" fn manifest_completed_table(
     most: usize,
     out: &mut [u8],
 ) -> Answer
-    ensures { Answers TaggedTable most (Makes Toml bytes.now None (Some folders.now))
-        (RefusesToMake Toml bytes.now None (Some folders.now)) out.old out.new result }
+    ensures { Answers TaggedTable most (Makes most Toml bytes.now None (Some folders.now))
+        (RefusesToMake most Toml bytes.now None (Some folders.now)) out.old out.new result }
 {
     let asked = Asked {
         input: Input::Toml,
@@ -182,8 +182,8 @@ pub extern "C" fn manifest_resolved_table(
     most: usize,
     out: &mut [u8],
 ) -> Answer
-    ensures { Answers TaggedTable most (Makes Toml bytes.now (Some root.now) None)
-        (RefusesToMake Toml bytes.now (Some root.now) None) out.old out.new result }
+    ensures { Answers TaggedTable most (Makes most Toml bytes.now (Some root.now) None)
+        (RefusesToMake most Toml bytes.now (Some root.now) None) out.old out.new result }
 {
     let asked = Asked {
         input: Input::Toml,
@@ -208,8 +208,8 @@ pub extern "C" fn manifest_resolved_completed_table(
     most: usize,
     out: &mut [u8],
 ) -> Answer
-    ensures { Answers TaggedTable most (Makes Toml bytes.now (Some root.now) (Some folders.now))
-        (RefusesToMake Toml bytes.now (Some root.now) (Some folders.now)) out.old out.new result }
+    ensures { Answers TaggedTable most (Makes most Toml bytes.now (Some root.now) (Some folders.now))
+        (RefusesToMake most Toml bytes.now (Some root.now) (Some folders.now)) out.old out.new result }
 {
     let asked = Asked {
         input: Input::Toml,
@@ -294,8 +294,8 @@ pub extern "C" fn manifest_canonical_of_table(
     most: usize,
     out: &mut [u8],
 ) -> Answer
-    ensures { Answers CanonicalText most (Makes Tagged bytes.now None None)
-        (RefusesToMake Tagged bytes.now None None) out.old out.new result }
+    ensures { Answers CanonicalText most (Makes most Tagged bytes.now None None)
+        (RefusesToMake most Tagged bytes.now None None) out.old out.new result }
 {
     let asked = Asked {
         input: Input::Tagged,
@@ -319,8 +319,8 @@ pub extern "C" fn manifest_completed_of_table(
     most: usize,
     out: &mut [u8],
 ) -> Answer
-    ensures { Answers TaggedTable most (Makes Tagged bytes.now None (Some folders.now))
-        (RefusesToMake Tagged bytes.now None (Some folders.now)) out.old out.new result }
+    ensures { Answers TaggedTable most (Makes most Tagged bytes.now None (Some folders.now))
+        (RefusesToMake most Tagged bytes.now None (Some folders.now)) out.old out.new result }
 {
     let asked = Asked {
         input: Input::Tagged,
@@ -344,8 +344,8 @@ pub extern "C" fn manifest_resolved_of_tables(
     most: usize,
     out: &mut [u8],
 ) -> Answer
-    ensures { Answers TaggedTable most (Makes Tagged bytes.now (Some root.now) None)
-        (RefusesToMake Tagged bytes.now (Some root.now) None) out.old out.new result }
+    ensures { Answers TaggedTable most (Makes most Tagged bytes.now (Some root.now) None)
+        (RefusesToMake most Tagged bytes.now (Some root.now) None) out.old out.new result }
 {
     let asked = Asked {
         input: Input::Tagged,

@@ -1,6 +1,6 @@
 -- What the contracts of single steps cite. It is not needed to read what a manifest becomes.
-use Rattle.manifest_schema.specs.Prelude.{Global, BTreeMap, Entries, Dependency, Lint, Package, WorkspacePackage, Manifest}
-use Rattle.std.specs.Prelude.{◌≡◌, ℕ, zero, suc, [], Option, Some, option_map, unwrap_or, String}
+use Rattle.manifest_schema.specs.Prelude.{Bor, Text, Global, BTreeMap, Entries, Dependency, Lint, Package, WorkspacePackage, Manifest}
+use Rattle.std.specs.Prelude.{◌≡◌, ℕ, zero, suc, List, [], map, Option, Some, option_map, unwrap_or, String}
 use Rattle.manifest_value.specs.Entries.{entries_content}
 use Rattle.manifest_parts.specs.Records.{platform_content, lint_content}
 use Rattle.manifest_parts.specs.declared.dependency.Dependency.{Dependency as DependencyOfCode}
@@ -18,6 +18,10 @@ Accepted refusals becomes made = (refusals ≡ []) × (made ≡ becomes)
 -- the workspace's dependencies that can be inherited, where there is a map of them
 abbrev pub lent_by_map : Option (BTreeMap (String Global) DependencyOfCode) → Entries Dependency
 lent_by_map lent = unwrap_or (option_map dependencies_content lent) []
+
+-- borrowed texts
+abbrev pub borrowed_texts : List (Bor Text) → List Text
+borrowed_texts ts = map (λ (t : Bor Text). t.now) ts
 
 -- the lints of all tools
 abbrev pub tools_content :

@@ -5,6 +5,7 @@ pub mod Refused
 pub mod AllRefused
 pub mod Own
 pub mod Answers
+pub mod Sizes
 pub mod Finished
 pub mod Laws
 pub mod ForProofs

@@ -17,7 +17,10 @@ use manifest_value::copy_of;
 use std::alloc::{AllocError, Global};
 
 /// The workspace's dependency of this name; `None` where the workspace does not have it, or no dependencies at all.
-fn workspace_dependency<'a>(lent: &'a Option<DepsSet>, name: &str) -> Option<&'a Dependency>
+pub(crate) fn workspace_dependency<'a>(
+    lent: &'a Option<DepsSet>,
+    name: &str,
+) -> Option<&'a Dependency>
     ensures { option_map (λ d. dependency_content d.now) result
         ≡ workspace_dependency (lent_by_map lent.now) name.now }
 {

@@ -1,23 +1,93 @@
 //! The features of a dependency inherited from the workspace: the workspace's, and those that the member adds.
 
-ghost use Rattle.std.specs.Prelude.{◌≡◌, ◌++◌, OnOk, map, option_map, string_bytes};
+ghost use Rattle.std.specs.Prelude.{◌≡◌, ◌++◌, ◌∷◌, [], List, ℕ, not, OnOk, IfOk, map, option_map, string_bytes};
+ghost use Rattle.std.specs.Bool.{OnFalse};
+ghost use Rattle.manifest_completion.specs.Targets.{has_path as has_text};
+ghost use Rattle.manifest_completion.specs.Index.{paths_in as texts_in, SamePaths as SameTexts};
 ghost use Rattle.manifest_inherit.specs.Resolved.{new_features, joined_features};
+ghost use Rattle.manifest_inherit.specs.ForProofs.{borrowed_texts};
 
 use std::alloc::{AllocError, Global};
+use std::collections::BTreeSet;
+
+/// Adds a feature to the set of those that are there. Returns whether it was not in it before.
+fn is_new<'a>(there: &mut BTreeSet<&'a str>, feature: &'a str) -> Result<bool, AllocError>
+    ensures new { IfOk result (λ is_new. is_new ≡ not (has_text (texts_in there.old) feature.now)) }
+    ensures added { let more = texts_in there.old ++ feature.now ∷ [] in
+        OnOk result (SameTexts (texts_in there.new) more) }
+    ensures kept { IfOk result
+        (λ is_new. OnFalse is_new (texts_in there.new ≡ texts_in there.old)) }
+{
+    Ok(there.insert(feature)?)
+}
+
+/// The set of some features.
+fn set_of<'a>(alloc: Global, features: &'a [String]) -> Result<BTreeSet<&'a str>, AllocError>
+    ensures { IfOk result (λ s. SameTexts (texts_in s) (map string_bytes features.now)) }
+{
+    let mut there = BTreeSet::new(alloc);
+    for feature in features {
+        is_new(&mut there, feature.as_str())?;
+    }
+    Ok(there)
+}
+
+/// Appends a feature to the new ones, where it is not among those that are there, and adds it to these.
+fn push_new<'h, 'o: 'h>(
+    there: &mut BTreeSet<&'h str>,
+    new: &mut Vec<&'o str>,
+    feature: &'o str,
+) -> Result<(), AllocError>
+    ensures { (fs : List (List ℕ)) → OnOk result
+        (borrowed_texts new.new.items ++ new_features (texts_in there.new) fs
+        ≡ borrowed_texts new.old.items ++ new_features (texts_in there.old) (feature.now ∷ fs)) }
+{
+    let seen: &'h str = feature;
+    if is_new(there, seen)? {
+        new.push(feature)?;
+        Ok(())
+    } else {
+        Ok(())
+    }
+}
+
+/// The features that are not among those that are there, in their order, each once.
+fn new_among<'h, 'o: 'h>(
+    alloc: Global,
+    mut there: BTreeSet<&'h str>,
+    features: &'o [String],
+) -> Result<Vec<&'o str>, AllocError>
+    ensures { IfOk result (λ v. borrowed_texts v.items
+        ≡ new_features (texts_in there.entry) (map string_bytes features.now)) }
+{
+    let mut new = Vec::new(alloc);
+    for feature in features {
+        push_new(&mut there, &mut new, feature.as_str())?;
+    }
+    Ok(new)
+}
+
+/// Appends copies of some texts to the features. After an error it may have some of them.
+fn append(alloc: Global, features: &mut Vec<String>, new: &[&str]) -> Result<(), AllocError>
+    ensures { OnOk result (map string_bytes features.new.items
+        ≡ map string_bytes features.old.items ++ borrowed_texts new.now) }
+{
+    for feature in new {
+        features.push(String::from_str(alloc, feature)?)?;
+    }
+    Ok(())
+}
 
 /// Appends to the workspace's `features` a copy of each of the member's (`own`) that the list does not have yet, in
-/// their order. After an error it may have some of them.
+/// their order, in n log n steps. After an error it may have some of them.
 fn add_new(alloc: Global, features: &mut Vec<String>, own: &[String]) -> Result<(), AllocError>
     ensures { let had = map string_bytes features.old.items in
         OnOk result (map string_bytes features.new.items
         ≡ had ++ new_features had (map string_bytes own.now)) }
 {
-    for feature in own {
-        if !features.contains(feature) {
-            features.push(String::from_str(alloc, feature.as_str())?)?;
-        }
-    }
-    Ok(())
+    let there = set_of(alloc, features.as_slice())?;
+    let new = new_among(alloc, there, own)?;
+    append(alloc, features, new.as_slice())
 }
 
 /// Adds to the workspace's features (`features`) those of the member (`own`) that are not among them, in their order;

@@ -12,9 +12,11 @@ mod lints;
 mod maps;
 mod pipeline;
 mod resolution;
+mod sizes;
 mod unresolved;
 
 pub use error::{FinishError, Refusal, ResolveError, ResolveFault};
 pub use pipeline::finish;
 pub use resolution::resolve;
+pub use sizes::inherits_at_most;
 pub use unresolved::refusals;

@@ -11,10 +11,12 @@ ghost use Rattle.manifest_inherit.specs.Refused.{Refusal};
 ghost use Rattle.manifest_inherit.specs.AllRefused.{first_refusal, refused_under, dependency_refusals, entries_refusals, platform_refusals, some_refusals};
 ghost use Rattle.manifest_inherit.specs.Answers.{fault_of, ResolveRefusedIn};
 ghost use Rattle.manifest_inherit.specs.ForProofs.{Accepted, lent_by_map};
+ghost use Rattle.manifest_inherit.specs.Sizes.{dependency_size, platform_size, Leaves};
 
 use crate::dependency::{dependency_refusals, resolved_dependency};
 use crate::error::{ResolveError, ResolveFault};
 use crate::faults::{Faults, and_under};
+use crate::sizes::{less_dependency, less_map};
 use manifest_parts::{Dependency, DepsSet, Target};
 use manifest_value::maps::map_of_list;
 use std::alloc::Global;
@@ -31,6 +33,8 @@ pub(crate) trait Heir: Sized + Drop {
 
     ghost refusals: { Entries Contents.Dependency → List ℕ → Content →
         List (List Step × Refusal) };
+
+    ghost size: { Entries Contents.Dependency → List ℕ → Content → ℕ };
 
     /// A copy of the value, which stands under the key `name`, with what it inherits from the workspace's dependencies
     /// (`lent`). Refuses where the workspace does not have what is inherited, or itself inherits it.
@@ -52,6 +56,12 @@ pub(crate) trait Heir: Sized + Drop {
     fn refusals_under_name(&self, alloc: Global, lent: &Option<DepsSet>, name: &str) -> Faults
         ensures { let told = refusals (lent_by_map lent.now) name.now (content self.now) in
             IfOk result (λ v. map fault_of v.items ≡ told) };
+
+    /// What is left of `most` after what the value inherits, which stands under the key `name`: the texts of the
+    /// workspace's dependencies (`lent`). `None` where these take more.
+    fn less_inherited(&self, most: usize, lent: &Option<DepsSet>, name: &str) -> Option<usize>
+        ensures { let n = size (lent_by_map lent.now) name.now (content self.now) in
+            Leaves most n result };
 }
 
 /// A dependency becomes what [`resolved_dependency`] makes of it under its name.
@@ -63,6 +73,8 @@ impl Heir for Dependency {
     ghost resolved = { resolved_dependency };
 
     ghost refusals = { dependency_refusals };
+
+    ghost size = { dependency_size };
 
     fn resolve_under_name(
         &self,
@@ -76,6 +88,10 @@ impl Heir for Dependency {
     fn refusals_under_name(&self, alloc: Global, lent: &Option<DepsSet>, name: &str) -> Faults {
         dependency_refusals(alloc, lent, name, self)
     }
+
+    fn less_inherited(&self, most: usize, lent: &Option<DepsSet>, name: &str) -> Option<usize> {
+        less_dependency(most, lent, name, self)
+    }
 }
 
 /// A platform's table becomes one whose three maps of dependencies are resolved; its own name plays no part.
@@ -87,6 +103,8 @@ impl Heir for Target {
     ghost resolved = { λ lent name. resolved_platform lent };
 
     ghost refusals = { λ lent name. platform_refusals lent };
+
+    ghost size = { λ lent name. platform_size lent };
 
     fn resolve_under_name(
         &self,
@@ -121,6 +139,12 @@ impl Heir for Target {
             lent,
             &self.build_dependencies,
         )
+    }
+
+    fn less_inherited(&self, most: usize, lent: &Option<DepsSet>, _name: &str) -> Option<usize> {
+        let left = less_map(most, lent, &self.dependencies)?;
+        let left = less_map(left, lent, &self.dev_dependencies)?;
+        less_map(left, lent, &self.build_dependencies)
     }
 }
 

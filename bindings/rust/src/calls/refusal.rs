@@ -107,13 +107,9 @@ impl fmt::Display for ListingError {
     }
 }
 
-/// How deep arrays and tables may stand in one another, the whole table not counted: `a = [{}]` is 2 deep.
-/// The reader of texts takes at most 80 arrays and inline tables in one another.
-///
-/// A text is refused before it is read where (B + 3) * (D + 1) is more than 384: B is how many brackets, `[` and `{`, are open
-/// at one place at most, and D how many dots stand at most between one of `,`, `=`, `[`, `{`, `#` and line ends and the next.
-/// Those in strings and comments are not counted, nor any after the first string that does not end, or character that
-/// TOML allows in these alone.
+/// How deep arrays and tables may stand in one another, the whole table not counted: `a = [{}]` is 2 deep. What is deeper is
+/// refused as [`Refusal::TooDeep`]. The reader of texts takes at most 80 arrays and inline tables in one another, and keys of 80
+/// parts.
 pub const DEPTH_LIMIT: usize = 128;
 
 /// What a call refuses with.
@@ -161,8 +157,7 @@ pub enum Refusal {
     ToolNamedWorkspace,
     /// The bytes are not the tagged bytes of a table.
     Untagged(Part),
-    /// Arrays and tables stand in one another deeper than [`DEPTH_LIMIT`], or the text has brackets and dotted keys by which
-    /// they could.
+    /// Arrays and tables stand in one another deeper than [`DEPTH_LIMIT`].
     TooDeep(Part),
     /// What is asked for could take more bytes than [`AtMost`](super::AtMost) allows.
     TooLong,

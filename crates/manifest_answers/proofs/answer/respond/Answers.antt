@@ -1,8 +1,6 @@
 use Rattle.std.proofs.Common.{sym, subst, ◌∙◌}
 use Rattle.std.specs.Prelude.{option_copied}
-use Rattle.toml.specs.View.{view}
-use Rattle.cargo_manifest.specs.Whole.{manifest_content}
-use Rattle.manifest_answers.specs.Made.{Makes, RefusesToMake, Gives, OrOutput, IsMade}
+use Rattle.manifest_answers.specs.Made.{boxed_content, Makes, RefusesToMake, Gives, OrOutput, IsMade}
 use Rattle.manifest_answers.specs.declared.reading.Input.{Input}
 use Rattle.manifest_answers.proofs.DateLemmas.{is_not_seven}
 use Rattle.manifest_answers.proofs.MadeLemmas.{finished}
@@ -17,7 +15,7 @@ returns-clause-answers c =
     record {
       made = c.output_or_refusal-text.result;
       told = c.outcome-told.result;
-      is_made = finished (manifest_content view view) asked.output asked.most asked.input bytes root folders (RefusesToMake asked.input bytes root folders) c.make-made.result c.output_or_refusal-text.result c.make-made.ensures.ok c.make-made.ensures.refused c.output_or_refusal-text.ensures.made c.output_or_refusal-text.ensures.refused;
+      is_made = finished boxed_content asked.output asked.most asked.input bytes root folders (RefusesToMake asked.most asked.input bytes root folders) c.make-made.result c.output_or_refusal-text.result c.make-made.ensures.ok c.make-made.ensures.refused c.output_or_refusal-text.ensures.made c.output_or_refusal-text.ensures.refused;
       outcome = c.outcome-told.ensures;
       hands = c.write_answer.ensures;
     }
@@ -28,6 +26,6 @@ returns-clause-dates c = λ is_toml seven.
     let bytes = c.args.bytes.now in
     let root = option_copied c.args.root in
     let folders = option_copied c.args.folders in
-    let made = finished (manifest_content view view) asked.output asked.most asked.input bytes root folders (RefusesToMake asked.input bytes root folders) c.make-made.result c.output_or_refusal-text.result c.make-made.ensures.ok c.make-made.ensures.refused c.output_or_refusal-text.ensures.made c.output_or_refusal-text.ensures.refused in
-    let of_text = subst (λ (input : Input). IsMade (Gives asked.output asked.most (Makes input bytes root folders)) (OrOutput asked.output asked.most (Makes input bytes root folders) (RefusesToMake input bytes root folders)) c.output_or_refusal-text.result) is_toml made in
+    let made = finished boxed_content asked.output asked.most asked.input bytes root folders (RefusesToMake asked.most asked.input bytes root folders) c.make-made.result c.output_or_refusal-text.result c.make-made.ensures.ok c.make-made.ensures.refused c.output_or_refusal-text.ensures.made c.output_or_refusal-text.ensures.refused in
+    let of_text = subst (λ (input : Input). IsMade (Gives asked.output asked.most (Makes asked.most input bytes root folders)) (OrOutput asked.output asked.most (Makes asked.most input bytes root folders) (RefusesToMake asked.most input bytes root folders)) c.output_or_refusal-text.result) is_toml made in
     is_not_seven asked.output asked.most bytes root folders c.output_or_refusal-text.result c.outcome-told.result of_text c.outcome-told.ensures (sym c.write_answer.ensures.status ∙ seven)

@@ -1,0 +1,4 @@
+pub mod StringSkips
+pub mod DateWords
+pub mod Steps
+pub mod Printed

@@ -1,0 +1,3 @@
+pub mod Skipped
+pub mod Nesting
+pub mod Laws
