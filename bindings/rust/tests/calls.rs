@@ -90,7 +90,7 @@ fn nested(depth: usize) -> Result<String, Refusal> {
     let (open, close) = ("[".repeat(depth), "]".repeat(depth));
     let text = format!("[package]\nname = 'p'\n[package.metadata]\na = {open}{close}\n");
     let run = move || canonical(text.as_bytes());
-    thread::Builder::new().stack_size(256 << 10).spawn(run).unwrap().join().unwrap()
+    thread::Builder::new().stack_size(128 << 10).spawn(run).unwrap().join().unwrap()
 }
 
 #[test]

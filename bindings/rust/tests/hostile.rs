@@ -1,5 +1,5 @@
-//! Each call of the library on inputs that are made to take much stack, time or memory (`inputs`), in a thread with 256 KiB of
-//! stack, which has to be enough for all of them.
+//! Each call of the library on inputs that are made to take much stack, time or memory (`inputs`), in a thread with 128 KiB of
+//! stack, which has to be enough for all of them, and with no more memory than `docs/LIBRARY.md` says.
 //!
 //! `MANIFEST_HOSTILE` says how many inputs there are, 2,000 where it is not set, `MANIFEST_HOSTILE_FROM` the number of the
 //! first, and `MANIFEST_HOSTILE_STACK` how many KiB the stack has; `scripts/hostile --library FOLDER` has 200,000 inputs. An
@@ -8,14 +8,19 @@
 mod inputs;
 
 use cargo_manifest as _; // the archive is linked by it
-use inputs::Random;
+use inputs::{heap, Random};
 use std::collections::BTreeMap;
 use std::sync::atomic::{AtomicU64, Ordering};
 use std::sync::Mutex;
 use std::{env, ptr, thread};
 
 /// How many KiB of stack a call may take, with what the test takes itself.
-const STACK: u64 = 256;
+const STACK: u64 = 128;
+/// How much memory a call may have at once: for each byte that is passed in (a name of a folder counts as 16 more), for each
+/// byte that it may give, and besides.
+const EACH: usize = 512;
+const PRINTED: usize = 64;
+const BESIDES: usize = 64 << 10;
 /// How many threads there are at once.
 const AT_ONCE: usize = 2;
 /// How long a text may be.
@@ -121,8 +126,25 @@ struct Given<'a> {
     folders: &'a [Folder],
 }
 
-/// The answer of a call, which may give this many bytes, with room for all or none of them.
+impl Given<'_> {
+    /// How many bytes are passed in, and 16 for each name of a folder.
+    fn size(&self) -> usize {
+        let names = |folder: &Folder| 32 + folder.path.length + 32 * folder.names.length;
+        self.bytes.len() + self.root.len() + self.folders.iter().map(names).sum::<usize>()
+    }
+}
+
+/// The answer of a call, which may give this many bytes, with room for all or none of them. It has no more memory than it may.
 fn answer(call: &Call, given: &Given<'_>, most: usize, out: &mut [u8]) -> Answer {
+    let mut answer = None;
+    let memory = heap::most_while(|| answer = Some(answered(call, given, most, out)));
+    let bound = EACH * given.size() + PRINTED.saturating_mul(most).saturating_add(BESIDES);
+    assert!(memory <= bound, "{memory} bytes of memory");
+    answer.expect("the call has returned")
+}
+
+/// The same, whatever memory it has.
+fn answered(call: &Call, given: &Given<'_>, most: usize, out: &mut [u8]) -> Answer {
     let (bytes, length) = (given.bytes.as_ptr(), given.bytes.len());
     let (root, root_length) = (given.root.as_ptr(), given.root.len());
     let (folders, count) = (given.folders.as_ptr(), given.folders.len());
@@ -190,7 +212,7 @@ fn check_limit(whole: Answer, limited: Answer, most: usize, gives_table: bool) {
     }
 }
 
-/// A canonical text is its own canonical text; but one that has more brackets and dots than are read may be refused.
+/// A canonical text is its own canonical text; but one of a table that is more than 80 deep may be refused.
 fn check_text(text: &[u8]) {
     assert!(std::str::from_utf8(text).is_ok());
     let given = Given { bytes: text, root: &[], folders: &[] };
@@ -200,7 +222,8 @@ fn check_text(text: &[u8]) {
     match answer.status {
         // (of what has neither a package nor a workspace, as a table may, the text is that of an old header without a name)
         2 => assert!(!says(b"[package") && !says(b"[workspace")),
-        1 | 15 => assert!(text.iter().filter(|byte| b"[{.".contains(byte)).count() > 40),
+        // (each level but the first ones has a bracket or a dot)
+        1 | 15 => assert!(text.iter().filter(|byte| b"[{.".contains(byte)).count() > 77),
         status => assert!(status == 0 && answer.length == text.len() && again == text, "{status}"),
     }
 }

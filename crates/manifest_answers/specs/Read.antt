@@ -71,6 +71,12 @@ pub record IsTaggedOf (bytes : Text) (m : Manifest) : Type 0 where
   pub tagged : bytes ≡ encoded value
   pub read : reads_manifest kept_metadata kept_metadata value m
 
+-- the value is refused: it has this fault, or memory ran out
+abbrev pub RefusesValue : Data → InputError → Type 0
+RefusesValue value (NoManifest e) =
+    IsOutOfMemory e ⊎ RefusedIn (faulty_manifest kept_metadata kept_metadata value) e
+RefusesValue value _ = ⊥
+
 -- the bytes are those of a value that has this fault
 abbrev pub HoldFault : Text → Error → Type 0
 HoldFault bytes e =

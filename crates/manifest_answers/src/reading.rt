@@ -1,18 +1,20 @@
 //! What the bytes of a call are: a document, or the tagged bytes of a table, that nests no deeper than the limit; and
 //! the manifest that it means.
 
-ghost use Rattle.manifest_schema.specs.Prelude.{means, view, table_view, tree_of};
+ghost use Rattle.manifest_schema.specs.Prelude.{kept_metadata, means, reads_manifest, view, table_view, tree_of};
 ghost use Rattle.std.specs.Prelude.{◌≡◌, Some, false, IfOk, IfErr};
 ghost use Rattle.toml.specs.Parse.{parse_document};
 ghost use Rattle.cargo_manifest.specs.Whole.{manifest_content, manifest_of};
 ghost use Rattle.manifest_answers.specs.declared.reading.Input.TheVariants.{Tagged};
 ghost use Rattle.manifest_nesting.specs.Nesting.{nests_too_deep};
-ghost use Rattle.manifest_answers.specs.Read.{IsDocument, RefusesToParse, IsNoDocument, IsSourceOf, RefusesMeaning, RefusesSource, Are, RefusesToRead};
+ghost use Rattle.manifest_answers.specs.Read.{IsDocument, RefusesToParse, IsNoDocument, IsSourceOf, RefusesMeaning, RefusesSource, RefusesValue, Are, RefusesToRead};
 
 use crate::refusal::InputError;
-use cargo_manifest::{Error, Manifest, Metadata, ParseFault, Schema, depth};
+use cargo_manifest::{Error, Manifest, Metadata, ParseFault, Schema, Value, depth};
 use manifest_bytes::{DecodeError, value_of_bytes};
 use manifest_nesting::{DEPTH_LIMIT, nests_too_deep};
+use manifest_value::Source;
+use manifest_value::error::refusal;
 use std::alloc::Global;
 use std::rc::Rc;
 use toml::Table;
@@ -109,6 +111,19 @@ pub(crate) fn release<P: Metadata, W: Metadata>(manifest: Box<Manifest<P, W>>) {
     drop(manifest);
 }
 
+/// The manifest that the form of a manifest reads of a value, on the heap. What the value holds is moved into it.
+#[inline(never)]
+fn from_value(alloc: Global, value: Value) -> Result<Box<Manifest>, InputError>
+    ensures ok { IfOk result (λ m. reads_manifest kept_metadata kept_metadata (view value)
+        (manifest_content view view m.value)) }
+    ensures refused { IfErr result (RefusesValue (view value)) }
+{
+    match Manifest::read(alloc, Source::Taken(value)) {
+        Ok(manifest) => Ok(Box::new(alloc, manifest)?),
+        Err(fault) => Err(InputError::Manifest(refusal(fault))),
+    }
+}
+
 /// The manifest that the form of a manifest reads of a value, of which these are the tagged bytes. Refuses bytes of no
 /// value with `Untagged`, and ones that nest too deep with `TooDeep`; else with the refusal of `from_value`, as of a
 /// value that is no table.
@@ -125,9 +140,9 @@ fn from_tagged(alloc: Global, bytes: &[u8]) -> Result<Box<Manifest>, InputError>
             return Err(InputError::Manifest(Error::Memory(refused)));
         }
     };
-    match Manifest::from_value(alloc, &value) {
-        Ok(manifest) => Ok(Box::new(alloc, manifest)?),
-        Err(error) => Err(InputError::Manifest(error)),
+    match from_value(alloc, value) {
+        Ok(manifest) => Ok(manifest),
+        Err(refused) => Err(refused),
     }
 }
 

@@ -142,6 +142,7 @@ impl<'a> Reader<'a> {
     }
 
     /// What stands after `tag`, of an integer, a boolean, a date-time or a float; `None` for any other tag.
+    #[inline(never)]
     fn simple(&mut self, tag: u8) -> Option<Value> {
         match tag {
             2 => Some(Value::Integer(i64::try_from(self.number()?).ok()?)),
@@ -156,6 +157,7 @@ impl<'a> Reader<'a> {
 }
 
 /// Reads a string without its tag, as [`Reader::text`] does, and copies it; `Ok(None)` where there is none.
+#[inline(never)]
 fn read_text(alloc: Global, reader: &mut Reader<'_>) -> Read<String> {
     match reader.text() {
         Some(text) => Ok(Some(String::from_str(alloc, text)?)),
@@ -198,7 +200,8 @@ pub(crate) fn read_value(alloc: Global, deepest: usize, reader: &mut Reader<'_>)
 }
 
 /// Reads an array without its tag: how many items there are, as a number, and the items, whose arrays and tables may
-/// nest `deepest` deep.
+/// nest `deepest` deep. (It is compiled apart from [`read_value`], so that a value takes the stack of one kind alone.)
+#[inline(never)]
 #[cycle(reading)]
 fn read_items(alloc: Global, deepest: usize, reader: &mut Reader<'_>) -> Read<Vec<Value>> {
     let mut items = Vec::new(alloc);
@@ -214,8 +217,16 @@ fn read_items(alloc: Global, deepest: usize, reader: &mut Reader<'_>) -> Read<Ve
     Ok(Some(items))
 }
 
+/// Puts an entry into a table, in the place of one of the same key. (It is compiled apart, as [`read_items`] is.)
+#[inline(never)]
+fn put(members: &mut Table, key: String, member: Value) -> Result<(), DecodeError> {
+    let _former = members.insert(key, member)?;
+    Ok(())
+}
+
 /// Reads a table without its tag: how many entries there are, and each key with its value. A key that stands twice
-/// passes here, and is refused by `value_of_bytes`.
+/// passes here, and is refused by `value_of_bytes`. (It is compiled apart, as [`read_items`] is.)
+#[inline(never)]
 #[cycle(reading)]
 fn read_members(alloc: Global, deepest: usize, reader: &mut Reader<'_>) -> Read<Table> {
     let mut members = Table::new(alloc);
@@ -227,9 +238,7 @@ fn read_members(alloc: Global, deepest: usize, reader: &mut Reader<'_>) -> Read<
             return Ok(None);
         };
         match read_value(alloc, deepest, reader)? {
-            Some(member) => {
-                let _former = members.insert(key, member)?;
-            }
+            Some(member) => put(&mut members, key, member)?,
             None => return Ok(None),
         }
     }

@@ -1,6 +1,8 @@
 //! Texts and tagged tables that are made to take much stack, time or memory, each from its number alone: headers, dotted keys,
 //! arrays and inline tables in one another, about as deep as is read and far deeper; long keys above many tables; strings and
-//! comments with brackets, whose ends are easily missed; and all of this cut off or damaged.
+//! comments with brackets, whose ends are easily missed; and all of this cut off or damaged. (`heap` counts the memory.)
+
+pub mod heap;
 
 /// Numbers that look random.
 pub struct Random(u64);
@@ -45,8 +47,8 @@ struct Most {
 }
 
 impl Most {
-    /// About as many as are read: 3 more brackets than these, times the parts, are 384 at most.
-    fn near_the_limit(random: &mut Random) -> Most {
+    /// About three times as many as are read.
+    fn beyond_the_limit(random: &mut Random) -> Most {
         let parts = random.one_of(&[1, 2, 2, 3, 4, 5, 6, 8, 8, 16, 16, 32, 32, 64, 79, 80, 81, 128, 170]);
         let brackets: usize = 384 / parts;
         let brackets = brackets.saturating_sub(3) + usize::from(random.one_in(8));
@@ -256,7 +258,7 @@ const FAULTS: [&str; 6] = ["z = 1\nz = 1\n", "[z]\n[z]\n", "[[z]]\n[z]\n", "z = 
 pub fn text(random: &mut Random) -> Vec<u8> {
     let mut text = random.one_of(&STARTS).to_owned();
     let most = match random.below(5) {
-        0 | 1 => Most::near_the_limit(random),
+        0 | 1 => Most::beyond_the_limit(random),
         2 | 3 => Most::near_the_depth(random),
         _ => Most::any(random),
     };
