@@ -18,7 +18,7 @@ use std::{env, ptr, thread};
 const STACK: u64 = 128;
 /// How much memory a call may have at once: for each byte that is passed in (a name of a folder counts as 16 more), for each
 /// byte that it may give, and besides.
-const EACH: usize = 512;
+const EACH: usize = 768;
 const PRINTED: usize = 64;
 const BESIDES: usize = 64 << 10;
 /// How many threads there are at once.
@@ -138,8 +138,8 @@ impl Given<'_> {
 fn answer(call: &Call, given: &Given<'_>, most: usize, out: &mut [u8]) -> Answer {
     let mut answer = None;
     let memory = heap::most_while(|| answer = Some(answered(call, given, most, out)));
-    let bound = EACH * given.size() + PRINTED.saturating_mul(most).saturating_add(BESIDES);
-    assert!(memory <= bound, "{memory} bytes of memory");
+    let bound = PRINTED.saturating_mul(most).saturating_add(EACH * given.size() + BESIDES);
+    assert!(memory <= bound, "{memory} bytes of memory, where {} are passed in and {most} may be given", given.size());
     answer.expect("the call has returned")
 }
 
