@@ -144,10 +144,10 @@
 //! a key. What is over these is refused as no TOML. Each text that the library writes of a table at most 80 deep is read
 //! again.
 //!
-//! A call takes at most 112 KiB of stack on all inputs that were tried, so a thread with 128 KiB makes each call, which is
-//! what musl gives its threads if nothing is said.
+//! A call takes at most 108 KiB of stack on all documents and tables that were tried and are read, and at most 122 KiB on
+//! any input, so a thread with 128 KiB makes each call, which is what musl gives its threads if nothing is said.
 //!
-//! A call has at most 512 bytes of memory at once for each byte that is passed in (a name of a folder counts as 16 more),
+//! A call has at most 768 bytes of memory at once for each byte that is passed in (a name of a folder counts as 16 more),
 //! and 64 for each byte of `most`, on all inputs that were tried.
 //!
 //! <!-- end of limits -->

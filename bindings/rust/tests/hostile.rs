@@ -17,10 +17,10 @@ use std::{env, ptr, thread};
 /// How many KiB of stack a call may take, with what the test takes itself.
 const STACK: u64 = 128;
 /// How much memory a call may have at once: for each byte that is passed in (a name of a folder counts as 16 more), for each
-/// byte that it may give, and besides.
+/// byte that it may give, and in addition.
 const EACH: usize = 768;
 const PRINTED: usize = 64;
-const BESIDES: usize = 64 << 10;
+const MORE: usize = 64 << 10;
 /// How many threads there are at once.
 const AT_ONCE: usize = 2;
 /// How long a text may be.
@@ -138,7 +138,7 @@ impl Given<'_> {
 fn answer(call: &Call, given: &Given<'_>, most: usize, out: &mut [u8]) -> Answer {
     let mut answer = None;
     let memory = heap::most_while(|| answer = Some(answered(call, given, most, out)));
-    let bound = PRINTED.saturating_mul(most).saturating_add(EACH * given.size() + BESIDES);
+    let bound = PRINTED.saturating_mul(most).saturating_add(EACH * given.size() + MORE);
     assert!(memory <= bound, "{memory} bytes of memory, where {} are passed in and {most} may be given", given.size());
     answer.expect("the call has returned")
 }
