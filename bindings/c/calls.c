@@ -257,8 +257,8 @@ static const struct call OF_TABLES[] = {
 #define ITEM "\x07\x01"
 /* A text with 128 tables in one another in its whole table, if one part of a key more is not put in. */
 #define DEEP(more) "[k" TIMES_79(".k") "]\nk" TIMES_48(".k") more " = true"
-/* Texts that are as near to the limit as can be, 24 times 16, and beyond it: by brackets, and by dots. */
-#define NEAR(more_dots, more_brackets, closing) \
+/* A text with tables in one another by the dots of a key, and arrays by brackets. */
+#define BOTH(more_dots, more_brackets, closing) \
     "k" TIMES_15(".k") more_dots " = " more_brackets TIMES_21("[") "true" TIMES_21("]") closing
 #define BRACKETS "k = " TIMES_510("[")
 
@@ -278,12 +278,12 @@ static const struct call DEPTHS[] = {
     {COMPLETED_OF_TABLE, .bytes = TIMES_128(KEY) KEY KEY "\x05", FOLDERS(HERE), .status = MANIFEST_TOO_DEEP, .text = ""},
     {RESOLVED_OF_TABLES, .bytes = MEMBER_TABLE, .root = TIMES_128(KEY) KEY KEY "\x05", .status = MANIFEST_ROOT_TOO_DEEP,
      .text = ""},
-    {DOCUMENT, .bytes = NEAR("", "", ""), .text = KEY TIMES_15(KEY) TIMES_21(ITEM) "\x05"},
-    {DOCUMENT, .bytes = NEAR(".k", "", ""), .status = MANIFEST_TOO_DEEP, .text = ""},
-    {DOCUMENT, .bytes = NEAR("", "[", "]"), .status = MANIFEST_TOO_DEEP, .text = ""},
-    /* (dots in one place, and brackets in another) */
-    {DOCUMENT, .bytes = "[k" TIMES_15(".k") ".k]\nk = " TIMES_21("[") TIMES_21("]"), .status = MANIFEST_TOO_DEEP,
-     .text = ""},
+    {DOCUMENT, .bytes = BOTH("", "", ""), .text = KEY TIMES_15(KEY) TIMES_21(ITEM) "\x05"},
+    /* (each level is counted once, wherever its dot or bracket stands) */
+    {DOCUMENT, .bytes = BOTH(".k", "", ""), .text = KEY TIMES_15(KEY) KEY TIMES_21(ITEM) "\x05"},
+    {DOCUMENT, .bytes = BOTH("", "[", "]"), .text = KEY TIMES_15(KEY) TIMES_21(ITEM) ITEM "\x05"},
+    {DOCUMENT, .bytes = "[k" TIMES_15(".k") ".k]\nk = " TIMES_21("[") "true" TIMES_21("]"),
+     .text = KEY TIMES_15(KEY) KEY KEY TIMES_21(ITEM) "\x05"},
     {DOCUMENT, .bytes = BRACKETS, .status = MANIFEST_TOO_DEEP, .text = ""},
     {FINDINGS, .bytes = OWN DEEP(""), BYTES("\x07\x01" UNUSED("\x01k"))},
     {FINDINGS, .bytes = OWN DEEP(".k"), .status = MANIFEST_TOO_DEEP, .text = ""},
