@@ -141,8 +141,8 @@
 //! Arrays and tables may stand 128 deep in one another, the whole table not counted: `a = [{}]` is 2 deep. What is deeper is
 //! refused as too deep; and where the headers, dotted keys and brackets of a text lead deeper, it is refused before it is
 //! parsed. `toml`, which reads texts, has two limits of its own: 80 arrays and inline tables in one another, and 80 parts of
-//! a key. What is over these is refused as no TOML. Each text that the library writes of a table at most 80 deep is read
-//! again.
+//! a key. What is over these is refused as no TOML, however many parts a key has. Each text that the library writes of a
+//! table at most 80 deep is read again.
 //!
 //! A call takes at most 108 KiB of stack on all documents and tables that were tried and are read, and at most 122 KiB on
 //! any input, so a thread with 128 KiB makes each call, which is what musl gives its threads if nothing is said.

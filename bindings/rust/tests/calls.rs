@@ -323,9 +323,9 @@ fn a_long_key_above_many_tables_is_bounded() {
 
 #[test]
 fn what_nests_too_deep() {
-    // brackets that are open at one place, dots in a row, and a header and a key that make 129 tables in one another
+    // brackets that are open at one place, dots of a header, and a header and a key that make 129 tables in one another
     let brackets = format!("a = {}", "[".repeat(510));
-    let dots = format!("a{} = 1", ".a".repeat(170));
+    let dots = format!("[a{}]", ".a".repeat(170));
     let table = format!("[a{}]\na{} = 1", ".a".repeat(79), ".a".repeat(49));
     for deep in [brackets, dots, table].map(String::into_bytes) {
         assert_eq!(each(usize::MAX, &deep, ROOT), [const { Err(Refusal::TooDeep(Part::Manifest)) }; 8]);
