@@ -102,12 +102,12 @@ fn is_short(alloc: Global, member: &str, root: &str, most: usize) -> Result<bool
 
 #[test]
 fn each_place_is_counted(rt: HostRuntime) -> Result<(), Fail> {
-    let member =
-        "[dependencies]\na.workspace = true\n[target.x.dependencies]\na.workspace = true\nb = '1'";
     let root = "[workspace.dependencies]\na = '2.0'\nb = { git = 'c', features = ['d', ''] }";
+    let member =
+        "[package]\nname = 'p'\n[dependencies]\na.workspace = true\n[target.x.dependencies]\na.workspace = true\nb = '1'";
     assert!(rt; is_short(rt.alloc(), member, root, 10)?);
     assert!(rt; !is_short(rt.alloc(), member, root, 9)?);
-    let member = "[dev-dependencies]\nb.workspace = true";
+    let member = "[package]\nname = 'p'\n[dev-dependencies]\nb.workspace = true";
     assert!(rt; is_short(rt.alloc(), member, root, 8)?);
     assert!(rt; !is_short(rt.alloc(), member, root, 7)?);
     Ok(())
