@@ -322,6 +322,15 @@ fn a_long_key_above_many_tables_is_bounded() {
 }
 
 #[test]
+fn what_is_inherited_is_counted_before_it_is_refused() {
+    let root = b"[workspace.dependencies]\na = '1.0.0'\n";
+    let member = b"[package]\nname = 'p'\nversion.workspace = true\n[dependencies]\na.workspace = true\n";
+    // (the five bytes of the version, and two more)
+    assert_eq!(AtMost(6).resolved(member, root), Err(Refusal::TooLong));
+    assert_eq!(AtMost(7).resolved(member, root), Err(Refusal::NotInWorkspace("version".into())));
+}
+
+#[test]
 fn what_nests_too_deep() {
     // brackets that are open at one place, dots of a header, and a header and a key that make 129 tables in one another
     let brackets = format!("a = {}", "[".repeat(510));

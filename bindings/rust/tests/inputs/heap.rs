@@ -39,7 +39,7 @@ extern "C" fn rattle_alloc(size: usize, align: usize) -> Tried {
     let block = unsafe {
         let begin = alloc(layout(size));
         if begin.is_null() {
-            return Tried { is_there: 0, block: ptr::without_provenance_mut(BEFORE) };
+            return Tried { is_there: 0, block: ptr::NonNull::dangling().as_ptr() };
         }
         begin.cast::<usize>().write(size);
         begin.add(BEFORE)
