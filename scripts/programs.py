@@ -186,7 +186,7 @@ def deepest(value="1", start=("package", "metadata")):
 
 
 def densest():
-    """Documents whose headers, dotted keys and brackets lead far deeper than 128, and documents that lead as deep as is parsed:
+    """Documents whose headers, dotted keys and brackets lead far deeper than is parsed, and documents that lead as deep as that:
     inline tables in one another, below a header and a key, of which each key has as many parts. Each stands alone, and before a
     fault that is found when all of it is there: a key that stands twice, or a header."""
     def document(parts, brackets):
@@ -196,7 +196,8 @@ def densest():
     far = [document(parts, min(384 // parts - 3, 80)) for parts in (6, 16, 32, 51, 64, 73, 80)]
     near = [document(parts, min(126 // parts - 2, 80)) for parts in (2, 3, 6, 16, 32, 42)]
     headers = "".join(f"[[{'.'.join(['a'] * part)}]]\n" for part in range(1, 81))
-    near += [f"[{'.'.join(['a'] * 79)}]\na{'.a' * 49} = 1\n", f"{headers}b{'.b' * 47} = 1\n"]
+    far += [f"{headers}b{'.b' * 47} = 1\n"]
+    near += [f"[{'.'.join(['a'] * 79)}]\na{'.a' * 49} = 1\n", f"{headers}b{'.b' * 32} = 1\n"]
     return [text + fault for text in far + near for fault in ("", "c = 1\nc = 1\n", "[b]\n[b]\n")]
 
 

@@ -260,6 +260,8 @@ static const struct call OF_TABLES[] = {
 /* A text with tables in one another by the dots of a key, and arrays by brackets. */
 #define BOTH(more_dots, more_brackets, closing) \
     "k" TIMES_15(".k") more_dots " = " more_brackets TIMES_21("[") "true" TIMES_21("]") closing
+/* A text with 112 parts of a header of an array of tables and of dots, if none more is put in. */
+#define ARRAY(more) "[[k" TIMES_79(".k") "]]\nk" TIMES_15(".k") TIMES_15(".k") ".k.k" more " = true"
 #define BRACKETS "k = " TIMES_510("[")
 
 /* What nests as deep as it may, and deeper. */
@@ -284,6 +286,9 @@ static const struct call DEPTHS[] = {
     {DOCUMENT, .bytes = BOTH("", "[", "]"), .text = KEY TIMES_15(KEY) TIMES_21(ITEM) ITEM "\x05"},
     {DOCUMENT, .bytes = "[k" TIMES_15(".k") ".k]\nk = " TIMES_21("[") "true" TIMES_21("]"),
      .text = KEY TIMES_15(KEY) KEY KEY TIMES_21(ITEM) "\x05"},
+    {DOCUMENT, .bytes = ARRAY(""), .text = TIMES_79(KEY) KEY ITEM TIMES_15(KEY) TIMES_15(KEY) KEY KEY KEY "\x05"},
+    {DOCUMENT, .bytes = ARRAY(".k"), .status = MANIFEST_TOO_DEEP, .text = ""},
+    {DOCUMENT, .bytes = "k" TIMES_128(".k") ".k = true", .status = MANIFEST_TOO_DEEP, .text = ""},
     {DOCUMENT, .bytes = BRACKETS, .status = MANIFEST_TOO_DEEP, .text = ""},
     {FINDINGS, .bytes = OWN DEEP(""), BYTES("\x07\x01" UNUSED("\x01k"))},
     {FINDINGS, .bytes = OWN DEEP(".k"), .status = MANIFEST_TOO_DEEP, .text = ""},

@@ -45,13 +45,13 @@
    manifests from others bounds their length, and sets `most`.
 
    Arrays and tables may stand 128 deep in one another, the whole table not counted: `a = [{}]` is 2 deep. What is deeper is
-   refused as too deep; and where the headers, dotted keys and brackets of a text lead deeper, it is refused before it is
-   parsed. `toml`, which reads texts, has two limits of its own: 80 arrays and inline tables in one another, and 80 parts of
-   a key. What is over these is refused as no TOML, however many parts a key has. Each text that the library writes of a
-   table at most 80 deep is read again.
+   refused as too deep; and where the headers, dotted keys and brackets of a text lead deeper, or a dotted key leads deeper
+   than 112 after a header of an array of tables, it is refused before it is parsed. `toml`, which reads texts, has two
+   limits of its own: 80 arrays and inline tables in one another, and 80 parts of a key. What is over these is refused as no
+   TOML. Each text that the library writes of a table at most 80 deep is read again.
 
-   A call takes at most 108 KiB of stack on all documents and tables that were tried and are read, and at most 122 KiB on any
-   input, so a thread with 128 KiB makes each call, which is what musl gives its threads if nothing is said.
+   A call takes at most 110 KiB of stack on all inputs that were tried, so a thread with 128 KiB makes each call, which is
+   what musl gives its threads if nothing is said.
 
    A call has at most 768 bytes of memory at once for each byte that is passed in (a name of a folder counts as 16 more), and
    64 for each byte of `most`, on all inputs that were tried.
@@ -121,7 +121,8 @@ enum manifest_status {
     /* bytes that should be a tagged table are not one: a text in them is not UTF-8, the keys of a table do not ascend, a number
        is not written in the shortest way, or they end too early or too late */
     MANIFEST_UNTAGGED = 14,
-    /* arrays and tables stand in one another deeper than MANIFEST_DEPTH_LIMIT */
+    /* arrays and tables stand in one another deeper than MANIFEST_DEPTH_LIMIT, or a dotted key leads deeper than 112 after a
+       header of an array of tables */
     MANIFEST_TOO_DEEP = 15,
     /* 1, 2, 4, 14 and 15 of the root: 16 more. `start` and `end` are places in the root */
     MANIFEST_ROOT_NO_TOML = 17,

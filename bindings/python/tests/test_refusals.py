@@ -164,8 +164,15 @@ class OfAText(Refused):
 
 
 class OfDepthAndLength(Refused):
-    # brackets that are open at one place, dots in a row, and a header and a key that make 129 tables in one another
-    DEEP = ("a = " + "[" * 510, "[a" + ".a" * 170 + "]", "[a" + ".a" * 79 + "]\na" + ".a" * 49 + " = 1")
+    # brackets that are open at one place, dots of a key and of a header, and a header and a key that make 129 tables in one another
+    DEEP = (
+        "a = " + "[" * 510,
+        "a" + ".a" * 170 + " = 1",
+        "[a" + ".a" * 170 + "]",
+        "[a" + ".a" * 79 + "]\na" + ".a" * 49 + " = 1",
+        # and 113 by a key below a header of an array of tables
+        "[[a" + ".a" * 79 + "]]\na" + ".a" * 33 + " = 1",
+    )
 
     # 80 arrays, inline tables, or both by turns
     NESTED = (("[" * 80, "]" * 80), ("{a = " * 80, "}" * 80), ("[{a = " * 40, "}]" * 40))

@@ -139,13 +139,13 @@
 //! takes manifests from others bounds their length, and sets `most`.
 //!
 //! Arrays and tables may stand 128 deep in one another, the whole table not counted: `a = [{}]` is 2 deep. What is deeper is
-//! refused as too deep; and where the headers, dotted keys and brackets of a text lead deeper, it is refused before it is
-//! parsed. `toml`, which reads texts, has two limits of its own: 80 arrays and inline tables in one another, and 80 parts of
-//! a key. What is over these is refused as no TOML, however many parts a key has. Each text that the library writes of a
-//! table at most 80 deep is read again.
+//! refused as too deep; and where the headers, dotted keys and brackets of a text lead deeper, or a dotted key leads deeper
+//! than 112 after a header of an array of tables, it is refused before it is parsed. `toml`, which reads texts, has two
+//! limits of its own: 80 arrays and inline tables in one another, and 80 parts of a key. What is over these is refused as no
+//! TOML. Each text that the library writes of a table at most 80 deep is read again.
 //!
-//! A call takes at most 108 KiB of stack on all documents and tables that were tried and are read, and at most 122 KiB on
-//! any input, so a thread with 128 KiB makes each call, which is what musl gives its threads if nothing is said.
+//! A call takes at most 110 KiB of stack on all inputs that were tried, so a thread with 128 KiB makes each call, which is
+//! what musl gives its threads if nothing is said.
 //!
 //! A call has at most 768 bytes of memory at once for each byte that is passed in (a name of a folder counts as 16 more),
 //! and 64 for each byte of `most`, on all inputs that were tried.

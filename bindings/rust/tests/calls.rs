@@ -332,11 +332,14 @@ fn what_is_inherited_is_counted_before_it_is_refused() {
 
 #[test]
 fn what_nests_too_deep() {
-    // brackets that are open at one place, dots of a header, and a header and a key that make 129 tables in one another
+    // brackets that are open at one place, dots of a key and of a header, a header and a key that make 129 tables in one
+    // another, and 113 below a header of an array of tables
     let brackets = format!("a = {}", "[".repeat(510));
-    let dots = format!("[a{}]", ".a".repeat(170));
+    let dots = format!("a{} = 1", ".a".repeat(170));
+    let header = format!("[a{}]", ".a".repeat(170));
     let table = format!("[a{}]\na{} = 1", ".a".repeat(79), ".a".repeat(49));
-    for deep in [brackets, dots, table].map(String::into_bytes) {
+    let array = format!("[[a{}]]\na{} = 1", ".a".repeat(79), ".a".repeat(33));
+    for deep in [brackets, dots, header, table, array].map(String::into_bytes) {
         assert_eq!(each(usize::MAX, &deep, ROOT), [const { Err(Refusal::TooDeep(Part::Manifest)) }; 8]);
         let of_root = each(usize::MAX, MEMBER, &deep);
         for which in [2, 3, 6, 7] {

@@ -68,7 +68,8 @@ FinishesStored most root stored m n =
     InheritsWithin most root m
     × ((o : Manifest) × Inherits root m o × CompletesStored stored o n)
 
-abbrev pub RefusesToFinishStored : ℕ → Option Manifest → Option (Text → Answer) → Manifest → Refusals
+abbrev pub RefusesToFinishStored :
+    ℕ → Option Manifest → Option (Text → Answer) → Manifest → Refusals
 RefusesToFinishStored most root stored m TooLong = InheritsMore most root m
 RefusesToFinishStored most root stored m (Finishing e) =
     ((n : Manifest) × RefusesToInherit root m n e)

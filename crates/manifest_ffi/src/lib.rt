@@ -208,7 +208,8 @@ pub extern "C" fn manifest_resolved_completed_table(
     most: usize,
     out: &mut [u8],
 ) -> Answer
-    ensures { Answers TaggedTable most (Makes most Toml bytes.now (Some root.now) (Some folders.now))
+    ensures { Answers TaggedTable most
+        (Makes most Toml bytes.now (Some root.now) (Some folders.now))
         (RefusesToMake most Toml bytes.now (Some root.now) (Some folders.now)) out.old out.new result }
 {
     let asked = Asked {

@@ -28,14 +28,14 @@ members_end no_members text rest h = rw h (refl, refl)
 members_end (member k d ms) text rest (this, more, whole, e, h, order) = rw whole (refl, refl)
 
 -- the dots of a value end before the next one
-before_item_fine : (is_first : Bool) (d i : ℕ) (o rest : List ℕ) → ((j : ℕ) → Fine (at Line d j o) rest)
-    → Fine (at Line d i o) (before_item false is_first ++ rest)
+before_item_fine : {a : Bool} (is_first : Bool) (d i : ℕ) (o rest : List ℕ) → ((j : ℕ) → Fine (at a Line d j o) rest)
+    → Fine (at a Line d i o) (before_item false is_first ++ rest)
 before_item_fine true d i o rest h = h i
 before_item_fine false d i o rest h = fine_turn refl (fine_turn refl (h 0))
 
 -- those of a member too
-before_member_fine : (is_first : Bool) (d i : ℕ) (o rest : List ℕ) → Fine (at Line d 0 o) rest
-    → Fine (at Line d (if is_first then 0 else i) o) (before_member is_first ++ rest)
+before_member_fine : {a : Bool} (is_first : Bool) (d i : ℕ) (o rest : List ℕ) → Fine (at a Line d 0 o) rest
+    → Fine (at a Line d (if is_first then 0 else i) o) (before_member is_first ++ rest)
 before_member_fine true d i o rest h = fine_turn refl h
 before_member_fine false d i o rest h = fine_turn refl (fine_turn refl h)
 
@@ -49,8 +49,8 @@ fits_both d m n o fits = ((omega arith, omega (arith, length-append o (d ∷ [])
 
 -- VALUES, items and members on the right of `=`
 mutual
-  value_fine : (x : Data) (text rest : List ℕ) (d i : ℕ) (o : List ℕ) → plain x ≡ true → IsValueText false x text
-      → Fits d o (depth x) → NotDelim rest → ((j : ℕ) → Fine (at Line d j o) rest) → Fine (at Line d i o) (text ++ rest)
+  value_fine : {a : Bool} (x : Data) (text rest : List ℕ) (d i : ℕ) (o : List ℕ) → plain x ≡ true → IsValueText false x text
+      → Fits d o (depth x) → NotDelim rest → ((j : ℕ) → Fine (at a Line d j o) rest) → Fine (at a Line d i o) (text ++ rest)
   value_fine (string s) text rest d i o p e fits stop h = rw e (value_string_fine d i o s rest stop (h i))
   value_fine (integer z) text rest d i o p e fits stop h =
       rw e.0 (word_fine _ rest d i o (IsWord-integer z e.1).all h)
@@ -68,9 +68,9 @@ mutual
       rw whole (open_fine false d i o (more ++ rest) (omega arith) (omega arith)
       (members_fine true ms more rest d 0 o p e (omega arith, omega arith) (h 0)))
 
-  items_fine : (is_first : Bool) (ds : Items) (text rest : List ℕ) (d i : ℕ) (o : List ℕ) → plain_items ds ≡ true
-      → IsItemsText false false is_first ds text → Fits d o (suc (items_depth ds)) → Fine (at Line d 0 o) rest
-      → Fine (at Line (d + 1) i (o ++ d ∷ [])) (text ++ rest)
+  items_fine : {a : Bool} (is_first : Bool) (ds : Items) (text rest : List ℕ) (d i : ℕ) (o : List ℕ) → plain_items ds ≡ true
+      → IsItemsText false false is_first ds text → Fits d o (suc (items_depth ds)) → Fine (at a Line d 0 o) rest
+      → Fine (at a Line (d + 1) i (o ++ d ∷ [])) (text ++ rest)
   items_fine is_first no_items text rest d i o p e fits h = rw e (close_fine true d (d + 1) i o rest h)
   items_fine is_first (item x ds) text rest d i o p (this, more, whole, e, behind) fits h =
       let parts = and_parts (plain x) (plain_items ds) p in
@@ -81,9 +81,9 @@ mutual
       (λ j. value_fine x this (more ++ rest) (d + 1) j (o ++ d ∷ []) parts.0 e room.0 stop
       (λ l. items_fine false ds more rest d l o parts.1 behind room.1 h)))
 
-  members_fine : (is_first : Bool) (ms : Members) (text rest : List ℕ) (d i : ℕ) (o : List ℕ) → plain_members ms ≡ true
-      → IsMembersText false is_first ms text → Fits d o (suc (members_depth ms)) → Fine (at Line d 0 o) rest
-      → Fine (at Line (d + 1) (if is_first then 0 else i) (o ++ d ∷ [])) (text ++ rest)
+  members_fine : {a : Bool} (is_first : Bool) (ms : Members) (text rest : List ℕ) (d i : ℕ) (o : List ℕ) → plain_members ms ≡ true
+      → IsMembersText false is_first ms text → Fits d o (suc (members_depth ms)) → Fine (at a Line d 0 o) rest
+      → Fine (at a Line (d + 1) (if is_first then 0 else i) (o ++ d ∷ [])) (text ++ rest)
   members_fine true no_members text rest d i o p e fits h = rw e (close_fine false d (d + 1) 0 o rest h)
   members_fine false no_members text rest d i o p e fits h = rw e (fine_turn refl (close_fine false d (d + 1) i o rest h))
   members_fine is_first (member k x ms) text rest d i o p (this, more, whole, e, behind, order) fits h =
@@ -95,13 +95,13 @@ mutual
       let stop = members_end ms more rest behind in
       rw same (before_member_fine is_first (d + 1) i (o ++ d ∷ []) (key_text k ++ equals)
       (key_fine Line (d + 1) 0 (o ++ d ∷ []) k equals ((refl, refl), refl)
-      (equals_fine (d + 1) (o ++ d ∷ []) value_at (omega arith)
+      (equals_fine (d + 1) (o ++ d ∷ []) value_at
       (value_fine x this (more ++ rest) (d + 1) 0 (o ++ d ∷ []) parts.0 e room.0 stop
       (λ l. members_fine false ms more rest d l o parts.1 behind room.1 h)))))
 
 -- LINES: their text leads no deeper, after a header that leads to a depth d
 abbrev FineAt : ℕ → List Expression → Type 0
-FineAt d es = (started : Bool) (text : List ℕ) → IsLinesText false started es text → Fine (at LineStart d 0 []) text
+FineAt d es = (started a : Bool) (text : List ℕ) → IsLinesText false started es text → Fine (at a LineStart d 0 []) text
 
 -- nor after any other header
 abbrev AllFine : List Expression → Type 0
@@ -110,16 +110,16 @@ AllFine es = (d : ℕ) → FineAt d es
 -- A PAIR on a line
 pair_fine : (k : List ℕ) (x : Data) (d : ℕ) (fs : List Expression) → plain x ≡ true → d + depth x ≤ 128
     → FineAt d fs → FineAt d ((([], k), key_value x) ∷ fs)
-pair_fine k x d fs p low h started text (this, rest, whole, (v, line, e), more) =
+pair_fine k x d fs p low h started a text (this, rest, whole, (v, line, e), more) =
     let end = 10 ∷ rest in
     let equals = 32 ∷ 61 ∷ 32 ∷ (v ++ end) in
     let same : text ≡ key_text k ++ equals = rw (whole, line) (simp append_assoc) in
-    rw same (key_fine LineStart d 0 [] k equals ((refl, refl), refl) (equals_fine d [] (v ++ end) (omega arith)
-    (value_fine x v end d 0 [] p e (omega arith, omega arith) (refl, refl) (λ j. fine_turn refl (h true rest more)))))
+    rw same (key_fine LineStart d 0 [] k equals ((refl, refl), refl) (equals_fine d [] (v ++ end)
+    (value_fine x v end d 0 [] p e (omega arith, omega arith) (refl, refl) (λ j. fine_turn refl (h true a rest more)))))
 
 -- HEADERS: each part of the path is one table deeper
-path_fine : (path : List (List ℕ)) (k rest : List ℕ) (d : ℕ) → d + length path ≤ 128 → EndsKey rest
-    → Fine (at Header (d + length path) 0 []) rest → Fine (at Header d 0 []) (path_text path ++ (key_text k ++ rest))
+path_fine : {a : Bool} (path : List (List ℕ)) (k rest : List ℕ) (d : ℕ) → d + length path ≤ 128 → EndsKey rest
+    → Fine (at a Header (d + length path) 0 []) rest → Fine (at a Header d 0 []) (path_text path ++ (key_text k ++ rest))
 path_fine [] k rest d low stop h = key_fine Header d 0 [] k rest stop (rw add-zero at h)
 path_fine (l ∷ path) k rest d low stop h =
     let more = path_text path ++ (key_text k ++ rest) in
@@ -129,27 +129,27 @@ path_fine (l ∷ path) k rest d low stop h =
     (path_fine path k rest (d + 1) (omega arith) stop (rw deeper at h))))
 
 -- an empty line
-gap_fine : (started : Bool) (d : ℕ) (rest : List ℕ) → Fine (at LineStart d 0 []) rest
-    → Fine (at LineStart d 0 []) (gap started ++ rest)
+gap_fine : {a : Bool} (started : Bool) (d : ℕ) (rest : List ℕ) → Fine (at a LineStart d 0 []) rest
+    → Fine (at a LineStart d 0 []) (gap started ++ rest)
 gap_fine true d rest h = fine_turn refl h
 gap_fine false d rest h = h
 
 -- a header of a table, and of an element of an array of tables
 header_fine : (is_array : Bool) (path : List (List ℕ)) (k : List ℕ) (fs : List Expression) → 1 + length path ≤ 128
     → FineAt (1 + length path) fs → AllFine (((path, k), if is_array then array_table else std_table) ∷ fs)
-header_fine true path k fs low h d started text (this, rest, whole, line, more) =
+header_fine true path k fs low h d started a text (this, rest, whole, line, more) =
     let end = 93 ∷ 93 ∷ 10 ∷ rest in
     let key_at = path_text path ++ (key_text k ++ end) in
     let same : text ≡ gap started ++ 91 ∷ 91 ∷ key_at = rw (whole, line) (simp append_assoc) in
-    let below = fine_turn refl (h true rest more) in
+    let below = fine_turn refl (h true true rest more) in
     let closed = fine_turn {rest = 93 ∷ 10 ∷ rest} refl (fine_turn {rest = 10 ∷ rest} refl below) in
     rw same (gap_fine started d (91 ∷ 91 ∷ key_at) (fine_turn {rest = 91 ∷ key_at} refl (fine_turn refl
     (path_fine path k end 1 low ((refl, refl), refl) closed))))
-header_fine false path k fs low h d started text (this, rest, whole, line, more) =
+header_fine false path k fs low h d started a text (this, rest, whole, line, more) =
     let end = 93 ∷ 10 ∷ rest in
     let key_at = path_text path ++ (key_text k ++ end) in
     let same : text ≡ gap started ++ 91 ∷ key_at = rw (whole, line) (simp append_assoc) in
-    let closed = fine_turn {rest = 10 ∷ rest} refl (fine_turn refl (h true rest more)) in
+    let closed = fine_turn {rest = 10 ∷ rest} refl (fine_turn refl (h true a rest more)) in
     rw same (gap_fine started d (91 ∷ key_at) (fine_turn refl (path_fine path k end 1 low ((refl, refl), refl) closed)))
 
 -- TABLES: the pairs of a table, and the tables inside it
@@ -221,6 +221,6 @@ mutual
 -- A DOCUMENT
 pub printed_nests_as_it_is : PrintedNestsAsItIs
 printed_nests_as_it_is ms text p low h =
-    let end : AllFine [] = λ d started text h. rw h (fine_end (at LineStart d 0 [])) in
+    let end : AllFine [] = λ d started a text h. rw h (fine_end (at a LineStart d 0 [])) in
     let below : AllFine (sections [] ms) = rw append-nil at (sections_fine ms [] [] p (omega arith) end) in
-    (pairs_fine ms 0 (sections [] ms) p (omega arith) (below 0) false text h).turns (length text)
+    (pairs_fine ms 0 (sections [] ms) p (omega arith) (below 0) false false text h).turns (length text)

@@ -5,7 +5,7 @@ use Rattle.toml.specs.Data.{Members, members_depth}
 use Rattle.toml.specs.Text.{IsDocumentText}
 use Rattle.manifest_schema.specs.Kinds.{plain_members}
 use Rattle.manifest_nesting.specs.Skipped.{after_string}
-use Rattle.manifest_nesting.specs.Nesting.{nests_too_deep}
+use Rattle.manifest_nesting.specs.Nesting.{nests_too_deep, has_few_marks}
 
 -- a string that is read is skipped
 abbrev pub StringsAreSkipped : Type 0
@@ -18,3 +18,8 @@ abbrev pub PrintedNestsAsItIs : Type 0
 PrintedNestsAsItIs =
     (ms : Members) (text : List ℕ) → plain_members ms ≡ true → members_depth ms ≤ 128
     → IsDocumentText false ms text → nests_too_deep text ≡ false
+
+-- a text of few marks does not nest too deep
+abbrev pub FewMarksNestNoDeeper : Type 0
+FewMarksNestNoDeeper =
+    (text : List ℕ) → has_few_marks text ≡ true → nests_too_deep text ≡ false

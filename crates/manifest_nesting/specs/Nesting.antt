@@ -1,5 +1,5 @@
 -- HOW DEEP a text nests tables and arrays, as far as its headers, dotted keys and brackets say.
-use Rattle.std.specs.Prelude.{ℕ, zero, suc, ◌+◌, ◌-◌, Bool, true, false, ◌&&◌, ◌||◌, ◌==◌, nat_lt, nat_le, if◌then◌else◌, List, [], ◌∷◌, ◌++◌, length, take, drop, Option, Some, None, option_map, unwrap_or, slice_get}
+use Rattle.std.specs.Prelude.{ℕ, zero, suc, ◌+◌, ◌-◌, Bool, true, false, ◌&&◌, ◌||◌, ◌==◌, nat_lt, nat_le, if◌then◌else◌, List, [], ◌∷◌, ◌++◌, length, take, drop, count_by, Option, Some, None, option_map, unwrap_or, slice_get}
 use Rattle.toml_parser.specs.Lexical.{first, line_feed, carriage_return, space, tab, hash, comma, dot, equals, left_bracket, right_bracket, left_brace, right_brace}
 use Rattle.toml_parser.specs.Strings.{starts_string}
 use Rattle.manifest_nesting.specs.Skipped.{after_string, after_comment}
@@ -7,13 +7,20 @@ use Rattle.manifest_nesting.specs.declared.nesting.Place.{Place}
 use Rattle.manifest_nesting.specs.declared.nesting.Place.TheVariants.{LineStart, Header, Line}
 use Rattle.manifest_nesting.specs.declared.nesting.Nesting.{Nesting}
 
--- one more, up to the limit
+-- one more dot; more than 129 of a key lead too deep as 129 do
 abbrev pub count_up : ℕ → ℕ
-count_up n = if nat_lt n 128 then n + 1 else n
+count_up n = if nat_lt n 129 then n + 1 else n
 
 -- nothing has been read
 abbrev pub start : Nesting
-start = record { place = LineStart; depth = 0; dots = 0; above = 0; outer = record { items = [] } }
+start = record {
+  place = LineStart;
+  depth = 0;
+  dots = 0;
+  above = 0;
+  outer = record { items = [] };
+  arrays = false;
+}
 
 -- a key or a value has begun
 abbrev pub begun_at : Place → Place
@@ -35,7 +42,7 @@ next_line (d ∷ ds) = Line
 abbrev pub line_ended : Nesting → Nesting
 line_ended n = record n { place = next_line n.outer.items; dots = 0; above = 0 }
 
--- a header begins; each dot of it leads one table deeper
+-- a header begins, which has two brackets for an array of tables; each dot of it leads one table deeper
 abbrev pub header : Nesting → Nesting
 header n = record n { place = Header; depth = 1 }
 
@@ -64,12 +71,17 @@ closed n = record n {
   outer = record { items = take (length n.outer.items - 1) n.outer.items };
 }
 
--- the dots were those of a key
+-- the dots were those of a key: each leads one table deeper, after a header of an array of tables to 112 at most
+abbrev pub dotted_limit : Nesting → ℕ
+dotted_limit n = if n.arrays then 112 else 128
+
 abbrev pub equals_sign : Nesting → Option Nesting
 equals_sign n =
-    if nat_le (n.depth + n.dots) 128 then Some (record n { dots = 0; above = n.dots }) else None
+    if n.dots == 0 || nat_le (n.depth + n.dots) (dotted_limit n)
+    then Some (record n { dots = 0; above = n.dots })
+    else None
 
--- AFTER A BYTE of a key or a value, where it leads no deeper than 128
+-- AFTER A BYTE of a key or a value, where it leads no deeper than a limit
 abbrev pub after_in_line : ℕ → Nesting → Option Nesting
 after_in_line c n =
     if c == left_bracket || c == left_brace then opened n
@@ -80,7 +92,10 @@ after_in_line c n =
     else Some (begun n)
 
 abbrev pub after_in_header : ℕ → Nesting → Option Nesting
-after_in_header c n = if c == dot then dot_of_header n else Some n
+after_in_header c n =
+    if c == dot then dot_of_header n
+    else if c == left_bracket then Some (record n { arrays = true })
+    else Some n
 
 abbrev pub after_at_start : ℕ → Nesting → Option Nesting
 after_at_start c n = if c == left_bracket then Some (header n) else after_in_line c n
@@ -101,7 +116,7 @@ after_byte c n =
     else if is_blank c then Some n
     else after_at n.place c n
 
--- after the next string, comment or byte of a text, where that leads no deeper than 128; and what follows it
+-- after the next string, comment or byte of a text, where that leads no deeper than a limit; and what follows it
 abbrev pub turn : Nesting → List ℕ → Option (Nesting × List ℕ)
 turn n text =
     if starts_string text then Some (begun n, after_string text)
@@ -115,6 +130,17 @@ scan (suc k) n [] = false
 scan (suc k) n (c ∷ cs) =
     unwrap_or (option_map (λ p. scan k p.0 p.1) (turn n (c ∷ cs))) true
 
--- THE TEXT NESTS TOO DEEP: it has brackets, headers and dotted keys that lead deeper than 128
+-- THE TEXT NESTS TOO DEEP: it has brackets, headers or dotted keys that lead deeper than 128, or dotted keys that do so than
+-- 112 after a header of an array of tables
 abbrev pub nests_too_deep : List ℕ → Bool
 nests_too_deep text = scan (length text) start text
+
+-- MARKS: a byte that leads one deeper, where it leads anywhere; and how many of them a text has
+abbrev pub is_mark : ℕ → Bool
+is_mark c = (c == left_bracket || c == left_brace) || c == dot
+
+abbrev pub marks : List ℕ → ℕ
+marks text = count_by is_mark text
+
+abbrev pub has_few_marks : List ℕ → Bool
+has_few_marks text = nat_le (marks text) 112

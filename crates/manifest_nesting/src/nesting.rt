@@ -3,11 +3,16 @@
 ghost use Rattle.std.specs.Prelude.{◌≡◌, Some, None, option_map, if◌then◌else◌};
 ghost use Rattle.manifest_nesting.specs.Nesting as spec;
 
+use crate::laws::few_marks_nest_no_deeper;
 use crate::skipping::{after_comment, after_string, byte_at, skip};
 use arrayvec::ArrayVec;
 
 /// How deep arrays and tables may nest in a table, the table itself not counted: `a = [{}]` is 2 deep.
 pub const DEPTH_LIMIT: usize = 128;
+
+/// How deep a dotted key may lead after a header of an array of tables. (`toml` takes more of the stack for an array of
+/// tables than for a table: a header and a key that lead through 80 of these and 48 tables take 122 KiB.)
+pub const DOTTED_LIMIT: usize = 112;
 
 /// Where a byte stands that is in no string and no comment.
 #[derive(Debug, Clone, Copy, PartialEq, Eq)]
@@ -32,14 +37,16 @@ pub struct Nesting {
     above: u8,
     /// For each bracket that is open, how deep the table or array is in which it stands.
     outer: ArrayVec<u8, 128>,
+    /// Whether a header of an array of tables has begun.
+    arrays: bool,
 }
 
-/// One more, up to the limit.
+/// One more dot. More than 129 of a key lead too deep as 129 do.
 #[inline(always)]
 fn count_up(count: u8) -> u8
     ensures { result ≡ spec.count_up count }
 {
-    if count < 128 { count + 1 } else { count }
+    if count < 129 { count + 1 } else { count }
 }
 
 impl Nesting {
@@ -54,6 +61,7 @@ impl Nesting {
             dots: 0,
             above: 0,
             outer: ArrayVec::new(),
+            arrays: false,
         }
     }
 
@@ -124,7 +132,12 @@ impl Nesting {
     fn equals(&mut self) -> bool
         ensures { spec.equals_sign self.old ≡ (if result then Some self.new else None) }
     {
-        if usize::from(self.depth) + usize::from(self.dots) <= DEPTH_LIMIT {
+        let limit = if self.arrays {
+            DOTTED_LIMIT
+        } else {
+            DEPTH_LIMIT
+        };
+        if self.dots == 0 || usize::from(self.depth) + usize::from(self.dots) <= limit {
             self.above = self.dots;
             self.dots = 0;
             true
@@ -153,6 +166,19 @@ impl Nesting {
         } else {
             Place::Line
         };
+    }
+
+    /// Counts a byte of a header. Returns whether it leads no deeper than the limit.
+    #[inline(always)]
+    fn count_in_header(&mut self, byte: u8) -> bool
+        ensures { spec.after_in_header byte self.old ≡ (if result then Some self.new else None) }
+    {
+        match byte {
+            b'.' => return self.dot_of_header(),
+            b'[' => self.arrays = true,
+            _ => {}
+        }
+        true
     }
 
     /// Counts a byte of a key or a value. Returns whether it leads no deeper than the limit.
@@ -186,13 +212,7 @@ impl Nesting {
             return true;
         }
         match self.place {
-            Place::Header => {
-                if byte == b'.' {
-                    self.dot_of_header()
-                } else {
-                    true
-                }
-            }
+            Place::Header => self.count_in_header(byte),
             Place::LineStart => {
                 if byte == b'[' {
                     self.begin_header();
@@ -225,9 +245,26 @@ fn turn<'t>(nesting: &mut Nesting, text: &'t [u8]) -> Option<&'t [u8]>
     }
 }
 
-/// Whether the headers, dotted keys and brackets of a text lead deeper than [`DEPTH_LIMIT`]. It looks at each byte once,
-/// in proportion to the length of the text, and asks for no memory. Strings and comments are skipped as `toml` reads them
-/// (the law [`strings_are_skipped`](crate::laws::strings_are_skipped)).
+/// Whether a byte leads one deeper, where it leads anywhere.
+#[inline(always)]
+fn is_mark(byte: u8) -> bool
+    ensures { result ≡ spec.is_mark byte }
+{
+    byte == b'[' || byte == b'{' || byte == b'.'
+}
+
+/// Whether so few bytes of a text are brackets that open, or dots, that it cannot lead deeper than a limit, wherever they
+/// stand.
+fn has_few_marks(text: &[u8]) -> bool
+    ensures { result ≡ spec.has_few_marks text.now }
+{
+    text.iter().filter(|byte| is_mark(**byte)).count() <= DOTTED_LIMIT
+}
+
+/// Whether the headers, dotted keys and brackets of a text lead deeper than [`DEPTH_LIMIT`], or a dotted key deeper than
+/// [`DOTTED_LIMIT`] after a header of an array of tables. It looks at each byte once or twice, in proportion to the length
+/// of the text, and asks for no memory. Strings and comments are skipped as `toml` reads them (the law
+/// [`strings_are_skipped`](crate::laws::strings_are_skipped)).
 ///
 /// A text that `toml` prints of a table within the limit does not lead deeper (the law
 /// [`printed_nests_as_it_is`](crate::laws::printed_nests_as_it_is)). A header of an array of tables counts one for each of
@@ -240,6 +277,10 @@ fn turn<'t>(nesting: &mut Nesting, text: &'t [u8]) -> Option<&'t [u8]>
 pub fn nests_too_deep(text: &str) -> bool
     ensures { result ≡ spec.nests_too_deep text.now }
 {
+    if has_few_marks(text.as_bytes()) {
+        few_marks_nest_no_deeper();
+        return false;
+    }
     let mut nesting = Nesting::start();
     let mut rest = text.as_bytes();
     for i in 0..text.len() {
