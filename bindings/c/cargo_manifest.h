@@ -50,7 +50,7 @@
    limits of its own: 80 arrays and inline tables in one another, and 80 parts of a key. What is over these is refused as no
    TOML. Each text that the library writes of a table at most 80 deep is read again.
 
-   A call takes at most 110 KiB of stack on all inputs that were tried, so a thread with 128 KiB makes each call, which is
+   A call takes at most 111 KiB of stack on all inputs that were tried, so a thread with 128 KiB makes each call, which is
    what musl gives its threads if nothing is said.
 
    A call has at most 768 bytes of memory at once for each byte that is passed in (a name of a folder counts as 16 more), and

@@ -250,7 +250,7 @@ fn turn<'t>(nesting: &mut Nesting, text: &'t [u8]) -> Option<&'t [u8]>
 fn is_mark(byte: u8) -> bool
     ensures { result ≡ spec.is_mark byte }
 {
-    byte == b'[' || byte == b'{' || byte == b'.'
+    (byte == b'[') | (byte == b'{') | (byte == b'.')
 }
 
 /// Whether so few bytes of a text are brackets that open, or dots, that it cannot lead deeper than a limit, wherever they
@@ -258,7 +258,11 @@ fn is_mark(byte: u8) -> bool
 fn has_few_marks(text: &[u8]) -> bool
     ensures { result ≡ spec.has_few_marks text.now }
 {
-    text.iter().filter(|byte| is_mark(**byte)).count() <= DOTTED_LIMIT
+    let mut marks: usize = 0;
+    for byte in text {
+        marks += usize::from(is_mark(*byte));
+    }
+    marks <= DOTTED_LIMIT
 }
 
 /// Whether the headers, dotted keys and brackets of a text lead deeper than [`DEPTH_LIMIT`], or a dotted key deeper than
