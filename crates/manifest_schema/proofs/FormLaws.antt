@@ -1,177 +1,404 @@
 -- A form satisfies the laws, where its rows do and all its spellings differ.
-use Rattle.manifest_schema.specs.Prelude.{and_parts, not-true, Data, table, Members, no_members, member, get_member, same_key, Text, Path, Cause, Spellings, only, both, first, slot, at, put_some, is_among, without, Entries, reads_entries, written_entries, Fields, gets, Rows, no_more, others, ◌⨾◌, spell, spelled, fits_beside, unfit_beside, written_rows, holds_beside, none_named, good_beside, good_rows, faulty_form, form, differ, distinct, IsLawful, AreLawful, IsBuilt, WritesEachRow}
-use Rattle.std.proofs.Common.{◌≡◌, Bool, true, false, not, ◌||◌, if◌then◌else◌, inl, inr, List, [], ◌∷◌, Option, Some, None, IsTrue, refl, sym, ap, ◌∙◌, true≢false}
-use Rattle.manifest_schema.specs.Kinds
+use Rattle.manifest_schema.specs.Prelude.{and_parts, cases_Bool, not-true, Data, table, Members, no_members, get_member, same_key, is_sorted, Text, Path, key, Spellings, only, both, first, Slot, absent, one, clash, slot, slot_of_two, at, is_among, without, has_entry, Need, Fields, gets, Rows, no_more, others, ◌⨾◌, spell, spelled, differ, distinct, is_closed, fits_beside, written_rows, holds_beside, good_beside, good_rows, form, findings_beside, row_findings, left_beside, left_over, form_findings, from_step, ends_here, left_out, left_out_members, Finding, unused_keys, unused_of, found_paths, AllDiverge, Decided, but_unused, AlikeBut, FindsSoundly, IsSound, IsSoundNeed, AreSound, IsBuilt, slot_findings, slot_key, IsSlotSorted, UnusedIfNoRow}
+use Rattle.std.proofs.Common.{◌≡◌, ◌↔◌, true, false, not, ◌⊎◌, inl, inr, List, [], ◌∷◌, ◌++◌, Option, Some, None, IsTrue, refl, sym, ap, ap₂, ◌∙◌, subst, true≢false}
+use Rattle.manifest_schema.specs.Needs
+use Rattle.manifest_schema.specs.Forms
 use Rattle.manifest_schema.specs.Forms.{reads_form}
-use Rattle.manifest_schema.specs.Paths.{wrong_kind}
-use Rattle.manifest_schema.specs.Findings.{unused_keys, FindsAll}
-use Rattle.manifest_schema.specs.Forms.{findings_beside, row_findings, left_over, form_findings}
-use Rattle.manifest_schema.proofs.FindingLaws.{finds_nothing, finds_here, finds_both, finds_beside, unused_faultless}
-use Rattle.manifest_schema.proofs.KindLaws.{entries_single, entry_apart, entries_well, entries_back, entries_exact}
-use Rattle.manifest_schema.proofs.TableLaws.{same_key-self, same_key-false, not_among_head, not_among_tail, turned, get-member_other, get-put_same, get-put_other, get-put_some_other, without-put_some}
+use Rattle.manifest_schema.proofs.TableLaws.{same_key-self, same_key-true, same_key-false}
+use Rattle.manifest_schema.proofs.RowsWritten.{among_here, among_there, later_among, entries_none_named, writes_each_row}
+use Rattle.manifest_schema.proofs.LeftOutLaws.{unused_at, at-behind, at-other, at_first, at_second, Inner, inner_append, inner_behind, inner_keys, Stays, stays_append, stays_behind, named_not_found, key_found, left_value, get-left, without-left, all_gone, entry_found, entry_beside, kept_beside, InOrder, in_order, order_beside, value_sorted}
+use Rattle.manifest_schema.proofs.Faultless.{no_nil, both_none, keys_none, but-append, but-keys, but-bare}
+use Rattle.manifest_schema.proofs.Diverging.{DivergingBy, none_diverging, weaker_diverging, both_diverging, begin_weaker, KeyOf, key_weaker, key_apart, entries_diverging, keys_diverging}
+use Rattle.manifest_schema.proofs.KindLaws.{same, none_beside, entries_single, entries_decided, entries_well, entries_back, entries_tidy, entries_inner}
+
+pub both_ways : {P Q R T : Type 0} → P ↔ Q → R ↔ T → (P × R) ↔ (Q × T)
+both_ways a b = (λ h. (a.0 h.0, b.0 h.1), λ h. (a.1 h.0, b.1 h.1))
 
 -- SPELLINGS
-pub among_here : (k : Text) (ks : List Text) → is_among (k ∷ ks) k ≡ true
-among_here k ks = rw (same_key-self k)
+abbrev pub HasSpelling : Spellings → Text → Type 0
+HasSpelling (only l) k = l ≡ k
+HasSpelling (both l m) k = (l ≡ k) ⊎ (m ≡ k)
 
-or_second : (a b : Bool) → b ≡ true → (a || b) ≡ true
-or_second true b h = refl
-or_second false b h = h
+pub spelling_among : (names : Spellings) (ks : List Text) (k : Text) → HasSpelling names k
+    → is_among (spell names ks) k ≡ true
+spelling_among (only l) ks k h = rw (← h) (among_here l ks)
+spelling_among (both l m) ks k h = elim h [ inl e ↦ rw (← e) (among_here l (m ∷ ks)) | inr e ↦ rw (← e) (among_there l (m ∷ ks) m (among_here m ks)) ]
 
-pub among_there : (l : Text) (ks : List Text) (k : Text) → is_among ks k ≡ true → is_among (l ∷ ks) k ≡ true
-among_there l ks k h = or_second (same_key l k) (is_among ks k) h
+among_cases : (l : Text) (ks : List Text) (k : Text) → is_among (l ∷ ks) k ≡ true → (l ≡ k) ⊎ (is_among ks k ≡ true)
+among_cases l ks k h = elim (cases_Bool (same_key l k)) [ inl e ↦ inl (same_key-true l k e) | inr e ↦ inr (rw e at h) ]
 
-not_first : (names : Spellings) (ks : List Text) (j : Text) → is_among (spell names ks) j ≡ false → same_key (first names) j ≡ false
-not_first (only k) ks j h = not_among_head k ks j h
-not_first (both k l) ks j h = not_among_head k (l ∷ ks) j h
+spelling_cases : (names : Spellings) (ks : List Text) (k : Text) → is_among (spell names ks) k ≡ true → HasSpelling names k ⊎ (is_among ks k ≡ true)
+spelling_cases (only l) ks k h = among_cases l ks k h
+spelling_cases (both l m) ks k h = elim (among_cases l (m ∷ ks) k h) [ inl e ↦ inl (inl e) | inr h ↦ elim (among_cases m ks k h) [ inl e ↦ inl (inr e) | inr h ↦ inr h ] ]
 
-not_later : (names : Spellings) (ks : List Text) (j : Text) → is_among (spell names ks) j ≡ false → is_among ks j ≡ false
-not_later (only k) ks j h = not_among_tail k ks j h
-not_later (both k l) ks j h = not_among_tail l ks j (not_among_tail k (l ∷ ks) j h)
+-- the keys that the spellings of a row differ from have none of them
+differ_from : (names : Spellings) (ks : List Text) (k : Text) → differ names ks ≡ true → HasSpelling names k → is_among ks k ≡ true → ⊥
+differ_from (only l) ks k d e h = true≢false (sym h ∙ rw (← e) (not-true _ d))
+differ_from (both l m) ks k d e h =
+    let (a, b) = and_parts (not (is_among (m ∷ ks) l)) (not (is_among ks m)) d in
+    elim e [ inl e ↦ true≢false (sym (among_there m ks k h) ∙ rw (← e) (not-true _ a)) | inr e ↦ true≢false (sym h ∙ rw (← e) (not-true _ b)) ]
 
-first_among : (names : Spellings) (ks : List Text) → is_among (spell names ks) (first names) ≡ true
-first_among (only k) ks = among_here k ks
-first_among (both k l) ks = among_here k (l ∷ ks)
+-- SLOTS
+abbrev pub OfOne : (Text → Data → Type 0) → Slot → Type 0
+OfOne P (one k d) = P k d
+OfOne P _ = Unit {0}
 
-pub later_among : (names : Spellings) (ks : List Text) (j : Text) → is_among ks j ≡ true → is_among (spell names ks) j ≡ true
-later_among (only k) ks j h = among_there k ks j h
-later_among (both k l) ks j h = among_there k (l ∷ ks) j (among_there l ks j h)
+-- the value of a slot is that of an entry under a spelling
+pub slot_of : (names : Spellings) (ms : Members) → OfOne (λ k d. HasSpelling names k × has_entry k d ms) (at names ms)
+slot_of (only k) ms = by_one (get_member k ms) refl
+  where
+    by_one : (o : Option Data) → get_member k ms ≡ o → OfOne (λ j d. (k ≡ j) × has_entry j d ms) (slot k o)
+    by_one None e = tt
+    by_one (Some d) e = (refl, entry_found k d ms e)
+slot_of (both k l) ms = by_two (get_member k ms) (get_member l ms) refl refl
+  where
+    by_two : (o u : Option Data) → get_member k ms ≡ o → get_member l ms ≡ u → OfOne (λ j d. ((k ≡ j) ⊎ (l ≡ j)) × has_entry j d ms) (slot_of_two k l o u)
+    by_two (Some d) (Some e) f g = tt
+    by_two (Some d) None f g = (inl refl, entry_found k d ms f)
+    by_two None None f g = tt
+    by_two None (Some e) f g = (inr refl, entry_found l e ms g)
 
-first_new : (names : Spellings) (ks : List Text) → differ names ks ≡ true → is_among ks (first names) ≡ false
-first_new (only k) ks h = not-true _ h
-first_new (both k l) ks h = not_among_tail l ks k (not-true _ (and_parts (not (is_among (l ∷ ks) k)) (not (is_among ks l)) h).0)
+abbrev slot_left : List Path → Slot → Slot
+slot_left ps (one k d) = one k (left_out (from_step (key k) ps) d)
+slot_left ps s = s
 
-abbrev OwnDiffer : Spellings → Type 0
-OwnDiffer (only k) = Unit {0}
-OwnDiffer (both k l) = same_key l k ≡ false
+-- where no path ends at a spelling, the slot keeps its value, without what the paths leave out of it
+at-left : (names : Spellings) (ps : List Path) (ms : Members) → ((k : Text) → HasSpelling names k → ends_here (from_step (key k) ps) ≡ false) → at names (left_out_members ps ms) ≡ slot_left ps (at names ms)
+at-left (only k) ps ms h = rw (get-left ps k ms) (by_one (get_member k ms))
+  where
+    by_one : (o : Option Data) → slot k (left_value (from_step (key k) ps) o) ≡ slot_left ps (slot k o)
+    by_one None = refl
+    by_one (Some d) = rw (h k refl)
+at-left (both k l) ps ms h = rw (get-left ps k ms, get-left ps l ms) (by_two (get_member k ms) (get_member l ms))
+  where
+    by_two : (o u : Option Data) → slot_of_two k l (left_value (from_step (key k) ps) o) (left_value (from_step (key l) ps) u) ≡ slot_left ps (slot_of_two k l o u)
+    by_two (Some d) (Some e) = rw (h k (inl refl), h l (inr refl))
+    by_two (Some d) None = rw (h k (inl refl))
+    by_two None None = refl
+    by_two None (Some e) = rw (h l (inr refl))
 
-differ_own : (names : Spellings) (ks : List Text) → differ names ks ≡ true → OwnDiffer names
-differ_own (only k) ks h = tt
-differ_own (both k l) ks h = not_among_head l ks k (not-true _ (and_parts (not (is_among (l ∷ ks) k)) (not (is_among ks l)) h).0)
+module _ {C : Type 0} (n : Needs.Need C) (T : FindsSoundly n) (names : Spellings) where
+  slot_inner : (s : Slot) → Inner (n.findings names s) × ((k : Text) → Stays (key k) (n.findings names s))
+  slot_inner s = let (a, b) = by_slot s in (ap ends_here (T.found names s) ∙ a, λ k. ap (λ ps. ends_here (from_step (key k) ps)) (T.found names s) ∙ b k)
+    where
+      by_slot : (s : Slot) → Inner (slot_findings T.value s) × ((k : Text) → Stays (key k) (slot_findings T.value s))
+      by_slot (one j d) = (inner_behind (key j) (T.value d), λ k. stays_behind (key k) (key j) (T.value d) (T.inside d))
+      by_slot _ = (refl, λ k. refl)
 
-at-put_some : (names : Spellings) (ks : List Text) (j : Text) (o : Option Data) (ms : Members) → is_among (spell names ks) j ≡ false → at names (put_some j o ms) ≡ at names ms
-at-put_some (only k) ks j o ms h = rw (get-put_some_other k j o ms (not_among_head k ks j h))
-at-put_some (both k l) ks j o ms h = rw (get-put_some_other k j o ms (not_among_head k (l ∷ ks) j h), get-put_some_other l j o ms (not_among_head l ks j (not_among_tail k (l ∷ ks) j h)))
+  unmoved : (s : Slot) → unused_of (slot_findings T.value s) ≡ []
+      → AlikeBut (n.meets s) (n.findings names s) (n.meets s) (n.findings names s)
+  unmoved s e = (λ x. same, sym (but-bare (n.findings names s) (T.found names s ∙ e)))
 
-abbrev AbsentFrom : Spellings → Members → Type 0
-AbsentFrom (only k) ms = get_member k ms ≡ None
-AbsentFrom (both k l) ms = (get_member k ms ≡ None) × (get_member l ms ≡ None)
+  module _ (ms : Members) where
+    abbrev InTable : Slot → Type 0
+    InTable = OfOne (λ k d. HasSpelling names k × has_entry k d ms)
 
-at_written : (names : Spellings) (o : Option Data) (ms : Members) → OwnDiffer names → AbsentFrom names ms → at names (put_some (first names) o ms) ≡ slot (first names) o
-unfolding put_some
-at_written (only k) None ms own none = rw none
-at_written (only k) (Some d) ms own none = rw (get-put_same k d ms)
-at_written (both k l) None ms own none = rw (none.0, none.1)
-at_written (both k l) (Some d) ms own none = rw (get-put_same k d ms, get-put_other l k d ms own, none.1)
+    slot_vanish : (s : Slot) (k : Text) → InTable s → ((d : Data) → has_entry k d ms → HasSpelling names k → ⊥) → unused_at (key k) (n.findings names s) ≡ []
+    slot_vanish s k h none = ap (from_step (key k)) (T.found names s) ∙ by_slot s h
+      where
+        by_slot : (s : Slot) → InTable s → unused_at (key k) (slot_findings T.value s) ≡ []
+        by_slot (one j d) h = at-other (key k) (key j) (T.value d) (same_key-false k j (λ e. none d (subst (λ l. has_entry l d ms) (sym e) h.1) (subst (HasSpelling names) (sym e) h.0)))
+        by_slot _ h = refl
 
--- OTHER ENTRIES
-none_named_at : (t : Bool) (named : List Text) {B : Type 0} (K : Kinds.Kind B) (k : Text) (d : Data) (ms : Members) (es : Entries B) → is_among named k ≡ t → reads_entries K (if t then without named ms else member k d (without named ms)) es
-    → ((fs : Entries B) → reads_entries K (without named ms) fs → none_named named fs ≡ true) → none_named named es ≡ true
-none_named_at true named K k d ms es h a ih = ih es a
-none_named_at false named K k d ms [] h a ih = refl
-none_named_at false named K k d ms (e ∷ es) h a ih = rw (← a.0, h) (ih es a.2)
+    slot_tidy : (ps : List Path) (s : Slot) → InTable s → InOrder ms
+        → ((k : Text) → HasSpelling names k → from_step (key k) ps ≡ unused_at (key k) (n.findings names s))
+        → let r = slot_left ps s in AlikeBut (n.meets r) (n.findings names r) (n.meets s) (n.findings names s)
+    slot_tidy ps absent h s g = unmoved absent refl
+    slot_tidy ps clash h s g = unmoved clash refl
+    slot_tidy ps (one k d) h s g =
+        rw (g k h.0 ∙ ap (from_step (key k)) (T.found names (one k d))
+        ∙ at-behind (key k) (key k) (T.value d) (same_key-self k)) (T.tidy names k d (value_sorted k d ms s h.1))
 
-entries_none_named : (named : List Text) {B : Type 0} (K : Kinds.Kind B) (ms : Members) (es : Entries B) → reads_entries K (without named ms) es → none_named named es ≡ true
-entries_none_named named K no_members [] a = refl
-entries_none_named named K no_members (e ∷ es) a = absurd a
-entries_none_named named K (member k d ms) es a = none_named_at (is_among named k) named K k d ms es refl a (entries_none_named named K ms)
-
-entries_absent : (named : List Text) {B : Type 0} (K : Kinds.Kind B) (es : Entries B) (j : Text) → is_among named j ≡ true → none_named named es ≡ true → get_member j (written_entries K es) ≡ None
-entries_absent named K [] j known h = refl
-entries_absent named K (e ∷ es) j known h =
-    let (here, more) = and_parts (not (is_among named e.0)) (none_named named es) h in
-    get-member_other j e.0 (K.written e.1) (written_entries K es) (same_key-false j e.0 (λ same. true≢false (sym known ∙ ap (is_among named) same ∙ not-true _ here)))
-    ∙ entries_absent named K es j known more
-
-without_none : (named : List Text) {B : Type 0} (K : Kinds.Kind B) (es : Entries B) → none_named named es ≡ true → without named (written_entries K es) ≡ written_entries K es
-without_none named K [] h = refl
-without_none named K (e ∷ es) h =
-    let (here, more) = and_parts (not (is_among named e.0)) (none_named named es) h in
-    rw (not-true _ here) (ap (member e.0 (K.written e.1)) (without_none named K es more))
-
--- THE FORM
+-- THE ROWS
 module _ {A : Type 0} (named : List Text) where
-  pub rows_single : (rows : Rows A) (ms : Members) (t u : Fields rows) → AreLawful rows → fits_beside named rows ms t → fits_beside named rows ms u → t ≡ u
+  -- the key is one that these rows read
+  abbrev pub Owns : Rows A → Text → Type 0
+  Owns (r ⨾ rs) k = HasSpelling r.spellings k ⊎ Owns rs k
+  Owns (others get K) k = is_among named k ≡ false
+  Owns no_more k = ⊥
+
+  abbrev pub Within : Rows A → Type 0
+  Within rows = (k : Text) → is_among (spelled rows) k ≡ true → is_among named k ≡ true
+
+  pub within_later : (r : Forms.Row A) (rs : Rows A) → Within (r ⨾ rs) → Within rs
+  within_later r rs w k h = w k (later_among r.spellings (spelled rs) k h)
+
+  owned_cases : (rows : Rows A) (k : Text) → Owns rows k → (is_among (spelled rows) k ≡ true) ⊎ ((is_among named k ≡ false) × (is_closed rows ≡ false))
+  owned_cases no_more k o = absurd o
+  owned_cases (others get K) k o = inr (o, refl)
+  owned_cases (r ⨾ rs) k (inl e) = inl (spelling_among r.spellings (spelled rs) k e)
+  owned_cases (r ⨾ rs) k (inr o) = elim (owned_cases rs k o) [ inl h ↦ inl (later_among r.spellings (spelled rs) k h) | inr h ↦ inr h ]
+
+  pub owned_spelled : (rows : Rows A) (k : Text) → is_closed rows ≡ true → Owns rows k → is_among (spelled rows) k ≡ true
+  owned_spelled rows k c o = elim (owned_cases rows k o) [ inl h ↦ h | inr h ↦ absurd (true≢false (sym c ∙ h.1)) ]
+
+  -- no key of the later rows is a spelling of the first
+  pub owned_once : (r : Forms.Row A) (rs : Rows A) (k : Text) → differ r.spellings (spelled rs) ≡ true → Within (r ⨾ rs) → Owns rs k → HasSpelling r.spellings k → ⊥
+  owned_once r rs k d w o e = elim (owned_cases rs k o) [
+    | inl h ↦ differ_from r.spellings (spelled rs) k d e h
+    | inr h ↦ true≢false (sym (w k (spelling_among r.spellings (spelled rs) k e)) ∙ h.0)
+  ]
+
+  module _ (ms : Members) where
+    abbrev own : Forms.Row A → List Finding
+    own r = r.need.findings r.spellings (at r.spellings ms)
+
+    abbrev all : Rows A → List Finding
+    all rows = findings_beside named rows ms
+
+    row_vanish : (r : Forms.Row A) (k : Text) → IsSoundNeed r.need
+        → ((d : Data) → has_entry k d ms → HasSpelling r.spellings k → ⊥) → unused_at (key k) (own r) ≡ []
+    row_vanish r k t none =
+        slot_vanish r.need t.finds r.spellings ms (at r.spellings ms) k (slot_of r.spellings ms) none
+
+    -- nothing is found under a key that the rows do not read, nor under one that is absent
+    pub rows_vanish : (rows : Rows A) (k : Text) → AreSound rows → ((d : Data) → has_entry k d ms → Owns rows k → ⊥)
+        → unused_at (key k) (all rows) ≡ []
+    rows_vanish no_more k t none = refl
+    rows_vanish (others get K) k t none = none_beside K k (without named ms) (λ d h. let (a, b) = entry_beside named k d ms h in none d a b)
+    rows_vanish (r ⨾ rs) k t none = at_second (key k) (own r) (all rs) (row_vanish r k t.0 (λ d h e. none d h (inl e))) ∙ rows_vanish rs k t.1 (λ d h o. none d h (inr o))
+
+    pub rows_inner : (rows : Rows A) → AreSound rows → Inner (all rows) × ((k : Text) → Stays (key k) (all rows))
+    rows_inner no_more t = (refl, λ k. refl)
+    rows_inner (others get K) t = entries_inner t (without named ms)
+    rows_inner (r ⨾ rs) t =
+        let (a, b) = slot_inner r.need t.0.finds r.spellings (at r.spellings ms) in
+        let (c, d) = rows_inner rs t.1 in
+        (inner_append (own r) (all rs) a c, λ k. stays_append (key k) (own r) (all rs) (b k) (d k))
+
+    -- these paths go by each key that the rows read as their own do
+    abbrev pub Agrees : Rows A → List Path → Type 0
+    Agrees rows ps = (k : Text) → Owns rows k → from_step (key k) ps ≡ unused_at (key k) (all rows)
+
+    pub rows_tidy : (rows : Rows A) (ps : List Path) → AreSound rows → distinct rows ≡ true → Within rows → InOrder ms
+        → Agrees rows ps
+        → let ns = left_out_members ps ms in
+        AlikeBut (fits_beside named rows ns) (findings_beside named rows ns) (fits_beside named rows ms)
+        (findings_beside named rows ms)
+    rows_tidy no_more ps t d w s g = (λ x. same, refl)
+    rows_tidy (others get K) ps t d w s g =
+        rw (without-left ps named ms)
+        (entries_tidy t ps (without named ms) (λ k d h. g k (entry_beside named k d ms h).1) (order_beside named ms s))
+    rows_tidy (r ⨾ rs) ps t d w s g =
+        let (new, more) = and_parts (differ r.spellings (spelled rs)) (distinct rs) d in
+        let first : (k : Text) → HasSpelling r.spellings k → from_step (key k) ps ≡ unused_at (key k) (own r) =
+        λ k e. g k (inl e) ∙ at_first (key k) (own r) (all rs) (rows_vanish rs k t.1 (λ d h o. owned_once r rs k new w o e)) in
+        let rest : Agrees rs ps = λ k o. g k (inr o) ∙ at_second (key k) (own r) (all rs) (row_vanish r k t.0 (λ d h e. owned_once r rs k new w o e)) in
+        let left =
+        at-left r.spellings ps ms
+        (λ k e. ap ends_here (first k e) ∙ (slot_inner r.need t.0.finds r.spellings (at r.spellings ms)).1 k) in
+        let here = slot_tidy r.need t.0.finds r.spellings ms ps (at r.spellings ms) (slot_of r.spellings ms) s first in
+        let there = rows_tidy rs ps t.1 more (within_later r rs w) s rest in
+        rw left (
+          λ x. both_ways (here.0 x.0) (there.0 x.1),
+          ap₂ (λ fs gs. fs ++ gs) here.1 there.1
+              ∙ sym (but-append (own r) (all rs)),
+        )
+
+    -- nothing is left over of a table without the keys that are
+    pub none_left_over : (rows : Rows A) (ps : List Path)
+        → ((k : Text) (d : Data) → has_entry k d (left_beside named rows ms) → ends_here (from_step (key k) ps) ≡ true)
+        → left_beside named rows (left_out_members ps ms) ≡ no_members
+    none_left_over no_more ps h = without-left ps named ms ∙ all_gone ps (without named ms) h
+    none_left_over (others get K) ps h = refl
+    none_left_over (r ⨾ rs) ps h = none_left_over rs ps h
+
+    -- an entry that is left over is one that the rows do not read
+    pub left_unowned : (rows : Rows A) (k : Text) (d : Data) → Within rows → has_entry k d (left_beside named rows ms)
+        → Owns rows k → ⊥
+    left_unowned no_more k d w h o = o
+    left_unowned (others get K) k d w h o = h
+    left_unowned (r ⨾ rs) k d w h (inl e) =
+        true≢false (sym (w k (spelling_among r.spellings (spelled rs) k e)) ∙ left_named rs h)
+      where
+        left_named : (rs : Rows A) → has_entry k d (left_beside named rs ms) → is_among named k ≡ false
+        left_named no_more h = (entry_beside named k d ms h).1
+        left_named (others get K) h = absurd h
+        left_named (r ⨾ rs) h = left_named rs h
+    left_unowned (r ⨾ rs) k d w h (inr o) = left_unowned rs k d (within_later r rs w) h o
+
+    -- none of the keys that are left over is one that the rows read
+    pub left_vanish : (rows : Rows A) (k : Text) → Within rows → (is_among named k ≡ true) ⊎ Owns rows k → unused_at (key k) (unused_keys (left_beside named rows ms)) ≡ []
+    left_vanish no_more k w (inl h) = named_not_found named k ms h
+    left_vanish no_more k w (inr o) = absurd o
+    left_vanish (others get K) k w h = refl
+    left_vanish (r ⨾ rs) k w (inl h) = left_vanish rs k (within_later r rs w) (inl h)
+    left_vanish (r ⨾ rs) k w (inr (inl e)) = left_vanish rs k (within_later r rs w) (inl (w k (spelling_among r.spellings (spelled rs) k e)))
+    left_vanish (r ⨾ rs) k w (inr (inr o)) = left_vanish rs k (within_later r rs w) (inr o)
+
+    pub left-closed : (rows : Rows A) → is_closed rows ≡ true → left_beside named rows ms ≡ without named ms
+    left-closed no_more c = refl
+    left-closed (others get K) c = absurd (true≢false (sym c))
+    left-closed (r ⨾ rs) c = left-closed rs c
+
+first_spelled : (names : Spellings) → HasSpelling names (first names)
+first_spelled (only k) = refl
+first_spelled (both k l) = inl refl
+
+module _ (ms : Members) (s : InOrder ms) where
+  slot_place : (names : Spellings) → HasSpelling names (slot_key names (at names ms)) × IsSlotSorted (at names ms)
+  slot_place names = by_slot (at names ms) (slot_of names ms)
+    where
+      by_slot : (t : Slot) → OfOne (λ k d. HasSpelling names k × has_entry k d ms) t → HasSpelling names (slot_key names t) × IsSlotSorted t
+      by_slot (one k d) h = (h.0, value_sorted k d ms s h.1)
+      by_slot _ h = (first_spelled names, tt)
+
+  -- the paths of what is found of a row begin with one of its spellings
+  pub row_diverging : {C : Type 0} (n : Needs.Need C) (names : Spellings) → IsSoundNeed n
+      → DivergingBy (KeyOf (HasSpelling names)) (n.findings names (at names ms))
+  row_diverging n names T =
+      let (here, sorted) = slot_place names in
+      record {
+        begin = begin_weaker (found_paths (n.findings names (at names ms))) (λ t e. rw e here)
+            (T.finds.begins names (at names ms));
+        diverge = T.finds.once names (at names ms) sorted;
+      }
+
+  module _ {A : Type 0} (named : List Text) where
+    -- the paths of what is found of the rows begin with the keys that they read
+    pub rows_diverging : (rows : Rows A) → AreSound rows → distinct rows ≡ true → Within named rows
+        → DivergingBy (KeyOf (Owns named rows)) (findings_beside named rows ms)
+    rows_diverging no_more t d w = none_diverging
+    rows_diverging (others get K) t d w =
+        weaker_diverging (key_weaker (λ k h. (entry_beside named k h.0 ms h.1).1))
+        (entries_diverging K.findings t.once (without named ms) (order_beside named ms s))
+    rows_diverging (r ⨾ rs) t d w =
+        let (new, more) = and_parts (differ r.spellings (spelled rs)) (distinct rs) d in
+        both_diverging (row_diverging r.need r.spellings t.0) (rows_diverging rs t.1 more (within_later named r rs w)) (key_weaker (λ k e. inl e)) (key_weaker (λ k o. inr o)) (key_apart (λ k e o. owned_once named r rs k new w o e))
+
+    pub left_diverging : (rows : Rows A) → DivergingBy (KeyOf (λ k. (is_among named k ≡ false) × (is_closed rows ≡ true))) (unused_keys (left_beside named rows ms))
+    left_diverging no_more = weaker_diverging (key_weaker (λ k h. ((entry_beside named k h.0 ms h.1).1, refl))) (keys_diverging (without named ms) (order_beside named ms s))
+    left_diverging (others get K) = none_diverging
+    left_diverging (r ⨾ rs) = left_diverging rs
+
+-- THE ROWS of a form satisfy the laws
+module _ {A : Type 0} (named : List Text) where
+  pub rows_single : (rows : Rows A) (ms : Members) (t u : Fields rows) → AreSound rows → fits_beside named rows ms t
+      → fits_beside named rows ms u → t ≡ u
   rows_single no_more ms t u l a b = refl
   rows_single (others get K) ms t u l a b = entries_single l (without named ms) t u a b
   rows_single (r ⨾ rs) ms t u l a b = λ i. (l.0.single (at r.spellings ms) t.0 u.0 a.0 b.0 i, rows_single rs ms t.1 u.1 l.1 a.1 b.1 i)
 
-  pub rows_apart : (rows : Rows A) (ms : Members) (p : Path) (c : Cause) (t : Fields rows) → AreLawful rows → unfit_beside named rows ms p c → fits_beside named rows ms t → ⊥
-  rows_apart no_more ms p c t l f a = f
-  rows_apart (others get K) ms p c t l f a = entry_apart l (without named ms) p c t f a
-  rows_apart (r ⨾ rs) ms p c t l f a = elim f [ inl here ↦ l.0.apart r.spellings (at r.spellings ms) p c t.0 here a.0 | inr there ↦ rows_apart rs ms p c t.1 l.1 there a.1 ]
+  pub rows_decided : (rows : Rows A) (ms : Members) → AreSound rows
+      → Decided (findings_beside named rows ms) (fits_beside named rows ms)
+  rows_decided no_more ms l = (λ e. (tt, tt), λ a. refl)
+  rows_decided (others get K) ms l = entries_decided l (without named ms)
+  rows_decided (r ⨾ rs) ms l =
+      let cut = both_none (r.need.findings r.spellings (at r.spellings ms)) (findings_beside named rs ms) in
+      let (first, back) = l.0.finds.decided r.spellings (at r.spellings ms) in
+      let (more, from) = rows_decided rs ms l.1 in (
+        λ e. let (a, b) = cut.0 e in let (x, p) = first a in let (y, q) = more b in ((x, y), (p, q)),
+        λ a. cut.1 (back (a.0.0, a.1.0), from (a.0.1, a.1.1)),
+      )
 
-  pub rows_well : (rows : Rows A) (ms : Members) (t : Fields rows) → AreLawful rows → fits_beside named rows ms t → good_beside named rows t
+  pub rows_well : (rows : Rows A) (ms : Members) (t : Fields rows) → AreSound rows → fits_beside named rows ms t
+      → good_beside named rows t
   rows_well no_more ms t l a = tt
   rows_well (others get K) ms t l a = (entries_none_named named K ms t a, entries_well l (without named ms) t a)
   rows_well (r ⨾ rs) ms t l a = (l.0.well (at r.spellings ms) t.0 a.0, rows_well rs ms t.1 l.1 a.1)
 
-  pub rows_exact : (rows : Rows A) (ms : Members) → AreLawful rows → FindsAll (findings_beside named rows ms) (unfit_beside named rows ms)
-  rows_exact no_more ms l = finds_nothing
-  rows_exact (others get K) ms l = entries_exact l (without named ms)
-  rows_exact (r ⨾ rs) ms l = finds_both (r.need.findings r.spellings (at r.spellings ms)) (findings_beside named rs ms) (r.need.faulty r.spellings (at r.spellings ms)) (unfit_beside named rs ms) (l.0.exact r.spellings (at r.spellings ms)) (rows_exact rs ms l.1)
+  -- of a table that holds what is written of each row: it is read back, nothing is found, and nothing is left over
+  pub rows_back : (rows : Rows A) (ms : Members) (t : Fields rows) → AreSound rows → good_beside named rows t
+      → holds_beside named rows t ms
+      → fits_beside named rows ms t × (findings_beside named rows ms ≡ []) × (left_beside named rows ms ≡ no_members)
+  rows_back no_more ms t l g h = (tt, refl, h)
+  rows_back (others get K) ms t l g h = let (r, e) = entries_back l t g.1 in (rw h r, rw h e, refl)
+  rows_back (r ⨾ rs) ms t l g h =
+      let (q, f, n) = rows_back rs ms t.1 l.1 g.1 h.1 in
+      let own : r.need.findings r.spellings (at r.spellings ms) ≡ [] =
+      rw h.0 (l.0.finds.clean r.spellings (first r.spellings) t.0 g.0) in
+      ((rw h.0 (l.0.back (first r.spellings) t.0 g.0), q), ap₂ (λ fs gs. fs ++ gs) own f, n)
 
-  -- a key of the named ones that no row has is under none of what is written
-  pub written_none : (rows : Rows A) (t : Fields rows) (j : Text) → is_among named j ≡ true → is_among (spelled rows) j ≡ false → good_beside named rows t → get_member j (written_rows rows t) ≡ None
-  written_none no_more t j known new g = refl
-  written_none (others get K) t j known new g = entries_absent named K t j known g.0
-  written_none (r ⨾ rs) t j known new g =
-      get-put_some_other j (first r.spellings) (r.need.written t.0) (written_rows rs t.1) (turned (first r.spellings) j (not_first r.spellings (spelled rs) j new))
-      ∙ written_none rs t.1 j known (not_later r.spellings (spelled rs) j new) g.1
+-- THE FORM
+module _ {A : Type 0} (rows : Rows A) (T : AreSound rows) where
+  abbrev left : Members → List Finding
+  left ms = unused_keys (left_over rows ms)
 
-  -- one more entry that no row has
-  holds_more : (rows : Rows A) (ms : Members) (t : Fields rows) (j : Text) (o : Option Data) → is_among named j ≡ true → is_among (spelled rows) j ≡ false → holds_beside named rows t ms → holds_beside named rows t (put_some j o ms)
-  holds_more no_more ms t j o known new h = without-put_some named j o ms known ∙ h
-  holds_more (others get K) ms t j o known new h = without-put_some named j o ms known ∙ h
-  holds_more (r ⨾ rs) ms t j o known new h = (at-put_some r.spellings (spelled rs) j o ms new ∙ h.0, holds_more rs ms t.1 j o known (not_later r.spellings (spelled rs) j new) h.1)
+  -- a key that a row has stays
+  pub key_stays : (ms : Members) (k : Text) → is_among (spelled rows) k ≡ true → Stays (key k) (form_findings rows (table ms))
+  key_stays ms k h = ap ends_here (at_first (key k) (row_findings rows ms) (left ms) (left_vanish (spelled rows) ms rows k (λ k h. h) (inl h))) ∙ (rows_inner (spelled rows) ms rows T).1 k
 
-  abbrev Within : Rows A → Type 0
-  Within rows = (k : Text) → is_among (spelled rows) k ≡ true → is_among named k ≡ true
+  pub unused_if_no_row : UnusedIfNoRow rows
+  unused_if_no_row c ms k d h = elim (cases_Bool (is_among (spelled rows) k)) [
+    | inl e ↦ key_stays ms k e ∙ ap not (sym e)
+    | inr e ↦
+        ap ends_here (at_second (key k) (row_findings rows ms) (left ms) (rows_vanish (spelled rows) ms rows k T (λ d h o. true≢false (sym (owned_spelled (spelled rows) rows k c o) ∙ e))))
+        ∙ rw (left-closed (spelled rows) ms rows c) (key_found k d (without (spelled rows) ms) (kept_beside (spelled rows) k d ms h e)) ∙ ap not (sym e)
+  ]
 
-  no_keys : (rs : Rows A) (t : Fields rs) (names : Spellings) → differ names (spelled rs) ≡ true → ((k : Text) → is_among (spell names (spelled rs)) k ≡ true → is_among named k ≡ true) → good_beside named rs t → AbsentFrom names (written_rows rs t)
-  no_keys rs t (only k) new w g = written_none rs t k (w k (among_here k (spelled rs))) (not-true _ new) g
-  no_keys rs t (both k l) new w g =
-      let (a, b) = and_parts (not (is_among (l ∷ spelled rs) k)) (not (is_among (spelled rs) l)) new in (
-        written_none rs t k (w k (among_here k (l ∷ spelled rs))) (not_among_tail l (spelled rs) k (not-true _ a)) g,
-        written_none rs t l (w l (among_there k (l ∷ spelled rs) l (among_here l (spelled rs)))) (not-true _ b) g,
-      )
-
-  rows_hold : (rows : Rows A) (t : Fields rows) → distinct rows ≡ true → Within rows → good_beside named rows t → holds_beside named rows t (written_rows rows t)
-  rows_hold no_more t d w g = refl
-  rows_hold (others get K) t d w g = without_none named K t g.0
-  rows_hold (r ⨾ rs) t d w g =
-      let (new, later) = and_parts (differ r.spellings (spelled rs)) (distinct rs) d in
-      let none : AbsentFrom r.spellings (written_rows rs t.1) = no_keys rs t.1 r.spellings new w g.1 in (
-        at_written r.spellings (r.need.written t.0) (written_rows rs t.1) (differ_own r.spellings (spelled rs) new) none,
-        holds_more rs (written_rows rs t.1) t.1 (first r.spellings) (r.need.written t.0) (w (first r.spellings) (first_among r.spellings (spelled rs)))
-            (first_new r.spellings (spelled rs) new) (rows_hold rs t.1 later (λ k h. w k (later_among r.spellings (spelled rs) k h)) g.1),
-      )
-
-  -- a table that holds what is written of each row is read back
-  rows_back : (rows : Rows A) (ms : Members) (t : Fields rows) → AreLawful rows → good_beside named rows t → holds_beside named rows t ms → fits_beside named rows ms t
-  rows_back no_more ms t l g h = tt
-  rows_back (others get K) ms t l g h = rw h (entries_back l t g.1)
-  rows_back (r ⨾ rs) ms t l g h = (rw h.0 (l.0.back (first r.spellings) t.0 g.0), rows_back rs ms t.1 l.1 g.1 h.1)
-
-pub writes_each_row : {A : Type 0} (rows : Rows A) → IsTrue (distinct rows) → WritesEachRow rows
-writes_each_row rows d x g = rows_hold (spelled rows) rows (gets rows x) d (λ k h. h) g
-
-module _ {A : Type 0} (rows : Rows A) (L : AreLawful rows) (B : IsBuilt rows) (D : IsTrue (distinct rows)) where
+module _ {A : Type 0} (rows : Rows A) (L : AreSound rows) (B : IsBuilt rows) (D : IsTrue (distinct rows)) where
   form_single : (d : Data) (x y : A) → reads_form rows d x → reads_form rows d y → x ≡ y
   form_single (table ms) x y a b = sym (B.all x) ∙ ap B.build (rows_single (spelled rows) rows ms (gets rows x) (gets rows y) L a b) ∙ B.all y
   form_single _ x y a b = absurd a
 
-  form_apart : (d : Data) (p : Path) (c : Cause) (x : A) → faulty_form rows d p c → reads_form rows d x → ⊥
-  form_apart (table ms) p c x f a = rows_apart (spelled rows) rows ms p c (gets rows x) L f a
-  form_apart _ p c x f a = a
+  form_decided : (d : Data) → Decided (form_findings rows d) (reads_form rows d)
+  form_decided (table ms) =
+      let cut = both_none (row_findings rows ms) (unused_keys (left_over rows ms)) in
+      let (there, back) = rows_decided (spelled rows) rows ms L in (
+        λ e. let (t, p) = there (cut.0 e).0 in (B.build t, rw (B.each t) p),
+        λ a. cut.1 (back (gets rows a.0, a.1), keys_none (left_over rows ms)),
+      )
+  form_decided _ = (λ e. absurd (no_nil e), λ a. absurd a.1)
 
   form_well : (d : Data) (x : A) → reads_form rows d x → good_rows rows x
   form_well (table ms) x a = rows_well (spelled rows) rows ms (gets rows x) L a
   form_well _ x a = absurd a
 
-  form_exact : (d : Data) → FindsAll (form_findings rows d) (faulty_form rows d)
-  form_exact (table ms) = finds_beside (row_findings rows ms) (unused_keys (left_over rows ms)) (unfit_beside (spelled rows) rows ms) (unused_faultless (left_over rows ms)) (rows_exact (spelled rows) rows ms L)
-  form_exact _ = finds_here wrong_kind
+  form_back : (x : A) → good_rows rows x → let d = table (written_rows rows (gets rows x)) in
+      reads_form rows d x × (form_findings rows d ≡ [])
+  form_back x g =
+      let (p, e, n) =
+      rows_back (spelled rows) rows (written_rows rows (gets rows x)) (gets rows x) L g
+      (writes_each_row rows D x g) in
+      (p, ap₂ (λ fs ms. fs ++ unused_keys ms) e n)
 
-  pub form_lawful : IsLawful (form rows)
-  form_lawful = record { single = form_single; apart = form_apart; well = form_well; back = λ x g. rows_back (spelled rows) rows (written_rows rows (gets rows x)) (gets rows x) L g (writes_each_row rows D x g); exact = form_exact }
+  pub table_tidy : (ps : List Path) (ms : Members) → InOrder ms → Agrees (spelled rows) ms rows ps
+      → let ns = left_out_members ps ms in
+      AlikeBut (reads_form rows (table ns)) (row_findings rows ns) (reads_form rows (table ms))
+      (row_findings rows ms)
+  table_tidy ps ms s g =
+      let (a, b) = rows_tidy (spelled rows) ms rows ps L D (λ k h. h) s g in (λ x. a (gets rows x), b)
+
+  form_tidy : (d : Data) → is_sorted d ≡ true → let e = left_out (unused_of (form_findings rows d)) d in
+      AlikeBut (reads_form rows e) (form_findings rows e) (reads_form rows d) (form_findings rows d)
+  form_tidy (table ms) s =
+      let named = spelled rows in
+      let ps = unused_of (form_findings rows (table ms)) in
+      let (a, b) =
+      table_tidy ps ms (in_order ms s)
+      (λ k o. at_first (key k) (row_findings rows ms) (left rows L ms)
+      (left_vanish named ms rows k (λ k h. h) (inr o))) in
+      let gone = none_left_over named ms rows ps (λ k d h.
+      ap ends_here
+      (at_second (key k) (row_findings rows ms) (left rows L ms)
+      (rows_vanish named ms rows k L (λ e i o. left_unowned named ms rows k d (λ k h. h) h o)))
+      ∙ key_found k d (left_over rows ms) h) in (
+        a,
+        ap₂ (λ fs ns. fs ++ unused_keys ns) b gone
+            ∙ sym (but-append (row_findings rows ms) (left rows L ms)
+            ∙ ap (λ fs. but_unused (row_findings rows ms) ++ fs) (but-keys (left_over rows ms))),
+      )
+  form_tidy _ s = (λ x. same, refl)
+
+  form_once : (ms : Members) → InOrder ms → AllDiverge (found_paths (form_findings rows (table ms)))
+  form_once ms s =
+      let named = spelled rows in
+      (both_diverging {R = λ t. Unit {0}} (rows_diverging ms s named rows L D (λ k h. h))
+      (left_diverging ms s named rows) (λ t h. tt) (λ t h. tt)
+      (key_apart (λ k o h. true≢false (sym (owned_spelled named rows k h.1 o) ∙ h.0)))).diverge
+
+  pub form_sound : IsSound (form rows)
+  form_sound = record {
+    single = form_single;
+    decided = form_decided;
+    well = form_well;
+    back = form_back;
+    tidy = form_tidy;
+    inside =
+        elim [
+          | table ms ↦ inner_append (row_findings rows ms) (left rows L ms) (rows_inner (spelled rows) ms rows L).0
+              (inner_keys (left_over rows ms))
+          | _ ↦ refl
+        ];
+    once = elim [ table ms ↦ λ s. form_once ms (in_order ms s) | _ ↦ λ s. (tt, tt) ];
+  }

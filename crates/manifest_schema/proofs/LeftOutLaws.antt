@@ -19,7 +19,7 @@ from-append s [] qs = refl
 from-append s ([] ∷ ps) qs = from-append s ps qs
 from-append s ((t ∷ p) ∷ ps) qs = elim (cases_Bool (same_step s t)) [ inl e ↦ rw e (ap (λ r. p ∷ r) (from-append s ps qs)) | inr e ↦ rw e (from-append s ps qs) ]
 
-at-append : (s : Step) (fs gs : List Finding) → unused_at s (fs ++ gs) ≡ unused_at s fs ++ unused_at s gs
+pub at-append : (s : Step) (fs gs : List Finding) → unused_at s (fs ++ gs) ≡ unused_at s fs ++ unused_at s gs
 at-append s fs gs = ap (from_step s) (unused-append fs gs) ∙ from-append s (unused_of fs) (unused_of gs)
 
 -- those of the first findings, or of the ones after them
@@ -193,6 +193,13 @@ key_found k d (member l e ms) h = elim (cases_Bool (same_key k l)) [
   | inl same ↦ rw same
   | inr other ↦ rw other (elim h [ inl here ↦ absurd (true≢false (sym (same_key-self l) ∙ rw here.0 at other)) | inr there ↦ key_found k d ms there ])
 ]
+
+-- where each key is the end of a path, no entry is left
+pub all_gone : (ps : List Path) (ms : Members)
+    → ((k : Text) (d : Data) → has_entry k d ms → ends_here (from_step (key k) ps) ≡ true)
+    → left_out_members ps ms ≡ no_members
+all_gone ps no_members h = refl
+all_gone ps (member k d ms) h = rw (h k d (inl (refl, refl))) (all_gone ps ms (λ l e there. h l e (inr there)))
 
 -- EACH KEY ONCE, and the keys inside ascend
 abbrev pub InOrder : Members → Type 0

@@ -1,31 +1,32 @@
 -- What a table means: the laws of the forms, with old headers.
-use Rattle.manifest_schema.specs.Prelude.{Data, table, Members, get_member, Text, Path, Cause, key, slot, Kind, meets_optional, form, fits, IsLawful, IsTotal, ReadOrFaulty, Package, Manifest, package_rows, workspace_rows, manifest_rows, well_formed, reads_manifest, rewritten, has_header, old_package, means_by, faulty_old, unmeant_by, is_headed, MeansOne, WrittenIsRead, AcceptedIsWellFormed, WrittenMeansTheSame, SameWrittenIsSame, RewrittenTwiceIsOnce, RewrittenMeansTheSame, SameExactly, FaultyMeansNothing, AcceptedOrFaulty}
-use Rattle.std.proofs.Common.{◌≡◌, Bool, true, false, inl, inr, ◌∷◌, Option, Some, None, codes, refl, sym, ap, ap₂, ◌∙◌, ◌||◌, is_some}
-use Rattle.manifest_schema.proofs.ManifestLaws.{package_lawful, package_total, manifest_lawful, manifest_total}
+use Rattle.manifest_schema.specs.Prelude.{Data, table, Members, get_member, Text, slot, Kind, meets_optional, form, fits, IsSound, Package, Manifest, package_rows, workspace_rows, manifest_rows, well_formed, rewritten, has_header, old_package, means_by, is_headed, MeansOne, WrittenIsRead, AcceptedIsWellFormed, WrittenMeansTheSame, SameWrittenIsSame, RewrittenTwiceIsOnce, RewrittenMeansTheSame, SameExactly}
+use Rattle.std.proofs.Common.{◌≡◌, Bool, true, false, Option, Some, None, codes, refl, sym, ap, ap₂, ◌∙◌, ◌||◌, is_some}
+use Rattle.manifest_schema.proofs.ManifestLaws.{package_sound, manifest_sound}
 
 -- the value that old headers take the package from
 abbrev old_value : Members → Data
 old_value ms = old_package ms (get_member (codes "project") ms)
 
-module _ {K W : Kind Data} (k : IsLawful K) (w : IsLawful W) where
+module _ {K W : Kind Data} (k : IsSound K) (w : IsSound W) where
   means_by_one : (h : Bool) (ms : Members) (m n : Manifest) → means_by K W h ms m → means_by K W h ms n → m ≡ n
-  means_by_one true ms m n a b = (manifest_lawful K W k w).single (table ms) m n a b
+  means_by_one true ms m n a b = (manifest_sound K W k w).single (table ms) m n a b
   means_by_one false ms m n a b =
-      let manifests : a.0 ≡ b.0 = (manifest_lawful K W k w).single (table ms) a.0 b.0 a.2 b.2 in
-      let packages : a.1 ≡ b.1 = (package_lawful K k).single (old_value ms) a.1 b.1 a.3 b.3 in
+      let manifests : a.0 ≡ b.0 = (manifest_sound K W k w).single (table ms) a.0 b.0 a.2 b.2 in
+      let packages : a.1 ≡ b.1 = (package_sound K k).single (old_value ms) a.1 b.1 a.3 b.3 in
       a.4 ∙ ap₂ (λ (n : Manifest) (p : Package). record n { «package» = Some p }) manifests packages ∙ sym b.4
 
   pub means_one : MeansOne K W
   means_one ms m n a b = means_by_one (has_header ms) ms m n a b
 
   pub written_is_read : WrittenIsRead K W
-  written_is_read m g = (manifest_lawful K W k w).back m g
+  written_is_read m g = ((manifest_sound K W k w).back m g).0
 
   means_by_well : (h : Bool) (ms : Members) (m : Manifest) → means_by K W h ms m → well_formed K W m
   unfolding manifest_rows
-  means_by_well true ms m a = (manifest_lawful K W k w).well (table ms) m a
+  means_by_well true ms m a = (manifest_sound K W k w).well (table ms) m a
   means_by_well false ms m a =
-      rw a.4 (let g : well_formed K W a.0 = (manifest_lawful K W k w).well (table ms) a.0 a.2 in ((package_lawful K k).well (old_value ms) a.1 a.3, g.1))
+      rw a.4 (let g : well_formed K W a.0 = (manifest_sound K W k w).well (table ms) a.0 a.2 in
+      ((package_sound K k).well (old_value ms) a.1 a.3, g.1))
 
 -- HEADERS: a table has a header exactly where its manifest has a package or a workspace
 present : {B : Type 0} (N : Kind B) (k : Text) (o : Option Data) (x : Option B) → meets_optional N (slot k o) x → is_some o ≡ is_some x
@@ -44,7 +45,7 @@ means_by_headed : (K W : Kind Data) (h : Bool) (ms : Members) (m : Manifest) →
 means_by_headed K W true ms m e a = sym (headers K W ms m a) ∙ sym e
 means_by_headed K W false ms m e a = rw a.4
 
-module _ {K W : Kind Data} (k : IsLawful K) (w : IsLawful W) where
+module _ {K W : Kind Data} (k : IsSound K) (w : IsSound W) where
   pub accepted_is_well_formed : AcceptedIsWellFormed K W
   accepted_is_well_formed ms m a = (means_by_well k w (has_header ms) ms m a, means_by_headed K W (has_header ms) ms m refl a)
 
@@ -60,7 +61,8 @@ module _ {K W : Kind Data} (k : IsLawful K) (w : IsLawful W) where
 
   pub same_written_is_same : SameWrittenIsSame K W
   same_written_is_same m n g h e =
-      (manifest_lawful K W k w).single (table (rewritten K W m)) m n (written_is_read k w m g) (rw e (written_is_read k w n h))
+      (manifest_sound K W k w).single (table (rewritten K W m)) m n (written_is_read k w m g)
+      (rw e (written_is_read k w n h))
 
   pub rewritten_twice_is_once : RewrittenTwiceIsOnce K W
   rewritten_twice_is_once ms m n a b =
@@ -68,37 +70,3 @@ module _ {K W : Kind Data} (k : IsLawful K) (w : IsLawful W) where
 
   pub same_exactly : SameExactly K W
   same_exactly ms ns m n a b = (ap (rewritten K W), λ e. means_one k w (rewritten K W m) m n (rewritten_means_the_same ms m a) (rw e (rewritten_means_the_same ns n b)))
-
-  -- FAULTS
-  old_apart : (ms : Members) (o : Option Data) (p : Path) (c : Cause) (x : Package) → faulty_old K ms o p c → (form (package_rows K)).reads (old_package ms o) x → ⊥
-  old_apart ms (Some d) p c x f a = (package_lawful K k).apart d f.0 c x f.2 a
-  old_apart ms None p c x f a = (package_lawful K k).apart (table ms) p c x f a
-
-  unmeant_apart : (h : Bool) (ms : Members) (p : Path) (c : Cause) (m : Manifest) → unmeant_by K W h ms p c → means_by K W h ms m → ⊥
-  unmeant_apart true ms p c m f a = (manifest_lawful K W k w).apart (table ms) p c m f a
-  unmeant_apart false ms p c m f a = elim f [
-    | inl here ↦ (manifest_lawful K W k w).apart (table ms) p c a.0 here a.2
-    | inr old ↦ old_apart ms (get_member (codes "project") ms) p c a.1 old a.3
-  ]
-
-  pub faulty_means_nothing : FaultyMeansNothing K W
-  faulty_means_nothing ms p c m f a = unmeant_apart (has_header ms) ms p c m f a
-
--- A MEANING OR A FAULT
-module _ {K W : Kind Data} (k : IsTotal K) (w : IsTotal W) where
-  old_told : (ms : Members) (o : Option Data) → ReadOrFaulty ((form (package_rows K)).reads (old_package ms o)) (faulty_old K ms o)
-  old_told ms (Some d) = elim ((package_total K k).total d) [ inl a ↦ inl a | inr f ↦ inr (key (codes "project") ∷ f.0, f.1, (f.0, refl, f.2)) ]
-  old_told ms None = (package_total K k).total (table ms)
-
-  both_told : (ms : Members) → ReadOrFaulty (reads_manifest K W (table ms)) ((form (manifest_rows K W)).faulty (table ms))
-      → ReadOrFaulty ((form (package_rows K)).reads (old_value ms)) (faulty_old K ms (get_member (codes "project") ms)) → ReadOrFaulty (means_by K W false ms) (unmeant_by K W false ms)
-  both_told ms (inl a) (inl b) = inl (record a.0 { «package» = Some b.0 }, (a.0, b.0, a.1, b.1, refl))
-  both_told ms (inr f) b = inr (f.0, f.1, inl f.2)
-  both_told ms (inl a) (inr f) = inr (f.0, f.1, inr f.2)
-
-  means_by_told : (h : Bool) (ms : Members) → ReadOrFaulty (means_by K W h ms) (unmeant_by K W h ms)
-  means_by_told true ms = (manifest_total K W k w).total (table ms)
-  means_by_told false ms = both_told ms ((manifest_total K W k w).total (table ms)) (old_told ms (get_member (codes "project") ms))
-
-  pub accepted_or_faulty : AcceptedOrFaulty K W
-  accepted_or_faulty ms = means_by_told (has_header ms) ms

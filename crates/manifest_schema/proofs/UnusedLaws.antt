@@ -1,12 +1,13 @@
 -- A whole table without the keys that nothing reads means the same and has the same faults, with old headers.
-use Rattle.manifest_schema.specs.Prelude.{and_parts, cases_Bool, not-true, or_cases, or_parts, Data, table, Members, get_member, same_key, members_are_sorted, Text, Path, key, is_among, without, has_entry, Kind, Rows, spelled, is_closed, form, row_findings, left_over, package_rows, manifest_rows, Package, Manifest, has_header, old_package, means_by, faulty_old, unmeant_by, findings_by, old_findings, SameWithoutUnused, from_step, ends_here, left_out, left_out_members, unused_in, Alike, IsTidy, AreTidy}
-use Rattle.std.proofs.Common.{◌≡◌, Bool, true, false, not, ◌&&◌, ◌||◌, ◌⊎◌, inl, inr, List, [], ◌∷◌, ◌++◌, Option, Some, None, is_some, codes, refl, sym, ap, ap₂, ◌∙◌, subst, true≢false}
-use Rattle.manifest_schema.specs.Findings.{Finding, found_behind, unused_keys, unused_of}
+use Rattle.manifest_schema.specs.Prelude.{or-false, is_unused_key, is_known_old, manifest_findings, and_parts, cases_Bool, not-true, or_cases, or_parts, Data, table, Members, get_member, same_key, members_are_sorted, Text, Path, key, is_among, without, has_entry, Kind, Rows, spelled, is_closed, form, row_findings, left_over, package_rows, manifest_rows, Package, Manifest, has_header, old_package, means_by, findings_by, old_findings, SameWithoutUnused, from_step, ends_here, left_out_members, unused_in, AlikeBut, IsSound, AreSound}
+use Rattle.std.proofs.Common.{◌≡◌, Bool, true, false, not, ◌&&◌, ◌||◌, ◌⊎◌, ◌↔◌, inl, inr, List, [], ◌∷◌, ◌++◌, Option, Some, None, is_some, codes, refl, sym, ap, ap₂, ◌∙◌, subst, true≢false}
+use Rattle.manifest_schema.specs.Findings.{Finding, found_behind, unused_keys, unused_of, faults_of}
 use Rattle.manifest_schema.proofs.TableLaws.{same_key-true, same_key-false}
-use Rattle.manifest_schema.proofs.LeftOutLaws.{unused_at, at-behind, at-other, at_first, at_second, Stays, no_key_found, named_not_found, left_value, get-left, test-left, entry_found, entry_there, entry_beside, in_order, value_sorted}
-use Rattle.manifest_schema.proofs.TidyLaws.{either_way, behind_same}
-use Rattle.manifest_schema.proofs.FormTidy.{Owns, Agrees, owned_spelled, rows_vanish, left-closed, table_same, key_stays}
-use Rattle.manifest_schema.proofs.PartTidy.{package_rows_tidy, package_distinct, package_tidy, manifest_rows_tidy, manifest_distinct, manifest_tidy}
+use Rattle.manifest_schema.proofs.LeftOutLaws.{unused_at, at-append, stays_behind, key_found, kept_beside, at-behind, at-other, at_first, at_second, Stays, no_key_found, named_not_found, left_value, get-left, test-left, entry_found, entry_there, entry_beside, in_order, value_sorted}
+use Rattle.manifest_schema.proofs.Faultless.{faults-append, faults-keys, but-behind, faults-but}
+use Rattle.manifest_schema.proofs.KindLaws.{same}
+use Rattle.manifest_schema.proofs.FormLaws.{Owns, Agrees, owned_spelled, rows_vanish, rows_inner, left-closed, table_tidy, key_stays}
+use Rattle.manifest_schema.proofs.ManifestLaws.{package_built, package_rows_sound, package_distinct, package_sound, manifest_built, manifest_rows_sound, manifest_distinct, manifest_sound}
 
 -- THE KEYS OF A MANIFEST AND OF A PACKAGE
 -- of these keys all but one are no names
@@ -51,7 +52,7 @@ pub none_of : (o : Option Data) → is_some o ≡ false → o ≡ None
 none_of None h = refl
 none_of (Some d) h = absurd (true≢false h)
 
-module _ {K W : Kind Data} (k : IsTidy K) (w : IsTidy W) where
+module _ {K W : Kind Data} (k : IsSound K) (w : IsSound W) where
   abbrev rows : Rows Manifest
   rows = manifest_rows K W
 
@@ -64,8 +65,8 @@ module _ {K W : Kind Data} (k : IsTidy K) (w : IsTidy W) where
   abbrev workspace : Text
   workspace = codes "workspace"
 
-  rows_tidy : AreTidy rows
-  rows_tidy = manifest_rows_tidy K W k w
+  rows_tidy : AreSound rows
+  rows_tidy = manifest_rows_sound K W k w
 
   rows_spelled : (j : Text) → Owns (spelled rows) rows j → is_among (spelled rows) j ≡ true
   rows_spelled j o = owned_spelled (spelled rows) rows j (closed K W).1 o
@@ -111,7 +112,10 @@ module _ {K W : Kind Data} (k : IsTidy K) (w : IsTidy W) where
         at_first (key j) first (inside d ++ beside) (at_second (key j) (inside d) beside (at-other (key j) (key project) ((form own_rows).findings d) other) ∙ left_none (project ∷ []) j (inr h))
     old_agrees None j o =
         let h = rows_spelled j o in
-        at_first (key j) first (second ++ rest) (at_second (key j) second rest (rows_vanish (spelled own_rows) ms own_rows j (package_rows_tidy K k) (λ d e o. apart j d e h (own_spelled j o))) ∙ rest_none j (inr h))
+        at_first (key j) first (second ++ rest)
+        (at_second (key j) second rest
+        (rows_vanish (spelled own_rows) ms own_rows j (package_rows_sound K k)
+        (λ d e o. apart j d e h (own_spelled j o))) ∙ rest_none j (inr h))
 
     project_paths : (d : Data) → unused_at (key project) (old_findings K W ms (Some d)) ≡ unused_in (form own_rows) d
     project_paths d =
@@ -129,21 +133,49 @@ module _ {K W : Kind Data} (k : IsTidy K) (w : IsTidy W) where
     abbrev project_left : Option Data → Option Data
     project_left o = left_value (unused_at (key project) (old_findings K W ms o)) o
 
+    -- the same contents, and the same faults in the same order
+    abbrev Same : {A : Type 0} → (A → Type 0) → List Finding → (A → Type 0) → List Finding → Type 0
+    Same {A} R fs Q gs = ((x : A) → R x ↔ Q x) × (faults_of fs ≡ faults_of gs)
+
+    abbrev own_found : Members → Option Data → List Finding
+    own_found ms (Some d) = found_behind (key project) ((form own_rows).findings d)
+    own_found ms None = row_findings own_rows ms
+
     package_same : (o : Option Data) → get_member project ms ≡ o
-        → Alike ((form own_rows).reads (old_package (left o) (project_left o))) (faulty_old K (left o) (project_left o)) ((form own_rows).reads (old_package ms o)) (faulty_old K ms o)
+        → AlikeBut ((form own_rows).reads (old_package (left o) (project_left o))) (own_found (left o) (project_left o))
+        ((form own_rows).reads (old_package ms o)) (own_found ms o)
     package_same (Some d) e =
         let sorted = value_sorted project d ms (in_order ms s) (entry_found project d ms e) in
-        let t = package_tidy K k in
-        rw (project_paths d, t.inside d) (t.reads d sorted, behind_same (key project) ((form own_rows).faulty (left_out (unused_in (form own_rows) d) d)) ((form own_rows).faulty d) (t.faulty d sorted))
-    package_same None e = table_same own_rows (package_rows_tidy K k) (package_distinct K) (unused_of (old_findings K W ms None)) ms s own_agrees
+        let t = package_sound K k in
+        let (a, b) = t.tidy d sorted in
+        rw (project_paths d, t.inside d)
+        (a, ap (found_behind (key project)) b ∙ sym (but-behind (key project) ((form own_rows).findings d)))
+    package_same None e =
+        table_tidy own_rows (package_rows_sound K k) (package_built K) (package_distinct K)
+        (unused_of (old_findings K W ms None)) ms (in_order ms s) own_agrees
 
-    old_same : (o : Option Data) → get_member project ms ≡ o → Alike (means_by K W false (left o)) (unmeant_by K W false (left o)) (means_by K W false ms) (unmeant_by K W false ms)
+    faults_old : (ns : Members) (o : Option Data)
+        → faults_of (old_findings K W ns o) ≡ faults_of (row_findings rows ns) ++ faults_of (own_found ns o)
+    faults_old ns (Some d) =
+        faults-append (row_findings rows ns) (own_found ns (Some d) ++ _)
+        ∙ ap (λ fs. faults_of (row_findings rows ns) ++ fs) (faults-keys (own_found ns (Some d)) _)
+    faults_old ns None =
+        faults-append (row_findings rows ns) (own_found ns None ++ _)
+        ∙ ap (λ fs. faults_of (row_findings rows ns) ++ fs) (faults-keys (own_found ns None) _)
+
+    old_same : (o : Option Data) → get_member project ms ≡ o
+        → Same (means_by K W false (left o)) (findings_by K W false (left o)) (means_by K W false ms)
+        (findings_by K W false ms)
     old_same o e =
-        let (a, b) = table_same rows rows_tidy (manifest_distinct K W) (unused_of (old_findings K W ms o)) ms s (old_agrees o) in
+        let (a, b) =
+        table_tidy rows rows_tidy (manifest_built K W) (manifest_distinct K W)
+        (unused_of (old_findings K W ms o)) ms (in_order ms s) (old_agrees o) in
         let (c, d) = package_same o e in
         rw (get-left (unused_of (old_findings K W ms o)) project ms, e) (
           λ m. (λ h. (h.0, h.1, (a h.0).0 h.2, (c h.1).0 h.3, h.4), λ h. (h.0, h.1, (a h.0).1 h.2, (c h.1).1 h.3, h.4)),
-          λ p c. either_way (b p c) (d p c),
+          faults_old (left o) (project_left o) ∙ ap₂ (λ fs gs. faults_of fs ++ faults_of gs) b d
+              ∙ ap₂ (λ fs gs. fs ++ gs) (faults-but (row_findings rows ms)) (faults-but (own_found ms o))
+              ∙ sym (faults_old ms o),
         )
 
   -- THE WHOLE TABLE, by whether it has a header: one stays, and none comes
@@ -163,9 +195,86 @@ module _ {K W : Kind Data} (k : IsTidy K) (w : IsTidy W) where
       either true ms e = (inl (key_stays rows rows_tidy ms (codes "package") (known K W).has_package), inl (key_stays rows rows_tidy ms workspace (known K W).has_workspace))
       either false ms e = let (a, b) = or_parts (has_key (codes "package") ms) (has_key workspace ms) e in (inr a, inr b)
 
-  same_by : (h : Bool) (ms : Members) → members_are_sorted ms ≡ true → has_header ms ≡ h → Alike (means_by K W h (left_by h ms)) (unmeant_by K W h (left_by h ms)) (means_by K W h ms) (unmeant_by K W h ms)
-  same_by true ms s e = let t = manifest_tidy K W k w in (t.reads (table ms) s, t.faulty (table ms) s)
+  same_by : (h : Bool) (ms : Members) → members_are_sorted ms ≡ true → has_header ms ≡ h
+      → ((m : Manifest) → means_by K W h (left_by h ms) m ↔ means_by K W h ms m)
+      × (faults_of (findings_by K W h (left_by h ms)) ≡ faults_of (findings_by K W h ms))
+  same_by true ms s e =
+      let (a, b) = (manifest_sound K W k w).tidy (table ms) s in
+      (a, ap faults_of b ∙ faults-but (findings_by K W true ms))
   same_by false ms s e = old_same ms s (none_of (get_member workspace ms) (or_parts (has_key (codes "package") ms) (has_key workspace ms) e).1) (get_member project ms) refl
 
   pub same_without_unused : SameWithoutUnused K W
-  same_without_unused ms s = rw (header_stays (has_header ms) ms refl) (same_by (has_header ms) ms s refl)
+  same_without_unused ms s =
+      let (a, b) = same_by (has_header ms) ms s refl in
+      rw (header_stays (has_header ms) ms refl) (a, λ p c. rw b same)
+
+-- WHICH KEYS ARE UNLISTED at the top of a table without a header
+end_second : (ps qs : List Path) (b : Bool) → ends_here ps ≡ false → ends_here qs ≡ b → ends_here (ps ++ qs) ≡ b
+end_second [] qs b p q = q
+end_second ([] ∷ ps) qs b p q = absurd (true≢false p)
+end_second ((s ∷ r) ∷ ps) qs b p q = end_second ps qs b p q
+
+ends_append : (j : Text) (fs gs : List Finding) (b : Bool) → Stays (key j) fs → ends_here (unused_at (key j) gs) ≡ b
+    → ends_here (unused_at (key j) (fs ++ gs)) ≡ b
+ends_append j fs gs b p q =
+    ap ends_here (at-append (key j) fs gs) ∙ end_second (unused_at (key j) fs) (unused_at (key j) gs) b p q
+
+module _ {K W : Kind Data} (k : IsSound K) (w : IsSound W) (ms : Members) where
+  -- a key that a row has stays
+  known_stays : {A : Type 0} (rows : Rows A) → AreSound rows → (j : Text) → Stays (key j) (row_findings rows ms)
+  known_stays rows S j = (rows_inner (spelled rows) ms rows S).1 j
+
+  -- the entries that are left over are those under other keys
+  left_is : left_over (manifest_rows K W) ms ≡ without (spelled (manifest_rows K W)) ms
+  left_is = left-closed (spelled (manifest_rows K W)) ms (manifest_rows K W) (closed K W).1
+
+  abbrev LeftKeys : List Text → Text → Data → Type 0
+  LeftKeys names j d =
+      ends_here (unused_at (key j) (unused_keys (without names (left_over (manifest_rows K W) ms))))
+      ≡ not (is_among (spelled (manifest_rows K W)) j || is_among names j)
+
+  left_keys : (names : List Text) (j : Text) (d : Data) → has_entry j d ms → LeftKeys names j d
+  left_keys names j d h = rw left_is (by_key (is_among (spelled (manifest_rows K W)) j) (is_among names j) refl refl)
+    where
+      ns : Members
+      ns = without (spelled (manifest_rows K W)) ms
+
+      by_key : (a b : Bool) → is_among (spelled (manifest_rows K W)) j ≡ a → is_among names j ≡ b
+          → ends_here (unused_at (key j) (unused_keys (without names ns))) ≡ not (a || b)
+      by_key true b e f =
+          ap ends_here
+          (no_key_found j (without names ns)
+          (λ d there. true≢false
+          (sym e ∙ (entry_beside (spelled (manifest_rows K W)) j d ms (entry_beside names j d ns there).0).1)))
+      by_key false true e f = ap ends_here (named_not_found names j ns f)
+      by_key false false e f =
+          key_found j d (without names ns)
+          (kept_beside names j d ns (kept_beside (spelled (manifest_rows K W)) j d ms h e) f)
+
+  -- one list after two others, in neither of which the key ends
+  last_of : (j : Text) (fs gs hs : List Finding) (b : Bool) → Stays (key j) fs → Stays (key j) gs
+      → ends_here (unused_at (key j) hs) ≡ b → ends_here (unused_at (key j) (fs ++ (gs ++ hs))) ≡ b
+  last_of j fs gs hs b p q r = ends_append j fs (gs ++ hs) b p (ends_append j gs hs b q r)
+
+  pub old_unused : (o : Option Data) (j : Text) (d : Data) → has_entry j d ms
+      → is_unused_key j (unused_of (old_findings K W ms o)) ≡ not (is_known_old K W o j)
+  old_unused (Some e) j d h =
+      let first = row_findings (manifest_rows K W) ms in
+      let inside = found_behind (key (codes "project")) ((form (package_rows K)).findings e) in
+      last_of j first inside (unused_keys (without (codes "project" ∷ []) (left_over (manifest_rows K W) ms))) _
+      (known_stays (manifest_rows K W) (manifest_rows_sound K W k w) j)
+      (stays_behind (key j) (key (codes "project")) ((form (package_rows K)).findings e) ((package_sound K k).inside e))
+      (left_keys (codes "project" ∷ []) j d h
+      ∙ ap (λ b. not (is_among (spelled (manifest_rows K W)) j || b)) (or-false (same_key (codes "project") j)))
+  old_unused None j d h =
+      last_of j (row_findings (manifest_rows K W) ms) (row_findings (package_rows K) ms)
+      (unused_keys (left_over (package_rows K) (left_over (manifest_rows K W) ms))) _
+      (known_stays (manifest_rows K W) (manifest_rows_sound K W k w) j)
+      (known_stays (package_rows K) (package_rows_sound K k) j)
+      (rw (left-closed (spelled (package_rows K)) (left_over (manifest_rows K W) ms) (package_rows K) (closed K W).0)
+      (left_keys (spelled (package_rows K)) j d h))
+
+  pub old_top_unused : has_header ms ≡ false → (j : Text) (d : Data) → has_entry j d ms
+      → is_unused_key j (unused_of (manifest_findings K W ms))
+      ≡ not (is_known_old K W (get_member (codes "project") ms) j)
+  old_top_unused none j d h = rw none (old_unused (get_member (codes "project") ms) j d h)

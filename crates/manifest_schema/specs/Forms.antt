@@ -1,10 +1,10 @@
 -- Forms: a record is read from a table by a list of rows, one for each field.
-use Rattle.std.specs.Prelude.{◌≡◌, Bool, true, false, not, ◌&&◌, ◌⊎◌, List, [], ◌∷◌, ◌++◌, IsTrue}
+use Rattle.std.specs.Prelude.{◌≡◌, Bool, true, false, not, ◌&&◌, List, [], ◌∷◌, ◌++◌, IsTrue}
 use Rattle.toml.specs.Data.{Data, table, Members, no_members}
-use Rattle.manifest_schema.specs.Paths.{Text, wrong_kind, Faults, itself}
+use Rattle.manifest_schema.specs.Paths.{Text, wrong_kind}
 use Rattle.manifest_schema.specs.Findings.{Finding, found_here, unused_keys}
 use Rattle.manifest_schema.specs.Slots.{Spellings, only, both, first, slot, at, put_some, is_among, without}
-use Rattle.manifest_schema.specs.Kinds.{Kind, Entries, reads_entries, faulty_entry, written_entries, good_entries, entry_findings}
+use Rattle.manifest_schema.specs.Kinds.{Kind, Entries, reads_entries, written_entries, good_entries, entry_findings}
 use Rattle.manifest_schema.specs.Needs.{Need}
 
 -- A row: where the field's content stands in the record, its spellings, and its need with its kind.
@@ -64,16 +64,6 @@ fits_beside named no_more ms t = Unit {0}
 abbrev pub fits : {A : Type 0} → Rows A → Members → A → Type 0
 fits rows ms x = fits_beside (spelled rows) rows ms (gets rows x)
 
--- a fault of the table: a fault of some row, or of one of the other keys
-abbrev pub unfit_beside : {A : Type 0} → List Text → Rows A → Members → Faults
-unfit_beside named (r ⨾ rs) ms p c =
-    r.need.faulty r.spellings (at r.spellings ms) p c ⊎ unfit_beside named rs ms p c
-unfit_beside named (others get K) ms p c = faulty_entry K (without named ms) p c
-unfit_beside named no_more ms p c = ⊥
-
-abbrev pub unfit : {A : Type 0} → Rows A → Members → Faults
-unfit rows = unfit_beside (spelled rows) rows
-
 -- WHAT IS WRITTEN: each row under its first spelling, with the map of all other keys
 abbrev pub written_rows : {A : Type 0} (rows : Rows A) → Fields rows → Members
 written_rows (r ⨾ rs) t = put_some (first r.spellings) (r.need.written t.0) (written_rows rs t.1)
@@ -129,10 +119,6 @@ abbrev pub reads_form : {A : Type 0} → Rows A → Data → A → Type 0
 reads_form rows (table ms) x = fits rows ms x
 reads_form rows _ x = ⊥
 
-abbrev pub faulty_form : {A : Type 0} → Rows A → Data → Faults
-faulty_form rows (table ms) p c = unfit rows ms p c
-faulty_form rows _ p c = itself wrong_kind p c
-
 abbrev pub form_findings : {A : Type 0} → Rows A → Data → List Finding
 form_findings rows (table ms) = row_findings rows ms ++ unused_keys (left_over rows ms)
 form_findings rows _ = found_here wrong_kind
@@ -140,7 +126,6 @@ form_findings rows _ = found_here wrong_kind
 abbrev pub form : {A : Type 0} → Rows A → Kind A
 form rows = record {
   reads = reads_form rows;
-  faulty = faulty_form rows;
   written = λ x. table (written_rows rows (gets rows x));
   good = good_rows rows;
   findings = form_findings rows;

@@ -1,15 +1,16 @@
 -- What is found in a whole table, with old headers, and what is promised of it for every kind of metadata.
-use Rattle.std.specs.Prelude.{◌≡◌, ◌↔◌, Bool, true, false, List, [], ◌∷◌, ◌++◌, Option, Some, None, IsTrue, codes}
+use Rattle.std.specs.Prelude.{◌≡◌, ◌↔◌, ◌⊎◌, Bool, true, false, List, [], ◌∷◌, ◌++◌, Option, Some, None, IsTrue, codes}
 use Rattle.toml.specs.Data.{Data, table, Members, get_member, members_are_sorted}
-use Rattle.manifest_schema.specs.Paths.{Path, Cause, key}
-use Rattle.manifest_schema.specs.Findings.{Finding, found_behind, unused_keys, faults_of, ignored_of, unused_of, FindsAll, found_paths, AllDiverge}
+use Rattle.manifest_schema.specs.Paths.{Path, Cause, Faults, key, behind}
+use Rattle.manifest_schema.specs.Findings.{Finding, found_behind, unused_keys, faults_of, among, ignored_of, unused_of, FindsAll, found_paths, AllDiverge}
 use Rattle.manifest_schema.specs.Slots.{without}
 use Rattle.manifest_schema.specs.LeftOut.{left_out_members}
-use Rattle.manifest_schema.specs.Kinds.{Kind}
+use Rattle.manifest_schema.specs.Kinds.{Kind, faulty}
 use Rattle.manifest_schema.specs.Forms.{form, row_findings, left_over}
+use Rattle.manifest_schema.specs.Lawful.{ReadOrFaulty}
 use Rattle.manifest_schema.specs.Contents.{Manifest}
 use Rattle.manifest_schema.specs.ManifestForms.{package_rows, manifest_rows}
-use Rattle.manifest_schema.specs.Meaning.{well_formed, rewritten, has_header, is_headed, means, unmeant}
+use Rattle.manifest_schema.specs.Meaning.{well_formed, rewritten, has_header, is_headed, means}
 
 -- without a header the package is `project`, or else its rows are those of the whole table too
 abbrev pub old_findings : Kind Data → Kind Data → Members → Option Data → List Finding
@@ -31,7 +32,7 @@ findings_by K W false ms = old_findings K W ms (get_member (codes "project") ms)
 abbrev pub manifest_findings : Kind Data → Kind Data → Members → List Finding
 manifest_findings K W ms = findings_by K W (has_header ms) ms
 
--- every fault
+-- every fault, in that order
 abbrev pub manifest_faults : Kind Data → Kind Data → Members → List (Path × Cause)
 manifest_faults K W ms = faults_of (manifest_findings K W ms)
 
@@ -43,10 +44,36 @@ manifest_ignored K W ms = ignored_of (manifest_findings K W ms)
 abbrev pub manifest_unused : Kind Data → Kind Data → Members → List Path
 manifest_unused K W ms = unused_of (manifest_findings K W ms)
 
+-- THE TABLE HAS THE FAULT: it is among those that are found
+abbrev pub unmeant : Kind Data → Kind Data → Members → Faults
+unmeant K W ms = among (manifest_faults K W ms)
+
+-- the faults of an old package: the path begins with `project` where the table has it
+abbrev pub faulty_old : Kind Data → Members → Option Data → Faults
+faulty_old K ms (Some d) = behind (key (codes "project")) (faulty (form (package_rows K)) d)
+faulty_old K ms None = faulty (form (package_rows K)) (table ms)
+
+-- a fault by the form of a manifest, or without a header of the old package too
+abbrev pub unmeant_by : Kind Data → Kind Data → Bool → Members → Faults
+unmeant_by K W true ms p c = faulty (form (manifest_rows K W)) (table ms) p c
+unmeant_by K W false ms p c =
+    faulty (form (manifest_rows K W)) (table ms) p c
+    ⊎ faulty_old K ms (get_member (codes "project") ms) p c
+
 -- WHAT IS PROMISED
--- each fault of the table is found, and no other
+-- a table with a fault means nothing
+abbrev pub FaultyMeansNothing : Kind Data → Kind Data → Type 0
+FaultyMeansNothing K W =
+    (ms : Members) (p : Path) (c : Cause) (m : Manifest) → unmeant K W ms p c → means K W ms m → ⊥
+
+-- a table means a manifest or has a fault
+abbrev pub AcceptedOrFaulty : Kind Data → Kind Data → Type 0
+AcceptedOrFaulty K W = (ms : Members) → ReadOrFaulty (means K W ms) (unmeant K W ms)
+
+-- what is found is each fault by the form of a manifest, and without a header each of the old package, and no other
 abbrev pub FindsEveryFault : Kind Data → Kind Data → Type 0
-FindsEveryFault K W = (ms : Members) → FindsAll (manifest_findings K W ms) (unmeant K W ms)
+FindsEveryFault K W =
+    (ms : Members) → FindsAll (manifest_findings K W ms) (unmeant_by K W (has_header ms) ms)
 
 -- no fault is found exactly if the table means a manifest
 abbrev pub FaultlessIfMeant : Kind Data → Kind Data → Type 0

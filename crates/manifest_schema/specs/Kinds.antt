@@ -1,23 +1,25 @@
 -- Kinds of values: what a value means, which faults it has, what is written, and what is well-formed.
-use Rattle.std.specs.Prelude.{◌≡◌, ℕ, suc, ℤ, Bool, true, false, ◌&&◌, ◌⊎◌, if◌then◌else◌, List, [], ◌∷◌, ◌++◌, Option, Some, None, is_some, IsTrue, IsFalse, codes, int_le}
+use Rattle.std.specs.Prelude.{◌≡◌, ℕ, suc, ℤ, Bool, true, false, ◌&&◌, ◌⊎◌, if◌then◌else◌, List, [], ◌∷◌, ◌++◌, Option, Some, is_some, IsTrue, codes, int_le}
 use Rattle.std.proofs.Common.{inl, inr}
-use Rattle.toml.specs.Data.{Data, string, integer, float, boolean, array, table, Items, no_items, item, Members, no_members, member, get_item, get}
-use Rattle.manifest_schema.specs.Paths.{Text, wrong_kind, not_a_choice, out_of_range, not_true, holds_float, metadata_fault, key, index, Path, Faults, itself, behind}
-use Rattle.manifest_schema.specs.Findings.{Finding, found_here, none_of, found_behind, unused_keys}
+use Rattle.toml.specs.Data.{Data, string, integer, float, boolean, array, table, Items, no_items, item, Members, no_members, member, get}
+use Rattle.manifest_schema.specs.Paths.{Text, wrong_kind, out_of_range, not_true, holds_float, metadata_fault, key, index, Faults}
+use Rattle.manifest_schema.specs.Findings.{Finding, faults_of, among, found_here, none_of, found_behind, unused_keys}
 use Rattle.manifest_schema.specs.Slots.{without}
 
 -- A kind of values that stand for an A.
 pub record Kind (A : Type 0) : Type 1 where
   -- the value means this
   pub reads : Data → A → Type 0
-  -- the value does not fit, for this cause at this path inside it
-  pub faulty : Data → Faults
   -- the value that is written
   pub written : A → Data
   -- it is well-formed: it can be written and read back
   pub good : A → Type 0
   -- what is found in the value: its faults, in order, and the keys that nothing reads
   pub findings : Data → List Finding
+
+-- the value has this fault: it is among those that are found
+abbrev pub faulty : {A : Type 0} → Kind A → Data → Faults
+faulty K d = among (faults_of (K.findings d))
 
 -- everything of the type is well-formed
 abbrev pub any_good : {A : Type 0} → A → Type 0
@@ -28,10 +30,6 @@ abbrev pub reads_text : Data → Text → Type 0
 reads_text (string s) x = s ≡ x
 reads_text _ x = ⊥
 
-abbrev pub not_text : Data → Faults
-not_text (string s) p c = ⊥
-not_text _ p c = itself wrong_kind p c
-
 abbrev pub text_findings : Data → List Finding
 text_findings (string s) = []
 text_findings _ = found_here wrong_kind
@@ -39,7 +37,6 @@ text_findings _ = found_here wrong_kind
 abbrev pub text : Kind Text
 text = record {
   reads = reads_text;
-  faulty = not_text;
   written = string;
   good = any_good;
   findings = text_findings;
@@ -50,10 +47,6 @@ abbrev pub reads_flag : Data → Bool → Type 0
 reads_flag (boolean b) x = b ≡ x
 reads_flag _ x = ⊥
 
-abbrev pub not_flag : Data → Faults
-not_flag (boolean b) p c = ⊥
-not_flag _ p c = itself wrong_kind p c
-
 abbrev pub flag_findings : Data → List Finding
 flag_findings (boolean b) = []
 flag_findings _ = found_here wrong_kind
@@ -61,7 +54,6 @@ flag_findings _ = found_here wrong_kind
 abbrev pub flag : Kind Bool
 flag = record {
   reads = reads_flag;
-  faulty = not_flag;
   written = boolean;
   good = any_good;
   findings = flag_findings;
@@ -75,10 +67,6 @@ abbrev pub reads_whole : ℤ → ℤ → Data → ℤ → Type 0
 reads_whole low high (integer z) x = (z ≡ x) × IsTrue (within low high z)
 reads_whole low high _ x = ⊥
 
-abbrev pub not_whole : ℤ → ℤ → Data → Faults
-not_whole low high (integer z) p c = IsFalse (within low high z) × itself out_of_range p c
-not_whole low high _ p c = itself wrong_kind p c
-
 abbrev pub whole_findings : ℤ → ℤ → Data → List Finding
 whole_findings low high (integer z) = if within low high z then [] else found_here out_of_range
 whole_findings low high _ = found_here wrong_kind
@@ -86,7 +74,6 @@ whole_findings low high _ = found_here wrong_kind
 abbrev pub whole : ℤ → ℤ → Kind ℤ
 whole low high = record {
   reads = reads_whole low high;
-  faulty = not_whole low high;
   written = integer;
   good = λ x. IsTrue (within low high x);
   findings = whole_findings low high;
@@ -97,11 +84,6 @@ abbrev pub reads_truth : Data → Unit {0} → Type 0
 reads_truth (boolean true) x = Unit {0}
 reads_truth _ x = ⊥
 
-abbrev pub not_truth : Data → Faults
-not_truth (boolean true) p c = ⊥
-not_truth (boolean false) p c = itself not_true p c
-not_truth _ p c = itself wrong_kind p c
-
 abbrev pub truth_findings : Data → List Finding
 truth_findings (boolean true) = []
 truth_findings (boolean false) = found_here not_true
@@ -110,7 +92,6 @@ truth_findings _ = found_here wrong_kind
 abbrev pub truth : Kind (Unit {0})
 truth = record {
   reads = reads_truth;
-  faulty = not_truth;
   written = λ x. boolean true;
   good = any_good;
   findings = truth_findings;
@@ -119,10 +100,6 @@ truth = record {
 -- A CHOICE of texts, or of texts and booleans: each word has one meaning, and each meaning one written word
 abbrev pub reads_choice : {A : Type 0} → (Data → Option A) → Data → A → Type 0
 reads_choice meaning d x = meaning d ≡ Some x
-
-abbrev pub not_choice : {A : Type 0} → (Data → Option A) → Data → Faults
-not_choice meaning (string s) p c = (meaning (string s) ≡ None) × itself not_a_choice p c
-not_choice meaning d p c = (meaning d ≡ None) × itself wrong_kind p c
 
 abbrev pub no_word_findings : List Text → Data → List Finding
 no_word_findings words (string s) = none_of words
@@ -134,7 +111,6 @@ choice_findings words meaning d = if is_some (meaning d) then [] else no_word_fi
 abbrev pub choice : {A : Type 0} → List Text → (Data → Option A) → (A → Data) → Kind A
 choice words meaning written = record {
   reads = reads_choice meaning;
-  faulty = not_choice meaning;
   written = written;
   good = any_good;
   findings = choice_findings words meaning;
@@ -149,15 +125,6 @@ reads_items K _ _ = ⊥
 abbrev pub reads_list : {A : Type 0} → Kind A → Data → List A → Type 0
 reads_list K (array ds) xs = reads_items K ds xs
 reads_list K _ xs = ⊥
-
--- a fault of an item, with its index before the path
-abbrev pub faulty_item : {A : Type 0} → Kind A → Items → Faults
-faulty_item K ds p c =
-    (i : ℕ) × (d : Data) × (get_item i ds ≡ Some d) × behind (index i) (K.faulty d) p c
-
-abbrev pub faulty_list : {A : Type 0} → Kind A → Data → Faults
-faulty_list K (array ds) p c = faulty_item K ds p c
-faulty_list K _ p c = itself wrong_kind p c
 
 abbrev pub written_items : {A : Type 0} → Kind A → List A → Items
 written_items K [] = no_items
@@ -180,7 +147,6 @@ list_findings find _ = found_here wrong_kind
 abbrev pub list_of : {A : Type 0} → Kind A → Kind (List A)
 list_of K = record {
   reads = reads_list K;
-  faulty = faulty_list K;
   written = λ xs. array (written_items K xs);
   good = good_items K;
   findings = list_findings K.findings;
@@ -204,14 +170,6 @@ abbrev pub has_entry : Text → Data → Members → Type 0
 has_entry k d no_members = ⊥
 has_entry k d (member l e ms) = ((k ≡ l) × (d ≡ e)) ⊎ has_entry k d ms
 
--- a fault of an entry, with its key before the path
-abbrev pub faulty_entry : {A : Type 0} → Kind A → Members → Faults
-faulty_entry K ms p c = (k : Text) × (d : Data) × has_entry k d ms × behind (key k) (K.faulty d) p c
-
-abbrev pub faulty_map : {A : Type 0} → Kind A → Data → Faults
-faulty_map K (table ms) p c = faulty_entry K ms p c
-faulty_map K _ p c = itself wrong_kind p c
-
 abbrev pub written_entries : {A : Type 0} → Kind A → Entries A → Members
 written_entries K [] = no_members
 written_entries K (e ∷ es) = member e.0 (K.written e.1) (written_entries K es)
@@ -232,7 +190,6 @@ map_findings find _ = found_here wrong_kind
 abbrev pub map_of : {A : Type 0} → Kind A → Kind (Entries A)
 map_of K = record {
   reads = reads_map K;
-  faulty = faulty_map K;
   written = λ es. table (written_entries K es);
   good = good_entries K;
   findings = map_findings K.findings;
@@ -254,18 +211,8 @@ abbrev mutual
   plain_members no_members = true
   plain_members (member k d ms) = plain d && plain_members ms
 
--- the path leads to a float
-abbrev pub float_at : Path → Data → Type 0
-float_at [] (float x) = Unit {0}
-float_at (index i ∷ p) (array ds) = (d : Data) × (get_item i ds ≡ Some d) × float_at p d
-float_at (key k ∷ p) (table ms) = (d : Data) × has_entry k d ms × float_at p d
-float_at _ _ = ⊥
-
 abbrev pub reads_kept : Data → Data → Type 0
 reads_kept d x = (d ≡ x) × IsTrue (plain d)
-
-abbrev pub float_in : Data → Faults
-float_in d p c = float_at p d × (c ≡ holds_float)
 
 -- each float, at its path
 abbrev mutual
@@ -286,7 +233,6 @@ abbrev mutual
 abbrev pub kept : Kind Data
 kept = record {
   reads = reads_kept;
-  faulty = float_in;
   written = λ x. x;
   good = λ x. IsTrue (plain x);
   findings = float_findings;
@@ -309,10 +255,6 @@ abbrev pub reads_inh : {A : Type 0} → Kind A → Data → Inheritable A → Ty
 reads_inh K d inherited = IsTrue (inherits d)
 reads_inh K d (local x) = K.reads d x
 
-abbrev pub faulty_inh : {A : Type 0} → Kind A → Data → Faults
-faulty_inh K (table ms) p c = IsFalse (inherits (table ms)) × itself wrong_kind p c
-faulty_inh K d p c = K.faulty d p c
-
 abbrev pub written_inh : {A : Type 0} → Kind A → Inheritable A → Data
 written_inh K inherited = table (member (codes "workspace") (boolean true) no_members)
 written_inh K (local x) = K.written x
@@ -331,7 +273,6 @@ inh_findings find d = find d
 abbrev pub inh : {A : Type 0} → Kind A → Kind (Inheritable A)
 inh K = record {
   reads = reads_inh K;
-  faulty = faulty_inh K;
   written = written_inh K;
   good = good_inh K;
   findings = inh_findings K.findings;
@@ -342,10 +283,6 @@ abbrev pub reads_split : {A B : Type 0} → Kind A → Kind B → Bool → Data 
 reads_split K L true d (inl a) = K.reads d a
 reads_split K L false d (inr b) = L.reads d b
 reads_split K L _ d _ = ⊥
-
-abbrev pub faulty_split : {A B : Type 0} → Kind A → Kind B → Bool → Data → Faults
-faulty_split K L true = K.faulty
-faulty_split K L false = L.faulty
 
 abbrev pub written_split : {A B : Type 0} → Kind A → Kind B → A ⊎ B → Data
 written_split K L (inl a) = K.written a
@@ -363,7 +300,6 @@ split_findings first second false = second
 abbrev pub split : {A B C : Type 0} → (Data → Bool) → Kind A → Kind B → (C → A ⊎ B) → Kind C
 split test K L side = record {
   reads = λ d x. reads_split K L (test d) d (side x);
-  faulty = λ d. faulty_split K L (test d) d;
   written = λ x. written_split K L (side x);
   good = λ x. good_split K L (side x);
   findings = λ d. split_findings K.findings L.findings (test d) d;
@@ -380,11 +316,10 @@ is_flag _ = false
 
 -- METADATA: what a metadata type names, each of its values by its written tree
 abbrev pub metadata :
-    {M : Type 0} → (Data → M → Type 0) → (Data → Faults) → (M → Data) → (M → Type 0)
+    {M : Type 0} → (Data → M → Type 0) → (M → Data) → (M → Type 0)
     → (Data → List Finding) → Kind Data
-metadata {M} reads faulty written good findings = record {
+metadata {M} reads written good findings = record {
   reads = λ d x. (m : M) × reads d m × (written m ≡ x);
-  faulty = faulty;
   written = λ x. x;
   good = λ x. (m : M) × good m × (written m ≡ x);
   findings = findings;
@@ -392,13 +327,12 @@ metadata {M} reads faulty written good findings = record {
 
 -- the metadata of a kind: each value of the kind by its written tree
 abbrev pub tree_of : {A : Type 0} → Kind A → Kind Data
-tree_of K = metadata K.reads K.faulty K.written K.good K.findings
+tree_of K = metadata K.reads K.written K.good K.findings
 
 -- no metadata at all: every value is refused, and nothing is well-formed
 abbrev pub nothing : Kind (Unit {0})
 nothing = record {
   reads = λ d x. ⊥;
-  faulty = λ d. itself metadata_fault;
   written = λ x. table no_members;
   good = λ x. ⊥;
   findings = λ d. found_here metadata_fault;
@@ -408,7 +342,6 @@ nothing = record {
 abbrev pub unread : Kind (Unit {0})
 unread = record {
   reads = λ d x. Unit {0};
-  faulty = λ d p c. ⊥;
   written = λ x. table no_members;
   good = any_good;
   findings = λ d. [];

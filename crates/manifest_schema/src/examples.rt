@@ -2,7 +2,7 @@
 //! some of them; whether Cargo says the same, they do not show. The functions do nothing; their contracts are the
 //! examples.
 
-ghost use Rattle.manifest_schema.specs.Prelude.{string, integer, boolean, array, table, no_members, member, two_spellings, missing, not_a_choice, wrong_kind, out_of_range, key, index, kept, inherited, local, form, by_workspace, detailed, simple, e2021, edition, package_rows, texts, codegen, dependency, badges_rows, means, unmeant, written_manifest, rewritten, former_written, ManifestLeavesDefaults, named, empty_manifest};
+ghost use Rattle.manifest_schema.specs.Prelude.{string, integer, boolean, array, table, no_members, member, two_spellings, missing, not_a_choice, wrong_kind, out_of_range, key, index, kept, inherited, local, form, by_workspace, detailed, simple, e2021, edition, package_rows, texts, codegen, dependency, badges_rows, means, unmeant, written_manifest, rewritten, former_written, ManifestLeavesDefaults, named, empty_manifest, faulty};
 ghost use Rattle.std.specs.Prelude.{◌≡◌, pos, negsuc, true, false, [], ◌∷◌, Some, None, codes};
 ghost use Rattle.manifest_schema.specs.PartForms.{priority};
 ghost use Rattle.manifest_schema.specs.Defaults.{lent, no_badges, empty_workspace};
@@ -61,7 +61,7 @@ pub fn second_spelling()
         (Some (codes "x")) }
     ensures written { (form spelled_rows).written (Some (codes "x"))
         ≡ table (one_entry (codes "a-b") (string (codes "x"))) }
-    ensures faulty { (form spelled_rows).faulty
+    ensures faulty { faulty (form spelled_rows)
         (table (two_entries (codes "a-b") (string (codes "x")) (codes "a_b") (string (codes "x"))))
         (at_key (codes "a-b")) two_spellings }
 {}
@@ -128,7 +128,7 @@ pub fn written_in_order()
 
 /// Where both spellings are there, that is the only fault, whatever their values are.
 pub fn only_a_clash()
-    ensures { OnlyFault ((form spelled_rows).faulty (table
+    ensures { OnlyFault (faulty (form spelled_rows) (table
         (two_entries (codes "a-b") (string (codes "x")) (codes "a_b") (integer (pos 1)))))
         (at_key (codes "a-b")) two_spellings }
 {}
@@ -136,20 +136,20 @@ pub fn only_a_clash()
 /// A value that does not fit is reported under the spelling that the table has, and nowhere else.
 pub fn only_the_second_spelling()
     ensures { OnlyFault
-        ((form spelled_rows).faulty (table (one_entry (codes "a_b") (integer (pos 1)))))
+        (faulty (form spelled_rows) (table (one_entry (codes "a_b") (integer (pos 1)))))
         (at_key (codes "a_b")) wrong_kind }
 {}
 
 /// A whole number outside the limits is out of range, and has no other fault; at the limit it has none.
 pub fn only_out_of_range()
-    ensures above { OnlyFault (codegen.faulty (integer (pos 65536))) [] out_of_range }
-    ensures below { OnlyFault (priority.faulty (integer (negsuc 128))) [] out_of_range }
-    ensures at_limit { NoFault (priority.faulty (integer (negsuc 127))) }
+    ensures above { OnlyFault (faulty codegen (integer (pos 65536))) [] out_of_range }
+    ensures below { OnlyFault (faulty priority (integer (negsuc 128))) [] out_of_range }
+    ensures at_limit { NoFault (faulty priority (integer (negsuc 127))) }
 {}
 
 /// The fault of an item stands under its index, and the other items have none.
 pub fn only_one_item()
-    ensures { OnlyFault (texts.faulty (array (two_items (string (codes "x")) (integer (pos 1)))))
+    ensures { OnlyFault (faulty texts (array (two_items (string (codes "x")) (integer (pos 1)))))
         (index 1 ∷ []) wrong_kind }
 {}
 
@@ -165,11 +165,11 @@ pub fn only_an_old_fault()
 #[tactic(auto, unfolding(crate::specs::PartForms::badges_rows))]
 pub fn unfit_badge()
     ensures reads { (form badges_rows).reads bad_gitlab no_badges }
-    ensures faultless { NoFault ((form badges_rows).faulty bad_gitlab) }
+    ensures faultless { NoFault (faulty (form badges_rows) bad_gitlab) }
 {}
 
 /// The text `2020` is no edition, by the cause `not_a_choice`; the number 2021 is of the wrong kind.
 pub fn unknown_edition()
-    ensures text { edition.faulty (string (codes "2020")) [] not_a_choice }
-    ensures number { edition.faulty (integer (pos 2021)) [] wrong_kind }
+    ensures text { faulty edition (string (codes "2020")) [] not_a_choice }
+    ensures number { faulty edition (integer (pos 2021)) [] wrong_kind }
 {}

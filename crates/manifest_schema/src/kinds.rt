@@ -1,306 +1,205 @@
 //! Kinds and forms that satisfy the laws, and the laws of what is made of them.
+//!
+//! What is found in a value is a list: its faults, what is ignored where it does not fit, and its unused keys, those that
+//! nothing of the kind reads. The faults of a value are those of this list.
 
-ghost use Rattle.manifest_schema.specs.Prelude.{Data, Kind, text, flag, whole, truth, choice, kept, list_of, map_of, inh, tree_of, nothing, required, optional, default, lenient_optional, lenient_default, Rows, no_more, form, distinct, IsLawful, IsLawfulNeed, AreLawful, IsBuilt, IsTotal, IsTotalNeed, AreTotal, IsTidy, IsTidyNeed, AreTidy, UnusedIfNoRow, IsClean, IsCleanNeed, AreClean, WritesEachRow, IsDiverging, IsDivergingNeed, AreDiverging, IsDefault, IsPlain, unread, nothing_laws, nothing_tidy, nothing_clean, nothing_diverging};
-ghost use Rattle.std.specs.Prelude.{◌≡◌, ℤ, Bool, IsTrue, refl};
-ghost use Rattle.manifest_schema.specs.ForProofs.{nothing_told};
+ghost use Rattle.manifest_schema.specs.Prelude.{Data, Kind, text, flag, whole, truth, kept, list_of, map_of, inh, tree_of, nothing, required, optional, default, lenient_optional, lenient_default, Rows, no_more, form, distinct, spelled, is_closed, IsSound, IsSoundNeed, FindsSoundly, AreSound, IsBuilt, UnusedIfNoRow, WritesEachRow, IsDefault, IsPlain, unread, nothing_sound, ignored_of, edition, resolver, level, status, strip, TellsWords, Ignores, UnusedByItems, UnusedByEntries, InheritedUnused, FaultyByItems, FaultyByEntries, FaultyByFloats, FaultyUnlessInherited, FaultyBySlot, FaultyIfRequired, NeverFaulty, FaultyByRows, ReadsOnly, IsLawful, IsTotal, IsTidy, IsClean, IsDiverging};
+ghost use Rattle.std.specs.Prelude.{◌≡◌, ℤ, Bool, List, [], IsTrue, refl};
 
 use std::marker::Brand;
 
-/// A kind that satisfies the laws.
-pub trait LawfulKind {
+/// Any kind of values, also one that satisfies no law.
+pub trait AnyKind {
     ghost Content: { Type 0 };
 
     ghost kind: { Kind Content };
-
-    ghost lawful: { IsLawful kind };
 }
 
-/// A lawful kind whose every value has a reading or a fault.
-pub trait TotalKind: LawfulKind {
-    ghost total: { IsTotal Self.kind };
+/// A kind that satisfies the laws. A value has at most one reading, and it has one exactly if no fault is found in it.
+/// What is read is well-formed; what is written of a well-formed content is read back as it, and nothing is found in it.
+/// A value whose keys ascend has without its unused keys the same readings, and the same is found in it, in the same order,
+/// but for these keys; none of them is the value itself. What is found in such a value stands at paths that diverge: none
+/// of them is another one or begins with it.
+pub trait SoundKind: AnyKind {
+    ghost sound: { IsSound Self.kind };
 }
 
-/// A lawful kind whose every value has the same readings and the same faults without its unused keys: the keys that
-/// nothing of the kind reads.
-pub trait TidyKind: LawfulKind {
-    ghost tidy: { IsTidy Self.kind };
-}
-
-/// A lawful kind by which nothing is found in what is written of a well-formed content.
-pub trait CleanKind: LawfulKind {
-    ghost clean: { IsClean Self.kind };
-}
-
-/// A lawful kind by which what is found in a value stands at paths that diverge: none of them begins with another one.
-pub trait DivergingKind: LawfulKind {
-    ghost diverging: { IsDiverging Self.kind };
-}
-
-/// A form whose rows satisfy the laws, and whose spellings all differ.
-pub trait LawfulForm {
+/// A form whose spellings all differ.
+pub trait AnyForm {
     ghost Record: { Type 0 };
 
     ghost rows: { Rows Record };
 
-    ghost lawful: { AreLawful rows };
-
-    ghost built: { IsBuilt rows };
-
     ghost differ: { IsTrue (distinct rows) };
 }
 
-/// A lawful form whose every row is met or has a fault.
-pub trait TotalForm: LawfulForm {
-    ghost total: { AreTotal Self.rows };
-}
+/// Such a form whose rows satisfy the laws of a need, and whose record is the contents of its rows, no more and no less.
+pub trait SoundForm: AnyForm {
+    ghost sound: { AreSound Self.rows };
 
-/// A lawful form: each of its rows has the same contents and the same faults without the unused keys of its value.
-pub trait TidyForm: LawfulForm {
-    ghost tidy: { AreTidy Self.rows };
-}
-
-/// A lawful form: nothing is found under what is written of a row.
-pub trait CleanForm: LawfulForm {
-    ghost clean: { AreClean Self.rows };
-}
-
-/// A lawful form: what is found of each of its rows stands at paths that diverge.
-pub trait DivergingForm: LawfulForm {
-    ghost diverging: { AreDiverging Self.rows };
+    ghost built: { IsBuilt Self.rows };
 }
 
 /// The kind that reads nothing.
-impl LawfulKind for Brand {
+impl AnyKind for Brand {
     ghost Content = { Unit {0} };
 
     ghost kind = { nothing };
-
-    ghost lawful = { nothing_laws };
 }
 
-impl TotalKind for Brand {
-    ghost total = { nothing_told };
-}
-
-impl TidyKind for Brand {
-    ghost tidy = { nothing_tidy };
-}
-
-impl CleanKind for Brand {
-    ghost clean = { nothing_clean };
-}
-
-impl DivergingKind for Brand {
-    ghost diverging = { nothing_diverging };
+impl SoundKind for Brand {
+    ghost sound = { nothing_sound };
 }
 
 /// The form without rows.
-impl LawfulForm for Brand {
+impl AnyForm for Brand {
     ghost Record = { Unit {0} };
 
     ghost rows = { no_more };
 
-    ghost lawful = { tt };
-
-    ghost built = { record { build = λ t. t; all = λ x. refl; each = λ t. refl } };
-
     ghost differ = { refl };
 }
 
-impl TotalForm for Brand {
-    ghost total = { tt };
+impl SoundForm for Brand {
+    ghost sound = { tt };
+
+    ghost built = { record { build = λ t. t; all = λ x. refl; each = λ t. refl } };
 }
 
-impl TidyForm for Brand {
-    ghost tidy = { tt };
-}
-
-impl CleanForm for Brand {
-    ghost clean = { tt };
-}
-
-impl DivergingForm for Brand {
-    ghost diverging = { tt };
-}
-
-/// Texts, booleans, the boolean true, whole numbers and kept values satisfy the laws.
-pub fn simple_kinds_are_lawful()
-    ensures text_is { IsLawful text × IsTotal text }
-    ensures flag_is { IsLawful flag × IsTotal flag }
-    ensures truth_is { IsLawful truth × IsTotal truth }
-    ensures kept_is { IsLawful kept × IsTotal kept }
-    ensures whole_is { (low high : ℤ) → IsLawful (whole low high) × IsTotal (whole low high) }
+/// The laws one by one. A value has at most one reading, one with a fault has none, what is read is well-formed, and what
+/// is written of a well-formed content is read back as it; each fault is found, and no other. Each value has a reading or
+/// a fault. Without its unused keys a value whose keys ascend has the same readings and the same faults. Nothing is found
+/// in what is written of a well-formed content. What is found in a value whose keys ascend stands at paths that diverge.
+#[tactic(auto, using(crate::proofs::OldLaws::lawful_of, crate::proofs::OldLaws::clean_of, crate::proofs::OldLaws::diverging_of))]
+pub fn laws_one_by_one<K: SoundKind>()
+    ensures lawful { IsLawful K.kind }
+    ensures total { IsTotal K.kind }
+    ensures tidy { IsTidy K.kind }
+    ensures clean { IsClean K.kind }
+    ensures diverging { IsDiverging K.kind }
 {}
 
-/// What is made of a lawful kind satisfies the laws: lists, maps, what may be inherited, and metadata.
-pub fn made_kinds_are_lawful<K: LawfulKind>()
-    ensures list_is { IsLawful (list_of K.kind) }
-    ensures map_is { IsLawful (map_of K.kind) }
-    ensures inh_is { IsPlain K.kind → IsLawful (inh K.kind) }
-    ensures tree_is { IsLawful (tree_of K.kind) }
+/// Texts, booleans, the boolean true, whole numbers, kept values, and the kind that looks at no value satisfy the laws.
+#[tactic(auto, using(crate::proofs::KindLaws::text_sound, crate::proofs::KindLaws::flag_sound, crate::proofs::KindLaws::truth_sound, crate::proofs::KindLaws::kept_sound, crate::specs::ForProofs::unread_sound))]
+pub fn simple_kinds_are_sound()
+    ensures text_is { IsSound text }
+    ensures flag_is { IsSound flag }
+    ensures truth_is { IsSound truth }
+    ensures kept_is { IsSound kept }
+    ensures unread_is { IsSound unread }
+    ensures whole_is { (low high : ℤ) → IsSound (whole low high) }
 {}
 
-/// What is made of a kind whose every value has a reading or a fault is such a kind.
-pub fn made_kinds_are_total<K: TotalKind>()
-    ensures list_is { IsTotal (list_of K.kind) }
-    ensures map_is { IsTotal (map_of K.kind) }
-    ensures inh_is { IsTotal (inh K.kind) }
-    ensures tree_is { IsTotal (tree_of K.kind) }
+/// What is made of a kind that satisfies the laws satisfies them: lists, maps, metadata, and what may be inherited, where
+/// no value of the kind is a table and each content can be written. Where a value may be a table, what may be inherited
+/// still has a reading or a fault of each value, and what is found in a value whose keys ascend stands at paths that
+/// diverge.
+#[tactic(auto, using(crate::proofs::OldLaws::inh_diverging))]
+pub fn made_kinds_are_sound<K: SoundKind>()
+    ensures list_is { IsSound (list_of K.kind) }
+    ensures map_is { IsSound (map_of K.kind) }
+    ensures inh_is { IsPlain K.kind → IsSound (inh K.kind) }
+    ensures tree_is { IsSound (tree_of K.kind) }
+    ensures any_inh_is_total { IsTotal (inh K.kind) }
+    ensures any_inh_is_diverging { IsDiverging (inh K.kind) }
 {}
 
-/// Each need of a field satisfies the laws of a need, over a lawful kind.
-pub fn needs_are_lawful<K: LawfulKind>()
-    ensures required_is { IsLawfulNeed (required K.kind) }
-    ensures optional_is { IsLawfulNeed (optional K.kind) }
+/// Each need of a field satisfies the laws of a need, over a kind that satisfies the laws: a slot gives at most one
+/// content, and one exactly if no fault is found of it; what it gives is well-formed; what is written of a well-formed
+/// content gives it again, and nothing is found of it; without the unused keys of its value it gives the same, and the
+/// same is found but for these keys; and what is found of it stands at paths that diverge, each of which begins with one
+/// spelling. The laws of what is found hold also of a default that is not well-formed, or not all that is skipped.
+#[tactic(auto, using(crate::proofs::NeedLaws::required_sound))]
+pub fn needs_are_sound<K: SoundKind>()
+    ensures required_is { IsSoundNeed (required K.kind) }
+    ensures optional_is { IsSoundNeed (optional K.kind) }
     ensures default_is { (e : K.Content) (skipped : K.Content → Bool) → IsDefault K.kind e skipped
-        → IsLawfulNeed (default K.kind e skipped) }
-    ensures lenient_optional_is { IsLawfulNeed (lenient_optional K.kind) }
+        → IsSoundNeed (default K.kind e skipped) }
+    ensures lenient_optional_is { IsSoundNeed (lenient_optional K.kind) }
     ensures lenient_default_is { (e : K.Content) → K.kind.good e
-        → IsLawfulNeed (lenient_default K.kind e) }
+        → IsSoundNeed (lenient_default K.kind e) }
+    ensures any_default { (e : K.Content) (skipped : K.Content → Bool)
+        → FindsSoundly (default K.kind e skipped) }
+    ensures any_lenient_default { (e : K.Content) → FindsSoundly (lenient_default K.kind e) }
 {}
 
-/// Every slot meets the need of a field or has a fault, where every value of its kind has a reading or a fault.
-pub fn needs_are_total<K: TotalKind>()
-    ensures required_is { IsTotalNeed (required K.kind) }
-    ensures optional_is { IsTotalNeed (optional K.kind) }
-    ensures default_is { (e : K.Content) (skipped : K.Content → Bool)
-        → IsTotalNeed (default K.kind e skipped) }
-    ensures lenient_optional_is { IsTotalNeed (lenient_optional K.kind) }
-    ensures lenient_default_is { (e : K.Content) → IsTotalNeed (lenient_default K.kind e) }
-{}
-
-/// A form satisfies the laws of a kind.
-#[tactic(auto, using(crate::proofs::FormLaws::form_lawful))]
-pub fn form_is_lawful<F: LawfulForm>()
-    ensures { IsLawful (form F.rows) }
-{}
-
-/// Every value has a reading by a form or a fault.
-pub fn form_is_total<F: TotalForm>()
-    ensures { IsTotal (form F.rows) }
-{}
-
-/// Texts, booleans, the boolean true, whole numbers and kept values have the same readings and the same faults without
-/// their unused keys: they have none.
-#[tactic(auto, using(crate::proofs::TidyLaws::text_tidy, crate::proofs::TidyLaws::flag_tidy, crate::proofs::TidyLaws::truth_tidy, crate::proofs::TidyLaws::kept_tidy, crate::proofs::TidyLaws::whole_tidy))]
-pub fn simple_kinds_are_tidy()
-    ensures text_is { IsTidy text }
-    ensures flag_is { IsTidy flag }
-    ensures truth_is { IsTidy truth }
-    ensures kept_is { IsTidy kept }
-    ensures whole_is { (low high : ℤ) → IsTidy (whole low high) }
-{}
-
-/// A value has the same readings and the same faults without its unused keys also by what is made of such a kind:
-/// by lists, maps, what may be inherited, and metadata.
-pub fn made_kinds_are_tidy<K: TidyKind>()
-    ensures list_is { IsTidy (list_of K.kind) }
-    ensures map_is { IsTidy (map_of K.kind) }
-    ensures inh_is { IsPlain K.kind → IsTidy (inh K.kind) }
-    ensures tree_is { IsTidy (tree_of K.kind) }
-{}
-
-/// A field has the same contents and the same faults without the unused keys of its value, by each need.
-pub fn needs_are_tidy<K: TidyKind>()
-    ensures required_is { IsTidyNeed (required K.kind) }
-    ensures optional_is { IsTidyNeed (optional K.kind) }
-    ensures default_is { (e : K.Content) (skipped : K.Content → Bool)
-        → IsTidyNeed (default K.kind e skipped) }
-    ensures lenient_optional_is { IsTidyNeed (lenient_optional K.kind) }
-    ensures lenient_default_is { (e : K.Content) → IsTidyNeed (lenient_default K.kind e) }
-{}
-
-/// A table has the same readings and the same faults without its unused keys by a form. In a form that ends with no
-/// more rows, a key of the table is unused exactly if no row has it.
-#[tactic(auto, using(crate::proofs::FormTidy::form_tidy, crate::proofs::FormTidy::unused_if_no_row))]
-pub fn form_is_tidy<F: TidyForm>()
-    ensures kind_is { IsTidy (form F.rows) }
+/// A form satisfies the laws of a kind. In one that ends with no more rows, a key of the table is unused exactly if no row
+/// has it.
+#[tactic(auto, using(crate::proofs::FormLaws::form_sound, crate::proofs::FormLaws::unused_if_no_row))]
+pub fn form_is_sound<F: SoundForm>()
+    ensures kind_is { IsSound (form F.rows) }
     ensures keys_are { UnusedIfNoRow F.rows }
 {}
 
 /// A form writes of a well-formed content what the need of each row writes, under the first spelling of the row, and
 /// the entries of the map of all other keys, where it ends with one. It writes nothing else.
-#[tactic(auto, using(crate::proofs::FormLaws::writes_each_row))]
-pub fn form_writes_each_row<F: LawfulForm>()
+#[tactic(auto, using(crate::proofs::RowsWritten::writes_each_row))]
+pub fn form_writes_each_row<F: AnyForm>()
     ensures { WritesEachRow F.rows }
 {}
 
-/// Nothing is found in what is written of a well-formed text, boolean, boolean true, whole number or kept value, nor by
-/// the kind that looks at no value.
-#[tactic(auto, using(crate::proofs::CleanLaws::text_clean, crate::proofs::CleanLaws::flag_clean, crate::proofs::CleanLaws::truth_clean, crate::proofs::CleanLaws::kept_clean, crate::proofs::CleanLaws::whole_clean, crate::specs::ForProofs::unread_clean))]
-pub fn simple_kinds_are_clean()
-    ensures text_is { IsClean text }
-    ensures flag_is { IsClean flag }
-    ensures truth_is { IsClean truth }
-    ensures kept_is { IsClean kept }
-    ensures unread_is { IsClean unread }
-    ensures whole_is { (low high : ℤ) → IsClean (whole low high) }
+/// Of a form that ends with no more rows, tables with the same values under the spellings of its rows have the same
+/// readings and the same faults.
+pub fn form_reads_only_its_keys<F: AnyForm>()
+    ensures { IsTrue (is_closed F.rows) → ReadsOnly (spelled F.rows) (form F.rows) }
 {}
 
-/// Nothing is found in what is written of a well-formed content by what is made of such a kind: by lists, maps, what may
-/// be inherited, and metadata.
-#[tactic(auto, using(crate::proofs::CleanLaws::list_clean, crate::proofs::CleanLaws::map_clean, crate::proofs::CleanLaws::inh_clean, crate::proofs::CleanLaws::tree_clean))]
-pub fn made_kinds_are_clean<K: CleanKind>()
-    ensures list_is { IsClean (list_of K.kind) }
-    ensures map_is { IsClean (map_of K.kind) }
-    ensures inh_is { IsPlain K.kind → IsClean (inh K.kind) }
-    ensures tree_is { IsClean (tree_of K.kind) }
+/// The words that stand with the fault of a text that is none of a choice are exactly the texts that the choice reads.
+#[tactic(auto, using(crate::proofs::Pinned::edition_tells, crate::proofs::Pinned::resolver_tells, crate::proofs::Pinned::level_tells, crate::proofs::Pinned::status_tells, crate::proofs::Pinned::strip_tells))]
+pub fn choices_tell_their_words()
+    ensures edition_does { TellsWords edition }
+    ensures resolver_does { TellsWords resolver }
+    ensures level_does { TellsWords level }
+    ensures status_does { TellsWords status }
+    ensures strip_does { TellsWords strip }
 {}
 
-/// Nothing is found under what is written of a well-formed field, by each need.
-#[tactic(auto, using(crate::proofs::CleanLaws::required_clean, crate::proofs::CleanLaws::optional_clean, crate::proofs::CleanLaws::default_clean, crate::proofs::CleanLaws::lenient_optional_clean, crate::proofs::CleanLaws::lenient_default_clean))]
-pub fn needs_are_clean<K: CleanKind>()
-    ensures required_is { IsCleanNeed (required K.kind) }
-    ensures optional_is { IsCleanNeed (optional K.kind) }
+/// What a lenient need ignores is exactly each fault of the value, at its path under the key of the value, or that both
+/// spellings are there, over a kind that ignores nothing itself.
+#[tactic(auto, using(crate::proofs::Pinned::lenient_optional_ignores, crate::proofs::Pinned::lenient_default_ignores))]
+pub fn lenient_needs_ignore<K: AnyKind>()
+    requires { (d : Data) → ignored_of (K.kind.findings d) ≡ [] }
+    ensures optional_does { Ignores K.kind (lenient_optional K.kind) }
+    ensures default_does { (e : K.Content) → Ignores K.kind (lenient_default K.kind e) }
+{}
+
+/// What is unused in a list is what is unused in its items, each under its index, and what is unused in a map whose keys
+/// ascend is what is unused in its entries, each under its key. Of a table whose `workspace` is true, by a kind that may be
+/// inherited, each other key is unused; of another table none is.
+#[tactic(auto, using(crate::proofs::Pinned::unused_by_items, crate::proofs::Pinned::unused_by_entries))]
+pub fn unused_keys_are_those<K: SoundKind>()
+    ensures of_list { UnusedByItems K.kind }
+    ensures of_map { UnusedByEntries K.kind }
+    ensures of_inherited { InheritedUnused K.kind }
+{}
+
+/// The faults of a list are those of its items, each with its index before the path; of a map those of its entries, each
+/// with its key before the path; of a kept value its floats. A table that may inherit and does not has one fault: it is of
+/// the wrong kind.
+#[tactic(auto, using(crate::proofs::FaultPlaces::faulty_by_items, crate::proofs::FaultPlaces::faulty_by_entries, crate::proofs::FaultPlaces::faulty_by_floats))]
+pub fn faults_stand_inside<K: AnyKind>()
+    ensures of_list { FaultyByItems K.kind }
+    ensures of_map { FaultyByEntries K.kind }
+    ensures of_kept { FaultyByFloats }
+    ensures of_inherited { FaultyUnlessInherited K.kind }
+{}
+
+/// The faults of a field are those of the value under the spelling that is present, each with this key before the path, or
+/// that both spellings are there, at the first of them; of a field that has to be there also that it is absent, at the
+/// first spelling; and a field that counts as absent where it does not fit has none.
+#[tactic(auto, using(crate::proofs::FaultPlaces::required_faulty, crate::proofs::FaultPlaces::optional_faulty, crate::proofs::FaultPlaces::default_faulty, crate::proofs::FaultPlaces::lenient_optional_never, crate::proofs::FaultPlaces::lenient_default_never))]
+pub fn faults_stand_at_slots<K: AnyKind>()
+    ensures required_is { FaultyIfRequired K.kind (required K.kind) }
+    ensures optional_is { FaultyBySlot K.kind (optional K.kind) }
     ensures default_is { (e : K.Content) (skipped : K.Content → Bool)
-        → IsCleanNeed (default K.kind e skipped) }
-    ensures lenient_optional_is { IsCleanNeed (lenient_optional K.kind) }
-    ensures lenient_default_is { (e : K.Content) → IsCleanNeed (lenient_default K.kind e) }
+        → FaultyBySlot K.kind (default K.kind e skipped) }
+    ensures lenient_optional_is { NeverFaulty (lenient_optional K.kind) }
+    ensures lenient_default_is { (e : K.Content) → NeverFaulty (lenient_default K.kind e) }
 {}
 
-/// Nothing is found in what is written of a well-formed record: no fault, nothing that is ignored, and no key that
-/// nothing reads.
-#[tactic(auto, using(crate::proofs::CleanLaws::form_clean))]
-pub fn form_is_clean<F: CleanForm>()
-    ensures { IsClean (form F.rows) }
-{}
-
-/// What is found in a value whose keys ascend stands at paths that diverge, by texts, booleans, the boolean true, whole
-/// numbers, kept values, and the kind that looks at no value.
-#[tactic(auto, using(crate::proofs::DivergingLaws::text_diverging, crate::proofs::DivergingLaws::flag_diverging, crate::proofs::DivergingLaws::truth_diverging, crate::proofs::DivergingLaws::kept_diverging, crate::proofs::DivergingLaws::whole_diverging, crate::specs::ForProofs::unread_diverging))]
-pub fn simple_kinds_are_diverging()
-    ensures text_is { IsDiverging text }
-    ensures flag_is { IsDiverging flag }
-    ensures truth_is { IsDiverging truth }
-    ensures kept_is { IsDiverging kept }
-    ensures unread_is { IsDiverging unread }
-    ensures whole_is { (low high : ℤ) → IsDiverging (whole low high) }
-{}
-
-/// What is found in a value whose keys ascend stands at paths that diverge also by what is made of such a kind: by lists,
-/// maps, what may be inherited, and metadata.
-#[tactic(auto, using(crate::proofs::DivergingLaws::list_diverging, crate::proofs::DivergingLaws::map_diverging, crate::proofs::DivergingLaws::inh_diverging, crate::proofs::DivergingLaws::tree_diverging))]
-pub fn made_kinds_are_diverging<K: DivergingKind>()
-    ensures list_is { IsDiverging (list_of K.kind) }
-    ensures map_is { IsDiverging (map_of K.kind) }
-    ensures inh_is { IsDiverging (inh K.kind) }
-    ensures tree_is { IsDiverging (tree_of K.kind) }
-{}
-
-/// What is found of a field stands at paths that diverge, each of which begins with one spelling, by each need.
-#[tactic(auto, using(crate::proofs::DivergingLaws::required_diverging, crate::proofs::DivergingLaws::optional_diverging, crate::proofs::DivergingLaws::default_diverging, crate::proofs::DivergingLaws::lenient_optional_diverging, crate::proofs::DivergingLaws::lenient_default_diverging))]
-pub fn needs_are_diverging<K: DivergingKind>()
-    ensures required_is { IsDivergingNeed (required K.kind) }
-    ensures optional_is { IsDivergingNeed (optional K.kind) }
-    ensures default_is { (e : K.Content) (skipped : K.Content → Bool)
-        → IsDivergingNeed (default K.kind e skipped) }
-    ensures lenient_optional_is { IsDivergingNeed (lenient_optional K.kind) }
-    ensures lenient_default_is { (e : K.Content) → IsDivergingNeed (lenient_default K.kind e) }
-{}
-
-/// What is found in a table whose keys ascend stands at paths that diverge, by a form: none of them is another one or
-/// begins with it.
-#[tactic(auto, using(crate::proofs::FormDiverging::form_diverging))]
-pub fn form_is_diverging<F: DivergingForm>()
-    ensures { IsDiverging (form F.rows) }
+/// The faults of a table by a form are those of its rows, and where the form ends with a map of all other keys, those of
+/// the entries of these keys.
+#[tactic(auto, using(crate::proofs::FaultPlaces::faulty_by_rows))]
+pub fn faults_stand_in_rows<F: AnyForm>()
+    ensures { FaultyByRows F.rows }
 {}

@@ -1,6 +1,6 @@
-use Rattle.manifest_schema.proofs.Totals.{tree_total}
-use Rattle.manifest_schema.proofs.MeaningLaws.{accepted_or_faulty}
+use Rattle.manifest_schema.proofs.KindLaws.{tree_sound}
+use Rattle.manifest_schema.proofs.FoundLaws.{accepted_or_faulty}
 use Rattle.manifest_schema.proofs.laws.accepted_or_faulty.Goals as goal
 
 pub returns : goal.returns
-returns g c = accepted_or_faulty (tree_total g.met.P.TotalKind.total) (tree_total g.met.W.TotalKind.total)
+returns g c = accepted_or_faulty (tree_sound g.met.P.SoundKind.sound) (tree_sound g.met.W.SoundKind.sound)
