@@ -2,7 +2,7 @@
 use Rattle.manifest_schema.specs.Prelude.{IfSome, Data, array, table, Items, no_items, item, Members, no_members, member, Kind, plain, kept, tree_of, good_some, form, profiles_rows, package_rows, workspace_rows, written_manifest}
 use Rattle.std.proofs.Common.{◌≡◌, true, Option, Some, None, refl, sym, ap, ◌∙◌}
 use Rattle.manifest_schema.specs.Contents.{Profiles}
-use Rattle.manifest_schema.proofs.PartLaws.{profiles_form}
+use Rattle.manifest_schema.proofs.PartLaws.{profiles_sound}
 use Rattle.manifest_schema.proofs.GoodLaws.{package_metadata_good, workspace_metadata_good, manifest_parts_good}
 use Rattle.manifest_schema.proofs.ScalarLaws.{every, every_item, every_member, every_plain, Passes, manifest_passes}
 use Rattle.manifest_schema.proofs.ReadScalars.{Turns, profiles_turn}
@@ -35,7 +35,8 @@ kept_floatless = record { reads = λ d x v m. record { passes = every_plain x �
 profiles_floatless : (p : Profiles) → (form profiles_rows).good p → Passes plain (form profiles_rows) p
 profiles_floatless p g =
     let profiles = profiles_turn kept_floatless in
-    profiles.reads ((form profiles_rows).written p) p (passes_any ((form profiles_rows).written p)) (profiles_form.lawful.back p g)
+    profiles.reads ((form profiles_rows).written p) p (passes_any ((form profiles_rows).written p))
+    (profiles_sound.back p g).0
 
 if_good : {A : Type 0} (K : Kind A) {Q : A → Type 0} → ((x : A) → K.good x → Q x) → (o : Option A) → good_some K o → IfSome o Q
 if_good K f None g = tt
