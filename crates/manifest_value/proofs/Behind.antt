@@ -1,5 +1,6 @@
 -- Faults one step further out.
-use Rattle.manifest_schema.specs.Prelude.{AllocError, Data, table, Path, Step, Cause as SchemaCause, behind, Rows, faulty_form, Kind, faulty_map}
+use Rattle.manifest_schema.specs.Prelude.{AllocError, Data, table, Path, Step, Cause as SchemaCause, behind, Rows, form, Kind, map_of, faulty}
+use Rattle.std.proofs.Common.{inl}
 use Rattle.manifest_value.specs.Faults.{FaultIn, IsBehind, path_of, no_table}
 use Rattle.manifest_value.specs.declared.fault.ReadFault.{ReadFault}
 use Rattle.manifest_value.specs.declared.fault.ReadFault.TheVariants.{Schema, Memory}
@@ -21,12 +22,14 @@ memory_behind s (Schema f) e = tt
 memory_behind s (Memory e') e = tt
 
 -- a value that is no table is refused by each form, and by each map
-pub form_refuses : {A : Type 0} (rows : Rows A) (d : Data) (f : ReadFault) → FaultIn (no_table d) f → FaultIn (faulty_form rows d) f
+pub form_refuses : {A : Type 0} (rows : Rows A) (d : Data) (f : ReadFault) → FaultIn (no_table d) f
+    → FaultIn (faulty (form rows) d) f
 form_refuses rows d (Memory e) h = tt
 form_refuses rows (table ms) (Schema f) h = absurd h
-form_refuses rows _ (Schema f) h = h
+form_refuses rows _ (Schema f) h = inl h
 
-pub map_refuses : {A : Type 0} (K : Kind A) (d : Data) (f : ReadFault) → FaultIn (no_table d) f → FaultIn (faulty_map K d) f
+pub map_refuses : {A : Type 0} (K : Kind A) (d : Data) (f : ReadFault) → FaultIn (no_table d) f
+    → FaultIn (faulty (map_of K) d) f
 map_refuses K d (Memory e) h = tt
 map_refuses K (table ms) (Schema f) h = absurd h
-map_refuses K _ (Schema f) h = h
+map_refuses K _ (Schema f) h = inl h

@@ -1,5 +1,5 @@
 -- A map that is made of another, entry by entry.
-use Rattle.manifest_schema.specs.Prelude.{nat_list_cmp_total, slice_cmp, AllByRecursion, ordering_reverse, insert_entry, keys_of, string_cmp, Data, Members, Value, view, members_view, Kind, has_entry, faulty_entry, behind, key}
+use Rattle.manifest_schema.specs.Prelude.{nat_list_cmp_total, slice_cmp, AllByRecursion, ordering_reverse, insert_entry, keys_of, string_cmp, Data, Members, Value, view, members_view, Kind, has_entry, faulty_entry, behind, key, faulty}
 use Rattle.std.proofs.Common.{◌≡◌, ℕ, List, [], ◌∷◌, ◌++◌, map, String, Global, Less, Greater, nat_cmp, string_bytes, refl, ap, ◌∙◌, inl, inr, get_or, drop, length, arith}
 use Rattle.std.specs.List.Sorted.{IsStrictlySortedBy}
 use Rattle.manifest_value.specs.Faults.{FaultIn}
@@ -34,5 +34,7 @@ has_entry_within [] e more = inl (refl, refl)
 has_entry_within (d ∷ done) e more = inr (has_entry_within done e more)
 
 -- a fault of a value is a fault of the entries that have it
-pub entry_fault : {A : Type 0} (K : Kind A) (ms : Members) (k : List ℕ) (d : Data) (f : ReadFault) → has_entry k d ms → FaultIn (behind (key k) (K.faulty d)) f → FaultIn (faulty_entry K ms) f
-entry_fault K ms k d f within h = fault_weaker (behind (key k) (K.faulty d)) (faulty_entry K ms) f (λ p c q. (k, d, within, q)) h
+pub entry_fault : {A : Type 0} (K : Kind A) (ms : Members) (k : List ℕ) (d : Data) (f : ReadFault) → has_entry k d ms
+    → FaultIn (behind (key k) (faulty K d)) f → FaultIn (faulty_entry K ms) f
+entry_fault K ms k d f within h =
+    fault_weaker (behind (key k) (faulty K d)) (faulty_entry K ms) f (λ p c q. (k, d, within, q)) h

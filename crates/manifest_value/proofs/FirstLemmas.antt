@@ -1,9 +1,9 @@
 -- The first fault that is found: one step further out, and after findings without a fault.
-use Rattle.manifest_schema.specs.Prelude.{no_fault, itself, table, Data, Items, no_items, item, Members, no_members, member, Text, Path, Cause as SchemaCause, Step, behind, key, index, Spellings, Slot, IsLawful, Kind, Entries, Rows, spelled, left_over, findings_beside, fault, ignored, unused, unused_keys, faults_of, foremost, first_found, found_here, found_behind, leniently, IsFaultless, item_findings, entry_findings, form_findings, plain, kept}
+use Rattle.manifest_schema.specs.Prelude.{no_fault, itself, table, Data, Items, no_items, item, Members, no_members, member, Text, Path, Cause as SchemaCause, Step, behind, key, index, Spellings, Slot, IsSound, Kind, Entries, Rows, spelled, left_over, findings_beside, fault, ignored, unused, unused_keys, faults_of, among, foremost, first_found, found_here, found_behind, leniently, IsFaultless, item_findings, entry_findings, form_findings, plain, kept}
 use Rattle.manifest_schema.specs.Findings.{Finding}
-use Rattle.std.proofs.Common.{◌≡◌, ℕ, suc, true, List, [], ◌∷◌, ◌++◌, Result, Ok, Err, OnOk, refl, sym, ap, ◌∙◌, subst, length, ◌+◌, arith, drop}
-use Rattle.manifest_schema.proofs.FindingLaws.{read_faultless, lenient_faultless, faults-append}
-use Rattle.manifest_schema.proofs.KeptLaws.{kept_lawful}
+use Rattle.std.proofs.Common.{◌≡◌, ℕ, suc, true, inl, List, [], ◌∷◌, ◌++◌, Result, Ok, Err, OnOk, refl, sym, ap, ◌∙◌, subst, length, ◌+◌, arith, drop}
+use Rattle.manifest_schema.proofs.Faultless.{lenient_none, faults-append}
+use Rattle.manifest_schema.proofs.KindLaws.{kept_sound}
 use Rattle.manifest_schema.specs.Kinds.{map_findings, float_findings}
 use Rattle.manifest_value.specs.Entries.{reads_first}
 use Rattle.manifest_value.specs.Faults.{FaultIn, IsBehind, no_table}
@@ -12,7 +12,7 @@ use Rattle.manifest_value.specs.Found.{HasNoFault, findings_at, findings_from}
 use Rattle.manifest_value.specs.Walks.{names_of, slots_at}
 use Rattle.manifest_value.specs.declared.fault.ReadFault.{ReadFault}
 use Rattle.manifest_value.specs.declared.fault.ReadFault.TheVariants.{Schema, Memory}
-use Rattle.manifest_value.proofs.Behind.{fault_behind}
+use Rattle.manifest_value.proofs.Behind.{fault_weaker, fault_behind}
 use Rattle.manifest_value.proofs.FoundLemmas.{one_found, closed_rows_found}
 use Rattle.manifest_value.proofs.ReadingLemmas.{reads_first_items}
 
@@ -38,6 +38,14 @@ first_at s c (Schema f) h = (h.1 ∙ ap (λ q. s ∷ q) h.2.0, h.2.1)
 pub first_memory : (fs : List Finding) (f : ReadFault) → FaultIn no_fault f → FaultIn (first_found fs) f
 first_memory fs (Memory e) h = tt
 first_memory fs (Schema f) h = absurd h
+
+-- THE FIRST FAULT is one of them
+foremost_among : (fs : List (Path × SchemaCause)) (p : Path) (c : SchemaCause) → foremost fs p c → among fs p c
+foremost_among (f ∷ fs) p c h = inl h
+foremost_among [] p c h = h
+
+pub first_is_fault : (fs : List Finding) (f : ReadFault) → FaultIn (first_found fs) f → FaultIn (among (faults_of fs)) f
+first_is_fault fs f h = fault_weaker (first_found fs) (among (faults_of fs)) f (foremost_among (faults_of fs)) h
 
 -- AFTER FINDINGS WITHOUT A FAULT
 no_cons : {X : Type 0} {x : X} {xs : List X} → x ∷ xs ≡ [] → ⊥
@@ -68,8 +76,8 @@ pub first_after : (fs gs : List Finding) (f : ReadFault) → IsFaultless fs → 
 first_after fs gs f e h = first_same (fs ++ gs) gs f (faultless_before fs gs e) h
 
 -- WHAT IS READ has no fault
-pub read_clean : {A : Type 0} (K : Kind A) → IsLawful K → (d : Data) (x : A) → K.reads d x → IsFaultless (K.findings d)
-read_clean K L d x r = read_faultless (K.reads d) (K.faulty d) (K.findings d) (L.exact d) (L.apart d) x r
+pub read_clean : {A : Type 0} (K : Kind A) → IsSound K → (d : Data) (x : A) → K.reads d x → IsFaultless (K.findings d)
+read_clean K L d x r = (L.decided d).1 (x, r)
 
 -- the same, said without an equation
 pub none_faultless : (fs : List Finding) → HasNoFault fs → IsFaultless fs
@@ -87,11 +95,11 @@ faultless_none (unused p ∷ fs) e = faultless_none fs e
 pub none_behind : (s : Step) (fs : List Finding) → HasNoFault fs → HasNoFault (found_behind s fs)
 none_behind s fs h = faultless_none (found_behind s fs) (faultless_behind s fs (none_faultless fs h))
 
-pub none_read : {A : Type 0} (K : Kind A) → IsLawful K → (d : Data) (x : A) → K.reads d x → HasNoFault (K.findings d)
+pub none_read : {A : Type 0} (K : Kind A) → IsSound K → (d : Data) (x : A) → K.reads d x → HasNoFault (K.findings d)
 none_read K L d x r = faultless_none (K.findings d) (read_clean K L d x r)
 
 pub none_lenient : (fs : List Finding) → HasNoFault (leniently fs)
-none_lenient fs = faultless_none (leniently fs) (lenient_faultless fs)
+none_lenient fs = faultless_none (leniently fs) (lenient_none fs)
 
 -- a row whose faults are ignored has none: for the `read_row` of a form with such rows
 pub lenient_clean : {X E : Type 0} (r : Result X E) (fs : List Finding) → OnOk r (HasNoFault (leniently fs))
@@ -102,7 +110,7 @@ lenient_clean (Err e) fs = tt
 pub ruleset step_laws = (fault_behind, first_behind, none_behind, none_read)
 
 -- ITEMS and ENTRIES: those before are read
-module _ {A : Type 0} (K : Kind A) (L : IsLawful K) where
+module _ {A : Type 0} (K : Kind A) (L : IsSound K) where
   items_before : (ds : Items) (xs : List A) (i : ℕ) (rest : Items) → reads_first_items K ds xs rest → faults_of (item_findings K.findings i ds) ≡ faults_of (item_findings K.findings (length xs + i) rest)
   items_before ds [] i rest h =
       let n : i ≡ 0 + i = omega arith in
@@ -162,4 +170,4 @@ map_first find _ (Schema f) h = h
 
 -- FLOATS: a value without one has no fault
 pub plain_clean : (d : Data) → plain d ≡ true → IsFaultless (float_findings d)
-plain_clean d h = read_clean kept kept_lawful d d (refl, h)
+plain_clean d h = read_clean kept kept_sound d d (refl, h)

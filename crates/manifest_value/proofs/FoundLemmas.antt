@@ -1,5 +1,5 @@
 -- What is found row by row, and then in the map of all other keys or under the keys that no row has.
-use Rattle.manifest_schema.specs.Prelude.{Data, Kind, Members, no_members, table, Text, Spellings, Slot, at, Rows, no_more, others, ◌⨾◌, without, spelled, findings_beside, left_beside, form_findings, unused_keys}
+use Rattle.manifest_schema.specs.Prelude.{Data, Kind, Members, no_members, table, Text, Spellings, Slot, at, Rows, no_more, others, ◌⨾◌, without, spelled, findings_beside, left_beside, form_findings, unused_keys, faulty}
 use Rattle.manifest_schema.specs.OneFault.{HasOneFault}
 use Rattle.std.proofs.Common.{◌≡◌, ℕ, zero, suc, List, [], ◌∷◌, ◌++◌, refl, sym, ap, ap₂, ◌∙◌, drop, append_assoc, append-nil}
 use Rattle.manifest_value.specs.FormRows.{many, AreAll}
@@ -71,6 +71,8 @@ open_found rows ms o =
 pub one_fault_read : {A : Type 0} {K : Kind A} {words : List Text} → HasOneFault K words → (d : Data) (x : A) → K.reads d x → [] ≡ K.findings d
 one_fault_read h d x r = sym (h.none d x r)
 
-pub one_fault_refused : {A : Type 0} {K : Kind A} {words : List Text} → HasOneFault K words → (d : Data) (e : ReadFault) (fs : Findings) → FaultIn (K.faulty d) e → IsFoundHere words e fs → found fs ≡ K.findings d
+pub one_fault_refused : {A : Type 0} {K : Kind A} {words : List Text} → HasOneFault K words
+    → (d : Data) (e : ReadFault) (fs : Findings) → FaultIn (faulty K d) e → IsFoundHere words e fs
+    → found fs ≡ K.findings d
 one_fault_refused h d (Schema f) fs stands alone = alone ∙ sym (h.alone d (path_of f.path) (cause_of f.cause) stands)
 one_fault_refused h d (Memory e) fs stands alone = absurd alone

@@ -1,6 +1,6 @@
 //! The items of a list that is read, one after the other, whether it is borrowed or owned.
 
-ghost use Rattle.manifest_schema.specs.Prelude.{items_view, reads_items, faulty_item, behind, index, first_found, found_behind, item_findings};
+ghost use Rattle.manifest_schema.specs.Prelude.{items_view, reads_items, faulty_item, behind, index, first_found, found_behind, item_findings, faulty};
 ghost use Rattle.std.specs.Prelude.{map, IfOk, IfErr};
 ghost use Rattle.std.specs.Iterator.{YieldsFirstBy, item_count};
 ghost use Rattle.manifest_value.specs.Faults.{FaultIn};
@@ -52,7 +52,7 @@ impl<'t> Iterator for Items<'t> {
 fn read_item<T: Schema>(alloc: Global, source: Source<'_>, i: usize) -> Result<T, ReadFault>
     ensures ok { IfOk result (Reads T.kind T.content (source_view source.entry)) }
     ensures fault { IfErr result
-        (FaultIn (behind (index i) (T.kind.faulty (source_view source.entry)))) }
+        (FaultIn (behind (index i) (faulty T.kind (source_view source.entry)))) }
     ensures first { let inside = T.kind.findings (source_view source.entry) in
         IfErr result (FaultIn (first_found (found_behind (index i) inside))) }
 {

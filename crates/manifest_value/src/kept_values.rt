@@ -1,7 +1,7 @@
 //! Values that are kept as they are.
-ghost use Rattle.manifest_schema.specs.Prelude.{Data, array, table, view, array_view, table_view, plain, plain_items, plain_members, float_in, float_findings, item_floats, entry_floats, kept as kept_kind, first_found};
+ghost use Rattle.manifest_schema.specs.Prelude.{Data, array, table, view, array_view, table_view, plain, plain_items, plain_members, float_in, float_findings, item_floats, entry_floats, kept as kept_kind, first_found, faulty};
 ghost use Rattle.std.specs.Prelude.{◌≡◌, not, IsTrue, IfOk, IfErr, OnOk};
-ghost use Rattle.manifest_schema.proofs.KeptLaws.{kept_lawful};
+ghost use Rattle.manifest_schema.proofs.KindLaws.{kept_sound};
 ghost use Rattle.manifest_value.specs.Faults.{FaultIn};
 ghost use Rattle.manifest_value.specs.Found.{found};
 
@@ -150,9 +150,10 @@ fn find_floats_in_members(alloc: Global, members: &Table) -> Found
 /// ```ignore
 /// let level = kept(alloc, &value)?; // of `3` the same 3; of `{ a = [1, 2.5] }` a refusal at `a[1]`
 /// ```
+#[tactic(auto, using(crate::proofs::FirstLemmas::first_is_fault))]
 pub fn kept(alloc: Global, value: &Value) -> Result<Value, ReadFault>
     ensures ok { IfOk result (λ v. kept_kind.reads (view value.now) (view v)) }
-    ensures fault { IfErr result (FaultIn (kept_kind.faulty (view value.now))) }
+    ensures fault { IfErr result (FaultIn (faulty kept_kind (view value.now))) }
     ensures first { IfErr result (FaultIn (first_found (kept_kind.findings (view value.now)))) }
 {
     refuse_float(alloc, value)?;
@@ -167,6 +168,7 @@ impl Schema for Value {
 
     ghost kind = { kept_kind };
 
+    #[tactic(auto, using(crate::proofs::FirstLemmas::first_is_fault))]
     fn read(alloc: Global, source: Source<'_>) -> Result<Value, ReadFault> {
         refuse_float(alloc, source.value())?;
         match source {
@@ -187,5 +189,5 @@ impl Schema for Value {
         !holds_float(self)
     }
 
-    ghost lawful = { kept_lawful };
+    ghost lawful = { kept_sound };
 }

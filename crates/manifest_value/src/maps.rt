@@ -1,12 +1,12 @@
 //! Maps whose keys are strings: made of entries in order, read from a table, and written as one.
-ghost use Rattle.manifest_schema.specs.Prelude.{keys_of, string_cmp, no_members, table_view, behind, key as key_step, Entries as Contents, map_of, reads_entries, written_entries, faulty_entry, first_found, found_behind, entry_findings};
+ghost use Rattle.manifest_schema.specs.Prelude.{keys_of, string_cmp, no_members, table_view, behind, key as key_step, Entries as Contents, map_of, reads_entries, written_entries, faulty_entry, first_found, found_behind, entry_findings, faulty};
 ghost use Rattle.std.specs.Prelude.{◌≡◌, IfOk, IfErr, string_bytes};
 ghost use Rattle.std.specs.List.Sorted.{IsStrictlySortedBy};
 ghost use Rattle.manifest_value.specs.Faults.{FaultIn};
 ghost use Rattle.manifest_value.specs.Entries.{entries_content, reads_first};
 ghost use Rattle.manifest_value.specs.Sources.{source_view, members_of, key_view, rest_view, entries_view};
 ghost use Rattle.manifest_value.specs.Walks.{Ascend};
-ghost use Rattle.manifest_schema.proofs.KindLaws.{map_lawful};
+ghost use Rattle.manifest_schema.proofs.KindLaws.{map_sound};
 
 use crate::entries::{Entries, Entry, Key};
 use crate::fault::{Cause, ReadFault};
@@ -46,7 +46,7 @@ fn read_entry<T: Schema>(
     ensures ok { IfOk result (λ e. (string_bytes e.0 ≡ key_view key.entry)
         × T.kind.reads (source_view source.entry) (T.content e.1)) }
     ensures fault { IfErr result (FaultIn
-        (behind (key_step (key_view key.entry)) (T.kind.faulty (source_view source.entry)))) }
+        (behind (key_step (key_view key.entry)) (faulty T.kind (source_view source.entry)))) }
     ensures first { let inside = T.kind.findings (source_view source.entry) in
         IfErr result (FaultIn (first_found (found_behind (key_step (key_view key.entry)) inside))) }
 {
@@ -174,5 +174,5 @@ impl<T: Schema> Schema for BTreeMap<String, T> {
         values_are_well_formed(self)
     }
 
-    ghost lawful = { map_lawful T.lawful };
+    ghost lawful = { map_sound T.lawful };
 }

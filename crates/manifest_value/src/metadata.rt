@@ -1,5 +1,5 @@
 //! Metadata of any type.
-ghost use Rattle.manifest_schema.specs.Prelude.{view, table_view, put_some, plain, tree_of, nothing, unread, written_some, nothing_laws, unread_laws};
+ghost use Rattle.manifest_schema.specs.Prelude.{view, table_view, put_some, plain, tree_of, nothing, unread, written_some, nothing_sound, unread_sound};
 ghost use Rattle.std.specs.Prelude.{◌≡◌, ◌↔◌, IsTrue, IfOk, IfErr, OnOk, option_map, refl};
 ghost use Rattle.std.proofs.Common.{subst};
 ghost use Rattle.manifest_value.specs.Faults.{FaultIn, IsSchema};
@@ -71,7 +71,7 @@ impl Schema for () {
         false
     }
 
-    ghost lawful = { nothing_laws };
+    ghost lawful = { nothing_sound };
 }
 
 /// Its laws hold since no value is well-formed.
@@ -124,7 +124,7 @@ impl Schema for Unread {
         true
     }
 
-    ghost lawful = { unread_laws };
+    ghost lawful = { unread_sound };
 }
 
 /// Its laws hold since the empty table has no float.

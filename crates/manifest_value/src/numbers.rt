@@ -2,7 +2,7 @@
 
 ghost use Rattle.std.specs.Prelude.{ℤ, pos, negsuc};
 ghost use Rattle.manifest_schema.specs.Kinds.{whole};
-ghost use Rattle.manifest_schema.proofs.KindLaws.{whole_lawful};
+ghost use Rattle.manifest_schema.proofs.KindLaws.{whole_sound};
 
 use crate::fault::{Cause, ReadFault, fault_here};
 use crate::findings::{Findings, Found};
@@ -60,7 +60,7 @@ impl Schema for u16 {
         true
     }
 
-    ghost lawful = { whole_lawful (pos 0) (pos 65535) };
+    ghost lawful = { whole_sound (pos 0) (pos 65535) };
 }
 
 /// Read from an integer from -128 to 127, and written as one. Another one is refused with `OutOfRange`, any other value
@@ -112,5 +112,5 @@ impl Schema for i8 {
         true
     }
 
-    ghost lawful = { whole_lawful (negsuc 127) (pos 127) };
+    ghost lawful = { whole_sound (negsuc 127) (pos 127) };
 }

@@ -1,6 +1,6 @@
 //! Types that are never read from a table, nor written as one.
 
-ghost use Rattle.manifest_schema.specs.Prelude.{Data, Members, table, Path, Cause, IsPlain};
+ghost use Rattle.manifest_schema.specs.Prelude.{Data, Members, table, Path, Cause, IsPlain, faulty};
 ghost use Rattle.std.specs.Prelude.{◌≡◌};
 ghost use Rattle.manifest_schema.proofs.RowLaws.{text_plain, texts_plain};
 
@@ -29,7 +29,7 @@ pub fn plain_is_lawful<T: Plain>()
     ensures one_reading { (d : Data) (x y : T.Content) → T.kind.reads d x → T.kind.reads d y
         → x ≡ y }
     ensures no_reading_with_a_fault { (d : Data) (p : Path) (c : Cause) (x : T.Content)
-        → T.kind.faulty d p c → T.kind.reads d x → ⊥ }
+        → faulty T.kind d p c → T.kind.reads d x → ⊥ }
     ensures read_back { (x : T.Content) → T.kind.reads (T.kind.written x) x }
     ensures reads_no_table { (ms : Members) (x : T.Content) → T.kind.reads (table ms) x → ⊥ }
     ensures writes_no_table { (ms : Members) (x : T.Content) → T.kind.written x ≡ table ms → ⊥ }

@@ -1,8 +1,8 @@
 //! Readers of a value of one kind, and of a field of a table.
 
-ghost use Rattle.manifest_schema.specs.Prelude.{table as table_data, view, table_view, get_member, at, clash, text, flag, whole, list_of, spellings_of, first_found};
+ghost use Rattle.manifest_schema.specs.Prelude.{table as table_data, view, table_view, get_member, at, clash, text, flag, whole, list_of, spellings_of, first_found, faulty};
 ghost use Rattle.std.specs.Prelude.{◌≡◌, map, IfOk, IfErr, Some, string_bytes, option_map, option_copied};
-ghost use Rattle.manifest_schema.specs.Needs.{clash_at};
+ghost use Rattle.manifest_schema.specs.Pins.{clash_at};
 ghost use Rattle.manifest_value.specs.Faults.{FaultIn, IsSchema, no_table};
 ghost use Rattle.manifest_value.specs.Walks.{value_in};
 
@@ -25,7 +25,7 @@ use toml::{Table, Value};
 #[inline(always)]
 pub fn text(alloc: Global, value: &Value) -> Result<String, ReadFault>
     ensures ok { IfOk result (λ s. text.reads (view value.now) (string_bytes s)) }
-    ensures fault { IfErr result (FaultIn (text.faulty (view value.now))) }
+    ensures fault { IfErr result (FaultIn (faulty text (view value.now))) }
     ensures first { IfErr result (FaultIn (first_found (text.findings (view value.now)))) }
 {
     match value {
@@ -44,7 +44,7 @@ pub fn text(alloc: Global, value: &Value) -> Result<String, ReadFault>
 #[inline(always)]
 pub fn boolean(alloc: Global, value: &Value) -> Result<bool, ReadFault>
     ensures ok { IfOk result (flag.reads (view value.now)) }
-    ensures fault { IfErr result (FaultIn (flag.faulty (view value.now))) }
+    ensures fault { IfErr result (FaultIn (faulty flag (view value.now))) }
     ensures first { IfErr result (FaultIn (first_found (flag.findings (view value.now)))) }
     ensures schema { IfErr result IsSchema }
 {
@@ -65,7 +65,7 @@ pub fn boolean(alloc: Global, value: &Value) -> Result<bool, ReadFault>
 /// ```
 pub fn whole(alloc: Global, value: &Value, low: i64, high: i64) -> Result<i64, ReadFault>
     ensures ok { IfOk result ((whole low high).reads (view value.now)) }
-    ensures fault { IfErr result (FaultIn ((whole low high).faulty (view value.now))) }
+    ensures fault { IfErr result (FaultIn (faulty (whole low high) (view value.now))) }
     ensures first { IfErr result
         (FaultIn (first_found ((whole low high).findings (view value.now)))) }
     ensures schema { IfErr result IsSchema }
@@ -94,7 +94,7 @@ pub fn whole(alloc: Global, value: &Value, low: i64, high: i64) -> Result<i64, R
 pub fn texts(alloc: Global, value: &Value) -> Result<Vec<String>, ReadFault>
     ensures ok { IfOk result
         (λ v. (list_of text).reads (view value.now) (map string_bytes v.items)) }
-    ensures fault { IfErr result (FaultIn ((list_of text).faulty (view value.now))) }
+    ensures fault { IfErr result (FaultIn (faulty (list_of text) (view value.now))) }
     ensures first { IfErr result
         (FaultIn (first_found ((list_of text).findings (view value.now)))) }
 {

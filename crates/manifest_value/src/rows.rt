@@ -1,5 +1,5 @@
 //! Reading a value under a key, and writing the rows of a form.
-ghost use Rattle.manifest_schema.specs.Prelude.{view, table_view, list_of, itself, behind, key, put_some, written_some, written_unless, is_empty, first_found, found_behind};
+ghost use Rattle.manifest_schema.specs.Prelude.{view, table_view, list_of, itself, behind, key, put_some, written_some, written_unless, is_empty, first_found, found_behind, faulty};
 ghost use Rattle.std.specs.Prelude.{◌≡◌, Some, map, IfOk, IfErr, OnOk, option_map};
 ghost use Rattle.manifest_value.specs.Faults.{FaultIn, cause_of};
 ghost use Rattle.manifest_value.specs.Reading.{Reads};
@@ -33,7 +33,7 @@ pub fn at_key(alloc: Global, word: &str, cause: Cause) -> ReadFault
 pub fn read_under<T: Schema>(alloc: Global, value: &Value, word: &str) -> Result<T, ReadFault>
     ensures ok { IfOk result (Reads T.kind T.content (view value.now)) }
     ensures fault { IfErr result
-        (FaultIn (behind (key word.now) (T.kind.faulty (view value.now)))) }
+        (FaultIn (behind (key word.now) (faulty T.kind (view value.now)))) }
     ensures first { let inside = T.kind.findings (view value.now) in
         IfErr result (FaultIn (first_found (found_behind (key word.now) inside))) }
 {

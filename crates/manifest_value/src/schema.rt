@@ -1,8 +1,8 @@
 //! Types that are read from a value and written as one.
 
-ghost use Rattle.manifest_schema.specs.Prelude.{view, Kind, text, flag, list_of, IsLawful, first_found};
+ghost use Rattle.manifest_schema.specs.Prelude.{view, Kind, text, flag, list_of, IsSound, first_found, faulty};
 ghost use Rattle.std.specs.Prelude.{◌≡◌, ◌↔◌, ℕ, Bool, List, IsTrue, map, IfOk, IfErr, string_bytes};
-ghost use Rattle.manifest_schema.proofs.KindLaws.{text_lawful, flag_lawful, list_lawful};
+ghost use Rattle.manifest_schema.proofs.KindLaws.{text_sound, flag_sound, list_sound};
 ghost use Rattle.manifest_value.specs.Faults.{FaultIn, IsSchema};
 ghost use Rattle.manifest_value.specs.Found.{found};
 ghost use Rattle.manifest_value.specs.Reading.{Reads};
@@ -33,7 +33,8 @@ pub trait Schema: Sized + Drop {
     /// The content of a value.
     ghost content: { Self → Content };
 
-    /// How values are read and written, as a definition: `kind.reads`, `kind.faulty`, `kind.written` and `kind.good`.
+    /// How values are read and written, as a definition: `kind.reads`, `kind.written`, `kind.good` and `kind.findings`;
+    /// the faults of a value, `faulty kind`, are those among its findings.
     ghost kind: { Kind Content };
 
     /// Whether reading never fails as out of memory: true of a type whose reading copies nothing.
@@ -43,7 +44,7 @@ pub trait Schema: Sized + Drop {
     /// owned value holds is moved where the type can do so, and else copied.
     fn read(alloc: Global, source: Source<'_>) -> Result<Self, ReadFault>
         ensures ok { IfOk result (Reads kind content (source_view source.entry)) }
-        ensures fault { IfErr result (FaultIn (kind.faulty (source_view source.entry))) }
+        ensures fault { IfErr result (FaultIn (faulty kind (source_view source.entry))) }
         ensures first { IfErr result
             (FaultIn (first_found (kind.findings (source_view source.entry)))) }
         ensures schema { takes_no_memory → IfErr result IsSchema };
@@ -59,7 +60,7 @@ pub trait Schema: Sized + Drop {
     /// ```
     fn from_value(alloc: Global, value: &Value) -> Result<Self, Error>
         ensures ok { IfOk result (Reads kind content (view value.now)) }
-        ensures refused { IfErr result (RefusedIn (kind.faulty (view value.now))) }
+        ensures refused { IfErr result (RefusedIn (faulty kind (view value.now))) }
         ensures first { IfErr result (RefusedIn (first_found (kind.findings (view value.now)))) }
         ensures schema { takes_no_memory → IfErr result IsSchemaError }
     {
@@ -84,7 +85,7 @@ pub trait Schema: Sized + Drop {
         ensures { IsTrue result ↔ kind.good (content self.now) };
 
     /// The proof that the kind has the laws of a kind, as that what is written is read back.
-    ghost lawful: { IsLawful kind };
+    ghost lawful: { IsSound kind };
 }
 
 /// Read from a string, and written as one. Any other value is refused with `WrongKind`.
@@ -118,7 +119,7 @@ impl Schema for String {
         true
     }
 
-    ghost lawful = { text_lawful };
+    ghost lawful = { text_sound };
 }
 
 /// Read from a boolean, and written as one. Any other value is refused with `WrongKind`. Reading is never out of memory
@@ -152,7 +153,7 @@ impl Schema for bool {
         true
     }
 
-    ghost lawful = { flag_lawful };
+    ghost lawful = { flag_sound };
 }
 
 /// Read from an array, each item as a `T`, and written as one. A value that is no array is refused with `WrongKind`.
@@ -190,5 +191,5 @@ impl<T: Schema> Schema for Vec<T> {
         items_are_well_formed(self.as_slice())
     }
 
-    ghost lawful = { list_lawful T.lawful };
+    ghost lawful = { list_sound T.lawful };
 }

@@ -1,6 +1,6 @@
 //! What is read: a value or a table, borrowed or owned.
 
-ghost use Rattle.manifest_schema.specs.Prelude.{view, behind, key, first_found, found_behind};
+ghost use Rattle.manifest_schema.specs.Prelude.{view, behind, key, first_found, found_behind, faulty};
 ghost use Rattle.std.specs.Prelude.{◌≡◌, IfOk, IfErr};
 ghost use Rattle.manifest_value.specs.Faults.{FaultIn, no_table};
 ghost use Rattle.manifest_value.specs.Found.{HasNoFault};
@@ -98,7 +98,7 @@ pub(crate) fn source_under<T: Schema>(
 ) -> Result<T, ReadFault>
     ensures ok { IfOk result (Reads T.kind T.content (source_view source.entry)) }
     ensures fault { IfErr result
-        (FaultIn (behind (key word.now) (T.kind.faulty (source_view source.entry)))) }
+        (FaultIn (behind (key word.now) (faulty T.kind (source_view source.entry)))) }
     ensures first { let inside = T.kind.findings (source_view source.entry) in
         IfErr result (FaultIn (first_found (found_behind (key word.now) inside))) }
     ensures clean { let inside = T.kind.findings (source_view source.entry) in

@@ -1,4 +1,4 @@
-use Rattle.manifest_schema.specs.Prelude.{Data, Items, items_view, faulty_item, behind, index, first_found, found_behind, length-map}
+use Rattle.manifest_schema.specs.Prelude.{Data, Items, items_view, faulty_item, behind, index, first_found, found_behind, length-map, faulty}
 use Rattle.std.proofs.Common.{◌≡◌, length, map, ap, subst, sym, ◌∙◌, rules}
 use Rattle.manifest_value.specs.Sources.{source_view, items_left}
 use Rattle.manifest_value.specs.Faults.{FaultIn}
@@ -34,7 +34,8 @@ returns-in-Err-clause-fault g c =
     let many : length c.loop-source.all.items ≡ i = search rules in
     let left = subst (reads_first_items K ds (map f c.loop-source.all.items)) (ap items_view c.in-Some.ensures.steps) c.loop-source.invariant in
     let here = rw many at (next_item K f ds c.loop-source.all.items d (items_view (items_left c.next.new.self)) left) in
-    fault_weaker (behind (index i) (K.faulty d)) (faulty_item K ds) c.in-Err.fault (λ p e q. (i, d, here, q)) c.in-Err.ensures.fault
+    fault_weaker (behind (index i) (faulty K d)) (faulty_item K ds) c.in-Err.fault
+    (λ p e q. (i, d, here, q)) c.in-Err.ensures.fault
 
 pub returns-in-Err-clause-first : goal.returns-in-Err-clause-first
 returns-in-Err-clause-first g c =
