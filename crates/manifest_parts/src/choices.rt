@@ -3,7 +3,7 @@
 ghost use Rattle.std.specs.Prelude.{◌≡◌, option_map};
 ghost use Rattle.manifest_schema.specs.Contents;
 ghost use Rattle.manifest_schema.specs.Choices.{edition, edition_text, resolver, resolver_text, level, level_text, status, status_text, status_words, meaning_of};
-ghost use Rattle.manifest_schema.proofs.ChoiceLaws.{edition_lawful, edition_plain, resolver_lawful, level_lawful, status_lawful};
+ghost use Rattle.manifest_schema.proofs.ChoiceLaws.{edition_sound, edition_plain, resolver_sound, level_sound, status_sound};
 ghost use Rattle.manifest_parts.specs.Parts.{edition_content, resolver_content, level_content, status_content};
 
 use manifest_value::fault::fault_here;
@@ -104,7 +104,7 @@ impl Schema for Edition {
         true
     }
 
-    ghost lawful = { edition_lawful };
+    ghost lawful = { edition_sound };
 }
 
 impl Plain for Edition {
@@ -184,7 +184,7 @@ impl Schema for Resolver {
         true
     }
 
-    ghost lawful = { resolver_lawful };
+    ghost lawful = { resolver_sound };
 }
 
 /// The first resolver. A package that names none may have another, by its edition.
@@ -268,7 +268,7 @@ impl Schema for LintLevel {
         true
     }
 
-    ghost lawful = { level_lawful };
+    ghost lawful = { level_sound };
 }
 
 /// How a package is maintained. See the
@@ -361,7 +361,7 @@ impl Schema for MaintenanceStatus {
         true
     }
 
-    ghost lawful = { status_lawful };
+    ghost lawful = { status_sound };
 }
 
 /// No status.

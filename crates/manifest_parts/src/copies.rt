@@ -28,7 +28,7 @@ ghost use Rattle.manifest_parts.specs.Records.{
   lints_content,
   profile_content,
 };
-ghost use Rattle.manifest_schema.proofs.PartLaws.{detailed_form, profile_form, badges_form};
+ghost use Rattle.manifest_schema.proofs.PartLaws.{detailed_built, profile_built, badges_built};
 ghost use Rattle.manifest_value.proofs.FormLemmas.{by_rows};
 
 use crate::badges::{Badge, Badges, Maintenance};
@@ -167,7 +167,7 @@ impl Copied for DependencyDetail {
 
     ghost held = { detail_content };
 
-    ghost copies = { λ x y c. by_rows detailed_rows detailed_form.built
+    ghost copies = { λ x y c. by_rows detailed_rows detailed_built
         (detail_content y) (detail_content x)
         (unfold detailed_rows in Prim.search (rules, copy_laws)) };
 }
@@ -177,7 +177,7 @@ impl Copied for Badges {
 
     ghost held = { badges_content };
 
-    ghost copies = { λ x y c. by_rows badges_rows badges_form.built
+    ghost copies = { λ x y c. by_rows badges_rows badges_built
         (badges_content y) (badges_content x)
         (unfold badges_rows in Prim.search (rules, copy_laws)) };
 }
@@ -187,7 +187,7 @@ impl Copied for Profile {
 
     ghost held = { profile_content };
 
-    ghost copies = { λ x y c. by_rows profile_rows profile_form.built
+    ghost copies = { λ x y c. by_rows profile_rows profile_built
         (profile_content y) (profile_content x)
         (unfold profile_rows in Prim.search (rules, copy_laws)) };
 }

@@ -1,8 +1,8 @@
 //! What may be inherited from the workspace.
 
-ghost use Rattle.manifest_schema.specs.Prelude.{view, Data, Path, Cause as FaultCause, Inheritable, inh, inherits, truth};
+ghost use Rattle.manifest_schema.specs.Prelude.{view, Data, Path, Cause as FaultCause, Inheritable, inh, inherits, truth, faulty};
 ghost use Rattle.std.specs.Prelude.{◌≡◌, true, IfOk};
-ghost use Rattle.manifest_schema.proofs.KindLaws.{inh_lawful, truth_lawful};
+ghost use Rattle.manifest_schema.proofs.KindLaws.{inh_sound, truth_sound};
 ghost use Rattle.manifest_parts.specs.Parts.{inh_content};
 ghost use Rattle.manifest_value.specs.Found.{found};
 ghost use Rattle.manifest_value.specs.Reading.{data_of};
@@ -54,7 +54,7 @@ impl Schema for True {
         true
     }
 
-    ghost lawful = { truth_lawful };
+    ghost lawful = { truth_sound };
 }
 
 /// The only value.
@@ -160,7 +160,7 @@ impl<T: Plain> Schema for MaybeInherited<T> {
         true
     }
 
-    ghost lawful = { inh_lawful T.lawful T.plain };
+    ghost lawful = { inh_sound T.lawful T.plain };
 }
 
 /// The laws of what may be inherited, for every plain type: a value has at most one reading, and none where it has a
@@ -169,7 +169,7 @@ pub fn inherited_is_lawful<T: Plain>()
     ensures one_reading { (d : Data) (x y : Inheritable T.Content) → (inh T.kind).reads d x
         → (inh T.kind).reads d y → x ≡ y }
     ensures no_reading_with_a_fault { (d : Data) (p : Path) (c : FaultCause)
-        (x : Inheritable T.Content) → (inh T.kind).faulty d p c → (inh T.kind).reads d x → ⊥ }
+        (x : Inheritable T.Content) → faulty (inh T.kind) d p c → (inh T.kind).reads d x → ⊥ }
     ensures read_back { (x : Inheritable T.Content)
         → (inh T.kind).reads ((inh T.kind).written x) x }
     ensures inherited_or_local { (d : Data) (x : T.Content) → inherits d ≡ true → T.kind.reads d x

@@ -3,7 +3,7 @@
 ghost use Rattle.std.specs.Prelude.{◌≡◌, true};
 ghost use Rattle.manifest_schema.specs.Contents;
 ghost use Rattle.manifest_schema.specs.PartForms.{text_or_flag, publish};
-ghost use Rattle.manifest_schema.proofs.RowLaws.{text_or_flag_lawful, text_or_flag_plain, publish_lawful, publish_plain};
+ghost use Rattle.manifest_schema.proofs.RowLaws.{text_or_flag_sound, text_or_flag_plain, publish_sound, publish_plain};
 ghost use Rattle.manifest_parts.specs.Parts.{text_or_flag_content, publish_content};
 
 use manifest_value::findings::{Findings, Found};
@@ -53,7 +53,7 @@ impl Schema for StringOrBool {
         true
     }
 
-    ghost lawful = { text_or_flag_lawful };
+    ghost lawful = { text_or_flag_sound };
 }
 
 impl Plain for StringOrBool {
@@ -106,7 +106,7 @@ impl Schema for Publish {
         }
     }
 
-    ghost lawful = { publish_lawful };
+    ghost lawful = { publish_sound };
 }
 
 impl Plain for Publish {

@@ -3,7 +3,7 @@
 ghost use Rattle.manifest_schema.specs.Prelude.{string, view, strip, strip_meaning};
 ghost use Rattle.std.specs.Prelude.{◌≡◌, Some, IfOk, IfErr};
 ghost use Rattle.manifest_schema.specs.Contents;
-ghost use Rattle.manifest_schema.proofs.ChoiceLaws.{strip_lawful};
+ghost use Rattle.manifest_schema.proofs.ChoiceLaws.{strip_sound};
 ghost use Rattle.manifest_parts.specs.Parts.{strip_content};
 ghost use Rattle.manifest_value.specs.Reading.{Reads};
 ghost use Rattle.manifest_parts.specs.Refusals.{RefusesStrip};
@@ -114,5 +114,5 @@ impl Schema for StripSetting {
         true
     }
 
-    ghost lawful = { strip_lawful };
+    ghost lawful = { strip_sound };
 }
