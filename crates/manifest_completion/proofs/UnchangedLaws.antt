@@ -1,11 +1,11 @@
 -- What is declared stays, and entries that are no targets change nothing.
 use Rattle.manifest_schema.specs.Prelude.{option_or, filter, flat_map, ErrorKind, OutOfMemory, Text, underscored, Product, Package, Manifest}
 use Rattle.std.proofs.Common.{◌≡◌, List, [], ◌∷◌, ◌++◌, Bool, true, false, refl, ap, ap₂, sym, ◌∙◌, map, Option, Some, None, if◌then◌else◌, ◌||◌, subst, codes, is_some}
-use Rattle.manifest_completion.specs.Listings.{Answer, lists, names_of, TargetFolder, bins, examples, tests, benches, folder, entry, folder_text, ListingMap, at}
-use Rattle.manifest_completion.specs.Finds.{Find, stem, file_find_of, entry_finds, finds}
+use Rattle.manifest_completion.specs.Listings.{Answer, lists, names_of, TargetFolder, bins, examples, tests, benches, folder, entry, folder_text, joined, ListingMap, at}
+use Rattle.manifest_completion.specs.Finds.{Find, stem, file_find_of, file_find, entry_finds, finds}
 use Rattle.manifest_completion.specs.Targets.{path_by_name, pathed, Defaults, with_defaults, targets}
 use Rattle.manifest_completion.specs.Completed.{PackageTargets, own_edition, library_type, Library, no_file, known, library_path, declared_library, library_of, library, source_fault, after_root, after_library, after_source, root_fault, filled, refused, completed_to, completed_targets, target_places, has_memory_fault, targets_of, with_targets, completion_with, completed_by}
-use Rattle.manifest_completion.specs.Unchanged.{Stays, IsKept, AreKept, DeclaredLibraryIsKept, DeclaredAreKept, DeclaredStays, is_target, target_names, HaveSameTargets, OthersChangeNothing}
+use Rattle.manifest_completion.specs.Unchanged.{Stays, IsKept, AreKept, DeclaredLibraryIsKept, DeclaredAreKept, DeclaredStays, is_target, target_names, target_entries, HaveSameTargets, OthersChangeNothing}
 use Rattle.manifest_completion.proofs.CompletedLaws.{IsCalm, done_calm, completed_once}
 
 -- WHAT IS THERE
@@ -99,17 +99,29 @@ by_targets g test none (n ∷ ns) = one (test n) refl (by_targets g test none ns
     one true e same = ap (λ fs. g n ++ fs) same
     one false e same = rw (none n e) same
 
-module _ (l k : ListingMap) (h : HaveSameTargets l k) where
-  same_entries : (d : TargetFolder) (ns : List Text) → flat_map (λ n. entry_finds (folder_text d) n (at l (entry d n))) ns ≡ flat_map (λ n. entry_finds (folder_text d) n (at k (entry d n))) ns
-  same_entries d [] = refl
-  same_entries d (n ∷ ns) = ap₂ (λ a fs. entry_finds (folder_text d) n a ++ fs) (h.entries d n) (same_entries d ns)
+-- the finds of an entry, by its name and whether it is a folder with `main.rs`
+abbrev finds_of : Text → Text × Bool → List Find
+finds_of d e =
+    file_find d e.0 ++ (if e.1 then record { name = e.0; path = joined (joined d e.0) (codes "main.rs") } ∷ [] else [])
 
+-- so the finds of a folder depend on its entries that are targets alone
+by_entries : (l : ListingMap) (d : TargetFolder) → finds l d ≡ flat_map (finds_of (folder_text d)) (target_entries l d)
+by_entries l d =
+    by_targets own (λ n. is_target n (at l (entry d n))) (λ n e. no_find (folder_text d) n (at l (entry d n)) e)
+    (names_of (at l (folder d)))
+    ∙ each (target_names l d)
+  where
+    own : Text → List Find
+    own n = entry_finds (folder_text d) n (at l (entry d n))
+
+    each : (ns : List Text) → flat_map own ns
+        ≡ flat_map (finds_of (folder_text d)) (map (λ n. (n, lists (at l (entry d n)) (codes "main.rs"))) ns)
+    each [] = refl
+    each (n ∷ ns) = ap (λ fs. own n ++ fs) (each ns)
+
+module _ (l k : ListingMap) (h : HaveSameTargets l k) where
   same_finds : (d : TargetFolder) → finds l d ≡ finds k d
-  same_finds d =
-      by_targets (λ n. entry_finds (folder_text d) n (at l (entry d n))) (λ n. is_target n (at l (entry d n))) (λ n e. no_find (folder_text d) n (at l (entry d n)) e) (names_of (at l (folder d)))
-      ∙ same_entries d (target_names l d)
-      ∙ ap (flat_map (λ n. entry_finds (folder_text d) n (at k (entry d n)))) (h.targets d)
-      ∙ sym (by_targets (λ n. entry_finds (folder_text d) n (at k (entry d n))) (λ n. is_target n (at k (entry d n))) (λ n e. no_find (folder_text d) n (at k (entry d n)) e) (names_of (at k (folder d))))
+  same_finds d = by_entries l d ∙ ap (flat_map (finds_of (folder_text d))) (h.targets d) ∙ sym (by_entries k d)
 
   same_filled : (t : PackageTargets) (lib : Option Product) → filled t lib l ≡ filled t lib k
   unfolding filled

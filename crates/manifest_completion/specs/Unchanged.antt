@@ -1,6 +1,6 @@
 -- What completion leaves as it is: the targets that are declared; and what makes no difference to it.
 use Rattle.manifest_schema.specs.Prelude.{filter, Text, Product, Manifest}
-use Rattle.std.specs.Prelude.{◌≡◌, List, [], ◌∷◌, Option, Some, None, Bool, ◌||◌, is_some, codes}
+use Rattle.std.specs.Prelude.{◌≡◌, List, [], ◌∷◌, map, Option, Some, None, Bool, ◌||◌, is_some, codes}
 use Rattle.manifest_completion.specs.Listings.{Answer, lists, names_of, TargetFolder, folder, entry, ListingMap, at}
 use Rattle.manifest_completion.specs.Finds.{stem}
 use Rattle.manifest_completion.specs.Completed.{completed_to, completed, target_places, has_memory_fault}
@@ -58,12 +58,17 @@ is_target n a = is_some (stem n) || lists a (codes "main.rs")
 abbrev pub target_names : ListingMap → TargetFolder → List Text
 target_names l d = filter (λ n. is_target n (at l (entry d n))) (names_of (at l (folder d)))
 
--- two maps have the same, entries that are no targets aside
+-- the entries that are: the name of each, and whether it is a folder with `main.rs`
+abbrev pub target_entries : ListingMap → TargetFolder → List (Text × Bool)
+target_entries l d =
+    map (λ n. (n, lists (at l (entry d n)) (codes "main.rs"))) (target_names l d)
+
+-- two maps have the same, but for what else there is: entries that are no targets, and what is answered for them; and what
+-- else stands in a folder with `main.rs`
 pub record HaveSameTargets (l k : ListingMap) : Type 0 where
   pub source : l.source ≡ k.source
   pub root : l.root ≡ k.root
-  pub entries : (d : TargetFolder) (n : Text) → at l (entry d n) ≡ at k (entry d n)
-  pub targets : (d : TargetFolder) → target_names l d ≡ target_names k d
+  pub targets : (d : TargetFolder) → target_entries l d ≡ target_entries k d
   pub memory :
       has_memory_fault (at l) (target_places l) ≡ has_memory_fault (at k) (target_places k)
 
