@@ -25,7 +25,7 @@
      that is passed in. Without any (null and 0) the call returns how long the text is. As one call can run out of memory and
      the next not, `length` is looked at after each call.
    - Another thread may read what is passed in meanwhile, and may not write to it, nor read or write `out`.
-   - The answer depends on what is passed in, and on nothing else but whether there is memory.
+   - The answer depends on what is passed in, and on nothing else but whether there is memory, which is tested.
    - The library keeps nothing from one call to the next, keeps no pointer that it is given, frees nothing that it is given,
      and gives nothing that has to be freed.
 
@@ -70,7 +70,7 @@ extern "C" {
 #endif
 
 /* The status of an answer: whether the text is what was asked for, or else why it is not. The steps of a call go in this
-   order, as far as it has them, and the first that refuses is reported:
+   order, as far as it has them, and the first that refuses is reported, which is tested and not proved:
 
        the folders                8
        the bytes                  4, 15, 1, 15, 2, or 14 and 15, then 2
@@ -287,9 +287,9 @@ enum manifest_found {
       3      a text for a key, or a number for an index of an array, from 0 on; and an array of the parts of what is found in
              the value that it leads to. What is missing is found in the value that it would be
 
-   So each step of a path stands once, however much is found below it. Read from the beginning, the parts stand in the order
-   in which docs/KEYS.md of the repository has the keys: the values of a table key by key, those of lists and maps one by
-   one, and after all of a table its keys that nothing reads. `[package]` with `name = 1` and `edtion = "2021"` is
+   So each step of a path stands once, however much is found below it (tested). Read from the beginning, the parts stand in
+   the order in which docs/KEYS.md of the repository has the keys: the values of a table key by key, those of lists and maps
+   one by one, and after all of a table its keys that nothing reads. `[package]` with `name = 1` and `edtion = "2021"` is
    7 1 7 3 2 3 1 7 `package` 7 2 7 3 2 3 1 4 `name` 7 1 7 2 2 0 2 1 7 2 2 2 1 6 `edtion`. */
 struct manifest_answer manifest_findings(const uint8_t *bytes, size_t bytes_length, size_t most, uint8_t *out,
                                          size_t out_length);
