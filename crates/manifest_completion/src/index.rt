@@ -1,6 +1,7 @@
-//! What is looked up while a list of targets is completed: the path of a name, and whether a path is taken.
+//! What is looked up while a list is made: the path of a name, and whether a text is in a set.
 
 ghost use Rattle.std.specs.Prelude.{◌≡◌, List, ◌++◌, ◌∷◌, [], IfOk, OnOk, not};
+ghost use Rattle.std.specs.Bool.{OnFalse};
 ghost use Rattle.std.specs.Option.{option_copied};
 ghost use Rattle.manifest_completion.specs.Finds.{Find};
 ghost use Rattle.manifest_completion.specs.Targets.{first_path, has_path};
@@ -48,11 +49,17 @@ impl<'a> IndexedFinds<'a> {
     }
 }
 
-/// Adds a path to the set of those that are taken. Returns whether it was not in it before.
-pub fn take_path<'a>(taken: &mut BTreeSet<&'a str>, path: &'a str) -> Result<bool, AllocError>
-    ensures new { IfOk result (λ is_new. is_new ≡ not (has_path (paths_in taken.old) path.now)) }
-    ensures taken { let more = paths_in taken.old ++ path.now ∷ [] in
-        OnOk result (SamePaths (paths_in taken.new) more) }
+/// Adds a text to a set. Returns whether it was not in it before; where it was, the set stays as it is.
+///
+/// ```ignore
+/// let is_new = add_text(&mut taken, "src/main.rs")?;
+/// ```
+pub fn add_text<'a>(texts: &mut BTreeSet<&'a str>, text: &'a str) -> Result<bool, AllocError>
+    ensures new { IfOk result (λ is_new. is_new ≡ not (has_path (paths_in texts.old) text.now)) }
+    ensures added { let more = paths_in texts.old ++ text.now ∷ [] in
+        OnOk result (SamePaths (paths_in texts.new) more) }
+    ensures kept { IfOk result
+        (λ is_new. OnFalse is_new (paths_in texts.new ≡ paths_in texts.old)) }
 {
-    Ok(taken.insert(path)?)
+    Ok(texts.insert(text)?)
 }

@@ -8,7 +8,7 @@ mod copies;
 pub mod filesystem;
 mod finds;
 pub mod folders;
-mod index;
+pub mod index;
 pub mod laws;
 mod library;
 pub mod listings;

@@ -9,7 +9,7 @@ ghost use Rattle.manifest_completion.specs.Steps.{find_content, finds_content, d
 
 use crate::copies::{copy_optional_text, one_text};
 use crate::finds::FoundTarget;
-use crate::index::{IndexedFinds, take_path};
+use crate::index::{IndexedFinds, add_text};
 use manifest_parts::{Edition, Product};
 use manifest_value::copy_of;
 use std::alloc::{AllocError, Global};
@@ -49,7 +49,7 @@ fn taken_paths<'a>(
     let mut taken = BTreeSet::new(alloc);
     for target in targets {
         if let Some(path) = path_of(target, finds) {
-            take_path(&mut taken, path)?;
+            add_text(&mut taken, path)?;
         }
     }
     Ok(taken)
@@ -144,7 +144,7 @@ fn push_found<'a>(
         OnOk result (map product_content list.new.items ≡ before ++ more) }
 {
     for find in finds {
-        if take_path(&mut taken, find.path.as_str())? {
+        if add_text(&mut taken, find.path.as_str())? {
             list.push(found_target(alloc, find, defaults)?)?;
         }
     }

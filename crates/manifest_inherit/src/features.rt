@@ -1,25 +1,13 @@
 //! The features of a dependency inherited from the workspace: the workspace's, and those that the member adds.
 
-ghost use Rattle.std.specs.Prelude.{◌≡◌, ◌++◌, ◌∷◌, [], List, ℕ, not, OnOk, IfOk, map, option_map, string_bytes};
-ghost use Rattle.std.specs.Bool.{OnFalse};
-ghost use Rattle.manifest_completion.specs.Targets.{has_path as has_text};
+ghost use Rattle.std.specs.Prelude.{◌≡◌, ◌++◌, ◌∷◌, [], List, ℕ, OnOk, IfOk, map, option_map, string_bytes};
 ghost use Rattle.manifest_completion.specs.Index.{paths_in as texts_in, SamePaths as SameTexts};
 ghost use Rattle.manifest_inherit.specs.Resolved.{new_features, joined_features};
 ghost use Rattle.manifest_inherit.specs.ForProofs.{borrowed_texts};
 
+use manifest_completion::index::add_text;
 use std::alloc::{AllocError, Global};
 use std::collections::BTreeSet;
-
-/// Adds a feature to the set of those that are there. Returns whether it was not in it before.
-fn is_new<'a>(there: &mut BTreeSet<&'a str>, feature: &'a str) -> Result<bool, AllocError>
-    ensures new { IfOk result (λ is_new. is_new ≡ not (has_text (texts_in there.old) feature.now)) }
-    ensures added { let more = texts_in there.old ++ feature.now ∷ [] in
-        OnOk result (SameTexts (texts_in there.new) more) }
-    ensures kept { IfOk result
-        (λ is_new. OnFalse is_new (texts_in there.new ≡ texts_in there.old)) }
-{
-    Ok(there.insert(feature)?)
-}
 
 /// The set of some features.
 fn set_of<'a>(alloc: Global, features: &'a [String]) -> Result<BTreeSet<&'a str>, AllocError>
@@ -27,7 +15,7 @@ fn set_of<'a>(alloc: Global, features: &'a [String]) -> Result<BTreeSet<&'a str>
 {
     let mut there = BTreeSet::new(alloc);
     for feature in features {
-        is_new(&mut there, feature.as_str())?;
+        add_text(&mut there, feature.as_str())?;
     }
     Ok(there)
 }
@@ -43,7 +31,7 @@ fn push_new<'h, 'o: 'h>(
         ≡ borrowed_texts new.old.items ++ new_features (texts_in there.old) (feature.now ∷ fs)) }
 {
     let seen: &'h str = feature;
-    if is_new(there, seen)? {
+    if add_text(there, seen)? {
         new.push(feature)?;
         Ok(())
     } else {
