@@ -1,8 +1,8 @@
 -- A completed manifest is completed, and is well-formed where the manifest was.
-use Rattle.manifest_schema.specs.Prelude.{option_or, AllByRecursion, ErrorKind, Data, Text, Kind, good_some, form, IsLawful, underscored, StringOrBool, a_text, a_flag, Product, Package, Manifest, package_rows, well_formed}
+use Rattle.manifest_schema.specs.Prelude.{option_or, AllByRecursion, ErrorKind, Data, Text, Kind, good_some, form, IsSound, underscored, StringOrBool, a_text, a_flag, Product, Package, Manifest, package_rows, well_formed}
 use Rattle.std.proofs.Common.{◌≡◌, inl, inr, List, [], ◌∷◌, ◌++◌, Bool, true, false, refl, ap, sym, ◌∙◌, ◌&&◌, Option, Some, None, if◌then◌else◌, subst, codes, unwrap_or}
 use Rattle.manifest_schema.proofs.GoodLaws.{package_good, package_metadata_good, manifest_good, manifest_parts_good}
-use Rattle.manifest_schema.proofs.ManifestLaws.{manifest_lawful}
+use Rattle.manifest_schema.proofs.ManifestLaws.{manifest_sound}
 use Rattle.manifest_completion.specs.Listings.{Answer, names, fault, lists, is_memory_fault, examples, tests, benches, Place, source, ListingMap, at}
 use Rattle.manifest_completion.specs.Finds.{finds, bin_finds}
 use Rattle.manifest_completion.specs.Targets.{found}
@@ -164,7 +164,7 @@ still_well_formed K W p m u e g =
     let own : (form (package_rows K)).good p = subst (λ (o : Option Package). good_some (form (package_rows K)) o) e parts.0 in
     manifest_good K W (with_targets p m u) (package_good K (record p { build = u.build }) (package_metadata_good K p own)) parts.1 parts.2 parts.3
 
-module _ (K W : Kind Data) (k : IsLawful K) (w : IsLawful W) where
+module _ (K W : Kind Data) (k : IsSound K) (w : IsSound W) where
   fixed_targets : (p : Package) (m : Manifest) (l : ListingMap) (lib : Option Product) → m.«package» ≡ Some p → well_formed K W m → IsCalm (targets_of p m) l lib
       → IsFixed K W m (with_targets p m (filled (targets_of p m) lib l)) l
   fixed_targets p m l lib e g c =
@@ -176,7 +176,7 @@ module _ (K W : Kind Data) (k : IsLawful K) (w : IsLawful W) where
       let after : asked n l ≡ asked_targets u l = ap (λ (v : PackageTargets). asked_targets v l) (targets_back p m lib l) in
       record {
         formed = formed;
-        read = (manifest_lawful K W k w).back n formed;
+        read = ((manifest_sound K W k w).back n formed).0;
         unchanged = twice;
         asked = among_same after before (asked_again t l lib c);
       }
@@ -185,7 +185,7 @@ module _ (K W : Kind Data) (k : IsLawful K) (w : IsLawful W) where
   by_package None m n l e g h =
       let same : m ≡ n = cc h in
       let itself : completed m l ≡ completed_to m = ap (λ (o : Option Package). completed_by o m l) e in
-      subst (λ (x : Manifest). IsFixed K W m x l) same (record { formed = g; read = (manifest_lawful K W k w).back m g; unchanged = itself; asked = all_among (asked m l) })
+      subst (λ (x : Manifest). IsFixed K W m x l) same (record { formed = g; read = ((manifest_sound K W k w).back m g).0; unchanged = itself; asked = all_among (asked m l) })
   by_package (Some p) m n l e g h =
       let once = completed_once p m n l h in
       let calm = done_calm (targets_of p m) once.0 l once.1 in

@@ -6,7 +6,7 @@ ghost use Rattle.manifest_completion.specs.Laws.{AskedDiffer, AscendingDiffer, A
 ghost use Rattle.manifest_completion.specs.Unchanged.{DeclaredStays, OthersChangeNothing};
 ghost use Rattle.manifest_completion.specs.Unfound.{UnfoundAreLeft, RefusedIfUnfound, AskedDecidesUnfound, StoredDecidesUnfound};
 
-use manifest_schema::kinds::LawfulKind;
+use manifest_schema::kinds::SoundKind;
 
 /// All path texts that are asked in one completion differ, whatever names, slashes and empty names are listed.
 #[tactic(auto, using(crate::proofs::AskedLaws::asked_differ))]
@@ -37,7 +37,7 @@ pub fn stored_decides()
 
 /// Completing a well-formed manifest, writing it, reading it and completing it again over the same listings changes
 /// nothing and asks no other place.
-pub fn completed_is_fixed<P: LawfulKind, W: LawfulKind>()
+pub fn completed_is_fixed<P: SoundKind, W: SoundKind>()
     ensures { CompletedIsFixed (tree_of P.kind) (tree_of W.kind) }
 {}
 

@@ -2,9 +2,10 @@
 //! some of them; whether Cargo says the same, they do not show. The functions do nothing; their contracts are the
 //! examples.
 
-ghost use Rattle.manifest_schema.specs.Prelude.{string, integer, boolean, array, table, no_members, member, two_spellings, missing, not_a_choice, wrong_kind, out_of_range, key, index, kept, inherited, local, form, by_workspace, detailed, simple, e2021, edition, package_rows, texts, codegen, dependency, badges_rows, means, unmeant, written_manifest, rewritten, former_written, ManifestLeavesDefaults, named, empty_manifest, faulty};
+ghost use Rattle.manifest_schema.specs.Prelude.{string, integer, boolean, array, table, no_members, member, two_spellings, missing, not_a_choice, wrong_kind, out_of_range, key, index, kept, inherited, local, form, by_workspace, detailed, simple, e2021, edition, package_rows, texts, codegen, dependency, badges_rows, means, unmeant, written_manifest, rewritten, former_written, ManifestLeavesDefaults, named, empty_manifest, faulty, inh, text, strip, manifest_findings, ignored_of, unused_of};
 ghost use Rattle.std.specs.Prelude.{◌≡◌, pos, negsuc, true, false, [], ◌∷◌, Some, None, codes};
 ghost use Rattle.manifest_schema.specs.PartForms.{priority};
+ghost use Rattle.manifest_schema.specs.Findings.{fault};
 ghost use Rattle.manifest_schema.specs.Defaults.{lent, no_badges, empty_workspace};
 ghost use Rattle.manifest_schema.specs.Examples.{one_entry, two_entries, bare, bare_by, everywhere, of_version, only_package, spelled_rows, lenient_rows, default_rows, rest_rows, at_key, two_items, bad_gitlab, OnlyFault, NoFault};
 
@@ -172,4 +173,28 @@ pub fn unfit_badge()
 pub fn unknown_edition()
     ensures text { faulty edition (string (codes "2020")) [] not_a_choice }
     ensures number { faulty edition (integer (pos 2021)) [] wrong_kind }
+{}
+
+/// What is found of a table beside its faults: what is ignored of a lenient row; each key that nothing reads, next to
+/// `workspace = true` and at the top of a table with an old header; and the words of a choice.
+#[tactic(auto, unfolding(crate::specs::ManifestForms::package_rows, crate::specs::ManifestForms::manifest_rows))]
+pub fn found_beside_faults()
+    ensures ignored { ignored_of
+        ((form lenient_rows).findings (table (one_entry (codes "a") (integer (pos 1)))))
+        ≡ (at_key (codes "a"), wrong_kind) ∷ [] }
+    ensures inherited { unused_of
+        ((inh text).findings
+        (table (two_entries (codes "workspace") (boolean true) (codes "zzz") (integer (pos 1)))))
+        ≡ at_key (codes "zzz") ∷ [] }
+    ensures project { unused_of
+        (manifest_findings kept kept
+        (two_entries (codes "project") (table (one_entry (codes "name") (string (codes "p"))))
+        (codes "zzz") (integer (pos 1))))
+        ≡ at_key (codes "zzz") ∷ [] }
+    ensures top { unused_of
+        (manifest_findings kept kept
+        (two_entries (codes "name") (string (codes "p")) (codes "zzz") (integer (pos 1))))
+        ≡ at_key (codes "zzz") ∷ [] }
+    ensures words { strip.findings (string (codes "x"))
+        ≡ fault [] not_a_choice (codes "none" ∷ codes "symbols" ∷ codes "debuginfo" ∷ []) ∷ [] }
 {}
