@@ -185,7 +185,13 @@ module _ (K W : Kind Data) (k : IsSound K) (w : IsSound W) where
   by_package None m n l e g h =
       let same : m ≡ n = cc h in
       let itself : completed m l ≡ completed_to m = ap (λ (o : Option Package). completed_by o m l) e in
-      subst (λ (x : Manifest). IsFixed K W m x l) same (record { formed = g; read = ((manifest_sound K W k w).back m g).0; unchanged = itself; asked = all_among (asked m l) })
+      subst (λ (x : Manifest). IsFixed K W m x l) same
+      (record {
+        formed = g;
+        read = ((manifest_sound K W k w).back m g).0;
+        unchanged = itself;
+        asked = all_among (asked m l);
+      })
   by_package (Some p) m n l e g h =
       let once = completed_once p m n l h in
       let calm = done_calm (targets_of p m) once.0 l once.1 in
