@@ -5,9 +5,8 @@ use Rattle.std.specs.Prelude.{IfErr}
 use Rattle.manifest_bytes.specs.Decoded.{decoded}
 use Rattle.manifest_bytes.specs.Laws.{IsFloatless}
 use Rattle.manifest_bytes.proofs.FloatLemmas.{tree_floatless, table_is_decoded}
-use Rattle.manifest_schema.proofs.KindLaws.{tree_lawful}
-use Rattle.manifest_schema.proofs.KeptLaws.{kept_lawful}
-use Rattle.manifest_schema.proofs.ManifestLaws.{manifest_lawful}
+use Rattle.manifest_schema.proofs.KindLaws.{kept_sound, tree_sound}
+use Rattle.manifest_schema.proofs.ManifestLaws.{manifest_sound}
 use Rattle.manifest_schema.proofs.MeaningLaws.{accepted_is_well_formed}
 use Rattle.manifest_completion.specs.Listings.{Answer as Listed}
 use Rattle.manifest_completion.specs.Stored.{stored_map}
@@ -34,11 +33,11 @@ AreFormed (Some m) = IsFormed m
 -- WHAT IS READ is well-formed
 read_formed : (input : Input) (bytes : List ℕ) (m : Manifest) → Are input bytes m → IsFormed m
 read_formed Toml bytes m is =
-    let kept_tree = tree_lawful kept_lawful in
+    let kept_tree = tree_sound kept_sound in
     (accepted_is_well_formed kept_tree kept_tree is.document m is.meant).0
 read_formed Tagged bytes m is =
-    let kept_tree = tree_lawful kept_lawful in
-    (manifest_lawful kept_metadata kept_metadata kept_tree kept_tree).well is.value m is.read
+    let kept_tree = tree_sound kept_sound in
+    (manifest_sound kept_metadata kept_metadata kept_tree kept_tree).well is.value m is.read
 
 root_formed : (input : Input) (bytes : Option (List ℕ)) (root : Option Manifest) → IsRoot input bytes root → AreFormed root
 root_formed input None None is = tt
@@ -57,7 +56,7 @@ inherits_formed (Some r) m n root formed (w, has, resolves) =
 completes_formed : (stored : Option (Text → Listed)) (m n : Manifest) → IsFormed m → CompletesStored stored m n → IsFormed n
 completes_formed None m n formed same = subst IsFormed (sym same) formed
 completes_formed (Some s) m n formed becomes =
-    let kept_tree = tree_lawful kept_lawful in
+    let kept_tree = tree_sound kept_sound in
     (completed_fixed kept_metadata kept_metadata kept_tree kept_tree m n (stored_map s) formed becomes).formed
 
 made_formed : (most : ℕ) (input : Input) (bytes : List ℕ) (root : Option (List ℕ)) (folders : Option (List Folder)) (m : Manifest) → Makes most input bytes root folders m → IsFormed m

@@ -1,7 +1,7 @@
 -- The table of a manifest whose metadata is not looked at is what its tagged bytes hold.
-use Rattle.manifest_schema.specs.Prelude.{Manifest, unread, unread_laws}
+use Rattle.manifest_schema.specs.Prelude.{Manifest, unread, unread_sound}
 use Rattle.std.proofs.Common.{◌≡◌, ℕ, List, Vec, Global, Some, Result, Ok, Err, inr, refl, ap, ◌∙◌}
-use Rattle.manifest_schema.proofs.KindLaws.{tree_lawful}
+use Rattle.manifest_schema.proofs.KindLaws.{tree_sound}
 use Rattle.manifest_schema.proofs.MeaningLaws.{accepted_is_well_formed}
 use Rattle.manifest_bytes.specs.Encoded.{encoded}
 use Rattle.manifest_bytes.specs.Decoded.{decoded}
@@ -17,7 +17,7 @@ no_metadata_floatless = tree_floatless unread (λ x g. refl)
 
 unread_held : (bytes : List ℕ) (m : Manifest) → IsSourceOf no_metadata no_metadata bytes m → decoded (encoded (unread_table m)) ≡ Some (unread_table m)
 unread_held bytes m is =
-    let lawful = tree_lawful unread_laws in
+    let lawful = tree_sound unread_sound in
     let formed = (accepted_is_well_formed lawful lawful is.document m is.meant).0 in
     table_is_decoded no_metadata no_metadata no_metadata_floatless no_metadata_floatless m formed
 
