@@ -175,10 +175,10 @@ pub fn unknown_edition()
     ensures number { faulty edition (integer (pos 2021)) [] wrong_kind }
 {}
 
-/// What is found of a table beside its faults: what is ignored of a lenient row; each key that nothing reads, next to
+/// What is found of a table in addition to its faults: what is ignored of a lenient row; each key that nothing reads, next to
 /// `workspace = true` and at the top of a table with an old header; and the words of a choice.
 #[tactic(auto, unfolding(crate::specs::ManifestForms::package_rows, crate::specs::ManifestForms::manifest_rows))]
-pub fn found_beside_faults()
+pub fn what_is_found()
     ensures ignored { ignored_of
         ((form lenient_rows).findings (table (one_entry (codes "a") (integer (pos 1)))))
         ≡ (at_key (codes "a"), wrong_kind) ∷ [] }
