@@ -1,8 +1,8 @@
 -- A fault that stands in a document, reported as an error.
-use Rattle.manifest_schema.specs.Prelude.{Data, Members, Kind, IsLawful, unmeant}
+use Rattle.manifest_schema.specs.Prelude.{Data, Members, Kind, IsSound, unmeant}
 use Rattle.std.proofs.Common.{◌≡◌, ℕ, List, Some}
 use Rattle.toml.specs.Parse.{parse_document}
-use Rattle.manifest_schema.proofs.MeaningLaws.{faulty_means_nothing}
+use Rattle.manifest_schema.proofs.FoundLaws.{faulty_means_nothing}
 use Rattle.manifest_value.specs.Faults.{FaultIn, path_of, cause_of}
 use Rattle.manifest_value.specs.declared.fault.ReadFault.{ReadFault}
 use Rattle.manifest_value.specs.declared.fault.ReadFault.TheVariants as read
@@ -12,7 +12,7 @@ use Rattle.manifest_value.specs.declared.error.Error.TheVariants.{Parse, Memory}
 use Rattle.manifest_value.specs.declared.error.ParseFault.TheVariants.{Schema}
 use Rattle.cargo_manifest.specs.Answers.{RefusesTable, RefusesText}
 
-pub refuses_table : {K W : Kind Data} (k : IsLawful K) (w : IsLawful W) (ms : Members) (f : ReadFault) (e : Error)
+pub refuses_table : {K W : Kind Data} (k : IsSound K) (w : IsSound W) (ms : Members) (f : ReadFault) (e : Error)
     → FaultIn (unmeant K W ms) f → IsRefusal f e → RefusesTable K W ms e
 refuses_table k w ms (read.Schema f) e h is =
     rw is (record { stands = h; nothing = λ m. faulty_means_nothing k w ms (path_of f.path) (cause_of f.cause) m h })

@@ -1,9 +1,9 @@
 -- The first fault of a table without a header, and of the document of a text.
-use Rattle.manifest_schema.specs.Prelude.{same_Some, Data, table, Members, key, Kind, IsLawful, form, package_rows, manifest_rows, Rows, Manifest, Faults, IsFaultless, first_found, foremost, found_behind, unused_keys, without, row_findings, left_over, form_findings, old_findings, manifest_faults}
+use Rattle.manifest_schema.specs.Prelude.{same_Some, Data, table, Members, key, Kind, IsSound, form, package_rows, manifest_rows, Rows, Manifest, Faults, IsFaultless, first_found, foremost, found_behind, unused_keys, without, row_findings, left_over, form_findings, old_findings, manifest_faults}
 use Rattle.std.proofs.Common.{◌≡◌, ℕ, List, [], ◌∷◌, ◌++◌, Option, Some, None, codes, sym, ◌∙◌, subst}
 use Rattle.toml.specs.Parse.{parse_document}
-use Rattle.manifest_schema.proofs.FindingLaws.{append_faultless, unused_faultless}
-use Rattle.manifest_schema.proofs.ManifestLaws.{manifest_lawful}
+use Rattle.manifest_schema.proofs.Faultless.{faults-keys}
+use Rattle.manifest_schema.proofs.ManifestLaws.{manifest_sound}
 use Rattle.manifest_value.specs.Faults.{FaultIn, IsOneOf}
 use Rattle.manifest_value.specs.Refusals.{IsRefusal, RefusedIn}
 use Rattle.manifest_value.specs.declared.fault.ReadFault.{ReadFault}
@@ -20,7 +20,7 @@ rows_same : {A : Type 0} (rows : Rows A) (ms : Members) (f : ReadFault)
 rows_same rows ms f h =
     let left = unused_keys (left_over rows ms) in
     first_same (row_findings rows ms) (row_findings rows ms ++ left) f
-    (sym (append_faultless (row_findings rows ms) left (unused_faultless (left_over rows ms)))) h
+    (sym (faults-keys (row_findings rows ms) (left_over rows ms))) h
 
 module _ (K W : Kind Data) (ms : Members) where
   -- a fault of the manifest's rows comes first
@@ -35,11 +35,11 @@ module _ (K W : Kind Data) (ms : Members) where
       f (rows_same (manifest_rows K W) ms f h)
 
   -- and where these are read, a fault of the package
-  module _ (k : IsLawful K) (w : IsLawful W) (m : Manifest) (r : (form (manifest_rows K W)).reads (table ms) m) where
+  module _ (k : IsSound K) (w : IsSound W) (m : Manifest) (r : (form (manifest_rows K W)).reads (table ms) m) where
     rows_clean : IsFaultless (row_findings (manifest_rows K W) ms)
     rows_clean =
-        sym (append_faultless (row_findings (manifest_rows K W) ms) (unused_keys (left_over (manifest_rows K W) ms)) (unused_faultless (left_over (manifest_rows K W) ms)))
-        ∙ read_clean (form (manifest_rows K W)) (manifest_lawful K W k w) (table ms) m r
+        sym (faults-keys (row_findings (manifest_rows K W) ms) (left_over (manifest_rows K W) ms))
+        ∙ read_clean (form (manifest_rows K W)) (manifest_sound K W k w) (table ms) m r
 
     pub first_of_package : (o : Option Data) (f : ReadFault) → FaultIn (first_found (old_package_findings K ms o)) f → FaultIn (first_found (old_findings K W ms o)) f
     first_of_package (Some d) f h =

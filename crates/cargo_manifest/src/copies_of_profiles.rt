@@ -5,8 +5,8 @@ ghost use Rattle.std.specs.Prelude.{◌≡◌, map, option_map, string_bytes};
 ghost use Rattle.std.proofs.Common.{rules};
 ghost use Rattle.manifest_schema.proofs.CopyLaws.{copy_laws};
 ghost use Rattle.manifest_schema.specs.Contents;
-ghost use Rattle.manifest_schema.proofs.PartLaws.{profiles_form};
-ghost use Rattle.manifest_schema.proofs.ManifestLaws.{workspace_package_form};
+ghost use Rattle.manifest_schema.proofs.PartLaws.{profiles_built};
+ghost use Rattle.manifest_schema.proofs.ManifestLaws.{workspace_package_built};
 ghost use Rattle.manifest_value.proofs.FormLemmas.{by_rows};
 ghost use Rattle.cargo_manifest.specs.Tables.{workspace_package_content, profiles_content};
 ghost use Rattle.manifest_value.specs.Entries.{entries_content};
@@ -23,7 +23,7 @@ impl Copied for WorkspacePackage {
 
     ghost held = { workspace_package_content };
 
-    ghost copies = { λ x y c. by_rows workspace_package_rows workspace_package_form.built
+    ghost copies = { λ x y c. by_rows workspace_package_rows workspace_package_built
         (workspace_package_content y) (workspace_package_content x)
         (unfold workspace_package_rows in Prim.search (rules, copy_laws)) };
 }
@@ -33,7 +33,7 @@ impl Copied for Profiles {
 
     ghost held = { profiles_content };
 
-    ghost copies = { λ x y c. by_rows profiles_rows profiles_form.built
+    ghost copies = { λ x y c. by_rows profiles_rows profiles_built
         (profiles_content y) (profiles_content x)
         (unfold profiles_rows in Prim.search (rules, copy_laws, profile_copied)) };
 }

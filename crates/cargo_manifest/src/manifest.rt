@@ -4,8 +4,8 @@
 ghost use Rattle.manifest_schema.specs.Prelude.{Data, no_members, table_view, form, tree_of, kept, manifest_rows, rewritten};
 ghost use Rattle.std.specs.Prelude.{◌≡◌, IfOk};
 ghost use Rattle.manifest_schema.specs.Contents;
-ghost use Rattle.manifest_schema.proofs.KindLaws.{tree_lawful};
-ghost use Rattle.manifest_schema.proofs.ManifestLaws.{manifest_lawful};
+ghost use Rattle.manifest_schema.proofs.KindLaws.{tree_sound};
+ghost use Rattle.manifest_schema.proofs.ManifestLaws.{manifest_sound};
 ghost use Rattle.cargo_manifest.specs.Whole.{manifest_content, manifest_of};
 ghost use Rattle.manifest_value.specs.Reading.{IsOfTable};
 
@@ -156,8 +156,8 @@ impl<P: Metadata, W: Metadata> Rowed for Manifest<P, W> {
 impl<P: Metadata, W: Metadata> Form for Manifest<P, W> {
     fn covers() {}
 
-    ghost lawful = { manifest_lawful (tree_of P.kind) (tree_of W.kind) (tree_lawful P.lawful)
-        (tree_lawful W.lawful) };
+    ghost lawful = { manifest_sound (tree_of P.kind) (tree_of W.kind) (tree_sound P.lawful)
+        (tree_sound W.lawful) };
 }
 
 /// The canonical table of a manifest: each row under its first spelling, where it is written.

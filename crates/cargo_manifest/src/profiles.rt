@@ -1,10 +1,10 @@
 //! The profiles of a manifest.
 #![tactic(auto, unfolding(manifest_schema::specs::PartForms::profiles_rows), using(manifest_value::proofs::Behind::form_refuses, manifest_value::proofs::FirstLemmas::form_first))]
 
-ghost use Rattle.manifest_schema.specs.Prelude.{no_members, form, profiles_rows, first_found};
+ghost use Rattle.manifest_schema.specs.Prelude.{no_members, form, profiles_rows, first_found, faulty};
 ghost use Rattle.std.specs.Prelude.{IfOk, IfErr};
 ghost use Rattle.manifest_schema.specs.Contents;
-ghost use Rattle.manifest_schema.proofs.PartLaws.{profiles_form};
+ghost use Rattle.manifest_schema.proofs.PartLaws.{profiles_sound};
 ghost use Rattle.manifest_value.specs.Faults.{FaultIn};
 ghost use Rattle.manifest_value.specs.Reading.{Reads, IsOfTable};
 ghost use Rattle.manifest_value.specs.Sources.{table_source};
@@ -121,7 +121,7 @@ fn profiles_from(alloc: Global, table: TableSource<'_>) -> Result<Profiles, Read
     ensures ok { IfOk result
         (Reads (form profiles_rows) profiles_content (table_source table.entry)) }
     ensures fault { IfErr result
-        (FaultIn ((form profiles_rows).faulty (table_source table.entry))) }
+        (FaultIn (faulty (form profiles_rows) (table_source table.entry))) }
     ensures first { let all = (form profiles_rows).findings (table_source table.entry) in
         IfErr result (FaultIn (first_found all)) }
 {
@@ -167,5 +167,5 @@ impl Schema for Profiles {
             && values_are_well_formed(&self.custom)
     }
 
-    ghost lawful = { profiles_form.lawful };
+    ghost lawful = { profiles_sound };
 }

@@ -80,6 +80,7 @@ fn read_headless<P: Metadata, W: Metadata>(
 
 /// Sets `manifest` to what a table means, with or without a header: nothing stays of what it was. After a refusal it is
 /// of no use.
+#[tactic(auto, using(manifest_value::proofs::FirstLemmas::first_is_fault))]
 fn read_table<P: Metadata, W: Metadata>(
     manifest: &mut Manifest<P, W>,
     alloc: Global,

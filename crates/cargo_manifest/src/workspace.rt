@@ -3,8 +3,8 @@
 
 ghost use Rattle.manifest_schema.specs.Prelude.{Data, no_members, form, tree_of, kept, workspace_package_rows, workspace_rows};
 ghost use Rattle.manifest_schema.specs.Contents;
-ghost use Rattle.manifest_schema.proofs.KindLaws.{tree_lawful};
-ghost use Rattle.manifest_schema.proofs.ManifestLaws.{workspace_package_form, workspace_lawful};
+ghost use Rattle.manifest_schema.proofs.KindLaws.{tree_sound};
+ghost use Rattle.manifest_schema.proofs.ManifestLaws.{workspace_package_sound, workspace_sound};
 ghost use Rattle.cargo_manifest.specs.Tables.{workspace_package_content, workspace_content, workspace_of};
 ghost use Rattle.manifest_value.specs.Reading.{IsOfTable};
 
@@ -122,7 +122,7 @@ impl Rowed for WorkspacePackage {
 impl Form for WorkspacePackage {
     fn covers() {}
 
-    ghost lawful = { workspace_package_form.lawful };
+    ghost lawful = { workspace_package_sound };
 }
 
 /// What the empty table is read as: each field is `None`.
@@ -231,5 +231,5 @@ impl<M: Metadata> Rowed for Workspace<M> {
 impl<M: Metadata> Form for Workspace<M> {
     fn covers() {}
 
-    ghost lawful = { workspace_lawful (tree_of M.kind) (tree_lawful M.lawful) };
+    ghost lawful = { workspace_sound (tree_of M.kind) (tree_sound M.lawful) };
 }

@@ -1,6 +1,6 @@
-use Rattle.manifest_schema.proofs.Totals.{kept_total, tree_total}
-use Rattle.manifest_schema.proofs.MeaningLaws.{accepted_or_faulty}
+use Rattle.manifest_schema.proofs.KindLaws.{kept_sound, tree_sound}
+use Rattle.manifest_schema.proofs.FoundLaws.{accepted_or_faulty}
 use Rattle.cargo_manifest.proofs.laws.accepted_or_faulty.Goals as goal
 
 pub returns : goal.returns
-returns c = accepted_or_faulty (tree_total kept_total) (tree_total kept_total)
+returns c = accepted_or_faulty (tree_sound kept_sound) (tree_sound kept_sound)

@@ -1,6 +1,6 @@
-use Rattle.manifest_schema.proofs.KindLaws.{tree_lawful}
+use Rattle.manifest_schema.proofs.KindLaws.{tree_sound}
 use Rattle.manifest_schema.proofs.MeaningLaws.{rewritten_twice_is_once}
 use Rattle.cargo_manifest.proofs.laws.rewritten_twice_is_once.Goals as goal
 
 pub returns : goal.returns
-returns g c = rewritten_twice_is_once (tree_lawful g.met.P.Schema.lawful) (tree_lawful g.met.W.Schema.lawful)
+returns g c = rewritten_twice_is_once (tree_sound g.met.P.Schema.lawful) (tree_sound g.met.W.Schema.lawful)

@@ -1,6 +1,6 @@
-use Rattle.manifest_schema.proofs.KindLaws.{tree_lawful}
+use Rattle.manifest_schema.proofs.KindLaws.{tree_sound}
 use Rattle.manifest_schema.proofs.MeaningLaws.{same_exactly}
 use Rattle.cargo_manifest.proofs.laws.same_exactly.Goals as goal
 
 pub returns : goal.returns
-returns g c = same_exactly (tree_lawful g.met.P.Schema.lawful) (tree_lawful g.met.W.Schema.lawful)
+returns g c = same_exactly (tree_sound g.met.P.Schema.lawful) (tree_sound g.met.W.Schema.lawful)

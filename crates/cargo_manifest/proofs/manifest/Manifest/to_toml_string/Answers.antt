@@ -1,7 +1,7 @@
 use Rattle.manifest_schema.specs.Prelude.{Members, members_depth, table_view, tree_of, rewritten}
 use Rattle.std.proofs.Common.{◌≡◌, ◌≤◌, Some, string_bytes, subst}
 use Rattle.toml.specs.Parse.{parse_document}
-use Rattle.manifest_schema.proofs.KindLaws.{tree_lawful}
+use Rattle.manifest_schema.proofs.KindLaws.{tree_sound}
 use Rattle.manifest_schema.proofs.MeaningLaws.{written_means_the_same}
 use Rattle.cargo_manifest.specs.Whole.{manifest_of}
 use Rattle.cargo_manifest.proofs.manifest.Manifest.to_toml_string.Goals as goal
@@ -16,5 +16,6 @@ returns-in-Ok-clause-reads_as_it g c = λ good headed deep.
     record {
       document = ms;
       parsed = back deep;
-      meant = written_means_the_same (tree_lawful g.met.P.Schema.lawful) (tree_lawful g.met.W.Schema.lawful) m good headed;
+      meant = written_means_the_same (tree_sound g.met.P.Schema.lawful)
+          (tree_sound g.met.W.Schema.lawful) m good headed;
     }
