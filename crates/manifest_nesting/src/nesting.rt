@@ -1,6 +1,7 @@
 //! How deep a text nests tables and arrays, counted from its bytes before it is parsed.
 
 ghost use Rattle.std.specs.Prelude.{◌≡◌, Some, None, option_map, if◌then◌else◌};
+ghost use Rattle.std.specs.Bool.{OnFalse};
 ghost use Rattle.manifest_nesting.specs.Nesting as spec;
 
 use crate::laws::few_marks_nest_no_deeper;
@@ -97,10 +98,11 @@ impl Nesting {
         }
     }
 
-    /// A bracket opens: one deeper, and the tables of its key. Returns whether that is within the limit.
+    /// A bracket opens: one deeper, and the tables of its key. Returns whether that is within the limit; else nothing changes.
     #[inline(always)]
     fn open(&mut self) -> bool
-        ensures { spec.opened self.old ≡ (if result then Some self.new else None) }
+        ensures opened { spec.opened self.old ≡ (if result then Some self.new else None) }
+        ensures kept { OnFalse result (self.new ≡ self.old) }
     {
         let depth = usize::from(self.depth) + usize::from(self.above) + 1;
         if depth <= DEPTH_LIMIT && !self.outer.is_full() {
@@ -127,10 +129,12 @@ impl Nesting {
         }
     }
 
-    /// The dots were those of a key, whose value comes next. Returns whether its tables are within the limit.
+    /// The dots were those of a key, whose value comes next. Returns whether its tables are within the limit; else nothing
+    /// changes.
     #[inline(always)]
     fn equals(&mut self) -> bool
-        ensures { spec.equals_sign self.old ≡ (if result then Some self.new else None) }
+        ensures counted { spec.equals_sign self.old ≡ (if result then Some self.new else None) }
+        ensures kept { OnFalse result (self.new ≡ self.old) }
     {
         let limit = if self.arrays {
             DOTTED_LIMIT
