@@ -1,7 +1,6 @@
 -- Faults one step further out.
-use Rattle.manifest_schema.specs.Prelude.{AllocError, Data, table, Path, Step, Cause as SchemaCause, behind, Rows, form, Kind, map_of, faulty}
-use Rattle.std.proofs.Common.{inl}
-use Rattle.manifest_value.specs.Faults.{FaultIn, IsBehind, path_of, no_table}
+use Rattle.manifest_schema.specs.Prelude.{AllocError, Path, Step, Cause as SchemaCause, behind}
+use Rattle.manifest_value.specs.Faults.{FaultIn, IsBehind, path_of}
 use Rattle.manifest_value.specs.declared.fault.ReadFault.{ReadFault}
 use Rattle.manifest_value.specs.declared.fault.ReadFault.TheVariants.{Schema, Memory}
 
@@ -20,16 +19,3 @@ fault_behind P s (Schema f) (Schema g) h k = (path_of f.path, k.0, rw k.1 h)
 pub memory_behind : (s : Step) (f : ReadFault) (e : AllocError) → IsBehind s f (Memory e)
 memory_behind s (Schema f) e = tt
 memory_behind s (Memory e') e = tt
-
--- a value that is no table is refused by each form, and by each map
-pub form_refuses : {A : Type 0} (rows : Rows A) (d : Data) (f : ReadFault) → FaultIn (no_table d) f
-    → FaultIn (faulty (form rows) d) f
-form_refuses rows d (Memory e) h = tt
-form_refuses rows (table ms) (Schema f) h = absurd h
-form_refuses rows _ (Schema f) h = inl h
-
-pub map_refuses : {A : Type 0} (K : Kind A) (d : Data) (f : ReadFault) → FaultIn (no_table d) f
-    → FaultIn (faulty (map_of K) d) f
-map_refuses K d (Memory e) h = tt
-map_refuses K (table ms) (Schema f) h = absurd h
-map_refuses K _ (Schema f) h = inl h

@@ -1,10 +1,7 @@
 -- A map that is made of another, entry by entry.
-use Rattle.manifest_schema.specs.Prelude.{nat_list_cmp_total, slice_cmp, AllByRecursion, ordering_reverse, insert_entry, keys_of, string_cmp, Data, Members, Value, view, members_view, Kind, has_entry, faulty_entry, behind, key, faulty}
-use Rattle.std.proofs.Common.{◌≡◌, ℕ, List, [], ◌∷◌, ◌++◌, map, String, Global, Less, Greater, nat_cmp, string_bytes, refl, ap, ◌∙◌, inl, inr, get_or, drop, length, arith}
+use Rattle.manifest_schema.specs.Prelude.{nat_list_cmp_total, slice_cmp, AllByRecursion, ordering_reverse, insert_entry, keys_of, string_cmp}
+use Rattle.std.proofs.Common.{◌≡◌, ℕ, List, [], ◌∷◌, ◌++◌, map, String, Global, Less, Greater, nat_cmp, string_bytes, refl, ap, ◌∙◌, get_or, drop, length, arith}
 use Rattle.std.specs.List.Sorted.{IsStrictlySortedBy}
-use Rattle.manifest_value.specs.Faults.{FaultIn}
-use Rattle.manifest_value.specs.declared.fault.ReadFault.{ReadFault}
-use Rattle.manifest_value.proofs.Behind.{fault_weaker}
 
 -- the texts of the keys
 abbrev pub texts : {X : Type 0} → List (String Global × X) → List (List ℕ)
@@ -28,13 +25,3 @@ insert_last (x ∷ es) (first ∷ done) e more name v same named h =
     let above : slice_cmp nat_cmp (string_bytes name) (string_bytes x.0) ≡ Greater =
     rw (heads, named) (nat_list_cmp_total.antisymm (string_bytes e.0) (string_bytes first.0) ∙ ap ordering_reverse (key_below first done e more h.0)) in
     rw above (ap (λ t. x ∷ t) (insert_last es done e more name v tails named h.1))
-
-pub has_entry_within : (done : List (String Global × Value)) (e : String Global × Value) (more : List (String Global × Value)) → has_entry (string_bytes e.0) (view e.1) (members_view (done ++ e ∷ more))
-has_entry_within [] e more = inl (refl, refl)
-has_entry_within (d ∷ done) e more = inr (has_entry_within done e more)
-
--- a fault of a value is a fault of the entries that have it
-pub entry_fault : {A : Type 0} (K : Kind A) (ms : Members) (k : List ℕ) (d : Data) (f : ReadFault) → has_entry k d ms
-    → FaultIn (behind (key k) (faulty K d)) f → FaultIn (faulty_entry K ms) f
-entry_fault K ms k d f within h =
-    fault_weaker (behind (key k) (faulty K d)) (faulty_entry K ms) f (λ p c q. (k, d, within, q)) h

@@ -1,7 +1,7 @@
 -- The first fault that is found: one step further out, and after findings without a fault.
-use Rattle.manifest_schema.specs.Prelude.{no_fault, itself, table, Data, Items, no_items, item, Members, no_members, member, Text, Path, Cause as SchemaCause, Step, behind, key, index, Spellings, Slot, IsSound, Kind, Entries, Rows, spelled, left_over, findings_beside, fault, ignored, unused, unused_keys, faults_of, among, foremost, first_found, found_here, found_behind, leniently, IsFaultless, item_findings, entry_findings, form_findings, plain, kept}
+use Rattle.manifest_schema.specs.Prelude.{table, Data, Items, no_items, item, Members, no_members, member, Text, Path, Cause as SchemaCause, Step, key, index, Spellings, Slot, IsSound, Kind, Entries, Rows, spelled, left_over, findings_beside, fault, ignored, unused, unused_keys, faults_of, among, foremost, first_found, found_behind, leniently, IsFaultless, item_findings, entry_findings, form_findings, plain, kept}
 use Rattle.manifest_schema.specs.Findings.{Finding}
-use Rattle.std.proofs.Common.{◌≡◌, ℕ, suc, true, inl, List, [], ◌∷◌, ◌++◌, Result, Ok, Err, OnOk, refl, sym, ap, ◌∙◌, subst, length, ◌+◌, arith, drop}
+use Rattle.std.proofs.Common.{◌≡◌, ℕ, suc, true, List, [], ◌∷◌, ◌++◌, Result, Ok, Err, OnOk, refl, sym, ap, ◌∙◌, subst, length, ◌+◌, arith, drop}
 use Rattle.manifest_schema.proofs.Faultless.{lenient_none, faults-append}
 use Rattle.manifest_schema.proofs.KindLaws.{kept_sound}
 use Rattle.manifest_schema.specs.Kinds.{map_findings, float_findings}
@@ -9,11 +9,12 @@ use Rattle.manifest_value.specs.Entries.{reads_first}
 use Rattle.manifest_value.specs.Faults.{FaultIn, IsBehind, no_table}
 use Rattle.manifest_value.specs.FormRows.{AreAll}
 use Rattle.manifest_value.specs.Found.{HasNoFault, findings_at, findings_from}
+use Rattle.manifest_value.specs.Reading.{GivesOr}
 use Rattle.manifest_value.specs.Walks.{names_of, slots_at}
 use Rattle.manifest_value.specs.declared.fault.ReadFault.{ReadFault}
 use Rattle.manifest_value.specs.declared.fault.ReadFault.TheVariants.{Schema, Memory}
-use Rattle.manifest_value.proofs.Behind.{fault_weaker, fault_behind}
-use Rattle.manifest_value.proofs.FoundLemmas.{one_found, closed_rows_found}
+use Rattle.manifest_value.proofs.Behind.{fault_weaker}
+use Rattle.manifest_value.proofs.FoundLemmas.{one_found, closed_rows_found, foremost_among}
 use Rattle.manifest_value.proofs.ReadingLemmas.{reads_first_items}
 
 -- ONE STEP FURTHER OUT
@@ -29,23 +30,16 @@ first_behind fs s f (Memory e) h k = tt
 first_behind fs s (Memory e) (Schema g) h k = absurd k
 first_behind fs s (Schema f) (Schema g) h k = foremost_behind fs s _ _ _ _ h k.0 k.1
 
--- the fault at a key of a table
-pub first_at : (s : Step) (c : SchemaCause) (f : ReadFault) → FaultIn (behind s (itself c)) f → FaultIn (first_found (found_behind s (found_here c))) f
-first_at s c (Memory e) h = tt
-first_at s c (Schema f) h = (h.1 ∙ ap (λ q. s ∷ q) h.2.0, h.2.1)
-
--- OUT OF MEMORY stands for any fault
-pub first_memory : (fs : List Finding) (f : ReadFault) → FaultIn no_fault f → FaultIn (first_found fs) f
-first_memory fs (Memory e) h = tt
-first_memory fs (Schema f) h = absurd h
-
 -- THE FIRST FAULT is one of them
-foremost_among : (fs : List (Path × SchemaCause)) (p : Path) (c : SchemaCause) → foremost fs p c → among fs p c
-foremost_among (f ∷ fs) p c h = inl h
-foremost_among [] p c h = h
-
 pub first_is_fault : (fs : List Finding) (f : ReadFault) → FaultIn (first_found fs) f → FaultIn (among (faults_of fs)) f
 first_is_fault fs f h = fault_weaker (first_found fs) (among (faults_of fs)) f (foremost_among (faults_of fs)) h
+
+-- A RESULT that is one of P is one of Q, and its fault is the first of others too
+pub gives_weaker : {X : Type 0} (P Q : X → Type 0) (fs gs : List Finding) (r : Result X ReadFault)
+    → ((x : X) → P x → Q x) → ((f : ReadFault) → FaultIn (first_found fs) f → FaultIn (first_found gs) f)
+    → GivesOr P fs r → GivesOr Q gs r
+gives_weaker P Q fs gs (Ok x) w v h = w x h
+gives_weaker P Q fs gs (Err f) w v h = v f h
 
 -- AFTER FINDINGS WITHOUT A FAULT
 no_cons : {X : Type 0} {x : X} {xs : List X} → x ∷ xs ≡ [] → ⊥
@@ -107,7 +101,7 @@ lenient_clean (Ok x) fs = none_lenient fs
 lenient_clean (Err e) fs = tt
 
 -- for a reader that puts a step before a fault's path
-pub ruleset step_laws = (fault_behind, first_behind, none_behind, none_read)
+pub ruleset step_laws = (first_behind, none_behind, none_read)
 
 -- ITEMS and ENTRIES: those before are read
 module _ {A : Type 0} (K : Kind A) (L : IsSound K) where

@@ -1,7 +1,7 @@
 -- What is found row by row, and then in the map of all other keys or under the keys that no row has.
-use Rattle.manifest_schema.specs.Prelude.{Data, Kind, Members, no_members, table, Text, Spellings, Slot, at, Rows, no_more, others, ◌⨾◌, without, spelled, findings_beside, left_beside, form_findings, unused_keys, faulty}
+use Rattle.manifest_schema.specs.Prelude.{Data, Kind, Members, no_members, table, Text, Spellings, Slot, at, Rows, no_more, others, ◌⨾◌, without, spelled, findings_beside, left_beside, form_findings, unused_keys, Path, Cause as SchemaCause, faults_of, among, foremost, first_found}
 use Rattle.manifest_schema.specs.OneFault.{HasOneFault}
-use Rattle.std.proofs.Common.{◌≡◌, ℕ, zero, suc, List, [], ◌∷◌, ◌++◌, refl, sym, ap, ap₂, ◌∙◌, drop, append_assoc, append-nil}
+use Rattle.std.proofs.Common.{◌≡◌, ℕ, zero, suc, List, [], ◌∷◌, ◌++◌, refl, sym, ap, ap₂, ◌∙◌, drop, append_assoc, append-nil, inl}
 use Rattle.manifest_value.specs.FormRows.{many, AreAll}
 use Rattle.manifest_value.specs.Found.{found, findings_at, findings_from, other_findings, IsOpen, IsFoundHere}
 use Rattle.manifest_value.specs.Faults.{FaultIn, path_of, cause_of}
@@ -67,12 +67,19 @@ open_found rows ms o =
     rows_found rows (spelled rows) ms ∙ sym (append-nil (findings_beside (spelled rows) rows ms))
     ∙ ap (λ x. findings_beside (spelled rows) rows ms ++ unused_keys x) (sym (left_open rows (spelled rows) ms o))
 
+-- THE FIRST FAULT is one of them
+pub foremost_among : (fs : List (Path × SchemaCause)) (p : Path) (c : SchemaCause) → foremost fs p c → among fs p c
+foremost_among (f ∷ fs) p c h = inl h
+foremost_among [] p c h = h
+
 -- ONE FAULT AT MOST: a value that is read has no finding, and one that is refused has that fault alone
 pub one_fault_read : {A : Type 0} {K : Kind A} {words : List Text} → HasOneFault K words → (d : Data) (x : A) → K.reads d x → [] ≡ K.findings d
 one_fault_read h d x r = sym (h.none d x r)
 
 pub one_fault_refused : {A : Type 0} {K : Kind A} {words : List Text} → HasOneFault K words
-    → (d : Data) (e : ReadFault) (fs : Findings) → FaultIn (faulty K d) e → IsFoundHere words e fs
+    → (d : Data) (e : ReadFault) (fs : Findings) → FaultIn (first_found (K.findings d)) e → IsFoundHere words e fs
     → found fs ≡ K.findings d
-one_fault_refused h d (Schema f) fs stands alone = alone ∙ sym (h.alone d (path_of f.path) (cause_of f.cause) stands)
+one_fault_refused {K = K} h d (Schema f) fs stands alone =
+    let is_fault = foremost_among (faults_of (K.findings d)) (path_of f.path) (cause_of f.cause) stands in
+    alone ∙ sym (h.alone d (path_of f.path) (cause_of f.cause) is_fault)
 one_fault_refused h d (Memory e) fs stands alone = absurd alone

@@ -1,6 +1,6 @@
 -- Entries that are read of the first members of a table: their keys ascend as the table's do.
-use Rattle.manifest_schema.specs.Prelude.{slice_cmp, AllByRecursion, keys_of, string_cmp, Data, Items, no_items, item, get_item, Members, no_members, member, Value, members_view, Text, is_among, without, Kind, Entries, has_entry, reads_items, reads_entries}
-use Rattle.std.proofs.Common.{◌≡◌, Bool, true, false, List, [], ◌∷◌, String, Global, Less, nat_cmp, string_bytes, if◌then◌else◌, subst, ◌++◌, map, length, Some, refl, inl, inr}
+use Rattle.manifest_schema.specs.Prelude.{slice_cmp, AllByRecursion, keys_of, string_cmp, Data, Items, no_items, item, Members, no_members, member, Value, members_view, Text, is_among, without, Kind, Entries, reads_items, reads_entries}
+use Rattle.std.proofs.Common.{◌≡◌, Bool, true, false, List, [], ◌∷◌, String, Global, Less, nat_cmp, string_bytes, if◌then◌else◌, subst, ◌++◌, map, refl}
 use Rattle.std.specs.List.Sorted.{IsStrictlySortedBy}
 use Rattle.manifest_value.specs.Entries.{entries_content, reads_first}
 use Rattle.manifest_value.specs.Walks.{IsBelow, Ascend}
@@ -11,12 +11,6 @@ pub reads_more : {A X : Type 0} (K : Kind A) (f : X → A) (ms : Members) (es : 
 reads_more K f ms [] name x d rest h r = rw h (refl, r, refl)
 reads_more K f no_members (e ∷ es) name x d rest h r = absurd h
 reads_more K f (member k c ms) (e ∷ es) name x d rest h r = (h.0, h.1, reads_more K f ms es name x d rest h.2 r)
-
--- the next of those that are left stands in the table
-pub next_within : {A : Type 0} (K : Kind A) (ms : Members) (es : Entries A) (k : Text) (d : Data) (rest : Members) → reads_first K ms es (member k d rest) → has_entry k d ms
-next_within K ms [] k d rest h = rw h (inl (refl, refl))
-next_within K no_members (e ∷ es) k d rest h = absurd h
-next_within K (member l c ms) (e ∷ es) k d rest h = inr (next_within K ms es k d rest h.2)
 
 -- the contents are read of the first items, and the rest is left
 abbrev pub reads_first_items : {A : Type 0} → Kind A → Items → List A → Items → Type 0
@@ -30,12 +24,6 @@ pub items_more : {A X : Type 0} (K : Kind A) (f : X → A) (ds : Items) (xs : Li
 items_more K f ds [] x d rest h r = rw h (r, refl)
 items_more K f no_items (y ∷ xs) x d rest h r = absurd h
 items_more K f (item c ds) (y ∷ xs) x d rest h r = (h.0, items_more K f ds xs x d rest h.1 r)
-
--- the next of those that are left stands after those that are read
-pub next_item : {A X : Type 0} (K : Kind A) (f : X → A) (ds : Items) (xs : List X) (d : Data) (rest : Items) → reads_first_items K ds (map f xs) (item d rest) → get_item (length xs) ds ≡ Some d
-next_item K f ds [] d rest h = rw h refl
-next_item K f no_items (y ∷ xs) d rest h = absurd h
-next_item K f (item c ds) (y ∷ xs) d rest h = next_item K f ds xs d rest h.1
 
 pub no_item_left : {A : Type 0} (K : Kind A) (ds : Items) (xs : List A) → reads_first_items K ds xs no_items → reads_items K ds xs
 no_item_left K ds [] h = rw h tt

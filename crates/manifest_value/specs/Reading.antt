@@ -1,6 +1,11 @@
 -- Words for what the contracts of readers and writers say again and again.
-use Rattle.manifest_schema.specs.Prelude.{BTreeMap, Global, Data, table, Members, table_view, Value, Kind, Rows, form}
-use Rattle.std.specs.Prelude.{String}
+use Rattle.manifest_schema.specs.Prelude.{BTreeMap, Global, Data, table, Members, table_view, Value, Text, Step, Spellings, first, Kind, Rows, form, first_found, found_behind}
+use Rattle.manifest_schema.specs.Findings.{Finding}
+use Rattle.std.specs.Prelude.{◌≡◌, List, String, Result, Ok, Err}
+use Rattle.manifest_value.specs.Faults.{FaultIn}
+use Rattle.manifest_value.specs.Refusals.{RefusedIn}
+use Rattle.manifest_value.specs.declared.error.Error.{Error}
+use Rattle.manifest_value.specs.declared.fault.ReadFault.{ReadFault}
 
 -- the data that a table is
 abbrev pub data_of : BTreeMap (String Global) Value → Data
@@ -17,3 +22,34 @@ Reads K content d x = K.reads d (content x)
 -- what x holds is what this table means by these rows
 abbrev pub IsOfTable : {X A : Type 0} → Rows A → (X → A) → Members → X → Type 0
 IsOfTable rows content ms x = Reads (form rows) content (table ms) x
+
+-- THE RESULT OF A READER
+-- P of the answer, or the first of the faults that were found, or out of memory
+abbrev pub GivesOr : {X : Type 0} → (X → Type 0) → List Finding → Result X ReadFault → Type 0
+GivesOr P found (Ok x) = P x
+GivesOr P found (Err f) = FaultIn (first_found found) f
+
+-- the one reading of the data by this kind, or the first fault that is found, or out of memory
+abbrev pub Gives : {X A : Type 0} → Kind A → (X → A) → Data → Result X ReadFault → Type 0
+Gives K content d = GivesOr (Reads K content d) (K.findings d)
+
+-- the same of data that this step leads to: the step stands before the path of the fault
+abbrev pub GivesBehind :
+    {X A : Type 0} → Step → Kind A → (X → A) → Data → Result X ReadFault → Type 0
+GivesBehind s K content d = GivesOr (Reads K content d) (found_behind s (K.findings d))
+
+-- P, or the first fault that is found of a row, whose first spelling is this word, or out of memory
+abbrev pub GivesRow :
+    {X : Type 0} → Type 0 → (Spellings → List Finding) → Text → Result X ReadFault → Type 0
+GivesRow P find word (Ok x) = P
+GivesRow P find word (Err f) =
+    (names : Spellings) → first names ≡ word → FaultIn (first_found (find names)) f
+
+-- P of the answer of a public call, or the first of the faults that were found, or out of memory
+abbrev pub AnswersOr : {X : Type 0} → (X → Type 0) → List Finding → Result X Error → Type 0
+AnswersOr P found (Ok x) = P x
+AnswersOr P found (Err e) = RefusedIn (first_found found) e
+
+-- the answer of a public call: as Gives, and the refusal is an Error
+abbrev pub Answers : {X A : Type 0} → Kind A → (X → A) → Data → Result X Error → Type 0
+Answers K content d = AnswersOr (Reads K content d) (K.findings d)

@@ -1,10 +1,9 @@
 //! The items of a list that is read, one after the other, whether it is borrowed or owned.
 
-ghost use Rattle.manifest_schema.specs.Prelude.{items_view, reads_items, faulty_item, behind, index, first_found, found_behind, item_findings, faulty};
-ghost use Rattle.std.specs.Prelude.{map, IfOk, IfErr};
+ghost use Rattle.manifest_schema.specs.Prelude.{array, items_view, index, list_of};
+ghost use Rattle.std.specs.Prelude.{map};
 ghost use Rattle.std.specs.Iterator.{YieldsFirstBy, item_count};
-ghost use Rattle.manifest_value.specs.Faults.{FaultIn};
-ghost use Rattle.manifest_value.specs.Reading.{Reads};
+ghost use Rattle.manifest_value.specs.Reading.{Gives, GivesBehind};
 ghost use Rattle.manifest_value.specs.Sources.{source_value, source_view, items_left};
 
 use crate::fault::{ReadFault, Step, fault_behind_step};
@@ -50,11 +49,7 @@ impl<'t> Iterator for Items<'t> {
 #[inline(always)]
 #[tactic(auto, using(crate::proofs::FirstLemmas::step_laws))]
 fn read_item<T: Schema>(alloc: Global, source: Source<'_>, i: usize) -> Result<T, ReadFault>
-    ensures ok { IfOk result (Reads T.kind T.content (source_view source.entry)) }
-    ensures fault { IfErr result
-        (FaultIn (behind (index i) (faulty T.kind (source_view source.entry)))) }
-    ensures first { let inside = T.kind.findings (source_view source.entry) in
-        IfErr result (FaultIn (first_found (found_behind (index i) inside))) }
+    ensures { GivesBehind (index i) T.kind T.content (source_view source.entry) result }
 {
     match T::read(alloc, source) {
         Ok(x) => Ok(x),
@@ -68,12 +63,8 @@ pub(crate) fn read_items<T: Schema>(
     room: usize,
     items: Items<'_>,
 ) -> Result<Vec<T>, ReadFault>
-    ensures ok { IfOk result
-        (λ v. reads_items T.kind (items_view (items_left items.entry)) (map T.content v.items)) }
-    ensures fault { IfErr result
-        (FaultIn (faulty_item T.kind (items_view (items_left items.entry)))) }
-    ensures first { let all = items_view (items_left items.entry) in
-        IfErr result (FaultIn (first_found (item_findings T.kind.findings 0 all))) }
+    ensures { let d = array (items_view (items_left items.entry)) in
+        Gives (list_of T.kind) (λ v. map T.content v.items) d result }
 {
     let mut all = Vec::with_capacity(alloc, room)?;
     for source in items {

@@ -1,9 +1,9 @@
 //! Values that are kept as they are.
-ghost use Rattle.manifest_schema.specs.Prelude.{Data, array, table, view, array_view, table_view, plain, plain_items, plain_members, float_in, float_findings, item_floats, entry_floats, kept as kept_kind, first_found, faulty};
-ghost use Rattle.std.specs.Prelude.{◌≡◌, not, IsTrue, IfOk, IfErr, OnOk};
+ghost use Rattle.manifest_schema.specs.Prelude.{Data, view, array_view, table_view, plain, plain_items, plain_members, float_findings, item_floats, entry_floats, kept as kept_kind};
+ghost use Rattle.std.specs.Prelude.{◌≡◌, not, IsTrue, IfOk};
 ghost use Rattle.manifest_schema.proofs.KindLaws.{kept_sound};
-ghost use Rattle.manifest_value.specs.Faults.{FaultIn};
 ghost use Rattle.manifest_value.specs.Found.{found};
+ghost use Rattle.manifest_value.specs.Reading.{Gives, GivesOr};
 
 use crate::fault::{Cause, ReadFault, Step, fault_behind_step, fault_here, fault_under_key};
 use crate::findings::{Findings, Found};
@@ -60,9 +60,8 @@ fn members_hold_float(members: &Table) -> bool
 /// of items and of keys.
 #[cycle(places)]
 fn refuse_float(alloc: Global, value: &Value) -> Result<(), ReadFault>
-    ensures ok { OnOk result (IsTrue (plain (view value.now))) }
-    ensures fault { IfErr result (FaultIn (float_in (view value.now))) }
-    ensures first { IfErr result (FaultIn (first_found (float_findings (view value.now)))) }
+    ensures { let d = view value.now in
+        GivesOr (λ u. IsTrue (plain d)) (float_findings d) result }
 {
     match value {
         Value::Float(_) => Err(fault_here(alloc, Cause::HoldsFloat)),
@@ -76,9 +75,8 @@ fn refuse_float(alloc: Global, value: &Value) -> Result<(), ReadFault>
 /// one, which begins with the item's index.
 #[cycle(places)]
 fn refuse_float_in_items(alloc: Global, items: &Vec<Value>) -> Result<(), ReadFault>
-    ensures ok { OnOk result (IsTrue (plain_items (array_view items.now))) }
-    ensures fault { IfErr result (FaultIn (float_in (array (array_view items.now)))) }
-    ensures first { IfErr result (FaultIn (first_found (item_floats 0 (array_view items.now)))) }
+    ensures { let ds = array_view items.now in
+        GivesOr (λ u. IsTrue (plain_items ds)) (item_floats 0 ds) result }
 {
     for (i, item) in items.iter().enumerate() {
         if let Err(fault) = refuse_float(alloc, item) {
@@ -92,9 +90,8 @@ fn refuse_float_in_items(alloc: Global, items: &Vec<Value>) -> Result<(), ReadFa
 /// the first one, which begins with the entry's key.
 #[cycle(places)]
 fn refuse_float_in_members(alloc: Global, members: &Table) -> Result<(), ReadFault>
-    ensures ok { OnOk result (IsTrue (plain_members (table_view members.now))) }
-    ensures fault { IfErr result (FaultIn (float_in (table (table_view members.now)))) }
-    ensures first { IfErr result (FaultIn (first_found (entry_floats (table_view members.now)))) }
+    ensures { let ms = table_view members.now in
+        GivesOr (λ u. IsTrue (plain_members ms)) (entry_floats ms) result }
 {
     for (key, member) in members.iter() {
         if let Err(fault) = refuse_float(alloc, member) {
@@ -150,11 +147,8 @@ fn find_floats_in_members(alloc: Global, members: &Table) -> Found
 /// ```ignore
 /// let level = kept(alloc, &value)?; // of `3` the same 3; of `{ a = [1, 2.5] }` a refusal at `a[1]`
 /// ```
-#[tactic(auto, using(crate::proofs::FirstLemmas::first_is_fault))]
 pub fn kept(alloc: Global, value: &Value) -> Result<Value, ReadFault>
-    ensures ok { IfOk result (λ v. kept_kind.reads (view value.now) (view v)) }
-    ensures fault { IfErr result (FaultIn (faulty kept_kind (view value.now))) }
-    ensures first { IfErr result (FaultIn (first_found (kept_kind.findings (view value.now)))) }
+    ensures { Gives kept_kind view (view value.now) result }
 {
     refuse_float(alloc, value)?;
     Ok(value.clone()?)
@@ -168,7 +162,6 @@ impl Schema for Value {
 
     ghost kind = { kept_kind };
 
-    #[tactic(auto, using(crate::proofs::FirstLemmas::first_is_fault))]
     fn read(alloc: Global, source: Source<'_>) -> Result<Value, ReadFault> {
         refuse_float(alloc, source.value())?;
         match source {

@@ -1,10 +1,10 @@
 //! Maps whose keys are strings: made of entries in order, read from a table, and written as one.
-ghost use Rattle.manifest_schema.specs.Prelude.{keys_of, string_cmp, no_members, table_view, behind, key as key_step, Entries as Contents, map_of, reads_entries, written_entries, faulty_entry, first_found, found_behind, entry_findings, faulty};
-ghost use Rattle.std.specs.Prelude.{◌≡◌, IfOk, IfErr, string_bytes};
+ghost use Rattle.manifest_schema.specs.Prelude.{keys_of, string_cmp, no_members, table as table_data, table_view, key as key_step, Entries as Contents, map_of, written_entries, found_behind, entry_findings};
+ghost use Rattle.std.specs.Prelude.{◌≡◌, IfOk, string_bytes};
 ghost use Rattle.std.specs.List.Sorted.{IsStrictlySortedBy};
-ghost use Rattle.manifest_value.specs.Faults.{FaultIn};
 ghost use Rattle.manifest_value.specs.Entries.{entries_content, reads_first};
-ghost use Rattle.manifest_value.specs.Sources.{source_view, members_of, key_view, rest_view, entries_view};
+ghost use Rattle.manifest_value.specs.Reading.{Reads, Gives, GivesOr};
+ghost use Rattle.manifest_value.specs.Sources.{source_view, table_source, key_view, rest_view, entries_view};
 ghost use Rattle.manifest_value.specs.Walks.{Ascend};
 ghost use Rattle.manifest_schema.proofs.KindLaws.{map_sound};
 
@@ -43,12 +43,9 @@ fn read_entry<T: Schema>(
     key: Key<'_>,
     source: Source<'_>,
 ) -> Result<(String, T), ReadFault>
-    ensures ok { IfOk result (λ e. (string_bytes e.0 ≡ key_view key.entry)
-        × T.kind.reads (source_view source.entry) (T.content e.1)) }
-    ensures fault { IfErr result (FaultIn
-        (behind (key_step (key_view key.entry)) (faulty T.kind (source_view source.entry)))) }
-    ensures first { let inside = T.kind.findings (source_view source.entry) in
-        IfErr result (FaultIn (first_found (found_behind (key_step (key_view key.entry)) inside))) }
+    ensures { let k = key_view key.entry in let d = source_view source.entry in
+        GivesOr (λ e. (string_bytes e.0 ≡ k) × Reads T.kind T.content d e.1)
+        (found_behind (key_step k) (T.kind.findings d)) result }
 {
     let name = key.into_string(alloc)?;
     let x = source_under(alloc, source, name.as_str())?;
@@ -61,11 +58,9 @@ fn list_of_entries<T: Schema>(
     room: usize,
     entries: Entries<'_>,
 ) -> Result<Vec<(String, T)>, ReadFault>
-    ensures ok { IfOk result (λ v. reads_first T.kind (entries_view entries.entry)
-        (entries_content T.content v.items) no_members) }
-    ensures fault { IfErr result (FaultIn (faulty_entry T.kind (entries_view entries.entry))) }
-    ensures first { let all = entry_findings T.kind.findings (entries_view entries.entry) in
-        IfErr result (FaultIn (first_found all)) }
+    ensures { let ms = entries_view entries.entry in
+        GivesOr (λ v. reads_first T.kind ms (entries_content T.content v.items) no_members)
+        (entry_findings T.kind.findings ms) result }
 {
     let mut all = Vec::with_capacity(alloc, room)?;
     for (key, source) in entries {
@@ -84,11 +79,8 @@ fn read_map<T: Schema>(
     entries: Entries<'_>,
 ) -> Result<BTreeMap<String, T>, ReadFault>
     requires { Ascend (entries_view entries) }
-    ensures ok { IfOk result (λ m. reads_entries T.kind (entries_view entries.entry)
-        (entries_content T.content m.entries)) }
-    ensures fault { IfErr result (FaultIn (faulty_entry T.kind (entries_view entries.entry))) }
-    ensures first { let all = entry_findings T.kind.findings (entries_view entries.entry) in
-        IfErr result (FaultIn (first_found all)) }
+    ensures { let d = table_data (entries_view entries.entry) in
+        Gives (map_of T.kind) (λ m. entries_content T.content m.entries) d result }
 {
     let all = list_of_entries(alloc, room, entries)?;
     Ok(map_of_list(alloc, all)?)
@@ -106,11 +98,8 @@ pub fn map_of_entries<T: Schema>(
     rest: Vec<Entry<'_>>,
 ) -> Result<BTreeMap<String, T>, ReadFault>
     requires { Ascend (rest_view rest.items) }
-    ensures ok { IfOk result (λ m. reads_entries T.kind (rest_view rest.entry.items)
-        (entries_content T.content m.entries)) }
-    ensures fault { IfErr result (FaultIn (faulty_entry T.kind (rest_view rest.entry.items))) }
-    ensures first { let all = entry_findings T.kind.findings (rest_view rest.entry.items) in
-        IfErr result (FaultIn (first_found all)) }
+    ensures { let d = table_data (rest_view rest.entry.items) in
+        Gives (map_of T.kind) (λ m. entries_content T.content m.entries) d result }
 {
     read_map(alloc, rest.len(), Entries::Rest(rest.into_iter()))
 }
@@ -121,11 +110,8 @@ fn map_from<T: Schema>(
     alloc: Global,
     table: TableSource<'_>,
 ) -> Result<BTreeMap<String, T>, ReadFault>
-    ensures ok { IfOk result (λ m. reads_entries T.kind (members_of table.entry)
-        (entries_content T.content m.entries)) }
-    ensures fault { IfErr result (FaultIn (faulty_entry T.kind (members_of table.entry))) }
-    ensures first { let all = entry_findings T.kind.findings (members_of table.entry) in
-        IfErr result (FaultIn (first_found all)) }
+    ensures { let d = table_source table.entry in
+        Gives (map_of T.kind) (λ m. entries_content T.content m.entries) d result }
 {
     let room = table.table().len();
     read_map(alloc, room, table.entries())
@@ -154,7 +140,7 @@ impl<T: Schema> Schema for BTreeMap<String, T> {
 
     ghost kind = { map_of T.kind };
 
-    #[tactic(auto, using(crate::proofs::Behind::map_refuses, crate::proofs::FirstLemmas::map_first))]
+    #[tactic(auto, using(crate::proofs::FirstLemmas::map_first))]
     fn read(alloc: Global, source: Source<'_>) -> Result<BTreeMap<String, T>, ReadFault> {
         map_from(alloc, source.into_table(alloc)?)
     }

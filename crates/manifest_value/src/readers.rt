@@ -1,9 +1,10 @@
 //! Readers of a value of one kind, and of a field of a table.
 
-ghost use Rattle.manifest_schema.specs.Prelude.{table as table_data, view, table_view, get_member, at, clash, text, flag, whole, list_of, spellings_of, first_found, faulty};
+ghost use Rattle.manifest_schema.specs.Prelude.{table as table_data, view, table_view, get_member, at, clash, text, flag, whole, list_of, spellings_of};
 ghost use Rattle.std.specs.Prelude.{◌≡◌, map, IfOk, IfErr, Some, string_bytes, option_map, option_copied};
 ghost use Rattle.manifest_schema.specs.Pins.{clash_at};
 ghost use Rattle.manifest_value.specs.Faults.{FaultIn, IsSchema, no_table};
+ghost use Rattle.manifest_value.specs.Reading.{Gives};
 ghost use Rattle.manifest_value.specs.Walks.{value_in};
 
 use crate::fault::{Cause, ReadFault, fault_here};
@@ -24,9 +25,7 @@ use toml::{Table, Value};
 /// ```
 #[inline(always)]
 pub fn text(alloc: Global, value: &Value) -> Result<String, ReadFault>
-    ensures ok { IfOk result (λ s. text.reads (view value.now) (string_bytes s)) }
-    ensures fault { IfErr result (FaultIn (faulty text (view value.now))) }
-    ensures first { IfErr result (FaultIn (first_found (text.findings (view value.now)))) }
+    ensures { Gives text string_bytes (view value.now) result }
 {
     match value {
         Value::String(s) => Ok(String::from_str(alloc, s.as_str())?),
@@ -43,9 +42,7 @@ pub fn text(alloc: Global, value: &Value) -> Result<String, ReadFault>
 /// ```
 #[inline(always)]
 pub fn boolean(alloc: Global, value: &Value) -> Result<bool, ReadFault>
-    ensures ok { IfOk result (flag.reads (view value.now)) }
-    ensures fault { IfErr result (FaultIn (faulty flag (view value.now))) }
-    ensures first { IfErr result (FaultIn (first_found (flag.findings (view value.now)))) }
+    ensures gives { Gives flag (λ b. b) (view value.now) result }
     ensures schema { IfErr result IsSchema }
 {
     match value {
@@ -64,10 +61,7 @@ pub fn boolean(alloc: Global, value: &Value) -> Result<bool, ReadFault>
 /// let too_high = whole(alloc, &Value::Integer(4), 0, 3); // `OutOfRange`
 /// ```
 pub fn whole(alloc: Global, value: &Value, low: i64, high: i64) -> Result<i64, ReadFault>
-    ensures ok { IfOk result ((whole low high).reads (view value.now)) }
-    ensures fault { IfErr result (FaultIn (faulty (whole low high) (view value.now))) }
-    ensures first { IfErr result
-        (FaultIn (first_found ((whole low high).findings (view value.now)))) }
+    ensures gives { Gives (whole low high) (λ n. n) (view value.now) result }
     ensures schema { IfErr result IsSchema }
 {
     match value {
@@ -92,11 +86,7 @@ pub fn whole(alloc: Global, value: &Value, low: i64, high: i64) -> Result<i64, R
 /// let members = texts(alloc, &value)?; // of `["a", "b"]` the texts "a" and "b"
 /// ```
 pub fn texts(alloc: Global, value: &Value) -> Result<Vec<String>, ReadFault>
-    ensures ok { IfOk result
-        (λ v. (list_of text).reads (view value.now) (map string_bytes v.items)) }
-    ensures fault { IfErr result (FaultIn (faulty (list_of text) (view value.now))) }
-    ensures first { IfErr result
-        (FaultIn (first_found ((list_of text).findings (view value.now)))) }
+    ensures { Gives (list_of text) (λ v. map string_bytes v.items) (view value.now) result }
 {
     <Vec<String> as Schema>::read(alloc, Source::Lent(value))
 }

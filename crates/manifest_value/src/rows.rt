@@ -1,8 +1,8 @@
 //! Reading a value under a key, and writing the rows of a form.
-ghost use Rattle.manifest_schema.specs.Prelude.{view, table_view, list_of, itself, behind, key, put_some, written_some, written_unless, is_empty, first_found, found_behind, faulty};
-ghost use Rattle.std.specs.Prelude.{◌≡◌, Some, map, IfOk, IfErr, OnOk, option_map};
+ghost use Rattle.manifest_schema.specs.Prelude.{view, table_view, list_of, itself, behind, key, put_some, written_some, written_unless, is_empty};
+ghost use Rattle.std.specs.Prelude.{◌≡◌, Some, map, OnOk, option_map};
 ghost use Rattle.manifest_value.specs.Faults.{FaultIn, cause_of};
-ghost use Rattle.manifest_value.specs.Reading.{Reads};
+ghost use Rattle.manifest_value.specs.Reading.{GivesBehind};
 
 use crate::fault::{Cause, ReadFault, fault_here, fault_under_key};
 use crate::schema::Schema;
@@ -29,13 +29,8 @@ pub fn at_key(alloc: Global, word: &str, cause: Cause) -> ReadFault
 /// let name: String = read_under(alloc, value, "name")?; // of the value 1 it is refused as `wrong kind at name`
 /// ```
 #[inline(always)]
-#[tactic(auto, using(crate::proofs::Behind::fault_behind))]
 pub fn read_under<T: Schema>(alloc: Global, value: &Value, word: &str) -> Result<T, ReadFault>
-    ensures ok { IfOk result (Reads T.kind T.content (view value.now)) }
-    ensures fault { IfErr result
-        (FaultIn (behind (key word.now) (faulty T.kind (view value.now)))) }
-    ensures first { let inside = T.kind.findings (view value.now) in
-        IfErr result (FaultIn (first_found (found_behind (key word.now) inside))) }
+    ensures { GivesBehind (key word.now) T.kind T.content (view value.now) result }
 {
     source_under(alloc, Source::Lent(value), word)
 }

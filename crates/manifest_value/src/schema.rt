@@ -1,12 +1,12 @@
 //! Types that are read from a value and written as one.
 
-ghost use Rattle.manifest_schema.specs.Prelude.{view, Kind, text, flag, list_of, IsSound, first_found, faulty};
+ghost use Rattle.manifest_schema.specs.Prelude.{view, Kind, text, flag, list_of, IsSound};
 ghost use Rattle.std.specs.Prelude.{◌≡◌, ◌↔◌, ℕ, Bool, List, IsTrue, map, IfOk, IfErr, string_bytes};
 ghost use Rattle.manifest_schema.proofs.KindLaws.{text_sound, flag_sound, list_sound};
-ghost use Rattle.manifest_value.specs.Faults.{FaultIn, IsSchema};
+ghost use Rattle.manifest_value.specs.Faults.{IsSchema};
 ghost use Rattle.manifest_value.specs.Found.{found};
-ghost use Rattle.manifest_value.specs.Reading.{Reads};
-ghost use Rattle.manifest_value.specs.Refusals.{RefusedIn, IsSchemaError};
+ghost use Rattle.manifest_value.specs.Reading.{Gives, Answers};
+ghost use Rattle.manifest_value.specs.Refusals.{IsSchemaError};
 ghost use Rattle.manifest_value.specs.Sources.{source_view};
 
 use crate::error::{Error, refusal};
@@ -43,10 +43,7 @@ pub trait Schema: Sized + Drop {
     /// Reads a value: returns the one reading that it has by the kind, or the first of its faults, or `Memory`. What an
     /// owned value holds is moved where the type can do so, and else copied.
     fn read(alloc: Global, source: Source<'_>) -> Result<Self, ReadFault>
-        ensures ok { IfOk result (Reads kind content (source_view source.entry)) }
-        ensures fault { IfErr result (FaultIn (faulty kind (source_view source.entry))) }
-        ensures first { IfErr result
-            (FaultIn (first_found (kind.findings (source_view source.entry)))) }
+        ensures gives { Gives kind content (source_view source.entry) result }
         ensures schema { takes_no_memory → IfErr result IsSchema };
 
     /// Reads a borrowed value: returns the one reading that it has by the kind.
@@ -59,9 +56,7 @@ pub trait Schema: Sized + Drop {
     /// let edition = Edition::from_value(alloc, &value)?; // `E2021`
     /// ```
     fn from_value(alloc: Global, value: &Value) -> Result<Self, Error>
-        ensures ok { IfOk result (Reads kind content (view value.now)) }
-        ensures refused { IfErr result (RefusedIn (faulty kind (view value.now))) }
-        ensures first { IfErr result (RefusedIn (first_found (kind.findings (view value.now)))) }
+        ensures answers { Answers kind content (view value.now) result }
         ensures schema { takes_no_memory → IfErr result IsSchemaError }
     {
         Self::read(alloc, Source::Lent(value)).map_err(refusal)

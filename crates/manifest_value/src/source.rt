@@ -1,10 +1,10 @@
 //! What is read: a value or a table, borrowed or owned.
 
-ghost use Rattle.manifest_schema.specs.Prelude.{view, behind, key, first_found, found_behind, faulty};
+ghost use Rattle.manifest_schema.specs.Prelude.{view, key, found_behind};
 ghost use Rattle.std.specs.Prelude.{◌≡◌, IfOk, IfErr};
 ghost use Rattle.manifest_value.specs.Faults.{FaultIn, no_table};
 ghost use Rattle.manifest_value.specs.Found.{HasNoFault};
-ghost use Rattle.manifest_value.specs.Reading.{Reads, data_of};
+ghost use Rattle.manifest_value.specs.Reading.{GivesBehind, data_of};
 ghost use Rattle.manifest_value.specs.Sources.{source_view, members_of, table_source, entries_view};
 ghost use Rattle.manifest_value.specs.Walks.{Ascend};
 
@@ -96,11 +96,8 @@ pub(crate) fn source_under<T: Schema>(
     source: Source<'_>,
     word: &str,
 ) -> Result<T, ReadFault>
-    ensures ok { IfOk result (Reads T.kind T.content (source_view source.entry)) }
-    ensures fault { IfErr result
-        (FaultIn (behind (key word.now) (faulty T.kind (source_view source.entry)))) }
-    ensures first { let inside = T.kind.findings (source_view source.entry) in
-        IfErr result (FaultIn (first_found (found_behind (key word.now) inside))) }
+    ensures gives { let d = source_view source.entry in
+        GivesBehind (key word.now) T.kind T.content d result }
     ensures clean { let inside = T.kind.findings (source_view source.entry) in
         IfOk result (λ x. HasNoFault (found_behind (key word.now) inside)) }
 {

@@ -1,5 +1,5 @@
-use Rattle.manifest_schema.specs.Prelude.{items_view, members_view, Value, plain_items, plain_members, item_floats, entry_floats, faults_of}
-use Rattle.std.proofs.Common.{◌≡◌, ◌++◌, List, String, Global, drop}
+use Rattle.manifest_schema.specs.Prelude.{items_view, members_view, plain_items, plain_members, item_floats, entry_floats, faults_of}
+use Rattle.std.proofs.Common.{◌≡◌, drop}
 use Rattle.manifest_value.proofs.kept_values.+places.Given as goal
 
 abbrev pub invariant-refuse_float_in_items-loop-i : goal.invariant-refuse_float_in_items-loop-i
@@ -9,4 +9,3 @@ invariant-refuse_float_in_items-loop-i l = plain_items (items_view l.item-items)
 abbrev pub invariant-refuse_float_in_members-loop-key : goal.invariant-refuse_float_in_members-loop-key
 invariant-refuse_float_in_members-loop-key l = plain_members (members_view l.members.entries) ≡ plain_members (members_view l.key-iterator)
     × faults_of (entry_floats (members_view l.members.entries)) ≡ faults_of (entry_floats (members_view l.key-iterator))
-    × (done : List (String Global × Value)) × (l.members.entries ≡ done ++ l.key-iterator)

@@ -2,9 +2,8 @@ use Rattle.manifest_schema.specs.Prelude.{Data, Members, member, Text}
 use Rattle.std.proofs.Common.{subst, sym}
 use Rattle.manifest_value.specs.Entries.{entries_content, reads_first}
 use Rattle.manifest_value.specs.Sources.{source_view, key_view, entries_view}
-use Rattle.manifest_value.proofs.EntryLemmas.{entry_fault}
 use Rattle.manifest_value.proofs.FirstLemmas.{first_entry}
-use Rattle.manifest_value.proofs.ReadingLemmas.{reads_more, next_within}
+use Rattle.manifest_value.proofs.ReadingLemmas.{reads_more}
 use Rattle.manifest_value.proofs.maps.list_of_entries.Goals as goal
 
 pub loop-key-preserved : goal.loop-key-preserved
@@ -16,25 +15,15 @@ loop-key-preserved g c =
     let d : Data = source_view c.in-Some.source in
     let entry = c.in-Ok.entry in
     let left = subst (reads_first K ms (entries_content f c.loop-key.all.items)) c.in-Some.ensures.steps c.loop-key.invariant in
-    let named = subst (λ k. reads_first K ms (entries_content f c.loop-key.all.items) (member k d rest)) (sym c.in-Ok.ensures.ok.0) left in
-    subst (λ es. reads_first K ms (entries_content f es) rest) (sym c.in_ok-push-in-Ok.ensures.items) (reads_more K f ms c.loop-key.all.items entry.0 entry.1 d rest named c.in-Ok.ensures.ok.1)
+    let named = subst (λ k. reads_first K ms (entries_content f c.loop-key.all.items) (member k d rest)) (sym c.in-Ok.ensures.0) left in
+    subst (λ es. reads_first K ms (entries_content f es) rest) (sym c.in_ok-push-in-Ok.ensures.items) (reads_more K f ms c.loop-key.all.items entry.0 entry.1 d rest named c.in-Ok.ensures.1)
 
-pub returns-in-Err-clause-fault : goal.returns-in-Err-clause-fault
-returns-in-Err-clause-fault g c =
+pub returns-in-Err : goal.returns-in-Err
+returns-in-Err g c =
     let K = g.T.Schema.kind in
     let ms : Members = entries_view c.args.entries in
     let k : Text = key_view c.in-Some.key in
     let d : Data = source_view c.in-Some.source in
     let es = entries_content g.T.Schema.content c.loop-key.all.items in
     let left = subst (reads_first K ms es) c.in-Some.ensures.steps c.loop-key.invariant in
-    entry_fault K ms k d c.in-Err.fault (next_within K ms es k d (entries_view c.next.new.self) left) c.in-Err.ensures.fault
-
-pub returns-in-Err-clause-first : goal.returns-in-Err-clause-first
-returns-in-Err-clause-first g c =
-    let K = g.T.Schema.kind in
-    let ms : Members = entries_view c.args.entries in
-    let k : Text = key_view c.in-Some.key in
-    let d : Data = source_view c.in-Some.source in
-    let es = entries_content g.T.Schema.content c.loop-key.all.items in
-    let left = subst (reads_first K ms es) c.in-Some.ensures.steps c.loop-key.invariant in
-    first_entry K g.met.T.Schema.lawful ms es k d (entries_view c.next.new.self) c.in-Err.fault left c.in-Err.ensures.first
+    first_entry K g.met.T.Schema.lawful ms es k d (entries_view c.next.new.self) c.in-Err.fault left c.in-Err.ensures
