@@ -1,5 +1,5 @@
 use Rattle.manifest_schema.specs.Prelude.{Data, Kind, tree_of}
-use Rattle.manifest_schema.proofs.KindLaws.{tree_lawful}
+use Rattle.manifest_schema.proofs.KindLaws.{tree_sound}
 use Rattle.manifest_completion.proofs.CompletedLaws.{completed_fixed}
 use Rattle.cargo_manifest.proofs.WellFormedLaws.{package_by_metadata, workspace_by_parts, manifest_by_parts}
 use Rattle.manifest_inherit.specs.Laws.{ResolvedIsWellFormed}
@@ -24,4 +24,5 @@ returns-clause-completed g c =
     let K = tree_of g.P.Schema.kind in
     let W = tree_of g.W.Schema.kind in
     let V = tree_of g.V.Schema.kind in
-    completed_stays K W V (formed K W V) (completed_fixed K W (tree_lawful g.met.P.Schema.lawful) (tree_lawful g.met.W.Schema.lawful))
+    completed_stays K W V (formed K W V)
+    (completed_fixed K W (tree_sound g.met.P.Schema.lawful) (tree_sound g.met.W.Schema.lawful))
