@@ -4,18 +4,18 @@ use Rattle.std.proofs.Common.{◌≡◌, List, [], ◌∷◌, ◌++◌, String, 
 use Rattle.std.specs.List.Sorted.{IsStrictlySortedBy}
 use Rattle.manifest_value.specs.Entries.{entries_content}
 use Rattle.manifest_inherit.specs.Resolved.{resolved_entries}
-use Rattle.manifest_inherit.specs.Refused.{Refusal, Refusals}
-use Rattle.manifest_inherit.specs.AllRefused.{PlacedRefusals, first_refusal, refused_under, entries_refusals}
-use Rattle.manifest_inherit.specs.Answers.{ResolveRefusedIn}
+use Rattle.manifest_inherit.specs.Refused.{Refusal, PlacedRefusals, first_refusal, refused_under, entries_refusals}
+use Rattle.manifest_inherit.specs.Answers.{RefusesFirst}
 use Rattle.manifest_inherit.specs.ForProofs.{Accepted}
 use Rattle.manifest_inherit.proofs.FirstLemmas.{first-append, first-under}
 use Rattle.manifest_inherit.specs.declared.error.ResolveError.{ResolveError}
 use Rattle.manifest_inherit.specs.declared.error.ResolveError.TheVariants.{Memory}
 
--- what an error reports of some refusals, it reports of more of them
-pub refused_weaker : (P Q : Refusals) (e : ResolveError) → ((r : Refusal) → P r → Q r) → ResolveRefusedIn P e → ResolveRefusedIn Q e
-refused_weaker P Q (Memory e) w h = tt
-refused_weaker P Q _ w h = w _ h
+-- an error with the first of some refusals has the first of others, where that is the same
+pub refused_first : (fs gs : PlacedRefusals) (e : ResolveError)
+    → ((r : Refusal) → first_refusal fs r → first_refusal gs r) → RefusesFirst fs e → RefusesFirst gs e
+refused_first fs gs (Memory e) w h = tt
+refused_first fs gs _ w h = w _ h
 
 -- A MAP, in two parts
 entries_refusals-append : {X A : Type 0} (R : Text → A → PlacedRefusals) (f : X → A) (done more : List (String Global × X))

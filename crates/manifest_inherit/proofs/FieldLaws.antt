@@ -1,29 +1,31 @@
 -- The fields of a package that may be inherited from a workspace, by their table.
 use Rattle.manifest_schema.specs.Prelude.{table, no_members, Text, form, workspace_package_rows, Inheritable, inherited, local, Package, WorkspacePackage}
-use Rattle.std.proofs.Common.{rules, arith, ◌≡◌, ◌<◌, ℕ, zero, suc, [], ◌++◌, inl, inr, refl, sym, subst, Option, Some, None}
+use Rattle.std.proofs.Common.{rules, arith, ◌≡◌, ◌<◌, ℕ, zero, suc, [], ◌++◌, refl, sym, subst, Option, Some, None}
 use Rattle.manifest_inherit.specs.Fields.{Fields, no_more, ◌⨾◌, lendable}
 use Rattle.manifest_inherit.specs.Resolved.{resolved_field, resolved_fields, resolved_package}
-use Rattle.manifest_inherit.specs.Refused.{NoneHolds, not_in_workspace, refuses_field, refuses_fields}
-use Rattle.manifest_inherit.specs.AllRefused.{fields_refusals}
+use Rattle.manifest_inherit.specs.Refused.{field_refusals, fields_refusals}
 use Rattle.manifest_inherit.specs.Own.{IsOwn, AreOwn}
 use Rattle.manifest_inherit.specs.ForProofs.{how_many, refusals_at, refusals_from}
+use Rattle.manifest_inherit.proofs.FirstLemmas.{none_in_both}
 
 -- A FIELD
-field_own : {A : Type 0} (key : Text) (own : Option (Inheritable A)) (lent : Option A) → NoneHolds (refuses_field key own lent) → IsOwn (resolved_field own lent)
+field_own : {A : Type 0} (key : Text) (own : Option (Inheritable A)) (lent : Option A)
+    → field_refusals key own lent ≡ [] → IsOwn (resolved_field own lent)
 field_own key None lent h = tt
 field_own key (Some (local x)) lent h = tt
 field_own key (Some inherited) (Some x) h = tt
-field_own key (Some inherited) None h = h (not_in_workspace key) refl
+field_own key (Some inherited) None h = cc
 
 field_same : {A : Type 0} (own : Option (Inheritable A)) (lent : Option A) → IsOwn own → resolved_field own lent ≡ own
 field_same None lent h = refl
 field_same (Some (local x)) lent h = refl
 field_same (Some inherited) lent h = absurd h
 
-field_accepted : {A : Type 0} (key : Text) (own : Option (Inheritable A)) (lent : Option A) → IsOwn own → NoneHolds (refuses_field key own lent)
-field_accepted key None lent h r x = x
-field_accepted key (Some (local y)) lent h r x = x
-field_accepted key (Some inherited) lent h r x = h
+field_accepted : {A : Type 0} (key : Text) (own : Option (Inheritable A)) (lent : Option A)
+    → IsOwn own → field_refusals key own lent ≡ []
+field_accepted key None lent h = refl
+field_accepted key (Some (local y)) lent h = refl
+field_accepted key (Some inherited) lent h = absurd h
 
 -- THE TABLE: each of its fields is resolved in the package; a package with its own content of a field is that package
 abbrev AreResolved : Fields → Type 0
@@ -43,28 +45,32 @@ unfolding lendable
 all_kept = search rules
 
 -- THE FIELDS
-fields_own : (fs : Fields) → AreResolved fs → (w : Option WorkspacePackage) (p : Package) → NoneHolds (refuses_fields fs w p) → AreOwn fs (resolved_package w p)
+fields_own : (fs : Fields) → AreResolved fs → (w : Option WorkspacePackage) (p : Package)
+    → fields_refusals fs w p ≡ [] → AreOwn fs (resolved_package w p)
 fields_own no_more k w p h = tt
-fields_own (f ⨾ fs) k w p h = (subst IsOwn (sym (k.0 w p)) (field_own f.key (f.own p) (f.lent w) (λ r x. h r (inl x))), fields_own fs k.1 w p (λ r x. h r (inr x)))
+fields_own (f ⨾ fs) k w p h =
+    let (here, more) = none_in_both (field_refusals f.key (f.own p) (f.lent w)) (fields_refusals fs w p) h in
+    (subst IsOwn (sym (k.0 w p)) (field_own f.key (f.own p) (f.lent w) here), fields_own fs k.1 w p more)
 
 fields_same : (fs : Fields) → AreKept fs → (w : Option WorkspacePackage) (p : Package) → AreOwn fs p → resolved_fields fs w p ≡ p
 fields_same no_more k w p h = refl
 fields_same (f ⨾ fs) k w p h = rw (fields_same fs k.1 w p h.1, field_same (f.own p) (f.lent w) h.0) (k.0 p)
 
-fields_accepted : (fs : Fields) (w : Option WorkspacePackage) (p : Package) → AreOwn fs p → NoneHolds (refuses_fields fs w p)
-fields_accepted no_more w p h r x = x
-fields_accepted (f ⨾ fs) w p h r (inl x) = field_accepted f.key (f.own p) (f.lent w) h.0 r x
-fields_accepted (f ⨾ fs) w p h r (inr x) = fields_accepted fs w p h.1 r x
+fields_accepted : (fs : Fields) (w : Option WorkspacePackage) (p : Package) → AreOwn fs p → fields_refusals fs w p ≡ []
+fields_accepted no_more w p h = refl
+fields_accepted (f ⨾ fs) w p h = rw (field_accepted f.key (f.own p) (f.lent w) h.0) (fields_accepted fs w p h.1)
 
 -- A PACKAGE
-pub package_own : (w : Option WorkspacePackage) (p : Package) → NoneHolds (refuses_fields lendable w p) → AreOwn lendable (resolved_package w p)
+pub package_own : (w : Option WorkspacePackage) (p : Package)
+    → fields_refusals lendable w p ≡ [] → AreOwn lendable (resolved_package w p)
 package_own = fields_own lendable all_resolved
 
 pub package_same : (w : Option WorkspacePackage) (p : Package) → AreOwn lendable p → resolved_package w p ≡ p
 unfolding resolved_package
 package_same = fields_same lendable all_kept
 
-pub package_accepted : (w : Option WorkspacePackage) (p : Package) → AreOwn lendable p → NoneHolds (refuses_fields lendable w p)
+pub package_accepted : (w : Option WorkspacePackage) (p : Package)
+    → AreOwn lendable p → fields_refusals lendable w p ≡ []
 package_accepted = fields_accepted lendable
 
 -- ALL REFUSALS, field by field

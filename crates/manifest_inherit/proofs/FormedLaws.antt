@@ -1,15 +1,16 @@
 -- What is resolved stays well-formed, and resolved when it is completed. Its premises are laws of `cargo_manifest`.
 use Rattle.manifest_schema.specs.Prelude.{IfSome, Data, Kind, Entries, map_of, good_some, form, none_named, Lint, MaybeInheritedLintsSet, Package, WorkspacePackage, Manifest, lint, lints_rows, package_rows, well_formed}
-use Rattle.std.proofs.Common.{◌≡◌, inr, [], ◌∷◌, Bool, true, false, refl, sym, Option, Some, None, option_map, codes, subst, IsTrue}
+use Rattle.std.proofs.Common.{◌≡◌, [], ◌∷◌, if◌then◌else◌, Bool, true, false, refl, sym, Option, Some, None, option_map, codes, subst, IsTrue}
 use Rattle.manifest_completion.specs.Listings.{ListingMap}
 use Rattle.manifest_completion.specs.Completed.{PackageTargets, Completion, completed_to, refused, no_library, completed_targets, targets_of, with_targets, completion_with, completed_by, completed}
 use Rattle.manifest_completion.specs.Laws.{CompletedIsFixed}
 use Rattle.cargo_manifest.specs.WellFormed.{PackageByMetadata, WorkspaceByParts, ManifestByParts}
 use Rattle.manifest_inherit.specs.Fields.{lendable}
 use Rattle.manifest_inherit.specs.Resolved.{resolved_package, resolved_lints_by, resolved_lints, resolved}
-use Rattle.manifest_inherit.specs.Refused.{NoneHolds, tool_named_workspace, refuses_lints_by, refuses_lints, refuses_some, refuses}
+use Rattle.manifest_inherit.specs.Refused.{tool_named_workspace, refused_here, tools_refusals, lints_refusals_by, lints_refusals, some_refusals}
 use Rattle.manifest_inherit.specs.Own.{AreOwn, InheritsNothing}
 use Rattle.manifest_inherit.specs.Laws.{ResolvedIsWellFormed, CompletedStaysResolved}
+use Rattle.manifest_inherit.proofs.FirstLemmas.{none_in_both, none_in_parts}
 use Rattle.manifest_inherit.proofs.SettledLaws.{resolved_is_settled, own_is_settled}
 
 -- WELL-FORMED
@@ -22,26 +23,31 @@ package_formed : (K : Kind Data) → PackageByMetadata K → (w : Option Workspa
 package_formed K by w None g = tt
 package_formed K by w (Some p) g = (by (resolved_package w p)).1 (subst (good_some K) (sym (metadata_stays w p)) ((by p).0 g))
 
-is_true_of : (b : Bool) → (b ≡ false → ⊥) → IsTrue b
+is_true_of : (b : Bool) → (if b then [] else refused_here tool_named_workspace) ≡ [] → IsTrue b
 is_true_of true h = refl
-is_true_of false h = absurd (h refl)
+is_true_of false h = cc
 
-lints_by_formed : (u : Option (Unit {0})) (lent : Option (Entries (Entries Lint))) (l : MaybeInheritedLintsSet) → good_some (map_of (map_of lint)) lent → (form lints_rows).good l → NoneHolds (refuses_lints_by u lent l) → (form lints_rows).good (resolved_lints_by u lent l)
+lints_by_formed : (u : Option (Unit {0})) (lent : Option (Entries (Entries Lint))) (l : MaybeInheritedLintsSet)
+    → good_some (map_of (map_of lint)) lent → (form lints_rows).good l → lints_refusals_by u lent l ≡ []
+    → (form lints_rows).good (resolved_lints_by u lent l)
 unfolding lints_rows
 lints_by_formed None lent l k g h = g
 lints_by_formed (Some u) None l k g h = g
-lints_by_formed (Some u) (Some tools) l k g h = (tt, (is_true_of (none_named (codes "workspace" ∷ []) tools) (λ e. h tool_named_workspace (inr (e, refl))), k))
+lints_by_formed (Some u) (Some tools) l k g h =
+    (tt, (is_true_of (none_named (codes "workspace" ∷ []) tools) (none_in_both (tools_refusals l.lints) _ h).1, k))
 
-lints_formed : (lent : Option (Entries (Entries Lint))) (o : Option MaybeInheritedLintsSet) → good_some (map_of (map_of lint)) lent → good_some (form lints_rows) o → NoneHolds (refuses_some (refuses_lints lent) o) → good_some (form lints_rows) (option_map (resolved_lints lent) o)
+lints_formed : (lent : Option (Entries (Entries Lint))) (o : Option MaybeInheritedLintsSet)
+    → good_some (map_of (map_of lint)) lent → good_some (form lints_rows) o → some_refusals (lints_refusals lent) o ≡ []
+    → good_some (form lints_rows) (option_map (resolved_lints lent) o)
 lints_formed lent None k g h = tt
 lints_formed lent (Some l) k g h = lints_by_formed l.workspace lent l k g h
 
 module _ (K W V : Kind Data) (package_by : PackageByMetadata K) (workspace_by : WorkspaceByParts V) (manifest_by : ManifestByParts K W) where
   pub stays_well_formed : ResolvedIsWellFormed K W V
-  unfolding resolved refuses
+  unfolding resolved
   stays_well_formed m n w g k h =
       let parts = (manifest_by m).0 g in
-      let lints = lints_formed w.lints m.lints ((workspace_by w).0 k).1 parts.3 (λ r x. h.accepted r (inr (inr (inr (inr (inr x)))))) in
+      let lints = lints_formed w.lints m.lints ((workspace_by w).0 k).1 parts.3 (none_in_parts m w h.accepted).5 in
       let formed : well_formed K W (resolved m w) = (manifest_by (resolved m w)).1 (package_formed K package_by w.«package» m.«package» parts.0, parts.1, parts.2, lints) in
       subst (well_formed K W) (sym h.becomes) formed
 

@@ -6,7 +6,7 @@ use Rattle.manifest_parts.specs.Records.{platform_content}
 use Rattle.cargo_manifest.specs.Tables.{dependencies_content, workspace_package_content}
 use Rattle.manifest_inherit.specs.Fields.{lendable}
 use Rattle.manifest_inherit.specs.Resolved.{resolved_package, resolved_dependencies, resolved_platforms, resolved_lints, lent_dependencies, resolved}
-use Rattle.manifest_inherit.specs.AllRefused.{fields_refusals, dependencies_refusals, platforms_refusals, lints_refusals, some_refusals, all_refusals}
+use Rattle.manifest_inherit.specs.Refused.{fields_refusals, dependencies_refusals, platforms_refusals, lints_refusals, some_refusals, all_refusals}
 use Rattle.manifest_inherit.specs.ForProofs.{Accepted, tools_content, with_made}
 use Rattle.manifest_inherit.specs.declared.resolution.Made.{Made}
 

@@ -1,12 +1,13 @@
 -- What is resolved inherits nothing, and what inherits nothing is resolved to itself.
 use Rattle.manifest_schema.specs.Prelude.{IfSome, Text, Entries, InheritedDependencyDetail, DependencyDetail, Dependency, simple, by_workspace, detailed, Lint, MaybeInheritedLintsSet, Target, Workspace, Manifest, AllValues}
-use Rattle.std.proofs.Common.{◌≡◌, inl, inr, [], ◌∷◌, Bool, true, false, refl, ap, sym, Option, Some, None, option_map, codes, subst}
+use Rattle.std.proofs.Common.{◌≡◌, [], ◌∷◌, Bool, true, false, refl, ap, sym, Option, Some, None, option_map, subst}
 use Rattle.manifest_parts.specs.Queries.{says_more, simplify}
 use Rattle.manifest_inherit.specs.Fields.{lendable}
 use Rattle.manifest_inherit.specs.Resolved.{resolved_package, workspace_dependency, version_alone, lent_by, joined, with_lent, resolved_dependency, resolved_entries, resolved_dependencies, resolved_platform, resolved_platforms, resolved_lints_by, resolved_lints, lent_dependencies, resolved}
-use Rattle.manifest_inherit.specs.Refused.{Refusals, NoneHolds, not_in_workspace, inherited_in_workspace, refuses_fields, refuses_lender, refuses_dependency, refuses_entries, refuses_dependencies, refuses_platform, refuses_platforms, refuses_lints_by, refuses_lints, refuses_some, refuses}
+use Rattle.manifest_inherit.specs.Refused.{PlacedRefusals, refused_under, lender_refusals, dependency_refusals, entries_refusals, dependencies_refusals, platform_refusals, platforms_refusals, tools_refusals, lints_refusals_by, lints_refusals, some_refusals, all_refusals}
 use Rattle.manifest_inherit.specs.Own.{AreOwn, IsOwnDependency, AreOwnDependencies, IsOwnPlatform, AreOwnPlatforms, AreOwnLints, InheritsNothing}
 use Rattle.manifest_inherit.specs.Laws.{ResolvedIsSettled, OwnIsSettled}
+use Rattle.manifest_inherit.proofs.FirstLemmas.{none_in_both, none_below, none_in_parts, all_none}
 use Rattle.manifest_inherit.proofs.FieldLaws.{package_own, package_same, package_accepted}
 
 -- A DEPENDENCY
@@ -15,13 +16,15 @@ simple_own true v d e m = rw m tt
 simple_own false None d e m = rw (m, e) tt
 simple_own false (Some v) d e m = rw (m, e) tt
 
-lent_own : (name : Text) (own : InheritedDependencyDetail) (lent : Option Dependency) → NoneHolds (refuses_lender name lent) → IsOwnDependency (with_lent own (lent_by lent))
-lent_own name own None h = h (not_in_workspace name) refl
-lent_own name own (Some (by_workspace d)) h = h (inherited_in_workspace name) refl
+lent_own : (name : Text) (own : InheritedDependencyDetail) (lent : Option Dependency)
+    → lender_refusals name lent ≡ [] → IsOwnDependency (with_lent own (lent_by lent))
+lent_own name own None h = cc
+lent_own name own (Some (by_workspace d)) h = cc
 lent_own name own (Some (simple v)) h = simple_own _ _ (joined own (version_alone v)) refl refl
 lent_own name own (Some (detailed d)) h = simple_own _ _ (joined own d) refl refl
 
-dependency_own : (lent : Entries Dependency) (name : Text) (d : Dependency) → NoneHolds (refuses_dependency lent name d) → IsOwnDependency (resolved_dependency lent name d)
+dependency_own : (lent : Entries Dependency) (name : Text) (d : Dependency)
+    → dependency_refusals lent name d ≡ [] → IsOwnDependency (resolved_dependency lent name d)
 dependency_own lent name (simple v) h = tt
 dependency_own lent name (detailed d) h = tt
 dependency_own lent name (by_workspace own) h = lent_own name own (workspace_dependency lent name) h
@@ -31,72 +34,94 @@ dependency_same lent name (simple v) h = refl
 dependency_same lent name (detailed d) h = refl
 dependency_same lent name (by_workspace own) h = absurd h
 
-dependency_accepted : (lent : Entries Dependency) (name : Text) (d : Dependency) → IsOwnDependency d → NoneHolds (refuses_dependency lent name d)
-dependency_accepted lent name (simple v) h r x = x
-dependency_accepted lent name (detailed d) h r x = x
-dependency_accepted lent name (by_workspace own) h r x = h
+dependency_accepted : (lent : Entries Dependency) (name : Text) (d : Dependency)
+    → IsOwnDependency d → dependency_refusals lent name d ≡ []
+dependency_accepted lent name (simple v) h = refl
+dependency_accepted lent name (detailed d) h = refl
+dependency_accepted lent name (by_workspace own) h = absurd h
 
 -- A MAP
-entries_own : {A : Type 0} (R : Text → A → Refusals) (P : A → Type 0) (f : Text → A → A) → ((k : Text) (x : A) → NoneHolds (R k x) → P (f k x)) → (es : Entries A) → NoneHolds (refuses_entries R es) → AllValues P (resolved_entries f es)
+entries_own : {A : Type 0} (R : Text → A → PlacedRefusals) (P : A → Type 0) (f : Text → A → A)
+    → ((k : Text) (x : A) → R k x ≡ [] → P (f k x)) → (es : Entries A) → entries_refusals R es ≡ []
+    → AllValues P (resolved_entries f es)
 entries_own R P f k [] h = tt
-entries_own R P f k (e ∷ es) h = (k e.0 e.1 (λ r x. h r (inl x)), entries_own R P f k es (λ r x. h r (inr x)))
+entries_own R P f k (e ∷ es) h =
+    let (here, more) = none_in_both (refused_under e.0 (R e.0 e.1)) (entries_refusals R es) h in
+    (k e.0 e.1 (none_below e.0 (R e.0 e.1) here), entries_own R P f k es more)
 
 entries_same : {A : Type 0} (P : A → Type 0) (f : Text → A → A) → ((k : Text) (x : A) → P x → f k x ≡ x) → (es : Entries A) → AllValues P es → resolved_entries f es ≡ es
 entries_same P f k [] h = refl
 entries_same P f k (e ∷ es) h = rw (k e.0 e.1 h.0, entries_same P f k es h.1) refl
 
-entries_accepted : {A : Type 0} (R : Text → A → Refusals) (P : A → Type 0) → ((k : Text) (x : A) → P x → NoneHolds (R k x)) → (es : Entries A) → AllValues P es → NoneHolds (refuses_entries R es)
-entries_accepted R P k [] h r x = x
-entries_accepted R P k (e ∷ es) h r (inl x) = k e.0 e.1 h.0 r x
-entries_accepted R P k (e ∷ es) h r (inr x) = entries_accepted R P k es h.1 r x
+entries_accepted : {A : Type 0} (R : Text → A → PlacedRefusals) (P : A → Type 0)
+    → ((k : Text) (x : A) → P x → R k x ≡ []) → (es : Entries A) → AllValues P es → entries_refusals R es ≡ []
+entries_accepted R P k [] h = refl
+entries_accepted R P k (e ∷ es) h = rw (k e.0 e.1 h.0) (entries_accepted R P k es h.1)
 
-dependencies_own : (lent es : Entries Dependency) → NoneHolds (refuses_dependencies lent es) → AreOwnDependencies (resolved_dependencies lent es)
-dependencies_own lent = entries_own (refuses_dependency lent) IsOwnDependency (resolved_dependency lent) (dependency_own lent)
+dependencies_own : (lent es : Entries Dependency)
+    → dependencies_refusals lent es ≡ [] → AreOwnDependencies (resolved_dependencies lent es)
+dependencies_own lent = entries_own _ IsOwnDependency _ (dependency_own lent)
 
 dependencies_same : (lent es : Entries Dependency) → AreOwnDependencies es → resolved_dependencies lent es ≡ es
 dependencies_same lent = entries_same IsOwnDependency (resolved_dependency lent) (dependency_same lent)
 
-dependencies_accepted : (lent es : Entries Dependency) → AreOwnDependencies es → NoneHolds (refuses_dependencies lent es)
-dependencies_accepted lent = entries_accepted (refuses_dependency lent) IsOwnDependency (dependency_accepted lent)
+dependencies_accepted : (lent es : Entries Dependency) → AreOwnDependencies es → dependencies_refusals lent es ≡ []
+dependencies_accepted lent = entries_accepted _ IsOwnDependency (dependency_accepted lent)
 
 -- A PLATFORM
-platform_own : (lent : Entries Dependency) (p : Target) → NoneHolds (refuses_platform lent p) → IsOwnPlatform (resolved_platform lent p)
-platform_own lent p h = (dependencies_own lent p.dependencies (λ r x. h r (inl x)), dependencies_own lent p.dev_dependencies (λ r x. h r (inr (inl x))), dependencies_own lent p.build_dependencies (λ r x. h r (inr (inr x))))
+platform_own : (lent : Entries Dependency) (p : Target)
+    → platform_refusals lent p ≡ [] → IsOwnPlatform (resolved_platform lent p)
+platform_own lent p h =
+    let (ab, c) = none_in_both _ _ h in
+    let (a, b) = none_in_both _ _ ab in (
+      dependencies_own lent p.dependencies (none_below _ _ a),
+      dependencies_own lent p.dev_dependencies (none_below _ _ b),
+      dependencies_own lent p.build_dependencies (none_below _ _ c),
+    )
 
 platform_same : (lent : Entries Dependency) (p : Target) → IsOwnPlatform p → resolved_platform lent p ≡ p
 platform_same lent p h = rw (dependencies_same lent p.dependencies h.0, dependencies_same lent p.dev_dependencies h.1, dependencies_same lent p.build_dependencies h.2) refl
 
-platform_accepted : (lent : Entries Dependency) (p : Target) → IsOwnPlatform p → NoneHolds (refuses_platform lent p)
-platform_accepted lent p h r (inl x) = dependencies_accepted lent p.dependencies h.0 r x
-platform_accepted lent p h r (inr (inl x)) = dependencies_accepted lent p.dev_dependencies h.1 r x
-platform_accepted lent p h r (inr (inr x)) = dependencies_accepted lent p.build_dependencies h.2 r x
+platform_accepted : (lent : Entries Dependency) (p : Target) → IsOwnPlatform p → platform_refusals lent p ≡ []
+platform_accepted lent p h =
+    rw (
+      dependencies_accepted lent p.dependencies h.0,
+      dependencies_accepted lent p.dev_dependencies h.1,
+      dependencies_accepted lent p.build_dependencies h.2,
+    ) refl
 
-platforms_own : (lent : Entries Dependency) (es : Entries Target) → NoneHolds (refuses_platforms lent es) → AreOwnPlatforms (resolved_platforms lent es)
-platforms_own lent = entries_own (λ name. refuses_platform lent) IsOwnPlatform (λ name. resolved_platform lent) (λ name. platform_own lent)
+platforms_own : (lent : Entries Dependency) (es : Entries Target)
+    → platforms_refusals lent es ≡ [] → AreOwnPlatforms (resolved_platforms lent es)
+platforms_own lent = entries_own _ IsOwnPlatform _ (λ name. platform_own lent)
 
 platforms_same : (lent : Entries Dependency) (es : Entries Target) → AreOwnPlatforms es → resolved_platforms lent es ≡ es
 platforms_same lent = entries_same IsOwnPlatform (λ name. resolved_platform lent) (λ name. platform_same lent)
 
-platforms_accepted : (lent : Entries Dependency) (es : Entries Target) → AreOwnPlatforms es → NoneHolds (refuses_platforms lent es)
-platforms_accepted lent = entries_accepted (λ name. refuses_platform lent) IsOwnPlatform (λ name. platform_accepted lent)
+platforms_accepted : (lent : Entries Dependency) (es : Entries Target)
+    → AreOwnPlatforms es → platforms_refusals lent es ≡ []
+platforms_accepted lent = entries_accepted _ IsOwnPlatform (λ name. platform_accepted lent)
 
 -- LINTS
-lints_by_own : (u : Option (Unit {0})) (lent : Option (Entries (Entries Lint))) (l : MaybeInheritedLintsSet) → l.workspace ≡ u → NoneHolds (refuses_lints_by u lent l) → AreOwnLints (resolved_lints_by u lent l)
+lints_by_own : (u : Option (Unit {0})) (lent : Option (Entries (Entries Lint))) (l : MaybeInheritedLintsSet)
+    → l.workspace ≡ u → lints_refusals_by u lent l ≡ [] → AreOwnLints (resolved_lints_by u lent l)
 lints_by_own None lent l e h = e
 lints_by_own (Some u) (Some tools) l e h = refl
-lints_by_own (Some u) None l e h = absurd (h (not_in_workspace (codes "lints")) (inr refl))
+lints_by_own (Some u) None l e h = let more = (none_in_both (tools_refusals l.lints) _ h).1 in cc more
 
-lints_own : (lent : Option (Entries (Entries Lint))) (l : MaybeInheritedLintsSet) → NoneHolds (refuses_lints lent l) → AreOwnLints (resolved_lints lent l)
+lints_own : (lent : Option (Entries (Entries Lint))) (l : MaybeInheritedLintsSet)
+    → lints_refusals lent l ≡ [] → AreOwnLints (resolved_lints lent l)
 lints_own lent l h = lints_by_own l.workspace lent l refl h
 
 lints_same : (lent : Option (Entries (Entries Lint))) (l : MaybeInheritedLintsSet) → AreOwnLints l → resolved_lints lent l ≡ l
 lints_same lent l e = ap (λ (u : Option (Unit {0})). resolved_lints_by u lent l) e
 
-lints_accepted : (lent : Option (Entries (Entries Lint))) (l : MaybeInheritedLintsSet) → AreOwnLints l → NoneHolds (refuses_lints lent l)
-lints_accepted lent l e = subst (λ (u : Option (Unit {0})). NoneHolds (refuses_lints_by u lent l)) (sym e) (λ r x. x)
+lints_accepted : (lent : Option (Entries (Entries Lint))) (l : MaybeInheritedLintsSet)
+    → AreOwnLints l → lints_refusals lent l ≡ []
+lints_accepted lent l e = ap (λ (u : Option (Unit {0})). lints_refusals_by u lent l) e
 
 -- WHAT MAY BE ABSENT
-some_own : {A : Type 0} (R : A → Refusals) (P : A → Type 0) (f : A → A) → ((x : A) → NoneHolds (R x) → P (f x)) → (o : Option A) → NoneHolds (refuses_some R o) → IfSome (option_map f o) P
+some_own : {A : Type 0} (R : A → PlacedRefusals) (P : A → Type 0) (f : A → A)
+    → ((x : A) → R x ≡ [] → P (f x)) → (o : Option A) → some_refusals R o ≡ [] → IfSome (option_map f o) P
 some_own R P f k None h = tt
 some_own R P f k (Some x) h = k x h
 
@@ -104,23 +129,25 @@ some_same : {A : Type 0} (P : A → Type 0) (f : A → A) → ((x : A) → P x �
 some_same P f k None h = refl
 some_same P f k (Some x) h = ap Some (k x h)
 
-some_accepted : {A : Type 0} (R : A → Refusals) (P : A → Type 0) → ((x : A) → P x → NoneHolds (R x)) → (o : Option A) → IfSome o P → NoneHolds (refuses_some R o)
-some_accepted R P k None h r x = x
-some_accepted R P k (Some y) h r x = k y h r x
+some_accepted : {A : Type 0} (R : A → PlacedRefusals) (P : A → Type 0)
+    → ((x : A) → P x → R x ≡ []) → (o : Option A) → IfSome o P → some_refusals R o ≡ []
+some_accepted R P k None h = refl
+some_accepted R P k (Some y) h = k y h
 
 -- THE MANIFEST
 module _ (m : Manifest) (w : Workspace) where
-  inherits_nothing : NoneHolds (refuses m w) → InheritsNothing (resolved m w)
-  unfolding resolved refuses
+  inherits_nothing : all_refusals m w ≡ [] → InheritsNothing (resolved m w)
+  unfolding resolved
   inherits_nothing h =
       let lent = lent_dependencies w in
+      let (a, b, c, d, e, f) = none_in_parts m w h in
       record {
-        fields = some_own (refuses_fields lendable w.«package») (AreOwn lendable) (resolved_package w.«package») (package_own w.«package») m.«package» (λ r x. h r (inl x));
-        dependencies = some_own (refuses_dependencies lent) AreOwnDependencies (resolved_dependencies lent) (dependencies_own lent) m.dependencies (λ r x. h r (inr (inl x)));
-        dev_dependencies = some_own (refuses_dependencies lent) AreOwnDependencies (resolved_dependencies lent) (dependencies_own lent) m.dev_dependencies (λ r x. h r (inr (inr (inl x))));
-        build_dependencies = some_own (refuses_dependencies lent) AreOwnDependencies (resolved_dependencies lent) (dependencies_own lent) m.build_dependencies (λ r x. h r (inr (inr (inr (inl x)))));
-        platforms = some_own (refuses_platforms lent) AreOwnPlatforms (resolved_platforms lent) (platforms_own lent) m.target (λ r x. h r (inr (inr (inr (inr (inl x))))));
-        lints = some_own (refuses_lints w.lints) AreOwnLints (resolved_lints w.lints) (lints_own w.lints) m.lints (λ r x. h r (inr (inr (inr (inr (inr x))))));
+        fields = some_own _ (AreOwn lendable) _ (package_own w.«package») m.«package» a;
+        dependencies = some_own _ AreOwnDependencies _ (dependencies_own lent) m.dependencies b;
+        dev_dependencies = some_own _ AreOwnDependencies _ (dependencies_own lent) m.dev_dependencies c;
+        build_dependencies = some_own _ AreOwnDependencies _ (dependencies_own lent) m.build_dependencies d;
+        platforms = some_own _ AreOwnPlatforms _ (platforms_own lent) m.target e;
+        lints = some_own _ AreOwnLints _ (lints_own w.lints) m.lints f;
       }
 
   own_same : InheritsNothing m → resolved m w ≡ m
@@ -136,14 +163,15 @@ module _ (m : Manifest) (w : Workspace) where
         some_same AreOwnLints (resolved_lints w.lints) (lints_same w.lints) m.lints h.lints,
       ) refl
 
-  own_accepted : InheritsNothing m → NoneHolds (refuses m w)
-  unfolding refuses
-  own_accepted h r (inl x) = some_accepted (refuses_fields lendable w.«package») (AreOwn lendable) (package_accepted w.«package») m.«package» h.fields r x
-  own_accepted h r (inr (inl x)) = some_accepted (refuses_dependencies (lent_dependencies w)) AreOwnDependencies (dependencies_accepted (lent_dependencies w)) m.dependencies h.dependencies r x
-  own_accepted h r (inr (inr (inl x))) = some_accepted (refuses_dependencies (lent_dependencies w)) AreOwnDependencies (dependencies_accepted (lent_dependencies w)) m.dev_dependencies h.dev_dependencies r x
-  own_accepted h r (inr (inr (inr (inl x)))) = some_accepted (refuses_dependencies (lent_dependencies w)) AreOwnDependencies (dependencies_accepted (lent_dependencies w)) m.build_dependencies h.build_dependencies r x
-  own_accepted h r (inr (inr (inr (inr (inl x))))) = some_accepted (refuses_platforms (lent_dependencies w)) AreOwnPlatforms (platforms_accepted (lent_dependencies w)) m.target h.platforms r x
-  own_accepted h r (inr (inr (inr (inr (inr x))))) = some_accepted (refuses_lints w.lints) AreOwnLints (lints_accepted w.lints) m.lints h.lints r x
+  own_accepted : InheritsNothing m → all_refusals m w ≡ []
+  own_accepted h =
+      let lent = lent_dependencies w in
+      all_none m w (some_accepted _ (AreOwn lendable) (package_accepted w.«package») m.«package» h.fields)
+      (some_accepted _ AreOwnDependencies (dependencies_accepted lent) m.dependencies h.dependencies)
+      (some_accepted _ AreOwnDependencies (dependencies_accepted lent) m.dev_dependencies h.dev_dependencies)
+      (some_accepted _ AreOwnDependencies (dependencies_accepted lent) m.build_dependencies h.build_dependencies)
+      (some_accepted _ AreOwnPlatforms (platforms_accepted lent) m.target h.platforms)
+      (some_accepted _ AreOwnLints (lints_accepted w.lints) m.lints h.lints)
 
 pub own_is_settled : OwnIsSettled
 own_is_settled m w h = record { own = h; again = record { accepted = own_accepted m w h; becomes = sym (own_same m w h) } }

@@ -1,9 +1,9 @@
 -- What resolving a manifest answers, and the refusals of the code as the definitions see them.
 use Rattle.manifest_schema.specs.Prelude.{Path, Workspace, Manifest}
-use Rattle.std.specs.Prelude.{◌≡◌, Result, Ok, Err, string_bytes}
+use Rattle.std.specs.Prelude.{◌≡◌, [], Result, Ok, Err, string_bytes}
 use Rattle.manifest_value.specs.Faults.{path_of}
 use Rattle.manifest_inherit.specs.Resolved.{resolved}
-use Rattle.manifest_inherit.specs.Refused.{Refusal, Refusals, NoneHolds, not_in_workspace, inherited_in_workspace, mixed_lints, tool_named_workspace, refuses}
+use Rattle.manifest_inherit.specs.Refused.{Refusal, PlacedRefusals, not_in_workspace, inherited_in_workspace, mixed_lints, tool_named_workspace, first_refusal, all_refusals}
 use Rattle.manifest_inherit.specs.declared.error.Refusal.{Refusal as RefusalOfCode}
 use Rattle.manifest_inherit.specs.declared.error.Refusal.TheVariants.{NotInWorkspace, InheritedInWorkspace, MixedLints, ToolNamedWorkspace}
 use Rattle.manifest_inherit.specs.declared.error.ResolveFault.{ResolveFault}
@@ -21,15 +21,15 @@ refusal_of ToolNamedWorkspace = tool_named_workspace
 abbrev pub fault_of : ResolveFault → Path × Refusal
 fault_of f = (path_of f.path, refusal_of f.refusal)
 
--- THE MANIFEST IS RESOLVED over the workspace to the other one: nothing refuses it, and that is what it becomes
+-- THE MANIFEST IS RESOLVED over the workspace to the other one: there is no refusal, and that is what it becomes
 pub record ResolvesTo (m : Manifest) (w : Workspace) (n : Manifest) : Type 0 where
-  pub accepted : NoneHolds (refuses m w)
+  pub accepted : all_refusals m w ≡ []
   pub becomes : n ≡ resolved m w
 
--- the error is one of these refusals, or out of memory
-abbrev pub ResolveRefusedIn : Refusals → ResolveError → Type 0
-ResolveRefusedIn refuses (Refused r) = refuses (refusal_of r)
-ResolveRefusedIn refuses (Memory e) = Unit {0}
+-- the error is the first of these refusals, or out of memory
+abbrev pub RefusesFirst : PlacedRefusals → ResolveError → Type 0
+RefusesFirst refusals (Refused r) = first_refusal refusals (refusal_of r)
+RefusesFirst refusals (Memory e) = Unit {0}
 
 -- out of memory
 abbrev pub IsOutOfMemory : ResolveError → Type 0
@@ -39,4 +39,4 @@ IsOutOfMemory _ = ⊥
 -- WHAT RESOLVING A MANIFEST ANSWERS, which it leaves as the second one
 abbrev pub Resolves : Manifest → Workspace → Manifest → Result (Unit {0}) ResolveError → Type 0
 Resolves old w new (Ok u) = ResolvesTo old w new
-Resolves old w new (Err e) = ResolveRefusedIn (refuses old w) e
+Resolves old w new (Err e) = RefusesFirst (all_refusals old w) e

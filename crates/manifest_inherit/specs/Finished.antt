@@ -6,8 +6,8 @@ use Rattle.manifest_completion.specs.Completed.{completed_to}
 use Rattle.cargo_manifest.specs.Completes.{ComesTo, RefusesToComplete}
 use Rattle.cargo_manifest.specs.Whole.{manifest_content}
 use Rattle.cargo_manifest.specs.declared.manifest.Manifest.{Manifest as ManifestOfCode}
-use Rattle.manifest_inherit.specs.Answers.{ResolvesTo, ResolveRefusedIn}
-use Rattle.manifest_inherit.specs.Refused.{refuses}
+use Rattle.manifest_inherit.specs.Answers.{ResolvesTo, RefusesFirst}
+use Rattle.manifest_inherit.specs.Refused.{all_refusals}
 use Rattle.manifest_inherit.specs.declared.error.FinishError.{FinishError}
 use Rattle.manifest_inherit.specs.declared.error.FinishError.TheVariants.{Manifest as Incomplete, NoWorkspace, Resolve}
 
@@ -24,7 +24,7 @@ Inherits (Some root) m n = (w : Workspace) × (root.workspace ≡ Some w) × Res
 abbrev pub RefusesToInherit : Option Manifest → Manifest → Manifest → FinishError → Type 0
 RefusesToInherit (Some root) m n NoWorkspace = (root.workspace ≡ None) × (n ≡ m)
 RefusesToInherit (Some root) m n (Resolve e) =
-    (w : Workspace) × (root.workspace ≡ Some w) × ResolveRefusedIn (refuses m w) e × (n ≡ m)
+    (w : Workspace) × (root.workspace ≡ Some w) × RefusesFirst (all_refusals m w) e × (n ≡ m)
 RefusesToInherit _ m n _ = ⊥
 
 module _ {F : Type 0} (allows : F → Text → Answer → Type 0) where

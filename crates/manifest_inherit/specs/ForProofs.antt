@@ -8,7 +8,7 @@ use Rattle.manifest_parts.specs.declared.lints.Lint.{Lint as LintOfCode}
 use Rattle.cargo_manifest.specs.Tables.{dependencies_content, workspace_package_content}
 use Rattle.manifest_inherit.specs.Fields.{Fields, no_more, ◌⨾◌}
 use Rattle.manifest_inherit.specs.Resolved.{resolved_package, resolved_lints}
-use Rattle.manifest_inherit.specs.AllRefused.{PlacedRefusals, field_refusals, fields_refusals}
+use Rattle.manifest_inherit.specs.Refused.{PlacedRefusals, field_refusals, fields_refusals}
 use Rattle.manifest_inherit.specs.declared.resolution.Made.{Made}
 
 -- there is no refusal, and what is made is what it has to become

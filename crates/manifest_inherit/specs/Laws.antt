@@ -1,10 +1,11 @@
 -- What is promised of resolving.
-use Rattle.manifest_schema.specs.Prelude.{Data, Kind, form, Workspace, Manifest, workspace_rows, well_formed, KeepsValidDates}
+use Rattle.manifest_schema.specs.Prelude.{Contains, Data, Kind, form, Path, Workspace, Manifest, workspace_rows, well_formed, KeepsValidDates}
 use Rattle.std.specs.Prelude.{◌≡◌, ◌↔◌, []}
+use Rattle.std.specs.List.{AllPairs}
 use Rattle.manifest_completion.specs.Listings.{ListingMap}
 use Rattle.manifest_completion.specs.Completed.{completed_to, completed}
-use Rattle.manifest_inherit.specs.Refused.{Refusal, NoneHolds, refuses}
-use Rattle.manifest_inherit.specs.AllRefused.{has_refusal, all_refusals}
+use Rattle.manifest_inherit.specs.Refused.{Refusal, all_refusals}
+use Rattle.manifest_inherit.specs.Pins.{refused_at, KeysDiffer}
 use Rattle.manifest_inherit.specs.Own.{InheritsNothing}
 use Rattle.manifest_inherit.specs.Answers.{ResolvesTo}
 
@@ -39,12 +40,20 @@ abbrev pub ResolvedDatesAreValid : Type 0
 ResolvedDatesAreValid =
     (m n : Manifest) (w : Workspace) → KeepsValidDates m → ResolvesTo m w n → KeepsValidDates n
 
--- the list of all refusals has those that hold, and no others
+-- the list has a refusal at a path exactly if what stands there in the manifest is refused for that reason
 abbrev pub ListsEachRefusal : Type 0
 ListsEachRefusal =
-    (m : Manifest) (w : Workspace) (r : Refusal) → refuses m w r ↔ has_refusal (all_refusals m w) r
+    (m : Manifest) (w : Workspace) (p : Path) (r : Refusal) →
+    Contains (all_refusals m w) (p, r) ↔ refused_at m w p r
 
--- so it is empty exactly if none holds
+-- so it is empty exactly if nothing is refused
 abbrev pub EmptyIfNoneHolds : Type 0
 EmptyIfNoneHolds =
-    (m : Manifest) (w : Workspace) → (all_refusals m w ≡ []) ↔ NoneHolds (refuses m w)
+    (m : Manifest) (w : Workspace) →
+    (all_refusals m w ≡ []) ↔ ((p : Path) (r : Refusal) → refused_at m w p r → ⊥)
+
+-- and it has none twice, where the keys of each map differ
+abbrev pub ListsEachOnce : Type 0
+ListsEachOnce =
+    (m : Manifest) (w : Workspace) → KeysDiffer m →
+    AllPairs (λ f g. f ≡ g → ⊥) (all_refusals m w)

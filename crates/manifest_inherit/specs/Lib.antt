@@ -2,7 +2,7 @@ pub use Rattle.manifest_schema.specs.Contents
 pub mod Fields
 pub mod Resolved
 pub mod Refused
-pub mod AllRefused
+pub mod Pins
 pub mod Own
 pub mod Answers
 pub mod Sizes

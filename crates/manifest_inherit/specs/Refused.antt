@@ -1,6 +1,7 @@
--- Why a manifest is not resolved over a workspace. Several refusals may hold at once.
-use Rattle.manifest_schema.specs.Prelude.{Text, Inheritable, inherited, Entries, none_named, Dependency, by_workspace, Lint, MaybeInheritedLintsSet, Target, Package, WorkspacePackage, Workspace, Manifest}
-use Rattle.std.specs.Prelude.{◌≡◌, ◌⊎◌, false, [], ◌∷◌, codes, Option, Some, None}
+-- Why a manifest is not resolved over a workspace: each refusal, at the key path in the manifest of what is inherited
+-- there. Several refusals may hold at once.
+use Rattle.manifest_schema.specs.Prelude.{Text, Path, key, Inheritable, inherited, Entries, none_named, Dependency, by_workspace, Lint, MaybeInheritedLintsSet, Target, Package, WorkspacePackage, Workspace, Manifest}
+use Rattle.std.specs.Prelude.{◌≡◌, List, [], ◌∷◌, ◌++◌, if◌then◌else◌, codes, Option, Some, None}
 use Rattle.manifest_inherit.specs.Fields.{Fields, no_more, ◌⨾◌, lendable}
 use Rattle.manifest_inherit.specs.Resolved.{workspace_dependency, lent_dependencies}
 
@@ -14,81 +15,100 @@ pub data Refusal : Type 0 where
   -- the workspace has lints of a tool `workspace`, and lints of a member can have no such tool
   tool_named_workspace : Refusal
 
--- the refusals that hold of something
-abbrev pub Refusals : Type 1
-Refusals = Refusal → Type 0
+-- refusals in their order, each at its path from the value that is looked at
+abbrev pub PlacedRefusals : Type 0
+PlacedRefusals = List (Path × Refusal)
 
--- none of them holds
-abbrev pub NoneHolds : Refusals → Type 0
-NoneHolds refuses = (r : Refusal) → refuses r → ⊥
+-- this refusal is the first of the list
+abbrev pub first_refusal : PlacedRefusals → Refusal → Type 0
+first_refusal [] r = ⊥
+first_refusal (f ∷ fs) r = r ≡ f.1
 
--- A FIELD: it is inherited, and the workspace does not have it
-abbrev pub refuses_field : {A : Type 0} → Text → Option (Inheritable A) → Option A → Refusals
-refuses_field key (Some inherited) None r = r ≡ not_in_workspace key
-refuses_field key own lent r = ⊥
+-- this refusal at the value itself, alone
+abbrev pub refused_here : Refusal → PlacedRefusals
+refused_here r = ([], r) ∷ []
 
-abbrev pub refuses_fields : Fields → Option WorkspacePackage → Package → Refusals
-refuses_fields no_more w p r = ⊥
-refuses_fields (f ⨾ fs) w p r = refuses_field f.key (f.own p) (f.lent w) r ⊎ refuses_fields fs w p r
+-- the refusals of the value under a key
+abbrev pub refused_under : Text → PlacedRefusals → PlacedRefusals
+refused_under name [] = []
+refused_under name (f ∷ fs) = (key name ∷ f.0, f.1) ∷ refused_under name fs
+
+-- A FIELD, under its key: it is inherited, and the workspace does not have it
+abbrev pub field_refusals :
+    {A : Type 0} → Text → Option (Inheritable A) → Option A → PlacedRefusals
+field_refusals name (Some inherited) None =
+    refused_under name (refused_here (not_in_workspace name))
+field_refusals name own lent = []
+
+abbrev pub fields_refusals : Fields → Option WorkspacePackage → Package → PlacedRefusals
+fields_refusals no_more w p = []
+fields_refusals (f ⨾ fs) w p =
+    field_refusals f.key (f.own p) (f.lent w) ++ fields_refusals fs w p
 
 -- A DEPENDENCY: it is inherited, and the workspace has none of the name, or inherits its own
-abbrev pub refuses_lender : Text → Option Dependency → Refusals
-refuses_lender name None r = r ≡ not_in_workspace name
-refuses_lender name (Some (by_workspace d)) r = r ≡ inherited_in_workspace name
-refuses_lender name (Some d) r = ⊥
+abbrev pub lender_refusals : Text → Option Dependency → PlacedRefusals
+lender_refusals name None = refused_here (not_in_workspace name)
+lender_refusals name (Some (by_workspace d)) = refused_here (inherited_in_workspace name)
+lender_refusals name (Some d) = []
 
-abbrev pub refuses_dependency : Entries Dependency → Text → Dependency → Refusals
-refuses_dependency lent name (by_workspace own) r =
-    refuses_lender name (workspace_dependency lent name) r
-refuses_dependency lent name d r = ⊥
+abbrev pub dependency_refusals : Entries Dependency → Text → Dependency → PlacedRefusals
+dependency_refusals lent name (by_workspace own) =
+    lender_refusals name (workspace_dependency lent name)
+dependency_refusals lent name d = []
 
--- A MAP: one of its entries
-abbrev pub refuses_entries : {A : Type 0} → (Text → A → Refusals) → Entries A → Refusals
-refuses_entries refuses [] r = ⊥
-refuses_entries refuses (e ∷ es) r = refuses e.0 e.1 r ⊎ refuses_entries refuses es r
+-- A MAP: those of each entry, under its key
+abbrev pub entries_refusals :
+    {A : Type 0} → (Text → A → PlacedRefusals) → Entries A → PlacedRefusals
+entries_refusals refusals [] = []
+entries_refusals refusals (e ∷ es) =
+    refused_under e.0 (refusals e.0 e.1) ++ entries_refusals refusals es
 
-abbrev pub refuses_dependencies : Entries Dependency → Entries Dependency → Refusals
-refuses_dependencies lent = refuses_entries (refuses_dependency lent)
+abbrev pub dependencies_refusals : Entries Dependency → Entries Dependency → PlacedRefusals
+dependencies_refusals lent = entries_refusals (dependency_refusals lent)
 
--- A PLATFORM: one of its three maps
-abbrev pub refuses_platform : Entries Dependency → Target → Refusals
-refuses_platform lent p r =
-    refuses_dependencies lent p.dependencies r
-    ⊎ refuses_dependencies lent p.dev_dependencies r
-    ⊎ refuses_dependencies lent p.build_dependencies r
+-- A PLATFORM: those of its three maps
+abbrev pub platform_refusals : Entries Dependency → Target → PlacedRefusals
+platform_refusals lent p =
+    refused_under (codes "dependencies") (dependencies_refusals lent p.dependencies)
+    ++ refused_under (codes "dev-dependencies") (dependencies_refusals lent p.dev_dependencies)
+    ++ refused_under (codes "build-dependencies") (dependencies_refusals lent p.build_dependencies)
 
-abbrev pub refuses_platforms : Entries Dependency → Entries Target → Refusals
-refuses_platforms lent = refuses_entries (λ name. refuses_platform lent)
+abbrev pub platforms_refusals : Entries Dependency → Entries Target → PlacedRefusals
+platforms_refusals lent = entries_refusals (λ name. platform_refusals lent)
 
--- LINTS: they are inherited, and have a tool as well; or the workspace has none, or has a tool `workspace`
-abbrev pub refuses_tools : Entries (Entries Lint) → Refusals
-refuses_tools [] r = ⊥
-refuses_tools (tool ∷ tools) r = r ≡ mixed_lints
+-- LINTS: they are inherited, and have a tool as well; and the workspace has none, or has a tool `workspace`
+abbrev pub tools_refusals : Entries (Entries Lint) → PlacedRefusals
+tools_refusals [] = []
+tools_refusals (tool ∷ tools) = refused_here mixed_lints
 
-abbrev pub refuses_lent_lints : Option (Entries (Entries Lint)) → Refusals
-refuses_lent_lints None r = r ≡ not_in_workspace (codes "lints")
-refuses_lent_lints (Some tools) r =
-    (none_named (codes "workspace" ∷ []) tools ≡ false) × (r ≡ tool_named_workspace)
+abbrev pub lent_lints_refusals : Option (Entries (Entries Lint)) → PlacedRefusals
+lent_lints_refusals None = refused_here (not_in_workspace (codes "lints"))
+lent_lints_refusals (Some tools) =
+    if none_named (codes "workspace" ∷ []) tools then [] else refused_here tool_named_workspace
 
-abbrev pub refuses_lints_by :
-    Option (Unit {0}) → Option (Entries (Entries Lint)) → MaybeInheritedLintsSet → Refusals
-refuses_lints_by None lent own r = ⊥
-refuses_lints_by (Some u) lent own r = refuses_tools own.lints r ⊎ refuses_lent_lints lent r
+abbrev pub lints_refusals_by :
+    Option (Unit {0}) → Option (Entries (Entries Lint)) → MaybeInheritedLintsSet → PlacedRefusals
+lints_refusals_by None lent own = []
+lints_refusals_by (Some u) lent own = tools_refusals own.lints ++ lent_lints_refusals lent
 
-abbrev pub refuses_lints : Option (Entries (Entries Lint)) → MaybeInheritedLintsSet → Refusals
-refuses_lints lent own = refuses_lints_by own.workspace lent own
+abbrev pub lints_refusals :
+    Option (Entries (Entries Lint)) → MaybeInheritedLintsSet → PlacedRefusals
+lints_refusals lent own = lints_refusals_by own.workspace lent own
 
 -- WHAT MAY BE ABSENT
-abbrev pub refuses_some : {A : Type 0} → (A → Refusals) → Option A → Refusals
-refuses_some refuses None r = ⊥
-refuses_some refuses (Some x) r = refuses x r
+abbrev pub some_refusals : {A : Type 0} → (A → PlacedRefusals) → Option A → PlacedRefusals
+some_refusals refusals None = []
+some_refusals refusals (Some x) = refusals x
 
--- ALL REFUSALS OF A MANIFEST over a workspace
-unfoldable pub refuses : Manifest → Workspace → Refusals
-refuses m w r =
-    refuses_some (refuses_fields lendable w.«package») m.«package» r
-    ⊎ refuses_some (refuses_dependencies (lent_dependencies w)) m.dependencies r
-    ⊎ refuses_some (refuses_dependencies (lent_dependencies w)) m.dev_dependencies r
-    ⊎ refuses_some (refuses_dependencies (lent_dependencies w)) m.build_dependencies r
-    ⊎ refuses_some (refuses_platforms (lent_dependencies w)) m.target r
-    ⊎ refuses_some (refuses_lints w.lints) m.lints r
+-- EVERY REFUSAL OF A MANIFEST over a workspace, in the order in which they are reported
+unfoldable pub all_refusals : Manifest → Workspace → PlacedRefusals
+all_refusals m w =
+    let in_map = some_refusals (dependencies_refusals (lent_dependencies w)) in
+    refused_under (codes "package")
+    (some_refusals (fields_refusals lendable w.«package») m.«package»)
+    ++ refused_under (codes "dependencies") (in_map m.dependencies)
+    ++ refused_under (codes "dev-dependencies") (in_map m.dev_dependencies)
+    ++ refused_under (codes "build-dependencies") (in_map m.build_dependencies)
+    ++ refused_under (codes "target")
+    (some_refusals (platforms_refusals (lent_dependencies w)) m.target)
+    ++ refused_under (codes "lints") (some_refusals (lints_refusals w.lints) m.lints)

@@ -5,8 +5,8 @@ ghost use Rattle.std.specs.Prelude.{◌≡◌, IfOk, IfErr, map, option_map, str
 ghost use Rattle.manifest_parts.specs.Records.{inherited_content, detail_content, dependency_content};
 ghost use Rattle.manifest_parts.specs.Queries.{simplify};
 ghost use Rattle.manifest_inherit.specs.Resolved.{workspace_dependency, version_alone, joined, resolved_dependency};
-ghost use Rattle.manifest_inherit.specs.AllRefused.{first_refusal, dependency_refusals};
-ghost use Rattle.manifest_inherit.specs.Answers.{fault_of, ResolveRefusedIn};
+ghost use Rattle.manifest_inherit.specs.Refused.{dependency_refusals};
+ghost use Rattle.manifest_inherit.specs.Answers.{fault_of, RefusesFirst};
 ghost use Rattle.manifest_inherit.specs.ForProofs.{Accepted, lent_by_map};
 
 use crate::error::{ResolveError, inherited_in_workspace, not_in_workspace};
@@ -80,7 +80,7 @@ pub(crate) fn resolved_dependency(
         IfOk result (λ x. Accepted (dependency_refusals all name.now d)
         (resolved_dependency all name.now d) (dependency_content x)) }
     ensures refused { let all = lent_by_map lent.now in let d = dependency_content own.now in
-        IfErr result (ResolveRefusedIn (first_refusal (dependency_refusals all name.now d))) }
+        IfErr result (RefusesFirst (dependency_refusals all name.now d)) }
 {
     match own {
         Dependency::Simple(version) => Ok(Dependency::Simple(copy_of(version)?)),

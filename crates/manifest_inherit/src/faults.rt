@@ -3,8 +3,8 @@
 ghost use Rattle.std.specs.Prelude.{◌≡◌, ◌++◌, [], ◌∷◌, IfOk, IfErr, OnOk, map};
 ghost use Rattle.manifest_schema.specs.Prelude.{key};
 ghost use Rattle.manifest_value.specs.Faults.{path_of};
-ghost use Rattle.manifest_inherit.specs.AllRefused.{first_refusal, refused_here, refused_under};
-ghost use Rattle.manifest_inherit.specs.Answers.{refusal_of, fault_of, ResolveRefusedIn};
+ghost use Rattle.manifest_inherit.specs.Refused.{refused_here, refused_under};
+ghost use Rattle.manifest_inherit.specs.Answers.{refusal_of, fault_of, RefusesFirst};
 
 use crate::error::{Refusal, ResolveError, ResolveFault};
 use manifest_value::{KeyPath, Step};
@@ -87,8 +87,7 @@ pub(crate) fn refused_under(alloc: Global, word: &str, inside: Vec<ResolveFault>
 /// Refuses with the first of the list, if there is one.
 pub(crate) fn refuse_first(list: Vec<ResolveFault>) -> Result<(), ResolveError>
     ensures ok { OnOk result (map fault_of list.items ≡ []) }
-    ensures refused { IfErr result
-        (ResolveRefusedIn (first_refusal (map fault_of list.items))) }
+    ensures refused { IfErr result (RefusesFirst (map fault_of list.items)) }
 {
     match list.into_iter().next() {
         Some(fault) => Err(ResolveError::Refused(fault.refusal)),

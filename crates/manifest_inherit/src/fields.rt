@@ -5,7 +5,7 @@ ghost use Rattle.manifest_parts.specs.Parts.{inh_content};
 ghost use Rattle.cargo_manifest.specs.Tables.{workspace_package_content, package_of};
 ghost use Rattle.manifest_inherit.specs.Fields.{lendable};
 ghost use Rattle.manifest_inherit.specs.Resolved.{resolved_field, resolved_package};
-ghost use Rattle.manifest_inherit.specs.AllRefused.{field_refusals, fields_refusals, some_refusals};
+ghost use Rattle.manifest_inherit.specs.Refused.{field_refusals, fields_refusals, some_refusals};
 ghost use Rattle.manifest_inherit.specs.Answers.{fault_of};
 ghost use Rattle.manifest_inherit.specs.ForProofs.{how_many, refusals_at};
 

@@ -4,7 +4,7 @@
 //! Each function returns at once: it is there for its contract, a law of the definitions.
 
 ghost use Rattle.manifest_schema.specs.Kinds.{tree_of};
-ghost use Rattle.manifest_inherit.specs.Laws.{ResolvedIsSettled, OwnIsSettled, ResolvedIsWellFormed, CompletedStaysResolved, ResolvedDatesAreValid, ListsEachRefusal, EmptyIfNoneHolds};
+ghost use Rattle.manifest_inherit.specs.Laws.{ResolvedIsSettled, OwnIsSettled, ResolvedIsWellFormed, CompletedStaysResolved, ResolvedDatesAreValid, ListsEachRefusal, EmptyIfNoneHolds, ListsEachOnce};
 
 use cargo_manifest::Metadata;
 
@@ -24,9 +24,12 @@ pub fn resolved_dates_are_valid()
     ensures { ResolvedDatesAreValid }
 {}
 
-/// The list of all refusals, which [`refusals`](crate::refusals) returns, has a refusal at some path exactly if it
-/// holds; so the list is empty exactly where none holds, as where [`resolve`](crate::resolve) succeeds.
+/// The list of all refusals, which [`refusals`](crate::refusals) returns, has a refusal at a path exactly if what stands
+/// there is inherited and is refused for that reason (`refused_at`); so the list is empty exactly where nothing is
+/// refused, as where [`resolve`](crate::resolve) succeeds. Where the keys of each map differ, as those of a `BTreeMap`
+/// do, it has no refusal twice at one path.
 pub fn each_refusal_is_listed()
     ensures listed { ListsEachRefusal }
     ensures empty { EmptyIfNoneHolds }
+    ensures once { ListsEachOnce }
 {}

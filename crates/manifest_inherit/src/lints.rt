@@ -3,8 +3,8 @@
 ghost use Rattle.std.specs.Prelude.{◌≡◌, OnOk, IfOk, IfErr, map, option_map};
 ghost use Rattle.manifest_parts.specs.Records.{lints_content};
 ghost use Rattle.manifest_inherit.specs.Resolved.{resolved_lints};
-ghost use Rattle.manifest_inherit.specs.AllRefused.{first_refusal, tools_refusals, lent_lints_refusals, lints_refusals, some_refusals};
-ghost use Rattle.manifest_inherit.specs.Answers.{fault_of, ResolveRefusedIn};
+ghost use Rattle.manifest_inherit.specs.Refused.{tools_refusals, lent_lints_refusals, lints_refusals, some_refusals};
+ghost use Rattle.manifest_inherit.specs.Answers.{fault_of, RefusesFirst};
 ghost use Rattle.manifest_inherit.specs.ForProofs.{Accepted, tools_content};
 
 use crate::error::{Refusal, ResolveError, not_in_workspace};
@@ -103,7 +103,7 @@ pub(crate) fn make_lints(
         (option_map (resolved_lints (option_map tools_content place.new)) o)) }
     ensures refused { let all = option_map tools_content lent.now in
         let o = option_map lints_content own.now in
-        IfErr result (ResolveRefusedIn (first_refusal (some_refusals (lints_refusals all) o))) }
+        IfErr result (RefusesFirst (some_refusals (lints_refusals all) o)) }
 {
     match own {
         Some(own) => {

@@ -7,9 +7,8 @@ ghost use Rattle.manifest_schema.specs.Kinds.{Entries};
 ghost use Rattle.manifest_value.specs.Entries.{entries_content};
 ghost use Rattle.manifest_parts.specs.Records.{dependency_content, platform_content};
 ghost use Rattle.manifest_inherit.specs.Resolved.{resolved_entries, resolved_dependency, resolved_platform};
-ghost use Rattle.manifest_inherit.specs.Refused.{Refusal};
-ghost use Rattle.manifest_inherit.specs.AllRefused.{first_refusal, refused_under, dependency_refusals, entries_refusals, platform_refusals, some_refusals};
-ghost use Rattle.manifest_inherit.specs.Answers.{fault_of, ResolveRefusedIn};
+ghost use Rattle.manifest_inherit.specs.Refused.{Refusal, refused_under, dependency_refusals, entries_refusals, platform_refusals, some_refusals};
+ghost use Rattle.manifest_inherit.specs.Answers.{fault_of, RefusesFirst};
 ghost use Rattle.manifest_inherit.specs.ForProofs.{Accepted, lent_by_map};
 ghost use Rattle.manifest_inherit.specs.Sizes.{dependency_size, platform_size, Leaves};
 
@@ -48,8 +47,7 @@ pub(crate) trait Heir: Sized + Drop {
             IfOk result (λ y. Accepted (refusals all name.now x)
             (resolved all name.now x) (content y)) }
         ensures refused { let all = lent_by_map lent.now in
-            IfErr result (ResolveRefusedIn
-            (first_refusal (refusals all name.now (content self.now)))) };
+            IfErr result (RefusesFirst (refusals all name.now (content self.now))) };
 
     /// All refusals of the value, which stands under the key `name`: each of what the workspace's dependencies (`lent`)
     /// do not have, or themselves inherit.
@@ -161,8 +159,7 @@ fn resolved_list<T: Heir>(
         (resolved_entries (T.resolved all) es) (entries_content T.content v.items)) }
     ensures refused { let all = lent_by_map lent.now in
         let es = entries_content T.content own.now.entries in
-        IfErr result (ResolveRefusedIn
-        (first_refusal (entries_refusals (T.refusals all) es))) }
+        IfErr result (RefusesFirst (entries_refusals (T.refusals all) es)) }
 {
     let mut list = Vec::new(alloc);
     for (key, x) in own.iter() {
@@ -188,8 +185,7 @@ fn resolved_map<T: Heir>(
         (resolved_entries (T.resolved all) es) (entries_content T.content m.entries)) }
     ensures refused { let all = lent_by_map lent.now in
         let es = entries_content T.content own.now.entries in
-        IfErr result (ResolveRefusedIn
-        (first_refusal (entries_refusals (T.refusals all) es))) }
+        IfErr result (RefusesFirst (entries_refusals (T.refusals all) es)) }
 {
     // (the keys of the map ascend)
     let _in_order = own.len();
@@ -211,8 +207,7 @@ pub(crate) fn make_map<T: Heir>(
         (option_map (λ m. entries_content T.content m.entries) place.new)) }
     ensures refused { let all = lent_by_map lent.now in
         let o = option_map (λ m. entries_content T.content m.entries) own.now in
-        IfErr result (ResolveRefusedIn
-        (first_refusal (some_refusals (entries_refusals (T.refusals all)) o))) }
+        IfErr result (RefusesFirst (some_refusals (entries_refusals (T.refusals all)) o)) }
 {
     match own {
         Some(own) => {

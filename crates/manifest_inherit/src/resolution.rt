@@ -6,8 +6,8 @@ ghost use Rattle.cargo_manifest.specs.Tables.{workspace_package_content, package
 ghost use Rattle.cargo_manifest.specs.Whole.{manifest_of};
 ghost use Rattle.manifest_inherit.specs.Fields.{lendable};
 ghost use Rattle.manifest_inherit.specs.Resolved.{resolved_package, resolved};
-ghost use Rattle.manifest_inherit.specs.AllRefused.{first_refusal, fields_refusals, some_refusals, all_refusals};
-ghost use Rattle.manifest_inherit.specs.Answers.{ResolveRefusedIn, Resolves};
+ghost use Rattle.manifest_inherit.specs.Refused.{fields_refusals, some_refusals, all_refusals};
+ghost use Rattle.manifest_inherit.specs.Answers.{Resolves, RefusesFirst};
 ghost use Rattle.manifest_inherit.specs.ForProofs.{Accepted, with_made};
 
 use crate::error::ResolveError;
@@ -81,8 +81,7 @@ fn make_package<M: Metadata>(
         (option_map (resolved_package (Some (workspace_package_content made.new))) o)) }
     ensures refused { let w = option_map workspace_package_content lent.now in
         let o = option_map (package_of M.kind M.content) own.now in
-        IfErr result (ResolveRefusedIn
-        (first_refusal (some_refusals (fields_refusals lendable w) o))) }
+        IfErr result (RefusesFirst (some_refusals (fields_refusals lendable w) o)) }
 {
     match own {
         Some(own) => {
@@ -107,7 +106,7 @@ fn make_all<P: Metadata, W: Metadata, V: Metadata>(
         OnOk result (Accepted (all_refusals m w) (resolved m w) (with_made made.new m)) }
     ensures refused { let m = manifest_of P.kind W.kind P.content W.content manifest.now in
         let w = workspace_of V.kind V.content workspace.now in
-        IfErr result (ResolveRefusedIn (first_refusal (all_refusals m w))) }
+        IfErr result (RefusesFirst (all_refusals m w)) }
 {
     let lent = &workspace.dependencies;
     make_package(
@@ -146,7 +145,7 @@ fn make<P: Metadata, W: Metadata, V: Metadata>(
         IfOk result (λ made. Accepted (all_refusals m w) (resolved m w) (with_made made m)) }
     ensures refused { let m = manifest_of P.kind W.kind P.content W.content manifest.now in
         let w = workspace_of V.kind V.content workspace.now in
-        IfErr result (ResolveRefusedIn (first_refusal (all_refusals m w))) }
+        IfErr result (RefusesFirst (all_refusals m w)) }
 {
     let mut made = Made::new();
     match make_all(alloc, manifest, workspace, &mut made) {
@@ -208,9 +207,6 @@ pub fn resolve<P: Metadata, W: Metadata, V: Metadata>(
     ensures answers { Resolves (manifest_of P.kind W.kind P.content W.content manifest.old)
         (workspace_of V.kind V.content workspace.now)
         (manifest_of P.kind W.kind P.content W.content manifest.new) result }
-    ensures first { let m = manifest_of P.kind W.kind P.content W.content manifest.old in
-        let w = workspace_of V.kind V.content workspace.now in
-        IfErr result (ResolveRefusedIn (first_refusal (all_refusals m w))) }
     ensures refused { OnErr result (manifest.new ≡ manifest.old) }
 {
     let made = make(alloc, manifest, workspace)?;

@@ -3,7 +3,7 @@
 ghost use Rattle.std.specs.Prelude.{◌≡◌, IfOk, map};
 ghost use Rattle.cargo_manifest.specs.Tables.{workspace_of};
 ghost use Rattle.cargo_manifest.specs.Whole.{manifest_of};
-ghost use Rattle.manifest_inherit.specs.AllRefused.{all_refusals};
+ghost use Rattle.manifest_inherit.specs.Refused.{all_refusals};
 ghost use Rattle.manifest_inherit.specs.Answers.{fault_of};
 
 use crate::error::ResolveFault;

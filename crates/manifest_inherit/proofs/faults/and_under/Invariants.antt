@@ -1,6 +1,6 @@
 use Rattle.std.proofs.Common.{◌≡◌, ◌++◌, map}
 use Rattle.std.specs.Vec.Iter.{into_iter_items}
-use Rattle.manifest_inherit.specs.AllRefused.{refused_under}
+use Rattle.manifest_inherit.specs.Refused.{refused_under}
 use Rattle.manifest_inherit.specs.Answers.{fault_of}
 use Rattle.manifest_inherit.proofs.faults.and_under.Given as goal
 

@@ -1,7 +1,7 @@
 use Rattle.std.proofs.Common.{◌≡◌, ◌++◌, map, Some}
 use Rattle.cargo_manifest.specs.Tables.{workspace_package_content, package_of}
 use Rattle.manifest_inherit.specs.Fields.{lendable}
-use Rattle.manifest_inherit.specs.AllRefused.{fields_refusals}
+use Rattle.manifest_inherit.specs.Refused.{fields_refusals}
 use Rattle.manifest_inherit.specs.Answers.{fault_of}
 use Rattle.manifest_inherit.specs.ForProofs.{refusals_from}
 use Rattle.manifest_inherit.proofs.fields.fields_refusals.Given as goal

@@ -1,6 +1,6 @@
 use Rattle.std.proofs.Common.{◌≡◌, ◌++◌, map}
 use Rattle.manifest_value.specs.Entries.{entries_content}
-use Rattle.manifest_inherit.specs.AllRefused.{entries_refusals}
+use Rattle.manifest_inherit.specs.Refused.{entries_refusals}
 use Rattle.manifest_inherit.specs.Answers.{fault_of}
 use Rattle.manifest_inherit.specs.ForProofs.{lent_by_map}
 use Rattle.manifest_inherit.proofs.maps.map_refusals.Given as goal

@@ -1,9 +1,8 @@
-use Rattle.std.proofs.Common.{◌≡◌, [], ◌∷◌, ◌++◌, String, Global, string_bytes, sym, ap, ◌∙◌, subst, append_assoc}
+use Rattle.std.proofs.Common.{◌≡◌, [], ◌∷◌, ◌++◌, String, Global, string_bytes, sym, ap, ◌∙◌, append_assoc}
 use Rattle.manifest_value.specs.Entries.{entries_content}
-use Rattle.manifest_inherit.specs.AllRefused.{first_refusal, entries_refusals}
-use Rattle.manifest_inherit.specs.Answers.{ResolveRefusedIn}
+use Rattle.manifest_inherit.specs.Refused.{entries_refusals}
 use Rattle.manifest_inherit.specs.ForProofs.{lent_by_map}
-use Rattle.manifest_inherit.proofs.EntryLemmas.{refused_weaker, first_within, accepted_last}
+use Rattle.manifest_inherit.proofs.EntryLemmas.{refused_first, first_within, accepted_last}
 use Rattle.manifest_inherit.proofs.maps.resolved_list.Goals as goal
 
 pub returns-in-Err-clause-refused : goal.returns-in-Err-clause-refused
@@ -13,8 +12,9 @@ returns-in-Err-clause-refused g c =
     let R = g.T.Heir.refusals (lent_by_map c.args.lent.now) in
     let e : String Global × g.row.T.Denot = (c.in-Some.key.now, c.in-Some.x.now) in
     let all = l.invariant.1 ∙ ap (λ es. l.invariant.0 ++ es) c.in-Some.ensures.steps in
-    let named = subst (λ n. ResolveRefusedIn (first_refusal (R n (f e.1))) c.in-Err.refusal) c.as_str.ensures.value c.in-Err.ensures.refused in
-    refused_weaker _ (first_refusal (entries_refusals R (entries_content f c.args.own.now.entries))) c.in-Err.refusal (λ r h. rw all (first_within R f l.invariant.0 e c.next.new.self r l.invariant.2.0 h)) named
+    let named = rw c.as_str.ensures.value at c.in-Err.ensures.refused in
+    refused_first _ (entries_refusals R (entries_content f c.args.own.now.entries)) c.in-Err.refusal
+    (λ r h. rw all (first_within R f l.invariant.0 e c.next.new.self r l.invariant.2.0 h)) named
 
 pub loop-key-preserved : goal.loop-key-preserved
 loop-key-preserved g c =

@@ -1,7 +1,7 @@
 use Rattle.std.proofs.Common.{◌≡◌, List, ◌++◌, String, Global}
 use Rattle.manifest_value.specs.Entries.{entries_content}
 use Rattle.manifest_inherit.specs.Resolved.{resolved_entries}
-use Rattle.manifest_inherit.specs.AllRefused.{entries_refusals}
+use Rattle.manifest_inherit.specs.Refused.{entries_refusals}
 use Rattle.manifest_inherit.specs.ForProofs.{Accepted, lent_by_map}
 use Rattle.manifest_inherit.proofs.maps.resolved_list.Given as goal
 

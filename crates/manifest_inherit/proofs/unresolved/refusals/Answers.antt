@@ -1,5 +1,5 @@
 use Rattle.std.proofs.Common.{refl}
-use Rattle.manifest_inherit.specs.AllRefused.{all_refusals}
+use Rattle.manifest_inherit.specs.Refused.{all_refusals}
 use Rattle.manifest_inherit.proofs.unresolved.refusals.Goals as goal
 
 pub returns : goal.returns
