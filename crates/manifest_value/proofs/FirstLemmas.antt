@@ -1,7 +1,7 @@
 -- The first fault that is found: one step further out, and after findings without a fault.
-use Rattle.manifest_schema.specs.Prelude.{table, Data, Items, no_items, item, Members, no_members, member, Text, Path, Cause as SchemaCause, Step, key, index, Spellings, Slot, IsSound, Kind, Entries, Rows, spelled, left_over, findings_beside, fault, ignored, unused, unused_keys, faults_of, among, foremost, first_found, found_behind, leniently, IsFaultless, item_findings, entry_findings, form_findings, plain, kept}
+use Rattle.manifest_schema.specs.Prelude.{no_fault, table, Data, Items, no_items, item, Members, no_members, member, Text, Path, Cause as SchemaCause, Step, key, index, Spellings, Slot, IsSound, Kind, Entries, Rows, spelled, left_over, findings_beside, fault, ignored, unused, unused_keys, faults_of, among, foremost, first_found, found_behind, leniently, IsFaultless, item_findings, entry_findings, form_findings, plain, kept}
 use Rattle.manifest_schema.specs.Findings.{Finding}
-use Rattle.std.proofs.Common.{◌≡◌, ℕ, suc, true, List, [], ◌∷◌, ◌++◌, Result, Ok, Err, OnOk, refl, sym, ap, ◌∙◌, subst, length, ◌+◌, arith, drop}
+use Rattle.std.proofs.Common.{◌≡◌, ℕ, suc, true, List, [], ◌∷◌, ◌++◌, Result, Ok, Err, OnOk, IfErr, refl, sym, ap, ◌∙◌, subst, length, ◌+◌, arith, drop}
 use Rattle.manifest_schema.proofs.Faultless.{lenient_none, faults-append}
 use Rattle.manifest_schema.proofs.KindLaws.{kept_sound}
 use Rattle.manifest_schema.specs.Kinds.{map_findings, float_findings}
@@ -9,7 +9,7 @@ use Rattle.manifest_value.specs.Entries.{reads_first}
 use Rattle.manifest_value.specs.Faults.{FaultIn, IsBehind, no_table}
 use Rattle.manifest_value.specs.FormRows.{AreAll}
 use Rattle.manifest_value.specs.Found.{HasNoFault, findings_at, findings_from}
-use Rattle.manifest_value.specs.Reading.{GivesOr}
+use Rattle.manifest_value.specs.Reading.{GivesOr, GivesRow}
 use Rattle.manifest_value.specs.Walks.{names_of, slots_at}
 use Rattle.manifest_value.specs.declared.fault.ReadFault.{ReadFault}
 use Rattle.manifest_value.specs.declared.fault.ReadFault.TheVariants.{Schema, Memory}
@@ -99,6 +99,15 @@ none_lenient fs = faultless_none (leniently fs) (lenient_none fs)
 pub lenient_clean : {X E : Type 0} (r : Result X E) (fs : List Finding) → OnOk r (HasNoFault (leniently fs))
 lenient_clean (Ok x) fs = none_lenient fs
 lenient_clean (Err e) fs = tt
+
+-- and it fails only as out of memory, which stands for any fault
+pub lenient_gives : {X : Type 0} (P : Type 0) (find : Spellings → List Finding) (w : Text) (r : Result X ReadFault)
+    → OnOk r P → IfErr r (FaultIn no_fault) → GivesRow P find w r
+lenient_gives P find w (Ok x) h k = h
+lenient_gives P find w (Err (Schema f)) h k = absurd k
+lenient_gives P find w (Err (Memory e)) h k = λ names is. tt
+
+pub ruleset lenient_rows = (lenient_clean, lenient_gives)
 
 -- for a reader that puts a step before a fault's path
 pub ruleset step_laws = (first_behind, none_behind, none_read)
