@@ -1,11 +1,11 @@
 -- The form of a score, with its laws.
-use Rattle.manifest_schema.specs.Prelude.{Data, integer, table, member, only, put_some, whole, plain, required, Rows, no_more, ◌⨾◌, form, IsLawful, AreLawful, IsBuilt}
+use Rattle.manifest_schema.specs.Prelude.{Data, integer, table, member, only, put_some, whole, plain, required, Rows, no_more, ◌⨾◌, form, IsSound, AreSound, IsBuilt}
 use Rattle.std.specs.Prelude.{◌≡◌, ℤ, pos, codes, IsTrue, refl}
 use Rattle.std.proofs.Common.{subst, ap}
 use Rattle.manifest_schema.specs.Forms.{row}
-use Rattle.manifest_schema.proofs.KindLaws.{whole_lawful}
-use Rattle.manifest_schema.proofs.NeedLaws.{required_lawful}
-use Rattle.manifest_schema.proofs.FormLaws.{form_lawful}
+use Rattle.manifest_schema.proofs.KindLaws.{whole_sound}
+use Rattle.manifest_schema.proofs.NeedLaws.{required_sound}
+use Rattle.manifest_schema.proofs.FormLaws.{form_sound}
 
 -- a level from 0 to 9; all other keys are free
 unfoldable pub score_rows : Rows ℤ
@@ -16,13 +16,13 @@ score_built : IsBuilt score_rows
 unfolding score_rows
 score_built = record { build = λ t. t.0; all = λ x. refl; each = λ t. refl }
 
-score_are_lawful : AreLawful score_rows
+score_rows_sound : AreSound score_rows
 unfolding score_rows
-score_are_lawful = (required_lawful (whole_lawful (pos 0) (pos 9)), tt)
+score_rows_sound = (required_sound (whole_sound (pos 0) (pos 9)), tt)
 
-pub score_lawful : IsLawful (form score_rows)
+pub score_sound : IsSound (form score_rows)
 unfolding score_rows
-score_lawful = form_lawful score_rows score_are_lawful score_built refl
+score_sound = form_sound score_rows score_rows_sound score_built refl
 
 -- no float is written of a score
 pub score_plain : (x : ℤ) → (form score_rows).good x → IsTrue (plain ((form score_rows).written x))

@@ -2,8 +2,8 @@
 
 ghost use Rattle.std.specs.Prelude.{◌≡◌, ℤ, pos};
 ghost use Rattle.manifest_schema.specs.Kinds.{whole};
-ghost use Rattle.manifest_schema.proofs.KindLaws.{whole_lawful};
-ghost use Rattle.manifest_tests.specs.Scores.{score_rows, score_lawful, score_plain, score_by_tree};
+ghost use Rattle.manifest_schema.proofs.KindLaws.{whole_sound};
+ghost use Rattle.manifest_tests.specs.Scores.{score_rows, score_sound, score_plain, score_by_tree};
 
 use manifest_value::fault::fault_here;
 use manifest_value::findings::{Findings, Found};
@@ -59,7 +59,7 @@ impl Schema for Level {
         self.number <= 9
     }
 
-    ghost lawful = { whole_lawful (pos 0) (pos 9) };
+    ghost lawful = { whole_sound (pos 0) (pos 9) };
 }
 
 /// A table with a level. It is well-formed with a level from 0 to 9.
@@ -118,7 +118,7 @@ impl Rowed for Score {
 impl Form for Score {
     fn covers() {}
 
-    ghost lawful = { score_lawful };
+    ghost lawful = { score_sound };
 }
 
 impl Metadata for Score {
