@@ -1,4 +1,9 @@
 pub mod NumberLemmas
+pub mod ReadLemmas
+pub mod PartLemmas
+pub mod TagLemmas
+pub mod ThenLemmas
+pub mod HeldLemmas
 pub mod ValueLemmas
 pub mod DecodedLemmas
 pub mod FloatLemmas

@@ -1,5 +1,8 @@
 //! Why bytes are not read.
 
+ghost use Rattle.std.specs.Prelude.{◌≡◌, alloc_error};
+ghost use Rattle.manifest_bytes.specs.declared.error.DecodeError.TheVariants.{Memory};
+
 use std::alloc::{AllocError, AllocFailed};
 
 /// Why [`value_of_bytes`](crate::value_of_bytes) does not say whether the bytes are those of a value.
@@ -13,6 +16,8 @@ pub enum DecodeError {
 
 /// A refused allocation, which `?` passes on as `DecodeError::Memory`.
 impl From<AllocError> for DecodeError {
+    ghost from_gives = { λ refused error. error ≡ Memory refused };
+
     fn from(refused: AllocError) -> DecodeError {
         DecodeError::Memory(refused)
     }
@@ -20,6 +25,8 @@ impl From<AllocError> for DecodeError {
 
 /// A refused allocation, which `?` passes on as `DecodeError::Memory`.
 impl<T: Drop> From<AllocFailed<T>> for DecodeError {
+    ghost from_gives = { λ refused error. error ≡ Memory alloc_error };
+
     fn from(refused: AllocFailed<T>) -> DecodeError {
         DecodeError::Memory(AllocError::from(refused))
     }

@@ -1,7 +1,20 @@
-//! Reads a value from tagged bytes: the way back from `values`. Nothing here but `inside` has a contract:
-//! `value_of_bytes` encodes the result again, and returns it only if the bytes are equal.
+//! Reads a value from tagged bytes: the way back from `values`. Of each reader `reads` says that what fits is read
+//! where its bytes stand, and that what was after them is left. `held` says of what is read that it is what the bytes
+//! hold, but not that they are the bytes of it: a number may be written longer than needed, and the keys of a table in
+//! any order. So `value_of_bytes` encodes the result again, and returns it only if the bytes are equal. By `shrinks` no
+//! more is left than there was, and what is too deep has more than `deepest` bytes.
 
-ghost use Rattle.std.specs.Prelude.{◌≡◌, ◌+◌, IfOk};
+ghost use Rattle.std.specs.Prelude.{◌≡◌, ℕ, ◌+◌, ◌<◌, ◌^◌, List, ◌∷◌, ◌++◌, Bool, IfSome, IsSomeAnd, IfOk, IfErr, OnOk, IsTrue, option_map, option_copied, string_bytes, alloc_error};
+ghost use Rattle.std.specs.BTreeMap.{insert_entry};
+ghost use Rattle.std.specs.String.{string_cmp};
+ghost use Rattle.toml.specs.Data.{Data, array, table, depth, Items, items_depth, Members, members_depth};
+ghost use Rattle.toml.specs.View.{view, array_view, table_view};
+ghost use Rattle.manifest_bytes.specs.declared.error.DecodeError.TheVariants.{TooDeep, Memory};
+ghost use Rattle.manifest_bytes.specs.Numbers.{number_bytes, take_number};
+ghost use Rattle.manifest_bytes.specs.Decoded.{take_byte, take_text, take_part, take_date, take_time, take_offset, take_datetime};
+ghost use Rattle.manifest_bytes.specs.Encoded.{text_bytes, part_bytes, date_bytes, second_bytes, time_bytes, offset_bytes, datetime_bytes, item_count, member_count, encoded, items_bytes, members_bytes};
+ghost use Rattle.manifest_bytes.specs.Held.{FitsText, FitsDate, FitsTime, FitsOffset, FitsDatetime, FitsValue, FitItems, FitMembers};
+ghost use Rattle.manifest_bytes.specs.Read.{ReadsByte, ReadsFlag, Reads, is_simple, IsTaken, IsFlag, take_simple, ReadsWithin, Shrinks};
 
 use crate::error::DecodeError;
 use std::alloc::Global;
@@ -21,7 +34,10 @@ pub(crate) struct Reader<'a> {
 
 impl<'a> Reader<'a> {
     /// The next byte, which is then passed; `None` at the end.
-    fn byte(&mut self) -> Option<u8> {
+    fn byte(&mut self) -> Option<u8>
+        ensures reads { ReadsByte self.old.left.now result self.new.left.now }
+        ensures held { IsTaken take_byte self.old.left.now result self.new.left.now }
+    {
         let (first, left) = self.left.split_first()?;
         self.left = left;
         Some(*first)
@@ -29,10 +45,14 @@ impl<'a> Reader<'a> {
 
     /// A number: unsigned LEB128, ten bytes at most; `None` if the bytes end or it exceeds `u64`. A form that is longer
     /// than needed passes here, and is refused by `value_of_bytes`.
-    fn number(&mut self) -> Option<u64> {
+    fn number(&mut self) -> Option<u64>
+        ensures reads { Reads (λ n. n < 2 ^ 64) number_bytes
+            self.old.left.now result self.new.left.now }
+        ensures held { IsTaken take_number self.old.left.now result self.new.left.now }
+    {
         let mut number: u64 = 0;
         let mut unit: u64 = 1;
-        for _ in 0..9 {
+        for _ in 0..9_usize {
             let byte = self.byte()?;
             number = number.checked_add(u64::from(byte % 128).checked_mul(unit)?)?;
             if byte < 128 {
@@ -45,7 +65,12 @@ impl<'a> Reader<'a> {
     }
 
     /// A string without its tag: its length in bytes, and the bytes; `None` where they end too early or are not UTF-8.
-    fn text(&mut self) -> Option<&'a str> {
+    fn text(&mut self) -> Option<&'a str>
+        ensures reads { let read = option_copied result in
+            Reads FitsText text_bytes self.old.left.now read self.new.left.now }
+        ensures held { let read = option_copied result in
+            IsTaken take_text self.old.left.now read self.new.left.now }
+    {
         let length = usize::try_from(self.number()?).ok()?;
         let (text, left) = self.left.split_at_checked(length)?;
         self.left = left;
@@ -53,7 +78,10 @@ impl<'a> Reader<'a> {
     }
 
     /// The byte before a part that may be left out: 0 where it is absent, 1 where it follows; `None` for another byte.
-    fn has_part(&mut self) -> Option<bool> {
+    fn has_part(&mut self) -> Option<bool>
+        ensures reads { ReadsFlag self.old.left.now result self.new.left.now }
+        ensures held { IsFlag self.old.left.now result self.new.left.now }
+    {
         match self.byte()? {
             0 => Some(false),
             1 => Some(true),
@@ -63,7 +91,10 @@ impl<'a> Reader<'a> {
 
     /// Reads a date: a byte for the month, a byte for the day, and the year as a number (LEB128); `None` where the
     /// bytes are no date.
-    fn date(&mut self) -> Option<Date> {
+    fn date(&mut self) -> Option<Date>
+        ensures reads { Reads FitsDate date_bytes self.old.left.now result self.new.left.now }
+        ensures held { IsTaken take_date self.old.left.now result self.new.left.now }
+    {
         let month = self.byte()?;
         let day = self.byte()?;
         let year = u16::try_from(self.number()?).ok()?;
@@ -72,7 +103,11 @@ impl<'a> Reader<'a> {
 
     /// Reads the seconds of a time, which may be absent: `Some(None)` of the byte 0, `Some(Some(s))` of the byte 1 and
     /// the byte `s`, and `None` where the bytes are neither.
-    fn second(&mut self) -> Option<Option<u8>> {
+    fn second(&mut self) -> Option<Option<u8>>
+        ensures reads { Reads (λ s. IfSome s (λ b. b < 2 ^ 8)) (part_bytes second_bytes)
+            self.old.left.now result self.new.left.now }
+        ensures held { IsTaken (take_part take_byte) self.old.left.now result self.new.left.now }
+    {
         if self.has_part()? {
             Some(Some(self.byte()?))
         } else {
@@ -80,11 +115,24 @@ impl<'a> Reader<'a> {
         }
     }
 
+    /// A number that is a `u32`; `None` if the bytes end or it exceeds that.
+    fn short_number(&mut self) -> Option<u32>
+        ensures reads { Reads (λ n. n < 2 ^ 32) number_bytes
+            self.old.left.now result self.new.left.now }
+        ensures held { IsTaken take_number self.old.left.now result self.new.left.now }
+    {
+        u32::try_from(self.number()?).ok()
+    }
+
     /// Reads the nanoseconds of a time, which may be absent: `Some(None)` of the byte 0, `Some(Some(n))` of the byte 1
     /// and the number `n` (LEB128), and `None` where the bytes are neither.
-    fn nanosecond(&mut self) -> Option<Option<u32>> {
+    fn nanosecond(&mut self) -> Option<Option<u32>>
+        ensures reads { Reads (λ s. IfSome s (λ n. n < 2 ^ 32)) (part_bytes number_bytes)
+            self.old.left.now result self.new.left.now }
+        ensures held { IsTaken (take_part take_number) self.old.left.now result self.new.left.now }
+    {
         if self.has_part()? {
-            Some(Some(u32::try_from(self.number()?).ok()?))
+            Some(Some(self.short_number()?))
         } else {
             Some(None)
         }
@@ -92,7 +140,10 @@ impl<'a> Reader<'a> {
 
     /// Reads a time: a byte for the hour, a byte for the minute, then the seconds and the nanoseconds, each of which
     /// may be absent; `None` where the bytes are no time.
-    fn time(&mut self) -> Option<Time> {
+    fn time(&mut self) -> Option<Time>
+        ensures reads { Reads FitsTime time_bytes self.old.left.now result self.new.left.now }
+        ensures held { IsTaken take_time self.old.left.now result self.new.left.now }
+    {
         let hour = self.byte()?;
         let minute = self.byte()?;
         let second = self.second()?;
@@ -106,7 +157,10 @@ impl<'a> Reader<'a> {
     }
 
     /// An offset: 0 for `Z`, 1 and the minutes, or 2 and -1 minus the minutes, where they are below 0.
-    fn offset(&mut self) -> Option<Offset> {
+    fn offset(&mut self) -> Option<Offset>
+        ensures reads { Reads FitsOffset offset_bytes self.old.left.now result self.new.left.now }
+        ensures held { IsTaken take_offset self.old.left.now result self.new.left.now }
+    {
         match self.byte()? {
             0 => Some(Offset::Z),
             1 => {
@@ -121,29 +175,66 @@ impl<'a> Reader<'a> {
         }
     }
 
+    /// A date that may be absent: the byte 0, or 1 and the date.
+    fn date_part(&mut self) -> Option<Option<Date>>
+        ensures reads { Reads (λ d. IfSome d FitsDate) (part_bytes date_bytes)
+            self.old.left.now result self.new.left.now }
+        ensures held { IsTaken (take_part take_date) self.old.left.now result self.new.left.now }
+    {
+        if self.has_part()? {
+            Some(Some(self.date()?))
+        } else {
+            Some(None)
+        }
+    }
+
+    /// A time that may be absent: the byte 0, or 1 and the time.
+    fn time_part(&mut self) -> Option<Option<Time>>
+        ensures reads { Reads (λ t. IfSome t FitsTime) (part_bytes time_bytes)
+            self.old.left.now result self.new.left.now }
+        ensures held { IsTaken (take_part take_time) self.old.left.now result self.new.left.now }
+    {
+        if self.has_part()? {
+            Some(Some(self.time()?))
+        } else {
+            Some(None)
+        }
+    }
+
+    /// An offset that may be absent: the byte 0, or 1 and the offset.
+    fn offset_part(&mut self) -> Option<Option<Offset>>
+        ensures reads { Reads (λ o. IfSome o FitsOffset) (part_bytes offset_bytes)
+            self.old.left.now result self.new.left.now }
+        ensures held { IsTaken (take_part take_offset) self.old.left.now result self.new.left.now }
+    {
+        if self.has_part()? {
+            Some(Some(self.offset()?))
+        } else {
+            Some(None)
+        }
+    }
+
     /// A date-time without its tag: date, time and offset, each of which may be absent.
-    fn datetime(&mut self) -> Option<Datetime> {
-        let date = if self.has_part()? {
-            Some(self.date()?)
-        } else {
-            None
-        };
-        let time = if self.has_part()? {
-            Some(self.time()?)
-        } else {
-            None
-        };
-        let offset = if self.has_part()? {
-            Some(self.offset()?)
-        } else {
-            None
-        };
+    fn datetime(&mut self) -> Option<Datetime>
+        ensures reads { Reads FitsDatetime datetime_bytes
+            self.old.left.now result self.new.left.now }
+        ensures held { IsTaken take_datetime self.old.left.now result self.new.left.now }
+    {
+        let date = self.date_part()?;
+        let time = self.time_part()?;
+        let offset = self.offset_part()?;
         Some(Datetime { date, time, offset })
     }
 
     /// What stands after `tag`, of an integer, a boolean, a date-time or a float; `None` for any other tag.
     #[inline(never)]
-    fn simple(&mut self, tag: u8) -> Option<Value> {
+    fn simple(&mut self, tag: u8) -> Option<Value>
+        ensures reads { (d : Data) (rest : List ℕ) → FitsValue d → IsTrue (is_simple d) →
+            tag ∷ self.old.left.now ≡ encoded d ++ rest →
+            IsSomeAnd result (λ v. view v ≡ d) × (self.new.left.now ≡ rest) }
+        ensures held { let read = option_map (λ v. view v) result in
+            IsTaken (take_simple tag) self.old.left.now read self.new.left.now }
+    {
         match tag {
             2 => Some(Value::Integer(i64::try_from(self.number()?).ok()?)),
             3 => Some(Value::Integer(!i64::try_from(self.number()?).ok()?)),
@@ -158,7 +249,13 @@ impl<'a> Reader<'a> {
 
 /// Reads a string without its tag, as [`Reader::text`] does, and copies it; `Ok(None)` where there is none.
 #[inline(never)]
-fn read_text(alloc: Global, reader: &mut Reader<'_>) -> Read<String> {
+fn read_text(alloc: Global, reader: &mut Reader<'_>) -> Read<String>
+    ensures reads { (t : List ℕ) (rest : List ℕ) → FitsText t →
+        reader.old.left.now ≡ text_bytes t ++ rest →
+        ReadsWithin 0 0 (λ s. (string_bytes s ≡ t) × (reader.new.left.now ≡ rest)) result }
+    ensures shrinks { Shrinks 0 reader.old.left.now result reader.new.left.now }
+    ensures refused { IfErr result (λ error. error ≡ Memory alloc_error) }
+{
     match reader.text() {
         Some(text) => Ok(Some(String::from_str(alloc, text)?)),
         None => Ok(None),
@@ -168,7 +265,8 @@ fn read_text(alloc: Global, reader: &mut Reader<'_>) -> Read<String> {
 /// The depth that is left for the values inside an array or a table: one less. Refuses with `TooDeep` where none is
 /// left.
 fn inside(deepest: usize) -> Result<usize, DecodeError>
-    ensures { IfOk result (λ inside. inside + 1 ≡ deepest) }
+    ensures less { IfOk result (λ inside. inside + 1 ≡ deepest) }
+    ensures refused { IfErr result (λ error. (deepest ≡ 0) × (error ≡ TooDeep)) }
 {
     if deepest == 0 {
         Err(DecodeError::TooDeep)
@@ -178,9 +276,15 @@ fn inside(deepest: usize) -> Result<usize, DecodeError>
 }
 
 /// Reads a value with its tag. `Ok(None)` where the bytes do not begin with one; refuses with `TooDeep` where its
-/// arrays and tables nest deeper than `deepest`, and when out of memory.
+/// arrays and tables nest deeper than `deepest`, which takes more than `deepest` bytes, and when out of memory.
 #[cycle(reading)]
-pub(crate) fn read_value(alloc: Global, deepest: usize, reader: &mut Reader<'_>) -> Read<Value> {
+pub(crate) fn read_value(alloc: Global, deepest: usize, reader: &mut Reader<'_>) -> Read<Value>
+    ensures reads { (d : Data) (rest : List ℕ) → FitsValue d →
+        reader.old.left.now ≡ encoded d ++ rest →
+        ReadsWithin (depth d) deepest
+        (λ v. (view v ≡ d) × (reader.new.left.now ≡ rest)) result }
+    ensures shrinks { Shrinks deepest reader.old.left.now result reader.new.left.now }
+{
     match reader.byte() {
         Some(1) => match read_text(alloc, reader)? {
             Some(text) => Ok(Some(Value::String(text))),
@@ -203,7 +307,13 @@ pub(crate) fn read_value(alloc: Global, deepest: usize, reader: &mut Reader<'_>)
 /// nest `deepest` deep. (It is compiled apart from [`read_value`], so that a value takes the stack of one kind alone.)
 #[inline(never)]
 #[cycle(reading)]
-fn read_items(alloc: Global, deepest: usize, reader: &mut Reader<'_>) -> Read<Vec<Value>> {
+fn read_items(alloc: Global, deepest: usize, reader: &mut Reader<'_>) -> Read<Vec<Value>>
+    ensures reads { (ds : Items) (rest : List ℕ) → FitsValue (array ds) →
+        reader.old.left.now ≡ (number_bytes (item_count ds) ++ items_bytes ds) ++ rest →
+        ReadsWithin (items_depth ds) deepest
+        (λ v. (array_view v ≡ ds) × (reader.new.left.now ≡ rest)) result }
+    ensures shrinks { Shrinks deepest reader.old.left.now result reader.new.left.now }
+{
     let mut items = Vec::new(alloc);
     let Some(count) = reader.number() else {
         return Ok(None);
@@ -219,7 +329,11 @@ fn read_items(alloc: Global, deepest: usize, reader: &mut Reader<'_>) -> Read<Ve
 
 /// Puts an entry into a table, in the place of one of the same key. (It is compiled apart, as [`read_items`] is.)
 #[inline(never)]
-fn put(members: &mut Table, key: String, member: Value) -> Result<(), DecodeError> {
+fn put(members: &mut Table, key: String, member: Value) -> Result<(), DecodeError>
+    ensures put { OnOk result
+        (members.new.entries ≡ insert_entry string_cmp members.old.entries key member) }
+    ensures refused { IfErr result (λ error. error ≡ Memory alloc_error) }
+{
     let _former = members.insert(key, member)?;
     Ok(())
 }
@@ -228,7 +342,13 @@ fn put(members: &mut Table, key: String, member: Value) -> Result<(), DecodeErro
 /// passes here, and is refused by `value_of_bytes`. (It is compiled apart, as [`read_items`] is.)
 #[inline(never)]
 #[cycle(reading)]
-fn read_members(alloc: Global, deepest: usize, reader: &mut Reader<'_>) -> Read<Table> {
+fn read_members(alloc: Global, deepest: usize, reader: &mut Reader<'_>) -> Read<Table>
+    ensures reads { (ms : Members) (rest : List ℕ) → FitsValue (table ms) →
+        reader.old.left.now ≡ (number_bytes (member_count ms) ++ members_bytes ms) ++ rest →
+        ReadsWithin (members_depth ms) deepest
+        (λ m. (table_view m ≡ ms) × (reader.new.left.now ≡ rest)) result }
+    ensures shrinks { Shrinks deepest reader.old.left.now result reader.new.left.now }
+{
     let mut members = Table::new(alloc);
     let Some(count) = reader.number() else {
         return Ok(None);

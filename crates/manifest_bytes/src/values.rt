@@ -1,9 +1,13 @@
 //! The tagged bytes of a value.
 
-ghost use Rattle.std.specs.Prelude.{◌≡◌, ◌++◌, ◌∷◌, [], OnOk, IfOk, IfSome, option_map};
+ghost use Rattle.std.specs.Prelude.{◌≡◌, ◌++◌, ◌∷◌, [], ◌<◌, length, OnOk, IfOk, IfErr, IfSome, option_map};
+ghost use Rattle.toml.specs.Data.{Data, depth};
 ghost use Rattle.toml.specs.View.{view, array_view, table_view};
 ghost use Rattle.manifest_bytes.specs.Numbers.{number_bytes};
 ghost use Rattle.manifest_bytes.specs.Encoded.{text_bytes, integer_bytes, part_bytes, date_bytes, second_bytes, time_bytes, offset_bytes, datetime_bytes, item_count, member_count, encoded, items_bytes, members_bytes};
+ghost use Rattle.manifest_bytes.specs.declared.error.DecodeError.TheVariants.{TooDeep};
+ghost use Rattle.manifest_bytes.specs.Held.{FitsValue};
+ghost use Rattle.manifest_bytes.specs.Read.{ReadsWithin};
 
 use crate::error::DecodeError;
 use crate::reading::{Reader, read_value};
@@ -235,11 +239,15 @@ pub fn value_bytes(alloc: Global, value: &Value) -> Result<Vec<u8>, AllocError>
 
 /// The value whose bytes these are: what is read of them is encoded again, and returned only if the bytes are equal. It
 /// is `None` where they are the bytes of no value, as where a text is not UTF-8, or the keys of a table do not ascend.
-/// Bytes of a value whose arrays and tables nest deeper than `deepest` are refused with [`DecodeError::TooDeep`],
-/// unless they are found to be invalid first.
+/// Bytes of a value whose arrays and tables nest deeper than `deepest` are refused with [`DecodeError::TooDeep`]; so
+/// are bytes of no value where they lead deeper before they are found to be invalid.
 ///
-/// It is proved that a value which is returned has these bytes. When it is `None` or `TooDeep`, and that the stack
-/// grows with `deepest` alone, is only tested.
+/// It is proved that a value which is returned has these bytes (`exact`). Of the bytes of a value nothing else is
+/// answered than that value, where it nests at most `deepest` deep, and `TooDeep` where it nests deeper, unless memory
+/// runs out (`inverse`); that holds of each value that [`each_value_fits`](crate::laws::each_value_fits) speaks of,
+/// which are all. So `None` is only answered to bytes of no value, and `TooDeep` neither to those of a value that nests
+/// at most `deepest` deep nor to `deepest` bytes or fewer (`deep`). Which of the two is answered to other bytes of no
+/// value, and that the stack grows with `deepest` alone, is only tested.
 ///
 /// ```ignore
 /// let value = value_of_bytes(alloc, 128, &[7, 2, 5, 2, 172, 2])?; // `[true, 300]`
@@ -249,7 +257,10 @@ pub fn value_of_bytes(
     deepest: usize,
     bytes: &[u8],
 ) -> Result<Option<Value>, DecodeError>
-    ensures { IfOk result (λ value. IfSome value (λ v. bytes.now ≡ encoded (view v))) }
+    ensures exact { IfOk result (λ value. IfSome value (λ v. bytes.now ≡ encoded (view v))) }
+    ensures inverse { (d : Data) → FitsValue d → bytes.now ≡ encoded d →
+        ReadsWithin (depth d) deepest (λ v. view v ≡ d) result }
+    ensures deep { IfErr result (λ error. error ≡ TooDeep → deepest < length bytes.now) }
 {
     let mut reader = Reader { left: bytes };
     let Some(value) = read_value(alloc, deepest, &mut reader)? else {

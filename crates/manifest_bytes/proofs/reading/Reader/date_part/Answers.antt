@@ -1,0 +1,23 @@
+use Rattle.manifest_bytes.specs.Encoded.{date_bytes}
+use Rattle.manifest_bytes.specs.Held.{FitsDate}
+use Rattle.manifest_bytes.proofs.PartLemmas.{part_none, part_absent, part_missed, part_read}
+use Rattle.manifest_bytes.proofs.reading.Reader.date_part.Goals as goal
+
+pub returns-in_err-has_part-clause-reads : goal.returns-in_err-has_part-clause-reads
+returns-in_err-has_part-clause-reads c =
+    rw c.from_residual.ensures (part_none FitsDate date_bytes _ _ c.in_err-has_part.ensures.reads)
+
+pub returns-in_err-date-clause-reads : goal.returns-in_err-date-clause-reads
+returns-in_err-date-clause-reads c =
+    let flag = c.in_ok-has_part.ensures.reads in
+    let missed = part_missed FitsDate date_bytes _ _ _ _ c.if-branch.true flag c.in_err-date.ensures.reads in
+    rw c.from_residual-in_err-date.ensures missed
+
+pub returns-in_ok-date-clause-reads : goal.returns-in_ok-date-clause-reads
+returns-in_ok-date-clause-reads c =
+    let flag = c.in_ok-has_part.ensures.reads in
+    part_read FitsDate date_bytes _ _ _ _ _ c.if-branch.true flag c.in_ok-date.ensures.reads
+
+pub returns-else-branch-clause-reads : goal.returns-else-branch-clause-reads
+returns-else-branch-clause-reads c =
+    part_absent FitsDate date_bytes _ _ _ c.if-branch.false c.in_ok-has_part.ensures.reads

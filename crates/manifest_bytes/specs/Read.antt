@@ -1,0 +1,64 @@
+-- What a reader makes of bytes that begin with those of what it reads.
+use Rattle.std.specs.Prelude.{◌≡◌, ℕ, ◌<◌, ◌≤◌, List, ◌∷◌, ◌++◌, length, Bool, true, false, if◌then◌else◌, ◌==◌, IfSome, from_bits, Option, Some, None, Result, Ok, Err}
+use Rattle.std.specs.Float.{binary64}
+use Rattle.toml.specs.Data.{Data, string, float, array, table}
+use Rattle.manifest_bytes.specs.Numbers.{Taken, take_number}
+use Rattle.manifest_bytes.specs.Decoded.{made, take_tagged}
+use Rattle.manifest_bytes.specs.declared.error.DecodeError.{DecodeError}
+use Rattle.manifest_bytes.specs.declared.error.DecodeError.TheVariants.{TooDeep, Memory}
+
+-- THE NEXT BYTE is read where there is one
+abbrev pub ReadsByte : List ℕ → Option ℕ → List ℕ → Type 0
+ReadsByte old result new =
+    (b : ℕ) (rest : List ℕ) → old ≡ b ∷ rest → (result ≡ Some b) × (new ≡ rest)
+
+-- so is whether a part follows
+abbrev pub ReadsFlag : List ℕ → Option Bool → List ℕ → Type 0
+ReadsFlag old result new =
+    (has : Bool) (rest : List ℕ) → old ≡ (if has then 1 else 0) ∷ rest →
+    (result ≡ Some has) × (new ≡ rest)
+
+-- WHAT FITS is read where its bytes stand, and what was after them is left
+abbrev pub Reads : {A : Type 0} → (A → Type 0) → (A → List ℕ) → List ℕ → Option A → List ℕ → Type 0
+Reads {A} Fits bytes old result new =
+    (x : A) (rest : List ℕ) → Fits x → old ≡ bytes x ++ rest → (result ≡ Some x) × (new ≡ rest)
+
+-- a value that is no text, no array and no table
+abbrev pub is_simple : Data → Bool
+is_simple (string s) = false
+is_simple (array ds) = false
+is_simple (table ms) = false
+is_simple _ = true
+
+-- WHAT IS READ is what the bytes hold, by what takes it from a list; and no more is left than there was
+abbrev pub IsTaken : {A : Type 0} → (List ℕ → Taken A) → List ℕ → Option A → List ℕ → Type 0
+IsTaken take old result new =
+    IfSome result (λ x. (take old ≡ Some (x, new)) × (length new ≤ length old))
+
+-- whether a part follows
+abbrev pub IsFlag : List ℕ → Option Bool → List ℕ → Type 0
+IsFlag old result new = IfSome result (λ has. old ≡ (if has then 1 else 0) ∷ new)
+
+-- what stands after a tag: a float by its bits, and else as `decoded` takes it
+abbrev pub take_simple : ℕ → List ℕ → Taken Data
+take_simple tag bs =
+    if tag == 9 then made (λ bits. float (from_bits binary64 bits)) (take_number bs)
+    else take_tagged (λ cs. None) tag bs
+
+-- WHY NOTHING is read of what nests `deep` deep: that is more than `deepest`, or memory runs out
+abbrev pub Refuses : ℕ → ℕ → DecodeError → Type 0
+Refuses deep deepest TooDeep = deepest < deep
+Refuses deep deepest (Memory refused) = Unit {0}
+
+-- WHAT NESTS `deep` DEEP is read, and nests at most `deepest` deep; or it is refused
+abbrev pub ReadsWithin : {A : Type 0} → ℕ → ℕ → (A → Type 0) → Result (Option A) DecodeError → Type 0
+ReadsWithin deep deepest Is (Ok (Some x)) = (deep ≤ deepest) × Is x
+ReadsWithin deep deepest Is (Ok None) = ⊥
+ReadsWithin deep deepest Is (Err error) = Refuses deep deepest error
+
+-- no more is left than there was; and what is too deep has more than `deepest` bytes
+abbrev pub Shrinks : {A : Type 0} → ℕ → List ℕ → Result (Option A) DecodeError → List ℕ → Type 0
+Shrinks deepest old (Ok (Some x)) new = length new ≤ length old
+Shrinks deepest old (Ok None) new = Unit {0}
+Shrinks deepest old (Err TooDeep) new = deepest < length old
+Shrinks deepest old (Err (Memory refused)) new = Unit {0}
