@@ -1,18 +1,12 @@
 -- The first fault of a table without a header, and of the document of a text.
-use Rattle.manifest_schema.specs.Prelude.{same_Some, Data, table, Members, key, Kind, IsSound, form, package_rows, manifest_rows, Rows, Manifest, Faults, IsFaultless, first_found, foremost, found_behind, unused_keys, without, row_findings, left_over, form_findings, old_findings, manifest_faults}
-use Rattle.std.proofs.Common.{◌≡◌, ℕ, List, [], ◌∷◌, ◌++◌, Option, Some, None, codes, sym, ◌∙◌, subst}
-use Rattle.toml.specs.Parse.{parse_document}
+use Rattle.manifest_schema.specs.Prelude.{Data, table, Members, key, Kind, IsSound, form, package_rows, manifest_rows, Rows, Manifest, IsFaultless, first_found, found_behind, unused_keys, without, row_findings, left_over, form_findings, old_findings}
+use Rattle.std.proofs.Common.{[], ◌∷◌, ◌++◌, Option, Some, None, codes, sym, ◌∙◌}
 use Rattle.manifest_schema.proofs.Faultless.{faults-keys}
 use Rattle.manifest_schema.proofs.ManifestLaws.{manifest_sound}
-use Rattle.manifest_value.specs.Faults.{FaultIn, IsOneOf}
-use Rattle.manifest_value.specs.Refusals.{IsRefusal, RefusedIn}
+use Rattle.manifest_value.specs.Faults.{FaultIn}
 use Rattle.manifest_value.specs.declared.fault.ReadFault.{ReadFault}
-use Rattle.manifest_value.specs.declared.fault.ReadFault.TheVariants as read
-use Rattle.manifest_value.specs.declared.error.Error.{Error}
-use Rattle.manifest_value.specs.declared.error.Error.TheVariants.{Parse}
-use Rattle.manifest_value.specs.declared.error.ParseFault.TheVariants.{Schema}
 use Rattle.manifest_value.proofs.FirstLemmas.{first_before, first_after, first_same, read_clean}
-use Rattle.cargo_manifest.specs.Answers.{old_package_findings, TellsFirst}
+use Rattle.cargo_manifest.specs.Answers.{old_package_findings}
 
 -- the rows of a form have the faults of its table
 rows_same : {A : Type 0} (rows : Rows A) (ms : Members) (f : ReadFault)
@@ -50,14 +44,3 @@ module _ (K W : Kind Data) (ms : Members) where
         let rest = unused_keys (left_over (package_rows K) (left_over (manifest_rows K W) ms)) in
         first_after (row_findings (manifest_rows K W) ms) (row_findings (package_rows K) ms ++ rest) f rows_clean
         (first_before (row_findings (package_rows K) ms) rest f (rows_same (package_rows K) ms f h))
-
--- the error of a fault
-pub refused_in : (F : Faults) (f : ReadFault) (e : Error) → FaultIn F f → IsRefusal f e → RefusedIn F e
-refused_in F (read.Schema f) e h is = rw is h
-refused_in F (read.Memory r) e h is = rw is tt
-
--- a text has one document
-pub tells_first : (K W : Kind Data) (text : List ℕ) (ms : Members) (e : Error)
-    → parse_document text ≡ Some ms → RefusedIn (foremost (manifest_faults K W ms)) e → TellsFirst K W text e
-tells_first K W text ms (Parse (Schema f)) parsed h = λ document is. subst (λ d. IsOneOf (foremost (manifest_faults K W d)) f) (same_Some ms document (sym parsed ∙ is)) h
-tells_first K W text ms _ parsed h = tt

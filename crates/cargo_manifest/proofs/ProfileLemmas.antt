@@ -1,23 +1,11 @@
 -- A fault of a custom profile is a fault of the profiles, and the first one where the others are read.
-use Rattle.manifest_schema.specs.Prelude.{Members, table, without, faulty_entry, unfit_beside, form, spelled, profile_rows, profiles_rows, first_found, entry_findings, form_findings, IsFaultless, faulty}
-use Rattle.std.proofs.Common.{◌≡◌, inr, subst}
+use Rattle.manifest_schema.specs.Prelude.{Members, table, without, form, spelled, profile_rows, profiles_rows, first_found, entry_findings, form_findings, IsFaultless}
+use Rattle.std.proofs.Common.{◌≡◌, subst}
 use Rattle.manifest_value.specs.Faults.{FaultIn}
 use Rattle.manifest_value.specs.declared.fault.ReadFault.{ReadFault}
 use Rattle.manifest_value.specs.Found.{findings_from, other_findings}
-use Rattle.manifest_value.proofs.Behind.{fault_weaker}
-use Rattle.manifest_value.proofs.FormLemmas.{form_fault}
 use Rattle.manifest_value.proofs.FoundLemmas.{open_found}
 use Rattle.manifest_value.proofs.FirstLemmas.{first_before, first_after}
-
-pub custom_fault : (ms rest : Members) (f : ReadFault) → rest ≡ without (spelled profiles_rows) ms → FaultIn (faulty_entry (form profile_rows) rest) f
-    → FaultIn (faulty (form profiles_rows) (table ms)) f
-unfolding profiles_rows
-custom_fault ms rest f whole h =
-    let others = faulty_entry (form profile_rows) (without (spelled profiles_rows) ms) in
-    form_fault profiles_rows ms f
-    (fault_weaker others (unfit_beside (spelled profiles_rows) profiles_rows ms) f
-    (λ p c q. inr (inr (inr (inr (inr q)))))
-    (subst (λ r. FaultIn (faulty_entry (form profile_rows) r) f) whole h))
 
 module _ (ms : Members) (f : ReadFault) where
   pub named_first : FaultIn (first_found (findings_from 0 profiles_rows ms)) f → FaultIn (first_found (form_findings profiles_rows (table ms))) f

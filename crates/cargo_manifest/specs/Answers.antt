@@ -1,5 +1,5 @@
 -- What each answer says of the bytes that were read. K and W are the kinds of metadata of package and workspace.
-use Rattle.manifest_schema.specs.Prelude.{Data, table, Members, key, form, package_rows, Finding, found_behind, foremost, manifest_faults, members_depth, members_have_valid_dates, IsDocumentText, IsMemory, IsWithin, Kind, tree_of, Manifest, means, unmeant, rewritten, well_formed, is_headed}
+use Rattle.manifest_schema.specs.Prelude.{Data, table, Members, key, form, package_rows, Finding, found_behind, foremost, manifest_faults, members_depth, members_have_valid_dates, IsDocumentText, IsMemory, IsWithin, Kind, tree_of, Manifest, means, rewritten, well_formed, is_headed}
 use Rattle.std.specs.Prelude.{◌≡◌, ◌<◌, ◌≤◌, ◌⊎◌, ℕ, List, length, true, false, Option, Some, None, IsUtf8, codes, string_bytes}
 use Rattle.toml.specs.Parse.{parse_document}
 use Rattle.manifest_value.specs.declared.fault.SchemaFault.{SchemaFault}
@@ -17,12 +17,12 @@ pub record IsDocumentOf (K W : Kind Data) (bytes : List ℕ) (m : Manifest) : Ty
   pub parsed : parse_document bytes ≡ Some document
   pub meant : means K W document m
 
--- the table has this fault, and means no manifest
+-- this is the first fault of the table, which means no manifest
 pub record IsFaulty (K W : Kind Data) (document : Members) (f : SchemaFault) : Type 0 where
-  pub stands : IsOneOf (unmeant K W document) f
+  pub stands : IsOneOf (foremost (manifest_faults K W document)) f
   pub nothing : (m : Manifest) → means K W document m → ⊥
 
--- the refusal of a table: by the schema only with a fault that stands there; else out of memory
+-- the refusal of a table: by the schema only with its first fault; else out of memory
 abbrev pub RefusesTable : Kind Data → Kind Data → Members → Error → Type 0
 RefusesTable K W document (Parse (Schema f)) = IsFaulty K W document f
 RefusesTable K W document (Memory e) = Unit {0}
@@ -34,8 +34,8 @@ pub record RefusesTableOf (K W : Kind Data) (bytes : List ℕ) (e : Error) : Typ
   pub parsed : parse_document bytes ≡ Some document
   pub refused : RefusesTable K W document e
 
--- a text is refused: as no TOML, at a place in it, where it is no document or memory ran out; for a fault of its table; or
--- as out of memory
+-- a text is refused: as no TOML, at a place in it, where it is no document or memory ran out;
+-- for the first fault of its table; or as out of memory
 abbrev pub RefusesText : Kind Data → Kind Data → List ℕ → Error → Type 0
 RefusesText K W text (Parse (Toml e)) =
     IsWithin text e.value × (¬ IsMemory e.value → parse_document text ≡ None)
@@ -53,13 +53,6 @@ abbrev pub old_package_findings : Kind Data → Members → Option Data → List
 old_package_findings K ms (Some d) =
     found_behind (key (codes "project")) ((form (package_rows K)).findings d)
 old_package_findings K ms None = (form (package_rows K)).findings (table ms)
-
--- where the refusal tells a fault of the document of this text, it is the first of all that are found there
-abbrev pub TellsFirst : Kind Data → Kind Data → List ℕ → Error → Type 0
-TellsFirst K W text (Parse (Schema f)) =
-    (document : Members) → parse_document text ≡ Some document
-    → IsOneOf (foremost (manifest_faults K W document)) f
-TellsFirst K W text _ = Unit {0}
 
 -- the table that is written of a manifest of the code, whose metadata has the contents p and w of these kinds
 abbrev pub written_of : {P W A B : Type 0}

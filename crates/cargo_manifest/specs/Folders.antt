@@ -7,7 +7,7 @@ use Rattle.manifest_value.specs.declared.error.Error.{Error}
 use Rattle.manifest_value.specs.declared.error.Error.TheVariants.{Io}
 use Rattle.manifest_completion.specs.Listings.{AnyAscending}
 use Rattle.manifest_completion.specs.Completed.{completed_to}
-use Rattle.cargo_manifest.specs.Answers.{IsDocumentOf, Refuses, TellsFirst}
+use Rattle.cargo_manifest.specs.Answers.{IsDocumentOf, Refuses}
 use Rattle.cargo_manifest.specs.Completes.{ComesTo, RefusesToComplete}
 
 -- the error is Io
@@ -58,13 +58,9 @@ RefusesCompleted K W folder bytes e =
 abbrev pub IsOfPath : Kind Data → Kind Data → Option Text → Manifest → Type 0
 IsOfPath K W folder m = (bytes : List ℕ) × IsCompletedOf K W folder bytes m
 
--- the refusal of these bytes, which tells their first fault
-abbrev pub RefusesBytes : Kind Data → Kind Data → List ℕ → Error → Type 0
-RefusesBytes K W bytes e = Refuses K W bytes e × TellsFirst K W bytes e
-
 -- THE REFUSAL OF A PATH, by its layers: of the file, of some bytes, or of the completion of what some bytes mean
 abbrev pub RefusesPath : Kind Data → Kind Data → Option Text → Error → Type 0
 RefusesPath K W folder e =
     IsIo e
-    ⊎ ((bytes : List ℕ) × RefusesBytes K W bytes e)
+    ⊎ ((bytes : List ℕ) × Refuses K W bytes e)
     ⊎ ((bytes : List ℕ) × RefusesCompleted K W folder bytes e)

@@ -2,8 +2,9 @@
 
 ghost use Rattle.manifest_schema.specs.Prelude.{view, kept, tree_of};
 ghost use Rattle.std.specs.Prelude.{◌≡◌, ◌⊎◌, Ok, None, IfOk, IfErr, OnErr, IsSome};
+ghost use Rattle.cargo_manifest.specs.Answers.{Refuses};
 ghost use Rattle.cargo_manifest.specs.Whole.{manifest_content, manifest_kept};
-ghost use Rattle.cargo_manifest.specs.Folders.{folder_of, CompletesIn, IsCompletedOf, RefusesBytes, RefusesCompleted, IsOfPath, RefusesPath};
+ghost use Rattle.cargo_manifest.specs.Folders.{folder_of, CompletesIn, IsCompletedOf, RefusesCompleted, IsOfPath, RefusesPath};
 
 use crate::manifest::Manifest;
 use manifest_completion::Filesystem;
@@ -23,7 +24,7 @@ fn from_bytes<P: Metadata, R: Files + AllocGlobal + Clone + Drop>(
     ensures ok { IfOk result (λ m.
         IsCompletedOf (tree_of P.kind) (tree_of kept) (folder_of path.entry) bytes.now
         (manifest_kept P.kind P.content m)) }
-    ensures refused { IfErr result (λ e. RefusesBytes (tree_of P.kind) (tree_of kept) bytes.now e
+    ensures refused { IfErr result (λ e. Refuses (tree_of P.kind) (tree_of kept) bytes.now e
         ⊎ RefusesCompleted (tree_of P.kind) (tree_of kept) (folder_of path.entry) bytes.now e) }
 {
     let mut manifest = match Manifest::from_slice_with_metadata(rt.alloc(), bytes) {

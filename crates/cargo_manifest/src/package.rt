@@ -1,13 +1,12 @@
 //! The package of a manifest.
 #![tactic(auto, unfolding(manifest_schema::specs::ManifestForms::package_rows))]
 
-ghost use Rattle.manifest_schema.specs.Prelude.{Data, string, no_members, member, tree_of, kept, form, package_rows, first_found, faulty};
-ghost use Rattle.std.specs.Prelude.{◌≡◌, IfOk, IfErr, Some, string_bytes, codes};
+ghost use Rattle.manifest_schema.specs.Prelude.{Data, string, no_members, member, tree_of, kept, form, package_rows};
+ghost use Rattle.std.specs.Prelude.{◌≡◌, Some, string_bytes, codes};
 ghost use Rattle.manifest_schema.specs.Contents;
 ghost use Rattle.manifest_schema.proofs.KindLaws.{tree_sound};
 ghost use Rattle.manifest_schema.proofs.ManifestLaws.{package_sound};
-ghost use Rattle.manifest_value.specs.Faults.{FaultIn};
-ghost use Rattle.manifest_value.specs.Reading.{data_of, Reads, IsOfTable};
+ghost use Rattle.manifest_value.specs.Reading.{data_of, Gives, IsOfTable};
 ghost use Rattle.manifest_parts.specs.Parts.{inh_content};
 ghost use Rattle.manifest_parts.specs.Queries.{version_of};
 ghost use Rattle.cargo_manifest.specs.Tables.{package_content, package_of, package_form};
@@ -186,11 +185,7 @@ fn package_with_name<M>(name: String) -> Package<M>
 /// let package: Package<Value> = package_from(alloc, &table)?; // without a version
 /// ```
 pub fn package_from<M: Metadata>(alloc: Global, table: &Table) -> Result<Package<M>, ReadFault>
-    ensures ok { IfOk result
-        (Reads (package_form M.kind) (package_of M.kind M.content) (data_of table.now)) }
-    ensures fault { IfErr result (FaultIn (faulty (package_form M.kind) (data_of table.now))) }
-    ensures first { let all = (package_form M.kind).findings (data_of table.now) in
-        IfErr result (FaultIn (first_found all)) }
+    ensures { Gives (package_form M.kind) (package_of M.kind M.content) (data_of table.now) result }
 {
     read_form(alloc, TableSource::Lent(table))
 }

@@ -1,12 +1,10 @@
 //! The profiles of a manifest.
-#![tactic(auto, unfolding(manifest_schema::specs::PartForms::profiles_rows), using(manifest_value::proofs::Behind::form_refuses, manifest_value::proofs::FirstLemmas::form_first))]
+#![tactic(auto, unfolding(manifest_schema::specs::PartForms::profiles_rows), using(manifest_value::proofs::FirstLemmas::form_first))]
 
-ghost use Rattle.manifest_schema.specs.Prelude.{no_members, form, profiles_rows, first_found, faulty};
-ghost use Rattle.std.specs.Prelude.{IfOk, IfErr};
+ghost use Rattle.manifest_schema.specs.Prelude.{no_members, form, profiles_rows};
 ghost use Rattle.manifest_schema.specs.Contents;
 ghost use Rattle.manifest_schema.proofs.PartLaws.{profiles_sound};
-ghost use Rattle.manifest_value.specs.Faults.{FaultIn};
-ghost use Rattle.manifest_value.specs.Reading.{Reads, IsOfTable};
+ghost use Rattle.manifest_value.specs.Reading.{Gives, IsOfTable};
 ghost use Rattle.manifest_value.specs.Sources.{table_source};
 ghost use Rattle.cargo_manifest.specs.Tables.{profiles_content};
 
@@ -118,12 +116,7 @@ impl Rowed for Profiles {
 
 /// Reads the profiles of a table: those that Cargo names, and of all other keys the custom ones.
 fn profiles_from(alloc: Global, table: TableSource<'_>) -> Result<Profiles, ReadFault>
-    ensures ok { IfOk result
-        (Reads (form profiles_rows) profiles_content (table_source table.entry)) }
-    ensures fault { IfErr result
-        (FaultIn (faulty (form profiles_rows) (table_source table.entry))) }
-    ensures first { let all = (form profiles_rows).findings (table_source table.entry) in
-        IfErr result (FaultIn (first_found all)) }
+    ensures { Gives (form profiles_rows) profiles_content (table_source table.entry) result }
 {
     let (mut x, rest) = read_open::<Profiles>(alloc, table)?;
     match map_of_entries(alloc, rest) {

@@ -1,13 +1,12 @@
 //! A manifest from bytes or from a text.
 
-ghost use Rattle.manifest_schema.specs.Prelude.{get_member, view, table_view, kept, tree_of, has_header, old_package, faulty_old, means, means_by, unmeant, unmeant_by, first_found, foremost, findings_by, manifest_faults};
+ghost use Rattle.manifest_schema.specs.Prelude.{get_member, view, table_view, kept, tree_of, has_header, old_package, means, means_by, findings_by, manifest_findings};
 ghost use Rattle.std.specs.Prelude.{◌≡◌, false, codes, IfOk, IfErr, OnOk, IsUtf8};
 ghost use Rattle.manifest_schema.specs.Meaning.{has};
-ghost use Rattle.manifest_value.specs.Faults.{FaultIn};
-ghost use Rattle.manifest_value.specs.Refusals.{RefusedIn};
+ghost use Rattle.manifest_value.specs.Reading.{Reads, GivesOr};
 ghost use Rattle.cargo_manifest.specs.Tables.{package_of, package_form};
 ghost use Rattle.cargo_manifest.specs.Whole.{manifest_content, manifest_of, manifest_kept};
-ghost use Rattle.cargo_manifest.specs.Answers.{IsDocumentOf, Refuses, RefusesTable, RefusesText, TellsFirst, old_package_findings};
+ghost use Rattle.cargo_manifest.specs.Answers.{IsDocumentOf, Refuses, RefusesTable, RefusesText, old_package_findings};
 
 use crate::manifest::Manifest;
 use crate::package::{Package, package_from};
@@ -36,14 +35,9 @@ pub(crate) fn has_package_or_workspace(table: &Table) -> bool
 
 /// Reads the package of a table without a header: from `project`, or else from the whole table.
 fn read_old_package<P: Metadata>(alloc: Global, table: &Table) -> Result<Package<P>, ReadFault>
-    ensures ok { let ms = table_view table.now in
-        IfOk result (λ p. (package_form P.kind).reads
-        (old_package ms (get_member (codes "project") ms)) (package_of P.kind P.content p)) }
-    ensures fault { let ms = table_view table.now in
-        IfErr result (FaultIn (faulty_old (tree_of P.kind) ms (get_member (codes "project") ms))) }
-    ensures first { let ms = table_view table.now in
-        let all = old_package_findings (tree_of P.kind) ms (get_member (codes "project") ms) in
-        IfErr result (FaultIn (first_found all)) }
+    ensures { let ms = table_view table.now in let project = get_member (codes "project") ms in
+        GivesOr (Reads (package_form P.kind) (package_of P.kind P.content) (old_package ms project))
+        (old_package_findings (tree_of P.kind) ms project) result }
 {
     match find(table, "project") {
         Some(value) => read_under(alloc, value, "project"),
@@ -59,14 +53,9 @@ fn read_headless<P: Metadata, W: Metadata>(
     alloc: Global,
     table: &Table,
 ) -> Result<(), ReadFault>
-    ensures ok { OnOk result
-        (means_by (tree_of P.kind) (tree_of W.kind) false (table_view table.now)
-        (manifest_of P.kind W.kind P.content W.content manifest.new)) }
-    ensures fault { IfErr result
-        (FaultIn (unmeant_by (tree_of P.kind) (tree_of W.kind) false (table_view table.now))) }
-    ensures first { let all = findings_by (tree_of P.kind) (tree_of W.kind) false
-        (table_view table.now) in
-        IfErr result (FaultIn (first_found all)) }
+    ensures { let m = manifest_of P.kind W.kind P.content W.content manifest.new in
+        GivesOr (λ u. means_by (tree_of P.kind) (tree_of W.kind) false (table_view table.now) m)
+        (findings_by (tree_of P.kind) (tree_of W.kind) false (table_view table.now)) result }
 {
     read_form_into(manifest, alloc, TableSource::Lent(table))?;
     match read_old_package(alloc, table) {
@@ -86,13 +75,9 @@ fn read_table<P: Metadata, W: Metadata>(
     alloc: Global,
     table: Table,
 ) -> Result<(), ReadFault>
-    ensures ok { OnOk result (means (tree_of P.kind) (tree_of W.kind) (table_view table)
-        (manifest_of P.kind W.kind P.content W.content manifest.new)) }
-    ensures fault { IfErr result
-        (FaultIn (unmeant (tree_of P.kind) (tree_of W.kind) (table_view table))) }
-    ensures first { let ms = table_view table in
-        let all = manifest_faults (tree_of P.kind) (tree_of W.kind) ms in
-        IfErr result (FaultIn (foremost all)) }
+    ensures { let m = manifest_of P.kind W.kind P.content W.content manifest.new in
+        GivesOr (λ u. means (tree_of P.kind) (tree_of W.kind) (table_view table) m)
+        (manifest_findings (tree_of P.kind) (tree_of W.kind) (table_view table)) result }
 {
     if has_package_or_workspace(&table) {
         read_form_into(manifest, alloc, TableSource::Taken(table))
@@ -111,9 +96,6 @@ fn read_document<P: Metadata, W: Metadata>(
         (manifest_of P.kind W.kind P.content W.content manifest.new)) }
     ensures refused { IfErr result
         (RefusesTable (tree_of P.kind) (tree_of W.kind) (table_view table)) }
-    ensures first { let ms = table_view table in
-        let all = manifest_faults (tree_of P.kind) (tree_of W.kind) ms in
-        IfErr result (RefusedIn (foremost all)) }
 {
     match read_table(manifest, alloc, table) {
         Ok(()) => Ok(()),
@@ -131,7 +113,6 @@ fn read_text<P: Metadata, W: Metadata>(
     ensures ok { OnOk result (IsDocumentOf (tree_of P.kind) (tree_of W.kind) text.now
         (manifest_of P.kind W.kind P.content W.content manifest.new)) }
     ensures refused { IfErr result (RefusesText (tree_of P.kind) (tree_of W.kind) text.now) }
-    ensures first { IfErr result (TellsFirst (tree_of P.kind) (tree_of W.kind) text.now) }
 {
     let table = match toml::table_from_str(alloc, text) {
         Ok(table) => table,
@@ -156,7 +137,6 @@ fn read_bytes<P: Metadata, W: Metadata>(
         (IsUtf8 bytes.now × IsDocumentOf (tree_of P.kind) (tree_of W.kind) bytes.now
         (manifest_of P.kind W.kind P.content W.content manifest.new)) }
     ensures refused { IfErr result (Refuses (tree_of P.kind) (tree_of W.kind) bytes.now) }
-    ensures first { IfErr result (TellsFirst (tree_of P.kind) (tree_of W.kind) bytes.now) }
 {
     match std::str::from_utf8(bytes) {
         Ok(text) => read_text(manifest, alloc, text),
@@ -194,7 +174,6 @@ impl<P: Metadata, W: Metadata> Manifest<P, W> {
             (λ m. IsUtf8 bytes.now × IsDocumentOf (tree_of P.kind) (tree_of W.kind) bytes.now
             (manifest_of P.kind W.kind P.content W.content m)) }
         ensures refused { IfErr result (Refuses (tree_of P.kind) (tree_of W.kind) bytes.now) }
-        ensures first { IfErr result (TellsFirst (tree_of P.kind) (tree_of W.kind) bytes.now) }
     {
         manifest_by!(read_bytes, alloc, bytes)
     }
@@ -218,9 +197,6 @@ impl<P: Metadata, W: Metadata> Manifest<P, W> {
             (manifest_of P.kind W.kind P.content W.content m)) }
         ensures refused { IfErr result
             (RefusesTable (tree_of P.kind) (tree_of W.kind) (table_view table)) }
-        ensures first { let ms = table_view table in
-            let all = manifest_faults (tree_of P.kind) (tree_of W.kind) ms in
-            IfErr result (RefusedIn (foremost all)) }
     {
         manifest_by!(read_document, alloc, table)
     }
@@ -247,7 +223,6 @@ impl<P: Metadata> Manifest<P, Value> {
             (λ m. IsUtf8 bytes.now × IsDocumentOf (tree_of P.kind) (tree_of kept) bytes.now
             (manifest_kept P.kind P.content m)) }
         ensures refused { IfErr result (Refuses (tree_of P.kind) (tree_of kept) bytes.now) }
-        ensures first { IfErr result (TellsFirst (tree_of P.kind) (tree_of kept) bytes.now) }
     {
         manifest_by!(read_bytes, alloc, bytes)
     }
@@ -265,7 +240,6 @@ impl Manifest<Value, Value> {
             (λ m. IsUtf8 bytes.now
             × IsDocumentOf (tree_of kept) (tree_of kept) bytes.now (manifest_content view view m)) }
         ensures refused { IfErr result (Refuses (tree_of kept) (tree_of kept) bytes.now) }
-        ensures first { IfErr result (TellsFirst (tree_of kept) (tree_of kept) bytes.now) }
     {
         manifest_by!(read_bytes, alloc, bytes)
     }
@@ -281,7 +255,6 @@ impl Manifest<Value, Value> {
             (λ m. IsDocumentOf (tree_of kept) (tree_of kept) text.now
             (manifest_content view view m)) }
         ensures refused { IfErr result (RefusesText (tree_of kept) (tree_of kept) text.now) }
-        ensures first { IfErr result (TellsFirst (tree_of kept) (tree_of kept) text.now) }
     {
         manifest_by!(read_text, alloc, text)
     }

@@ -33,7 +33,7 @@ GivesOr P found (Err f) = FaultIn (first_found found) f
 abbrev pub Gives : {X A : Type 0} → Kind A → (X → A) → Data → Result X ReadFault → Type 0
 Gives K content d = GivesOr (Reads K content d) (K.findings d)
 
--- the same of data that this step leads to: the step stands before the path of the fault
+-- the same for data that this step leads to: the step stands before the path of the fault
 abbrev pub GivesBehind :
     {X A : Type 0} → Step → Kind A → (X → A) → Data → Result X ReadFault → Type 0
 GivesBehind s K content d = GivesOr (Reads K content d) (found_behind s (K.findings d))

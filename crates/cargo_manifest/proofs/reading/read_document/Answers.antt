@@ -1,17 +1,10 @@
 use Rattle.toml.specs.View.{table_view}
-use Rattle.manifest_schema.specs.Prelude.{tree_of, foremost, manifest_faults}
 use Rattle.manifest_schema.proofs.KindLaws.{tree_sound}
 use Rattle.cargo_manifest.proofs.FaultLemmas.{refuses_table}
-use Rattle.cargo_manifest.proofs.FirstFaults.{refused_in}
 use Rattle.cargo_manifest.proofs.reading.read_document.Goals as goal
 
 pub returns-in-Err-clause-refused : goal.returns-in-Err-clause-refused
 returns-in-Err-clause-refused g c =
     refuses_table (tree_sound g.met.P.Schema.lawful) (tree_sound g.met.W.Schema.lawful)
     (table_view c.args.table) c.in-Err.fault c.refusal.result
-    c.in-Err.ensures.fault c.refusal.ensures
-
-pub returns-in-Err-clause-first : goal.returns-in-Err-clause-first
-returns-in-Err-clause-first g c =
-    refused_in (foremost (manifest_faults (tree_of g.P.Schema.kind) (tree_of g.W.Schema.kind) (table_view c.args.table))) c.in-Err.fault c.refusal.result
-    c.in-Err.ensures.first c.refusal.ensures
+    c.in-Err.ensures c.refusal.ensures
