@@ -1,11 +1,8 @@
 -- What the bytes of a call are, and why they are refused.
-use Rattle.manifest_schema.specs.Prelude.{AllocError, Data, Members, members_depth, IsMemory, IsWithin, Text, Kind, Faults, foremost, first_found, form, Manifest, manifest_rows, means, reads_manifest, kept_metadata}
+use Rattle.manifest_schema.specs.Prelude.{AllocError, Data, Members, members_depth, IsMemory, IsWithin, Text, Kind, Faults, first_found, form, Manifest, manifest_rows, means, reads_manifest, kept_metadata}
 use Rattle.std.specs.Prelude.{◌≡◌, ◌⊎◌, ◌<◌, ◌≤◌, Some, None, true, false, IsUtf8}
 use Rattle.toml.specs.Parse.{parse_document}
-use Rattle.manifest_schema.specs.Found.{manifest_faults}
-use Rattle.manifest_value.specs.Faults.{IsOneOf}
 use Rattle.manifest_value.specs.Refusals.{RefusedIn, IsOutOfMemory}
-use Rattle.manifest_value.specs.declared.fault.SchemaFault.{SchemaFault}
 use Rattle.manifest_value.specs.declared.error.Error.{Error}
 use Rattle.manifest_value.specs.declared.error.Error.TheVariants.{Parse, Utf8, Memory}
 use Rattle.manifest_value.specs.declared.error.ParseFault.TheVariants.{Toml as NoToml, Schema}
@@ -55,21 +52,16 @@ pub record IsSourceOf (K W : Kind Data) (bytes : Text) (m : Manifest) : Type 0 w
   pub is_document : IsDocument bytes document
   pub meant : means K W document m
 
--- the table means none, and this is the first fault that is found in it
-pub record IsFirstFault (K W : Kind Data) (document : Members) (f : SchemaFault) : Type 0 where
-  pub faulty : IsFaulty K W document f
-  pub first : IsOneOf (foremost (manifest_faults K W document)) f
-
 -- the table means none: this is its first fault, or memory ran out
 abbrev pub RefusesMeaning : Kind Data → Kind Data → Members → InputError → Type 0
-RefusesMeaning K W document (NoManifest (Parse (Schema f))) = IsFirstFault K W document f
+RefusesMeaning K W document (NoManifest (Parse (Schema f))) = IsFaulty K W document f
 RefusesMeaning K W document (NoManifest (Memory e)) = Unit {0}
 RefusesMeaning K W document _ = ⊥
 
 -- they are not: they are a document of a table with this first fault, or no document
 abbrev pub RefusesSource : Kind Data → Kind Data → Text → InputError → Type 0
 RefusesSource K W bytes (NoManifest (Parse (Schema f))) =
-    (document : Members) × IsDocument bytes document × IsFirstFault K W document f
+    (document : Members) × IsDocument bytes document × IsFaulty K W document f
 RefusesSource K W bytes e = IsNoDocument bytes e
 
 -- THE BYTES ARE TAGGED BYTES OF THE MANIFEST: those of a table that the form of a manifest reads as it
