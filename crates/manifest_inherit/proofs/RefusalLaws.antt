@@ -1,6 +1,7 @@
 -- The list of all refusals has what is refused at a path of the manifest, nothing else, and nothing twice.
 use Rattle.manifest_schema.specs.Prelude.{append_assoc, append-nil, cases_Bool, bytes_eq, bytes_eq-Decides, keys_of, AllByRecursion, IfSome, Contains, none_named, is_among, same_key, Text, Path, key, Inheritable, inherited, local, Entries, InheritedDependencyDetail, Dependency, simple, by_workspace, detailed, Lint, MaybeInheritedLintsSet, Target, Package, WorkspacePackage, Workspace, Manifest}
-use Rattle.std.proofs.Common.{rules, arith, ◌≡◌, ◌⊎◌, inl, inr, zero, suc, Bool, true, false, not, ◌&&◌, List, [], ◌∷◌, ◌++◌, if◌then◌else◌, codes, refl, sym, ap, ◌∙◌, subst, true≢false, Option, Some, None}
+use Rattle.std.proofs.Common.{rules, arith, ◌≡◌, ◌⊎◌, inl, inr, zero, suc, Bool, true, false, not, List, [], ◌∷◌, ◌++◌, if◌then◌else◌, codes, refl, sym, ap, ◌∙◌, subst, true≢false, Option, Some, None}
+use Rattle.std.proofs.lemmas.Bool.{and_right}
 use Rattle.std.proofs.lemmas.List.Elements.{Contains-append_left, Contains-append_right, Contains-append_cases, Contains-get_or}
 use Rattle.std.specs.List.{IsDistinct, AllPairs}
 use Rattle.manifest_schema.proofs.TableLaws.{same_key-self, same_key-true}
@@ -261,12 +262,8 @@ module _ (w : Text) {A : Type 0} where
   in_named [] x h = absurd (in_none (w, x) h)
   in_named (e ∷ es) x h = elim (in_cons e es (w, x) h) [
     | inl s ↦ rw (← ap (λ (y : Text × A). y.0) s, same_key-self w) refl
-    | inr i ↦ rw (in_named es x i) (and_false (not (is_among (w ∷ []) e.0)))
+    | inr i ↦ and_right (not (is_among (w ∷ []) e.0)) (none_named (w ∷ []) es) (in_named es x i)
   ]
-    where
-      and_false : (b : Bool) → (b && false) ≡ false
-      and_false true = refl
-      and_false false = refl
 
 tools : {H : Type 0} (own : Entries (Entries Lint)) → Lists H (tools_refusals own)
     (λ q r. (q ≡ []) × ((tool : Text × Entries Lint) × Contains own tool × (r ≡ mixed_lints)))
@@ -350,22 +347,9 @@ module _ (m : Manifest) (w : Workspace) where
       (λ p r (es, q, name, own, at, a, s, v). elim at [
         | inl (k, i, e) ↦ inl (k, Some es, key name ∷ [], i, cc, (es, refl, (name, own, a, refl, v)))
         | inr (ts, n, x, k, t, i, j, e) ↦
-            inr (
-              key n ∷ key k ∷ key name ∷ [],
-              cc,
-              (
-                ts,
-                t,
-                (
-                  n,
-                  x,
-                  key k ∷ key name ∷ [],
-                  i,
-                  refl,
-                  (k, es, key name ∷ [], j, refl, (name, own, a, refl, v)),
-                ),
-              ),
-            )
+            let q' : Path = key k ∷ key name ∷ [] in
+            let inside : InPlatform lent x q' r = (k, es, key name ∷ [], j, refl, (name, own, a, refl, v)) in
+            inr (key n ∷ q', cc, (ts, t, (n, x, q', i, refl, inside)))
       ])
 
   in_lints : Lists (KeysDiffer m) (refused_under (codes "lints") (of_lints m w)) (lints_refused m w)

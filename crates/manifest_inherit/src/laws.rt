@@ -24,10 +24,10 @@ pub fn resolved_dates_are_valid()
     ensures { ResolvedDatesAreValid }
 {}
 
-/// The list of all refusals, which [`refusals`](crate::refusals) returns, has a refusal at a path exactly if what stands
-/// there is inherited and is refused for that reason (`refused_at`); so the list is empty exactly where nothing is
-/// refused, as where [`resolve`](crate::resolve) succeeds. Where the keys of each map differ, as those of a `BTreeMap`
-/// do, it has no refusal twice at one path.
+/// The list of all refusals, which [`refusals`](crate::refusals) returns, has a refusal at a key path exactly if what
+/// stands there in the manifest is inherited and is refused for that reason (`refused_at`). So the list is empty
+/// exactly where nothing is refused, as where [`resolve`](crate::resolve) succeeds. Where the keys of each map differ,
+/// as those of a `BTreeMap` do, no refusal stands twice at one path.
 pub fn each_refusal_is_listed()
     ensures listed { ListsEachRefusal }
     ensures empty { EmptyIfNoneHolds }
