@@ -21,6 +21,8 @@ VALUES: list[tuple[str, Any]] = [
     ("-1", -1),
     ("-9223372036854775808", -(2**63)),
     ("0xff", 255),
+    ("4611686018427387904", 2**62),
+    ("-4611686018427387905", -(2**62) - 1),
     ("true", True),
     ("false", False),
     ("''", ""),
@@ -36,6 +38,8 @@ VALUES: list[tuple[str, Any]] = [
     ("07:32", time(7, 32)),
     ("23:59:59.5", time(23, 59, 59, 500_000)),
     ("23:59:59.9999999", time(23, 59, 59, 999_999)),
+    ("23:59:59.000000999", time(23, 59, 59)),
+    ("23:59:59.000001", time(23, 59, 59, 1)),
     ("1979-05-27T07:32:00", datetime(1979, 5, 27, 7, 32)),
     ("1979-05-27 07:32", datetime(1979, 5, 27, 7, 32)),
     ("1979-05-27T07:32:00Z", datetime(1979, 5, 27, 7, 32, tzinfo=timezone.utc)),
@@ -46,6 +50,7 @@ VALUES: list[tuple[str, Any]] = [
         datetime(1979, 5, 27, 7, 32, 0, 999_999, tzinfo=timezone(timedelta(hours=-8))),
     ),
     ("2000-02-29T00:00:00-00:01", datetime(2000, 2, 29, tzinfo=timezone(timedelta(minutes=-1)))),
+    ("2000-02-29T00:00:00-23:59", datetime(2000, 2, 29, tzinfo=timezone(-timedelta(hours=23, minutes=59)))),
     ("2000-02-29T00:00:00+23:59", datetime(2000, 2, 29, tzinfo=timezone(timedelta(hours=23, minutes=59)))),
 ]
 
@@ -164,6 +169,16 @@ class OfTaggedBytes(unittest.TestCase):
         for value in (0, 1, 127, 128, 300, 2**14 - 1, 2**14, 2**32, 2**63 - 1):
             self.assertEqual(decoded(b"\x02" + number(value)), value)
             self.assertEqual(decoded(b"\x03" + number(value)), -1 - value)
+
+    def test_lengths(self) -> None:
+        # in one group of seven bits, in two and in three, and next to the limits of a byte and of two
+        for length in (0, 1, 127, 128, 254, 255, 256, 257, 2**14 - 1, 2**14, 65_535, 65_536, 65_537):
+            held = "x" * length
+            self.assertEqual(decoded(b"\x01" + text(held)), held)
+            self.assertEqual(decoded(b"\x07" + number(length) + b"\x05" * length), [True] * length)
+            made = f"{PACKAGE}i = [{'true, ' * length}]\nt = '{held}'\n"
+            self.assertEqual(table(made)["package"]["metadata"], {"i": [True] * length, "t": held})
+            self.assertEqual(table(canonical(made)), table(made))
 
     def test_dates(self) -> None:
         day, moment = b"\x01\x05\x1b" + number(1979), b"\x01\x07\x20\x01\x3b\x01" + number(1_000)

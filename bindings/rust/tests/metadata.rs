@@ -58,6 +58,31 @@ fn floats_of_all_kinds_are_written_and_read_back() {
 }
 
 #[test]
+fn values_at_the_limits_of_their_bytes() {
+    // lengths and counts in one group of seven bits, in two and in three, and next to the limits of a byte and of two
+    for length in [0, 1, 127, 128, 254, 255, 256, 257, 16_383, 16_384, 65_535, 65_536, 65_537] {
+        let (text, items) = ("x".repeat(length), "1, ".repeat(length));
+        let held = Value::from_iter([("i", Value::from(vec![1; length])), ("t", Value::from(text.as_str()))]);
+        let manifest = format!("[package]\nname = 'p'\n[package.metadata]\ni = [{items}]\nt = '{text}'\n");
+        assert_eq!(metadata(&manifest).0, Some(held.clone()));
+        let written = manifest.parse::<Manifest>().unwrap().to_toml_string().unwrap();
+        assert_eq!(metadata(&written).0, Some(held));
+    }
+    // numbers in up to nine groups; date-times in which each part is the least or the greatest that TOML has
+    for written in [
+        "-9223372036854775808", "-4611686018427387905", "-129", "-128", "-1", "0", "127", "128", "4611686018427387904",
+        "9223372036854775807", "0000-01-01", "9999-12-31", "00:00:00", "23:59:60", "12:30:00.000000001",
+        "12:30:00.999999999", "0000-01-01T00:00:00Z", "9999-12-31T23:59:60.999999999+23:59", "2000-02-29T00:00:00-23:59",
+        "2000-02-29T00:00:00-00:01", "2000-02-29T00:00:00+00:01",
+    ] {
+        let manifest = format!("[package]\nmetadata = {written}\nname = \"p\"\n");
+        let value = metadata(&manifest).0.unwrap();
+        assert_eq!(value.to_string(), written);
+        assert_eq!(manifest.parse::<Manifest>().unwrap().to_toml_string().unwrap(), manifest);
+    }
+}
+
+#[test]
 fn a_float_elsewhere_is_refused() {
     for (text, path) in [
         ("[package]\nname = 'p'\nmetadata = 1.5\n[profile.dev]\nlto = [2.5]\n", "profile.dev.lto[0]"),
