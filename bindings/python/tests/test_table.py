@@ -148,7 +148,8 @@ class OfManifests(unittest.TestCase):
         self.in_a_thread(run)
 
     def test_a_text_that_nests_too_deep(self) -> None:
-        more = (f"a = {'[' * 1_000_000}", f"a = {'{a=' * 100_000}", f"{'a.' * 100_000}a = 1", f"[{'a.' * 100_000}a]", deep_text(77, 50))
+        parts = "a." * 100_000
+        more = (f"a = {'[' * 1_000_000}", f"a = {'{a=' * 100_000}", f"{parts}a = 1", f"[{parts}a]", deep_text(77, 50))
         for made in more:
             with self.assertRaises(ManifestError) as caught:
                 table(made)
