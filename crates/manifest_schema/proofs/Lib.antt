@@ -18,6 +18,7 @@ pub mod FoundOnce
 pub mod WrittenLaws
 pub mod OldLaws
 pub mod Pinned
+pub mod IgnoredLaws
 pub mod GoodLaws
 pub mod FormerLaws
 pub mod CopyLaws

@@ -66,13 +66,13 @@ pub strip_tells : TellsWords strip
 strip_tells = choice_tells (texts_of strip_words) strip_meaning strip_value (word_read strip_words)
 
 -- WHAT IS IGNORED
-ignored-lenient : (fs : List Finding) → ignored_of fs ≡ [] → ignored_of (leniently fs) ≡ faults_of fs
+pub ignored-lenient : (fs : List Finding) → ignored_of fs ≡ [] → ignored_of (leniently fs) ≡ faults_of fs
 ignored-lenient [] e = refl
 ignored-lenient (fault p c ws ∷ fs) e = ap (λ t. (p, c) ∷ t) (ignored-lenient fs e)
 ignored-lenient (ignored p c ws ∷ fs) e = absurd (no_nil e)
 ignored-lenient (unused p ∷ fs) e = ignored-lenient fs e
 
-strict_behind : (s : Step) (fs : List Finding) → ignored_of fs ≡ [] → ignored_of (found_behind s fs) ≡ []
+pub strict_behind : (s : Step) (fs : List Finding) → ignored_of fs ≡ [] → ignored_of (found_behind s fs) ≡ []
 strict_behind s [] e = refl
 strict_behind s (fault p c ws ∷ fs) e = strict_behind s fs e
 strict_behind s (ignored p c ws ∷ fs) e = absurd (no_nil e)

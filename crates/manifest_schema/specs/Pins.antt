@@ -5,14 +5,15 @@ use Rattle.toml.specs.Data.{Data, float, string, array, table, Items, get_item, 
 use Rattle.manifest_schema.specs.Paths.{Text, Cause, wrong_kind, not_a_choice, missing, two_spellings, holds_float, key, index, Path, Faults, itself, behind}
 use Rattle.manifest_schema.specs.Findings.{fault, faults_of, ignored_of, unused_of, among, IsFaultless}
 use Rattle.manifest_schema.specs.LeftOut.{from_step, ends_here}
-use Rattle.manifest_schema.specs.Slots.{Spellings, first, Slot, absent, one, clash, at, is_among, without}
+use Rattle.manifest_schema.specs.Slots.{Spellings, only, first, Slot, absent, one, clash, at, is_among, without}
 use Rattle.manifest_schema.specs.Kinds.{Kind, faulty, kept, has_entry, list_of, map_of, inherits, inh}
 use Rattle.manifest_schema.specs.Needs.{Need}
 use Rattle.manifest_schema.specs.Forms.{Rows, no_more, others, ◌⨾◌, spelled, form}
 use Rattle.manifest_schema.specs.Lawful.{unused_in}
+use Rattle.manifest_schema.specs.PartForms.{badge_rows, maintenance_rows}
 use Rattle.manifest_schema.specs.ManifestForms.{package_rows, manifest_rows}
 use Rattle.manifest_schema.specs.Meaning.{has_header}
-use Rattle.manifest_schema.specs.Found.{manifest_findings}
+use Rattle.manifest_schema.specs.Found.{manifest_findings, manifest_ignored}
 
 -- WHERE FAULTS STAND
 -- a fault of an item, with its index before the path
@@ -115,6 +116,33 @@ abbrev pub Ignores : {B C : Type 0} → Kind B → Need C → Type 0
 Ignores K n =
     (names : Spellings) (s : Slot) (p : Path) (c : Cause) →
     among (ignored_of (n.findings names s)) p c ↔ faulty_free names K s p c
+
+-- nothing is ignored of a value
+abbrev pub IgnoresNothing : {A : Type 0} → Kind A → Type 0
+IgnoresNothing K = (d : Data) → ignored_of (K.findings d) ≡ []
+
+-- the keys of the badges that are tables of one form
+abbrev pub badge_keys : List Text
+badge_keys =
+    codes "appveyor" ∷ codes "circle-ci" ∷ codes "gitlab" ∷ codes "travis-ci" ∷ codes "codecov"
+    ∷ codes "coveralls" ∷ codes "is-it-maintained-issue-resolution"
+    ∷ codes "is-it-maintained-open-issues" ∷ []
+
+-- a fault of the badge under one of these keys, or of the maintenance
+abbrev pub unfit_badge : List Text → Members → Faults
+unfit_badge (k ∷ ks) bs p c =
+    faulty_free (only k) (form badge_rows) (at (only k) bs) p c ⊎ unfit_badge ks bs p c
+unfit_badge [] bs p c =
+    let names = only (codes "maintenance") in
+    faulty_free names (form maintenance_rows) (at names bs) p c
+
+-- what is ignored of a whole manifest is exactly the faults of its badges, if nothing of its metadata is ignored
+abbrev pub IgnoresBadgesAlone : Kind Data → Kind Data → Type 0
+IgnoresBadgesAlone K W =
+    IgnoresNothing K → IgnoresNothing W → (ms : Members) (p : Path) (c : Cause) →
+    among (manifest_ignored K W ms) p c
+    ↔ ((bs : Members) × (get_member (codes "badges") ms ≡ Some (table bs))
+    × behind (key (codes "badges")) (unfit_badge badge_keys bs) p c)
 
 -- WHICH KEYS ARE UNUSED: the key is one of these paths, as one that nothing reads
 abbrev pub is_unused_key : Text → List Path → Bool

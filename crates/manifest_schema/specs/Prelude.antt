@@ -63,6 +63,6 @@ pub use Rattle.manifest_schema.specs.PartForms.{codegen, dependency, dependency_
 unfoldable pub use Rattle.manifest_schema.specs.PartForms.{badge_rows, badges_rows, detailed_rows, inherited_rows, lint_rows, lints_rows, maintenance_rows, platform_rows, product_rows, profile_rows, profiles_rows}
 pub use Rattle.manifest_schema.specs.PathTexts.{is_bare, is_bare_key, key_text, next_text, path_text, quoted_byte}
 pub use Rattle.manifest_schema.specs.Paths.{Cause, Faults, Path, Step, Text, behind, holds_float, index, itself, key, metadata_fault, missing, no_fault, not_a_choice, not_true, out_of_range, two_spellings, wrong_kind}
-pub use Rattle.manifest_schema.specs.Pins.{FaultyByEntries, FaultyByFloats, FaultyByItems, FaultyByRows, FaultyBySlot, FaultyIfRequired, FaultyUnlessInherited, Ignores, InheritedUnused, NeverFaulty, OldTopUnused, ReadsOnly, TellsWords, UnusedByEntries, UnusedByItems, clash_at, faulty_entry, faulty_free, faulty_item, faulty_required, float_at, float_in, is_known_old, is_unused_key, missing_at, unfit_beside}
+pub use Rattle.manifest_schema.specs.Pins.{FaultyByEntries, FaultyByFloats, FaultyByItems, FaultyByRows, FaultyBySlot, FaultyIfRequired, FaultyUnlessInherited, Ignores, IgnoresBadgesAlone, IgnoresNothing, InheritedUnused, NeverFaulty, OldTopUnused, ReadsOnly, TellsWords, UnusedByEntries, UnusedByItems, clash_at, faulty_entry, faulty_free, faulty_item, faulty_required, float_at, float_in, is_known_old, is_unused_key, missing_at, unfit_beside}
 pub use Rattle.manifest_schema.specs.Slots.{Slot, Spellings, absent, at, both, clash, first, is_among, one, only, put, slot, slot_of_two, underscored, without}
 unfoldable pub use Rattle.manifest_schema.specs.Slots.{put_some}
