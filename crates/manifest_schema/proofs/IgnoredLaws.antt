@@ -137,7 +137,7 @@ AreStrict no_more = Unit {0}
 
 rows_strict : {A : Type 0} (named : List Text) (rows : Rows A) (ms : Members) → AreStrict rows
     → ignored_of (findings_beside named rows ms) ≡ []
-rows_strict named (r ⨾ rs) ms s = 
+rows_strict named (r ⨾ rs) ms s =
     search (both_strict, s.0.strict, rows_strict named rs ms s.1)
 rows_strict named (others get K) ms s = entries_strict s (without named ms)
 rows_strict named no_more ms s = refl
@@ -217,10 +217,10 @@ module _ (p : Path) (c : Cause) where
       → among (ignored_of (fs ++ gs)) p c ↔ (A ⊎ B)
   one_more fs gs a b =
       rw (ignored-append fs gs) (
-        let (there, back) = among-append (ignored_of fs) (ignored_of gs) p c in (
-          λ h. elim (there h) [ inl g ↦ inl (a.0 g) | inr g ↦ inr (b.0 g) ],
-          elim [ inl h ↦ back (inl (a.1 h)) | inr h ↦ back (inr (b.1 h)) ],
-        )
+      let (there, back) = among-append (ignored_of fs) (ignored_of gs) p c in (
+        λ h. elim (there h) [ inl g ↦ inl (a.0 g) | inr g ↦ inr (b.0 g) ],
+        elim [ inl h ↦ back (inl (a.1 h)) | inr h ↦ back (inr (b.1 h)) ],
+      )
       )
 
   none_more : {A : Type 0} (fs gs : List Finding) → among (ignored_of fs) p c ↔ A → ignored_of gs ≡ []
