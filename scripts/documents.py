@@ -53,7 +53,7 @@ HUGE = [2**63, -(2**63) - 1, 10**400, Literal("1e999")]
 
 
 def read_forms():
-    """The rows of each form (key, second spelling, what it holds, whether it is needed), and the words of each choice."""
+    """The rows of each form (key, second spelling, what it holds, whether it is required), and the words of each choice."""
     forms, words = {}, {}
     for line in KEYS.read_text(encoding="utf-8").splitlines():
         if line.startswith("## "):
@@ -61,7 +61,7 @@ def read_forms():
         cells = [re.sub(r"\[(.+?)\]\(.*?\)", r"\1", cell.strip()) for cell in line.split("|")[1:-1]]
         if len(cells) == 5 and cells[0] not in ("key", "---"):
             key, second, holds, need, _ = cells
-            forms.setdefault(section, []).append((key.strip("`"), second.strip("`"), holds, need == "needed"))
+            forms.setdefault(section, []).append((key.strip("`"), second.strip("`"), holds, need == "required"))
         elif len(cells) == 2 and section == "Words" and cells[0] not in ("choice", "---"):
             found = re.findall(r'"([^"]*)"|(true|false)', cells[1])
             words[cells[0]] = [text if not flag else flag == "true" for text, flag in found]
@@ -188,10 +188,10 @@ class Tables:
     def form(self, name):
         """A table of this form, with the keys of some of its rows, by either spelling, and with free keys."""
         table = {}
-        for key, second, holds, is_needed in FORMS[name]:
+        for key, second, holds, is_required in FORMS[name]:
             if key == "any other key":
                 table |= {other: self.value(holds) for other in (self.key() for _ in self.many()) if other not in table}
-            elif self.is_so(self.filled) or is_needed and not self.is_so(self.wrong / 2):
+            elif self.is_so(self.filled) or is_required and not self.is_so(self.wrong / 2):
                 table[second if second and self.is_so(0.3) else key] = self.value(holds)
                 if second and self.is_so(self.wrong):
                     table |= {key: self.value(holds), second: self.anything()}

@@ -330,6 +330,13 @@ def rust_rows(form):
         yield f'"{row.key}"{second} => {row.field}: {of}, {rust_need(form, row)};'
 
 
+def rust_absent(form):
+    """The fields of which nothing is there but what is required, which has the name of its field."""
+    for row in form.rows:
+        absent = RUST_VALUES.get(value := "None" if row.is_option else spelled(row.absent or ""), value)
+        yield f"{row.field}: {absent}," if row.need != "required" else f"{row.field},"
+
+
 # THE PYTHON PACKAGE
 def without_links(cell):
     """A cell of a table without the links in it, and without backquotes."""

@@ -22,13 +22,13 @@ OUT_OF_RANGE, NOT_TRUE, HOLDS_FLOAT = "out of range", "not true", "holds a float
 
 
 class Row(NamedTuple):
-    """A row of a form: the spellings of its key, the kind of its value, whether it is needed, and whether what does not fit
+    """A row of a form: the spellings of its key, the kind of its value, whether it is required, and whether what does not fit
     refuses nothing."""
 
     key: str
     second: str
     kind: tuple
-    is_needed: bool
+    is_required: bool
     is_lenient: bool
 
 
@@ -88,7 +88,7 @@ WORDS = {
     for choice, words in SECTIONS["Words"][1:]
 }
 FORMS = {
-    name: [Row(key.strip("`"), second.strip("`"), kind_of(holds), need == "needed", "fit" in need)
+    name: [Row(key.strip("`"), second.strip("`"), kind_of(holds), need == "required", "fit" in need)
            for key, second, holds, need, _ in rows]
     for name, rows in SECTIONS.items() if rows and len(rows[0]) == 5
 }
@@ -190,11 +190,11 @@ class Planted:
     def form(self, name):
         """A table of the form, by either spelling of each key."""
         table = {}
-        for key, second, kind, is_needed, _ in FORMS[name]:
+        for key, second, kind, is_required, _ in FORMS[name]:
             if key == REST:
                 table |= {each: self.good(kind) for each in self.random.sample(NAMES, len(self.many())) if each not in table
                           and each not in spelled(name)}
-            elif is_needed or self.is_so(self.filled):
+            elif is_required or self.is_so(self.filled):
                 table[second if second and self.is_so(0.3) else key] = self.good(kind)
         return table
 
@@ -310,7 +310,7 @@ class Planted:
             first, second = (place.below(key, rank, is_lenient=is_lenient) for key in (row.key, row.second))
             is_free = self.is_free(first.path) and (not row.second or self.is_free(second.path))
             by_second = row.second in table if row.second else False
-            if row.is_needed and is_free:
+            if row.is_required and is_free:
                 yield first, MISSING, (), lambda row=row: table.pop(row.key)
             if row.second and is_free:
                 yield first, TWO_SPELLINGS, (second.path,), lambda row=row: self.clash(row, table)

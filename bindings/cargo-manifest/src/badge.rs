@@ -6,15 +6,26 @@ record! {
     /// A badge.
     #[derive(Debug, Clone, PartialEq, Eq)]
     pub struct Badge {
-        /// The repository.
-        "repository" => repository: String, needed;
-        /// The branch. Default: `master`.
+        // (made by scripts/keys --write)
+        /// The repository, as the service names it: mostly `user/project`.
+        ///
+        /// [Cargo reference](https://doc.rust-lang.org/cargo/reference/manifest.html#the-badges-section).
+        "repository" => repository: String, required;
+        /// The branch. Default: `"master"`.
+        ///
+        /// [Cargo reference](https://doc.rust-lang.org/cargo/reference/manifest.html#the-badges-section).
         "branch" => branch: String, default("master".into());
-        /// Where the repository is: `github`, `bitbucket` or `gitlab`.
+        /// The host of the repository, such as `github` or `bitbucket`; AppVeyor, Codecov and Coveralls take it.
+        ///
+        /// [Cargo reference](https://doc.rust-lang.org/cargo/reference/manifest.html#the-badges-section).
         "service" => service: Option<String>, nullable;
-        /// The number of the project.
+        /// The identifier of the project at AppVeyor, in place of its name.
+        ///
+        /// [Cargo reference](https://doc.rust-lang.org/cargo/reference/manifest.html#the-badges-section).
         "id" => id: Option<String>, nullable;
-        /// The name of the project, where that is not the repository's.
+        /// The name of the project at AppVeyor, where the repository has another.
+        ///
+        /// [Cargo reference](https://doc.rust-lang.org/cargo/reference/manifest.html#the-badges-section).
         "project-name" also "project_name" => project_name: Option<String>, nullable;
     }
 }
@@ -23,8 +34,11 @@ record! {
     /// `[badges.maintenance]`.
     #[derive(Debug, Clone, Copy, PartialEq, Eq, Default)]
     pub struct Maintenance {
-        /// How the package is maintained.
-        "status" => status: MaintenanceStatus, needed;
+        // (made by scripts/keys --write)
+        /// The maintenance status.
+        ///
+        /// [Cargo reference](https://doc.rust-lang.org/cargo/reference/manifest.html#the-badges-section).
+        "status" => status: MaintenanceStatus, required;
     }
 }
 
@@ -32,23 +46,42 @@ record! {
     /// `[badges]`. A badge that does not fit is left out, and refuses nothing.
     #[derive(Debug, Clone, PartialEq, Eq, Default)]
     pub struct Badges {
-        /// Of AppVeyor.
+        // (made by scripts/keys --write)
+        /// The build at AppVeyor: `repository` is required; all other fields are optional.
+        ///
+        /// [Cargo reference](https://doc.rust-lang.org/cargo/reference/manifest.html#the-badges-section).
         "appveyor" => appveyor: Option<Badge>, lenient;
-        /// Of Circle CI.
+        /// The build at Circle CI: `repository` is required, `branch` optional.
+        ///
+        /// [Cargo reference](https://doc.rust-lang.org/cargo/reference/manifest.html#the-badges-section).
         "circle-ci" => circle_ci: Option<Badge>, lenient;
-        /// Of GitLab.
+        /// The pipeline at GitLab: `repository` is required, `branch` optional.
+        ///
+        /// [Cargo reference](https://doc.rust-lang.org/cargo/reference/manifest.html#the-badges-section).
         "gitlab" => gitlab: Option<Badge>, lenient;
-        /// Of Travis CI.
+        /// The build at Travis CI: `repository` is required, `branch` optional.
+        ///
+        /// [Cargo reference](https://doc.rust-lang.org/cargo/reference/manifest.html#the-badges-section).
         "travis-ci" => travis_ci: Option<Badge>, lenient;
-        /// Of Codecov.
+        /// The test coverage at Codecov: `repository` is required, `branch` and `service` optional.
+        ///
+        /// [Cargo reference](https://doc.rust-lang.org/cargo/reference/manifest.html#the-badges-section).
         "codecov" => codecov: Option<Badge>, lenient;
-        /// Of Coveralls.
+        /// The test coverage at Coveralls: `repository` is required, `branch` and `service` optional.
+        ///
+        /// [Cargo reference](https://doc.rust-lang.org/cargo/reference/manifest.html#the-badges-section).
         "coveralls" => coveralls: Option<Badge>, lenient;
-        /// How soon issues are resolved.
+        /// The time in which issues are resolved, by isitmaintained.com: `repository` is required.
+        ///
+        /// [Cargo reference](https://doc.rust-lang.org/cargo/reference/manifest.html#the-badges-section).
         "is-it-maintained-issue-resolution" => is_it_maintained_issue_resolution: Option<Badge>, lenient;
-        /// How many issues are open.
+        /// The percentage of issues that are open, by isitmaintained.com: `repository` is required.
+        ///
+        /// [Cargo reference](https://doc.rust-lang.org/cargo/reference/manifest.html#the-badges-section).
         "is-it-maintained-open-issues" => is_it_maintained_open_issues: Option<Badge>, lenient;
-        /// How the package is maintained. Default: nothing is said.
+        /// The maintenance status; `none` where none is given.
+        ///
+        /// [Cargo reference](https://doc.rust-lang.org/cargo/reference/manifest.html#the-badges-section).
         "maintenance" => maintenance: Maintenance, lenient_default(Maintenance::default());
     }
 }

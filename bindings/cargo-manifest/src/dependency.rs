@@ -138,23 +138,24 @@ record! {
     /// A dependency as a table of its own.
     #[derive(Debug, Clone, PartialEq, Eq, Default)]
     pub struct DependencyDetail {
-        /// The versions that fit. Without it, any.
+        // (made by scripts/keys --write)
+        /// The version requirement, such as `1.2` or `>=1.2, <1.5`; every version meets it where there is none.
         ///
         /// [Cargo reference](https://doc.rust-lang.org/cargo/reference/specifying-dependencies.html#version-requirement-syntax).
         "version" => version: Option<String>, optional;
-        /// The name of the registry that it comes from.
+        /// The registry that has the package, by its name; crates.io where no other source is named.
         ///
         /// [Cargo reference](https://doc.rust-lang.org/cargo/reference/specifying-dependencies.html#specifying-dependencies-from-other-registries).
         "registry" => registry: Option<String>, optional;
-        /// The address of the index of the registry.
+        /// The registry that has the package, by the URL of its index.
         ///
         /// [Cargo reference](https://doc.rust-lang.org/cargo/reference/specifying-dependencies.html#specifying-dependencies-from-other-registries).
         "registry-index" also "registry_index" => registry_index: Option<String>, nullable;
-        /// The folder that it stands in, from that of the manifest.
+        /// The path of the package's folder, relative to the manifest.
         ///
         /// [Cargo reference](https://doc.rust-lang.org/cargo/reference/specifying-dependencies.html#specifying-path-dependencies).
         "path" => path: Option<String>, optional;
-        /// The address of its git repository.
+        /// The URL of the git repository that has the package.
         ///
         /// [Cargo reference](https://doc.rust-lang.org/cargo/reference/specifying-dependencies.html#specifying-dependencies-from-git-repositories).
         "git" => git: Option<String>, optional;
@@ -162,27 +163,27 @@ record! {
         ///
         /// [Cargo reference](https://doc.rust-lang.org/cargo/reference/specifying-dependencies.html#choice-of-commit).
         "branch" => branch: Option<String>, optional;
-        /// The tag in the git repository.
+        /// The tag of the git repository.
         ///
         /// [Cargo reference](https://doc.rust-lang.org/cargo/reference/specifying-dependencies.html#choice-of-commit).
         "tag" => tag: Option<String>, optional;
-        /// The revision of the git repository.
+        /// The revision of the git repository: a commit's hash, or a reference such as `refs/pull/1/head`.
         ///
         /// [Cargo reference](https://doc.rust-lang.org/cargo/reference/specifying-dependencies.html#choice-of-commit).
         "rev" => rev: Option<String>, optional;
-        /// The features that are enabled.
+        /// The features of the package that are enabled.
         ///
         /// [Cargo reference](https://doc.rust-lang.org/cargo/reference/features.html#dependency-features).
         "features" => features: Option<Vec<String>>, optional;
-        /// Whether it is left out unless a feature enables it. Without it, it is not.
+        /// Whether the dependency is optional: it is built only where a feature enables it.
         ///
         /// [Cargo reference](https://doc.rust-lang.org/cargo/reference/features.html#optional-dependencies).
         "optional" => optional: Option<bool>, optional;
-        /// Whether its default features are enabled. Without it, they are.
+        /// Whether the default features are enabled; they are where nothing is said.
         ///
         /// [Cargo reference](https://doc.rust-lang.org/cargo/reference/features.html#dependency-features).
         "default-features" also "default_features" => default_features: Option<bool>, optional;
-        /// The name of its package, where that is another than its key.
+        /// The name of the package, where the dependency is renamed: its key is then the new name.
         ///
         /// [Cargo reference](https://doc.rust-lang.org/cargo/reference/specifying-dependencies.html#renaming-dependencies-in-cargotoml).
         "package" => package: Option<String>, optional;
@@ -203,19 +204,21 @@ record! {
     /// A dependency that is inherited from the workspace, with what the member adds.
     #[derive(Debug, Clone, PartialEq, Eq, Default)]
     pub struct InheritedDependencyDetail {
-        /// Always true.
+        // (made by scripts/keys --write)
+        /// `workspace = true`: the rest is inherited from `[workspace.dependencies]`.
         ///
         /// [Cargo reference](https://doc.rust-lang.org/cargo/reference/specifying-dependencies.html#inheriting-a-dependency-from-a-workspace).
-        "workspace" => workspace: True, needed;
-        /// The features that are enabled in addition to those of the workspace.
+        "workspace" => workspace: True, required;
+        /// The features that are enabled in addition to those that the workspace enables.
         ///
         /// [Cargo reference](https://doc.rust-lang.org/cargo/reference/specifying-dependencies.html#inheriting-a-dependency-from-a-workspace).
         "features" => features: Option<Vec<String>>, optional;
-        /// Whether it is left out unless a feature enables it. Without it, it is not.
+        /// Whether the dependency is optional in the member.
         ///
         /// [Cargo reference](https://doc.rust-lang.org/cargo/reference/specifying-dependencies.html#inheriting-a-dependency-from-a-workspace).
         "optional" => optional: Option<bool>, optional;
-        /// Whether its default features are enabled. (The crate `cargo-manifest` does not have this field.)
+        /// Whether the default features are enabled, where the member chooses; where it does not, the workspace does.
+        /// The crate `cargo-manifest` does not have this field.
         ///
         /// [Cargo reference](https://doc.rust-lang.org/cargo/reference/specifying-dependencies.html#inheriting-a-dependency-from-a-workspace).
         "default-features" also "default_features" => default_features: Option<bool>, optional;
@@ -226,11 +229,18 @@ record! {
     /// The dependencies of a platform, as in `[target."cfg(unix)".dependencies]`.
     #[derive(Debug, Clone, PartialEq, Eq)]
     pub struct Target {
-        /// The dependencies.
+        // (made by scripts/keys --write)
+        /// The dependencies of the package that are built only where the target platform is this one. Default: empty.
+        ///
+        /// [Cargo reference](https://doc.rust-lang.org/cargo/reference/specifying-dependencies.html#platform-specific-dependencies).
         "dependencies" => dependencies: DepsSet, default(DepsSet::new());
-        /// Those of tests, examples and benches.
+        /// The dependencies of its tests, examples and benches on this platform. Default: empty.
+        ///
+        /// [Cargo reference](https://doc.rust-lang.org/cargo/reference/specifying-dependencies.html#platform-specific-dependencies).
         "dev-dependencies" also "dev_dependencies" => dev_dependencies: DepsSet, default(DepsSet::new());
-        /// Those of the build script.
+        /// The dependencies of its build script, built only where the host platform is this one. Default: empty.
+        ///
+        /// [Cargo reference](https://doc.rust-lang.org/cargo/reference/specifying-dependencies.html#platform-specific-dependencies).
         "build-dependencies" also "build_dependencies" => build_dependencies: DepsSet, default(DepsSet::new());
     }
 }

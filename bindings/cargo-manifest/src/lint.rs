@@ -7,11 +7,18 @@ record! {
     /// `[lints]` of a package: inherited from the workspace, or the lints of each tool.
     #[derive(Debug, Clone, PartialEq, Eq)]
     pub struct MaybeInheritedLintsSet {
-        /// Whether the lints are inherited.
+        // (made by scripts/keys --write)
+        /// Whether the lints are inherited, by `workspace = true`.
+        ///
+        /// [Cargo reference](https://doc.rust-lang.org/cargo/reference/manifest.html#the-lints-section).
         "workspace" => workspace: Option<True>, optional;
     }
     others {
-        /// The lints of each tool, as `rust` and `clippy`. No tool can be named `workspace`.
+        // (made by scripts/keys --write)
+        /// The package's own lints, by tool, such as `rust` or `clippy`, and by the name of the lint or lint group. No
+        /// tool can be named `workspace`.
+        ///
+        /// [Cargo reference](https://doc.rust-lang.org/cargo/reference/manifest.html#the-lints-section).
         lints: BTreeMap<String, ToolLintsSet>
     }
 }
@@ -93,11 +100,12 @@ record! {
     /// A lint as a table.
     #[derive(Debug, Clone, PartialEq, Eq)]
     pub struct LintConfig {
-        /// The level.
+        // (made by scripts/keys --write)
+        /// The level of the lint or lint group.
         ///
         /// [Cargo reference](https://doc.rust-lang.org/cargo/reference/manifest.html#the-lints-section).
-        "level" => level: LintLevel, needed;
-        /// Lints and groups of them are applied from the lowest priority to the highest. Default: 0.
+        "level" => level: LintLevel, required;
+        /// Where lints and lint groups overlap, the one with the higher priority decides. Default: `0`.
         ///
         /// [Cargo reference](https://doc.rust-lang.org/cargo/reference/manifest.html#the-lints-section).
         "priority" => priority: i8, default(0);

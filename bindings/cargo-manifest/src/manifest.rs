@@ -11,63 +11,69 @@ record! {
     /// unless you name your own.
     #[derive(Debug, Clone, PartialEq)]
     pub struct Manifest<PackageMetadata, WorkspaceMetadata> {
-        /// `[package]`. The root of a workspace may have none.
+        // (made by scripts/keys --write)
+        /// `[package]`; a virtual workspace has none.
         ///
         /// [Cargo reference](https://doc.rust-lang.org/cargo/reference/manifest.html#the-package-section).
         "package" => package: Option<Package<PackageMetadata>>, optional;
-        /// The unstable features of Cargo that the manifest uses.
+        /// The unstable features of Cargo that are enabled; only a nightly Cargo has them.
         ///
         /// [Cargo reference](https://doc.rust-lang.org/cargo/reference/unstable.html).
         "cargo-features" => cargo_features: Option<Vec<String>>, optional;
-        /// `[workspace]`, in the root of a workspace.
+        /// `[workspace]`, where the manifest is that of a workspace's root.
         ///
         /// [Cargo reference](https://doc.rust-lang.org/cargo/reference/workspaces.html).
         "workspace" => workspace: Option<Workspace<WorkspaceMetadata>>, optional;
-        /// `[dependencies]`.
+        /// `[dependencies]`, by name; one that is renamed by its new name.
         ///
         /// [Cargo reference](https://doc.rust-lang.org/cargo/reference/specifying-dependencies.html).
         "dependencies" => dependencies: Option<DepsSet>, optional;
-        /// `[dev-dependencies]`, of tests, examples and benches.
+        /// `[dev-dependencies]`: those of tests, examples and benches.
         ///
         /// [Cargo reference](https://doc.rust-lang.org/cargo/reference/specifying-dependencies.html#development-dependencies).
         "dev-dependencies" also "dev_dependencies" => dev_dependencies: Option<DepsSet>, optional;
-        /// `[build-dependencies]`, of the build script.
+        /// `[build-dependencies]`: those of the build script.
         ///
         /// [Cargo reference](https://doc.rust-lang.org/cargo/reference/specifying-dependencies.html#build-dependencies).
         "build-dependencies" also "build_dependencies" => build_dependencies: Option<DepsSet>, optional;
-        /// `[target]`: the dependencies of platforms, by the name or the `cfg(..)` of the platform.
+        /// `[target]`: the dependencies for single platforms, by target triple or `cfg(..)`.
         ///
         /// [Cargo reference](https://doc.rust-lang.org/cargo/reference/specifying-dependencies.html#platform-specific-dependencies).
         "target" => target: Option<TargetDepsSet>, optional;
-        /// `[features]`: for each feature, what it switches on.
+        /// `[features]`: each with what it enables; an optional dependency can be a feature that is not listed.
         ///
         /// [Cargo reference](https://doc.rust-lang.org/cargo/reference/features.html#the-features-section).
         "features" => features: Option<FeatureSet>, optional;
-        /// Each `[[bin]]`. Those that are not declared are found by completion.
+        /// Each `[[bin]]`: not all binaries, unless the manifest is completed, since others are discovered. Default:
+        /// empty.
         ///
         /// [Cargo reference](https://doc.rust-lang.org/cargo/reference/cargo-targets.html#binaries).
         "bin" => bin: Vec<Product>, unless(Vec::new());
-        /// Each `[[bench]]`. Those that are not declared are found by completion.
+        /// Each `[[bench]]`: not all benches, unless the manifest is completed, since others are discovered. Default:
+        /// empty.
         ///
         /// [Cargo reference](https://doc.rust-lang.org/cargo/reference/cargo-targets.html#benchmarks).
         "bench" => bench: Vec<Product>, unless(Vec::new());
-        /// Each `[[test]]`. Those that are not declared are found by completion.
+        /// Each `[[test]]`: not all integration tests, unless the manifest is completed, since others are discovered.
+        /// Default: empty.
         ///
         /// [Cargo reference](https://doc.rust-lang.org/cargo/reference/cargo-targets.html#tests).
         "test" => test: Vec<Product>, unless(Vec::new());
-        /// Each `[[example]]`. Those that are not declared are found by completion.
+        /// Each `[[example]]`: not all examples, unless the manifest is completed, since others are discovered.
+        /// Default: empty.
         ///
         /// [Cargo reference](https://doc.rust-lang.org/cargo/reference/cargo-targets.html#examples).
         "example" => example: Vec<Product>, unless(Vec::new());
-        /// `[patch]`: for each source, the dependencies that replace those from there.
+        /// `[patch]`: the dependencies that patch others, by the registry or URL of these; Cargo takes those of the
+        /// root alone.
         ///
         /// [Cargo reference](https://doc.rust-lang.org/cargo/reference/overriding-dependencies.html#the-patch-section).
         "patch" => patch: Option<PatchSet>, optional;
-        /// `[lib]`. One that is not declared is found by completion.
+        /// `[lib]`; where there is none, one may be discovered, unless the manifest is completed.
         ///
         /// [Cargo reference](https://doc.rust-lang.org/cargo/reference/cargo-targets.html#library).
         "lib" => lib: Option<Product>, optional;
-        /// `[profile]`.
+        /// `[profile]`; Cargo takes those of the workspace's root alone.
         ///
         /// [Cargo reference](https://doc.rust-lang.org/cargo/reference/profiles.html).
         "profile" => profile: Option<Profiles>, optional;
@@ -75,7 +81,7 @@ record! {
         ///
         /// [Cargo reference](https://doc.rust-lang.org/cargo/reference/manifest.html#the-badges-section).
         "badges" => badges: Option<Badges>, optional;
-        /// `[lints]`.
+        /// `[lints]`: the package's own, or inherited.
         ///
         /// [Cargo reference](https://doc.rust-lang.org/cargo/reference/manifest.html#the-lints-section).
         "lints" => lints: Option<MaybeInheritedLintsSet>, optional;
@@ -86,6 +92,7 @@ record! {
 impl<PackageMetadata, WorkspaceMetadata> Default for Manifest<PackageMetadata, WorkspaceMetadata> {
     fn default() -> Self {
         Manifest {
+            // (made by scripts/keys --write)
             package: None,
             cargo_features: None,
             workspace: None,

@@ -7,121 +7,121 @@ record! {
     /// `[package]`.
     #[derive(Debug, Clone, PartialEq)]
     pub struct Package<Metadata> {
-        /// The name. (It may have capitals.)
+        // (made by scripts/keys --write)
+        /// The name, from which its library and its main binary take theirs by default; it may have capital letters.
         ///
         /// [Cargo reference](https://doc.rust-lang.org/cargo/reference/manifest.html#the-name-field).
-        "name" => name: String, needed;
-        /// The edition of Rust. A package without one has the edition 2015.
+        "name" => name: String, required;
+        /// The edition of its targets, its own or inherited; Cargo takes 2015 where there is none.
         ///
         /// [Cargo reference](https://doc.rust-lang.org/cargo/reference/manifest.html#the-edition-field).
         "edition" => edition: Option<MaybeInherited<Edition>>, optional;
-        /// The version, as `1.9.0`. [`Package::version`] has the one that counts.
+        /// The version, its own or inherited; Cargo takes `0.0.0` where there is none: [`Package::version`] says which
+        /// one holds.
         ///
         /// [Cargo reference](https://doc.rust-lang.org/cargo/reference/manifest.html#the-version-field).
         "version" => version: Option<MaybeInherited<String>>, optional;
-        /// The file of the build script, or whether there is one. Without it, or where it is true, completion puts `build.rs` if
-        /// that is there.
+        /// The build script by its path, or false for none; absent or true, it is discovered: completion fills it in.
         ///
         /// [Cargo reference](https://doc.rust-lang.org/cargo/reference/manifest.html#the-build-field).
         "build" => build: Option<StringOrBool>, optional;
-        /// The folder of the workspace's root, where Cargo would not find it.
+        /// The path of its workspace's root; Cargo searches the folders above where there is none.
         ///
         /// [Cargo reference](https://doc.rust-lang.org/cargo/reference/manifest.html#the-workspace-field).
         "workspace" => workspace: Option<String>, optional;
-        /// The authors, each as `Name <mail@address>`.
+        /// The people and organizations that made it, such as `Alice <alice@example.com>`.
         ///
         /// [Cargo reference](https://doc.rust-lang.org/cargo/reference/manifest.html#the-authors-field).
         "authors" => authors: Option<MaybeInherited<Vec<String>>>, optional;
-        /// The library outside of Rust that the package links.
+        /// The name of the native library that it links to.
         ///
         /// [Cargo reference](https://doc.rust-lang.org/cargo/reference/manifest.html#the-links-field).
         "links" => links: Option<String>, optional;
-        /// What the package is, in plain text.
+        /// What it is, in a few words of plain text, not Markdown.
         ///
         /// [Cargo reference](https://doc.rust-lang.org/cargo/reference/manifest.html#the-description-field).
         "description" => description: Option<MaybeInherited<String>>, optional;
-        /// The address of the home page.
+        /// The URL of its home page.
         ///
         /// [Cargo reference](https://doc.rust-lang.org/cargo/reference/manifest.html#the-homepage-field).
         "homepage" => homepage: Option<MaybeInherited<String>>, optional;
-        /// The address of the documentation.
+        /// The URL of its documentation; crates.io links to docs.rs where there is none.
         ///
         /// [Cargo reference](https://doc.rust-lang.org/cargo/reference/manifest.html#the-documentation-field).
         "documentation" => documentation: Option<MaybeInherited<String>>, optional;
-        /// The readme, from the folder of the manifest, or whether there is one. Without it, `README.md`, `README.txt` or
-        /// `README`.
+        /// The readme by its path, relative to the manifest; true for `README.md`, false for none.
         ///
         /// [Cargo reference](https://doc.rust-lang.org/cargo/reference/manifest.html#the-readme-field).
         "readme" => readme: Option<MaybeInherited<StringOrBool>>, optional;
-        /// At most five words by which the package is found.
+        /// The keywords by which a registry finds it; crates.io takes at most five.
         ///
         /// [Cargo reference](https://doc.rust-lang.org/cargo/reference/manifest.html#the-keywords-field).
         "keywords" => keywords: Option<MaybeInherited<Vec<String>>>, optional;
-        /// At most five categories of crates.io.
+        /// The categories of crates.io in which it stands, by their slugs; at most five.
         ///
         /// [Cargo reference](https://doc.rust-lang.org/cargo/reference/manifest.html#the-categories-field).
         "categories" => categories: Option<MaybeInherited<Vec<String>>>, optional;
-        /// The licence, as an SPDX expression.
+        /// The licence: an SPDX expression such as `MIT OR Apache-2.0`.
         ///
         /// [Cargo reference](https://doc.rust-lang.org/cargo/reference/manifest.html#the-license-and-license-file-fields).
         "license" => license: Option<MaybeInherited<String>>, optional;
-        /// The file of the licence.
+        /// The path of the licence's text, relative to the manifest, where the licence is not a standard one.
         ///
         /// [Cargo reference](https://doc.rust-lang.org/cargo/reference/manifest.html#the-license-and-license-file-fields).
         "license-file" => license_file: Option<MaybeInherited<String>>, optional;
-        /// The address of the repository.
+        /// The URL of its source repository.
         ///
         /// [Cargo reference](https://doc.rust-lang.org/cargo/reference/manifest.html#the-repository-field).
         "repository" => repository: Option<MaybeInherited<String>>, optional;
-        /// `[package.metadata]`, which is for other programs.
+        /// `[package.metadata]`: what tools other than Cargo read.
         ///
         /// [Cargo reference](https://doc.rust-lang.org/cargo/reference/manifest.html#the-metadata-table).
         "metadata" => metadata: Option<Metadata>, metadata(package);
-        /// The oldest Rust that can build the package, as `1.63.0`.
+        /// The oldest version of Rust that it supports, such as `1.75`: a bare version, no requirement.
         ///
         /// [Cargo reference](https://doc.rust-lang.org/cargo/reference/manifest.html#the-rust-version-field).
         "rust-version" => rust_version: Option<MaybeInherited<String>>, nullable;
-        /// The files that are not packed.
+        /// The files that are not packaged, by patterns as of gitignore; of no effect next to `include`.
         ///
         /// [Cargo reference](https://doc.rust-lang.org/cargo/reference/manifest.html#the-exclude-and-include-fields).
         "exclude" => exclude: Option<MaybeInherited<Vec<String>>>, optional;
-        /// The files that are packed.
+        /// The files that are packaged, by patterns as of gitignore.
         ///
         /// [Cargo reference](https://doc.rust-lang.org/cargo/reference/manifest.html#the-exclude-and-include-fields).
         "include" => include: Option<MaybeInherited<Vec<String>>>, optional;
-        /// The binary that `cargo run` runs.
+        /// The name of the binary that `cargo run` takes by default.
         ///
         /// [Cargo reference](https://doc.rust-lang.org/cargo/reference/manifest.html#the-default-run-field).
         "default-run" => default_run: Option<String>, optional;
-        /// Whether a library that is not declared is found. Without it, it is.
+        /// False turns the discovery of a library off.
         ///
         /// [Cargo reference](https://doc.rust-lang.org/cargo/reference/cargo-targets.html#target-auto-discovery).
         "autolib" => autolib: Option<bool>, optional;
-        /// Whether binaries that are not declared are found. [`Manifest::autobins`](crate::Manifest::autobins) has what
-        /// counts.
+        /// Whether binaries are discovered, where the package says it;
+        /// [`Manifest::autobins`](crate::Manifest::autobins) says what holds.
         ///
         /// [Cargo reference](https://doc.rust-lang.org/cargo/reference/cargo-targets.html#target-auto-discovery).
         "autobins" => autobins: Option<bool>, optional;
-        /// Whether examples that are not declared are found. [`Manifest::autoexamples`](crate::Manifest::autoexamples) has
-        /// what counts.
+        /// Whether examples are discovered, where the package says it;
+        /// [`Manifest::autoexamples`](crate::Manifest::autoexamples) says what holds.
         ///
         /// [Cargo reference](https://doc.rust-lang.org/cargo/reference/cargo-targets.html#target-auto-discovery).
         "autoexamples" => autoexamples: Option<bool>, optional;
-        /// Whether tests that are not declared are found. [`Manifest::autotests`](crate::Manifest::autotests) has what
-        /// counts.
+        /// Whether tests are discovered, where the package says it; [`Manifest::autotests`](crate::Manifest::autotests)
+        /// says what holds.
         ///
         /// [Cargo reference](https://doc.rust-lang.org/cargo/reference/cargo-targets.html#target-auto-discovery).
         "autotests" => autotests: Option<bool>, optional;
-        /// Whether benches that are not declared are found. [`Manifest::autobenches`](crate::Manifest::autobenches) has
-        /// what counts.
+        /// Whether benches are discovered, where the package says it;
+        /// [`Manifest::autobenches`](crate::Manifest::autobenches) says what holds.
         ///
         /// [Cargo reference](https://doc.rust-lang.org/cargo/reference/cargo-targets.html#target-auto-discovery).
         "autobenches" => autobenches: Option<bool>, optional;
-        /// The registries that the package may be published to. Without it, to any.
+        /// Whether, or to which registries, it may be published; to any where nothing is said.
         ///
         /// [Cargo reference](https://doc.rust-lang.org/cargo/reference/manifest.html#the-publish-field).
         "publish" => publish: Option<MaybeInherited<Publish>>, optional;
-        /// How versions and features are chosen. Without it, as the edition says.
+        /// The resolver, of a root package alone; by default 1, in the edition 2021 it is 2, and in 2024 it is 3.
         ///
         /// [Cargo reference](https://doc.rust-lang.org/cargo/reference/resolver.html#resolver-versions).
         "resolver" => resolver: Option<Resolver>, optional;
@@ -131,10 +131,11 @@ record! {
 impl<Metadata> Package<Metadata> {
     /// A package of this name and version, which says nothing else.
     pub fn new(name: String, version: String) -> Self {
-        Package {
+        let mut package = Package {
+            // (made by scripts/keys --write)
             name,
             edition: None,
-            version: Some(MaybeInherited::Local(version)),
+            version: None,
             build: None,
             workspace: None,
             authors: None,
@@ -160,7 +161,9 @@ impl<Metadata> Package<Metadata> {
             autobenches: None,
             publish: None,
             resolver: None,
-        }
+        };
+        package.version = Some(MaybeInherited::Local(version));
+        package
     }
 
     /// The version: `0.0.0` where the package has none.

@@ -9,27 +9,33 @@ record! {
     /// `[profile]`.
     #[derive(Debug, Clone, PartialEq, Default)]
     pub struct Profiles {
-        /// `[profile.release]`, of `cargo build --release`.
+        // (made by scripts/keys --write)
+        /// `[profile.release]`, of `--release` and of `cargo install`.
         ///
         /// [Cargo reference](https://doc.rust-lang.org/cargo/reference/profiles.html#release).
         "release" => release: Option<Profile>, nullable;
-        /// `[profile.dev]`, of `cargo build`.
+        /// `[profile.dev]`, which `cargo build` and others take by default.
         ///
         /// [Cargo reference](https://doc.rust-lang.org/cargo/reference/profiles.html#dev).
         "dev" => dev: Option<Profile>, nullable;
-        /// `[profile.test]`, of `cargo test`.
+        /// `[profile.test]`, of `cargo test`; it inherits from `dev`.
         ///
         /// [Cargo reference](https://doc.rust-lang.org/cargo/reference/profiles.html#test).
         "test" => test: Option<Profile>, nullable;
-        /// `[profile.bench]`, of `cargo bench`.
+        /// `[profile.bench]`, of `cargo bench`; it inherits from `release`.
         ///
         /// [Cargo reference](https://doc.rust-lang.org/cargo/reference/profiles.html#bench).
         "bench" => bench: Option<Profile>, nullable;
-        /// `[profile.doc]`, of `cargo doc`.
+        /// `[profile.doc]`, which Cargo no longer uses: it has no effect.
+        ///
+        /// [Cargo reference](https://doc.rust-lang.org/cargo/reference/profiles.html).
         "doc" => doc: Option<Profile>, nullable;
     }
     others {
-        /// Profiles of other names. None can have one of the names above.
+        // (made by scripts/keys --write)
+        /// The custom profiles, by name. None can have one of the names above.
+        ///
+        /// [Cargo reference](https://doc.rust-lang.org/cargo/reference/profiles.html).
         custom: BTreeMap<String, Profile>
     }
 }
@@ -38,59 +44,60 @@ record! {
     /// How the compiler is called.
     #[derive(Debug, Clone, PartialEq)]
     pub struct Profile {
-        /// How much is optimised: a number, `"s"` or `"z"`.
+        // (made by scripts/keys --write)
+        /// The optimization level, kept as it is: 0 to 3, `"s"` or `"z"`.
         ///
         /// [Cargo reference](https://doc.rust-lang.org/cargo/reference/profiles.html#opt-level).
         "opt-level" also "opt_level" => opt_level: Option<Value>, nullable;
-        /// How much is said for a debugger: a number, a boolean or a word.
+        /// How much debug information there is, kept as it is: 0 to 2, a boolean, or a text such as `"limited"`.
         ///
         /// [Cargo reference](https://doc.rust-lang.org/cargo/reference/profiles.html#debug).
         "debug" => debug: Option<Value>, nullable;
-        /// Whether the path of shared libraries is put into what is built.
+        /// Whether `rpath` is on: rustc's `-C rpath`.
         ///
         /// [Cargo reference](https://doc.rust-lang.org/cargo/reference/profiles.html#rpath).
         "rpath" => rpath: Option<bool>, nullable;
-        /// The profile that this one is made of.
+        /// The profile from which it inherits what it does not set; Cargo requires it of a custom profile.
         ///
         /// [Cargo reference](https://doc.rust-lang.org/cargo/reference/profiles.html#custom-profiles).
         "inherits" => inherits: Option<String>, nullable;
-        /// How much is optimised at linking: a boolean or a word.
+        /// The link-time optimization, kept as it is: a boolean, `"fat"`, `"thin"` or `"off"`.
         ///
         /// [Cargo reference](https://doc.rust-lang.org/cargo/reference/profiles.html#lto).
         "lto" => lto: Option<Value>, nullable;
-        /// Whether `debug_assert!` is compiled.
+        /// Whether `cfg(debug_assertions)` is on, and `debug_assert!` with it.
         ///
         /// [Cargo reference](https://doc.rust-lang.org/cargo/reference/profiles.html#debug-assertions).
         "debug-assertions" also "debug_assertions" => debug_assertions: Option<bool>, nullable;
-        /// Into how many parts a crate is split.
+        /// How many code generation units a crate is split into, at most.
         ///
         /// [Cargo reference](https://doc.rust-lang.org/cargo/reference/profiles.html#codegen-units).
         "codegen-units" also "codegen_units" => codegen_units: Option<u16>, nullable;
-        /// What a panic does: `"unwind"` or `"abort"`.
+        /// The panic strategy: `unwind` or `abort`.
         ///
         /// [Cargo reference](https://doc.rust-lang.org/cargo/reference/profiles.html#panic).
         "panic" => panic: Option<String>, nullable;
-        /// Whether what was compiled is kept for the next time.
+        /// Whether incremental compilation is on.
         ///
         /// [Cargo reference](https://doc.rust-lang.org/cargo/reference/profiles.html#incremental).
         "incremental" => incremental: Option<bool>, nullable;
-        /// Whether arithmetic that overflows panics.
+        /// Whether the overflow of integers is checked at run time.
         ///
         /// [Cargo reference](https://doc.rust-lang.org/cargo/reference/profiles.html#overflow-checks).
         "overflow-checks" also "overflow_checks" => overflow_checks: Option<bool>, nullable;
-        /// What is left out of what is built.
+        /// What is stripped from a binary: nothing, debug information, or all symbols.
         ///
         /// [Cargo reference](https://doc.rust-lang.org/cargo/reference/profiles.html#strip).
         "strip" => strip: Option<StripSetting>, nullable;
-        /// Settings of single packages.
+        /// Overrides for single packages, by package ID spec or `*`; each is kept as it is. Default: empty.
         ///
         /// [Cargo reference](https://doc.rust-lang.org/cargo/reference/profiles.html#overrides).
         "package" => package: BTreeMap<String, Value>, default(BTreeMap::new());
-        /// Where what is said for a debugger goes.
+        /// Whether debug information stands in the binary or next to it: `off`, `packed` or `unpacked`.
         ///
         /// [Cargo reference](https://doc.rust-lang.org/cargo/reference/profiles.html#split-debuginfo).
         "split-debuginfo" => split_debuginfo: Option<String>, nullable;
-        /// Settings of build scripts and procedural macros.
+        /// Overrides for build scripts, procedural macros and their dependencies, kept as they are.
         ///
         /// [Cargo reference](https://doc.rust-lang.org/cargo/reference/profiles.html#build-dependencies).
         "build-override" => build_override: Option<Value>, nullable;

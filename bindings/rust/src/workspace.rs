@@ -7,35 +7,37 @@ record! {
     /// `[workspace]`, in the manifest of a workspace's root.
     #[derive(Debug, Clone, PartialEq, Eq, Default)]
     pub struct Workspace<Metadata> {
-        /// The members, by their folders, where a part of a path may be a pattern as `crates/*`. Default: none.
+        // (made by scripts/keys --write)
+        /// The paths of members, or globs; not all, since the root package and path dependencies inside are members
+        /// too. Default: empty.
         ///
         /// [Cargo reference](https://doc.rust-lang.org/cargo/reference/workspaces.html#the-members-and-exclude-fields).
         "members" => members: Vec<String>, default(Vec::new());
-        /// The members that a command is about where none is named.
+        /// The members, by paths or globs, on which a command at the workspace's root works by default.
         ///
         /// [Cargo reference](https://doc.rust-lang.org/cargo/reference/workspaces.html#the-default-members-field).
         "default-members" also "default_members" => default_members: Option<Vec<String>>, optional;
-        /// Folders that are no members, though `members` has them.
+        /// The paths that are not members, though `members` or a path dependency names them.
         ///
         /// [Cargo reference](https://doc.rust-lang.org/cargo/reference/workspaces.html#the-members-and-exclude-fields).
         "exclude" => exclude: Option<Vec<String>>, optional;
-        /// How versions and features are chosen. Without it, as the edition of the root's package says.
+        /// The resolver of all members; by default that of the root package, or 1 in a virtual workspace.
         ///
         /// [Cargo reference](https://doc.rust-lang.org/cargo/reference/resolver.html#resolver-versions).
         "resolver" => resolver: Option<Resolver>, optional;
-        /// `[workspace.dependencies]`, which members may inherit.
+        /// `[workspace.dependencies]`: the dependencies that members can inherit; Cargo allows no optional one.
         ///
         /// [Cargo reference](https://doc.rust-lang.org/cargo/reference/workspaces.html#the-dependencies-table).
         "dependencies" => dependencies: Option<DepsSet>, optional;
-        /// `[workspace.package]`, which members may inherit.
+        /// `[workspace.package]`: the package fields that members can inherit.
         ///
         /// [Cargo reference](https://doc.rust-lang.org/cargo/reference/workspaces.html#the-package-table).
         "package" => package: Option<WorkspacePackage>, optional;
-        /// `[workspace.metadata]`, which is for other programs.
+        /// `[workspace.metadata]`: what tools other than Cargo read.
         ///
         /// [Cargo reference](https://doc.rust-lang.org/cargo/reference/workspaces.html#the-metadata-table).
         "metadata" => metadata: Option<Metadata>, metadata(workspace);
-        /// `[workspace.lints]`, which members may inherit.
+        /// `[workspace.lints]`: the lints that members can inherit, by tool and by the name of the lint or lint group.
         ///
         /// [Cargo reference](https://doc.rust-lang.org/cargo/reference/workspaces.html#the-lints-table).
         "lints" => lints: Option<LintsSet>, optional;
@@ -46,67 +48,68 @@ record! {
     /// `[workspace.package]`: what members inherit by `version.workspace = true` and so on.
     #[derive(Debug, Clone, PartialEq, Eq, Default)]
     pub struct WorkspacePackage {
-        /// The edition of Rust.
+        // (made by scripts/keys --write)
+        /// The edition that members can inherit.
         ///
         /// [Cargo reference](https://doc.rust-lang.org/cargo/reference/manifest.html#the-edition-field).
         "edition" => edition: Option<Edition>, optional;
-        /// The version, as `1.9.0`.
+        /// The version that members can inherit.
         ///
         /// [Cargo reference](https://doc.rust-lang.org/cargo/reference/manifest.html#the-version-field).
         "version" => version: Option<String>, nullable;
-        /// The authors, each as `Name <mail@address>`.
+        /// The authors that members can inherit.
         ///
         /// [Cargo reference](https://doc.rust-lang.org/cargo/reference/manifest.html#the-authors-field).
         "authors" => authors: Option<Vec<String>>, nullable;
-        /// What the package is, in plain text.
+        /// The description that members can inherit, in plain text.
         ///
         /// [Cargo reference](https://doc.rust-lang.org/cargo/reference/manifest.html#the-description-field).
         "description" => description: Option<String>, optional;
-        /// The address of the home page.
+        /// The URL of the home page that members can inherit.
         ///
         /// [Cargo reference](https://doc.rust-lang.org/cargo/reference/manifest.html#the-homepage-field).
         "homepage" => homepage: Option<String>, optional;
-        /// The address of the documentation.
+        /// The URL of the documentation that members can inherit.
         ///
         /// [Cargo reference](https://doc.rust-lang.org/cargo/reference/manifest.html#the-documentation-field).
         "documentation" => documentation: Option<String>, optional;
-        /// The readme, from the workspace's root.
+        /// The readme that members can inherit: its path, relative to the workspace's root, or a boolean.
         ///
         /// [Cargo reference](https://doc.rust-lang.org/cargo/reference/manifest.html#the-readme-field).
         "readme" => readme: Option<StringOrBool>, optional;
-        /// At most five words by which the package is found.
+        /// The keywords that members can inherit.
         ///
         /// [Cargo reference](https://doc.rust-lang.org/cargo/reference/manifest.html#the-keywords-field).
         "keywords" => keywords: Option<Vec<String>>, optional;
-        /// At most five categories of crates.io.
+        /// The categories that members can inherit.
         ///
         /// [Cargo reference](https://doc.rust-lang.org/cargo/reference/manifest.html#the-categories-field).
         "categories" => categories: Option<Vec<String>>, optional;
-        /// The licence, as an SPDX expression.
+        /// The licence that members can inherit, as an SPDX expression.
         ///
         /// [Cargo reference](https://doc.rust-lang.org/cargo/reference/manifest.html#the-license-and-license-file-fields).
         "license" => license: Option<String>, optional;
-        /// The file of the licence, from the workspace's root.
+        /// The path of the licence's text that members can inherit, relative to the workspace's root.
         ///
         /// [Cargo reference](https://doc.rust-lang.org/cargo/reference/manifest.html#the-license-and-license-file-fields).
         "license-file" => license_file: Option<String>, optional;
-        /// The registries that the package may be published to.
+        /// Whether, or to which registries, members that inherit it may be published.
         ///
         /// [Cargo reference](https://doc.rust-lang.org/cargo/reference/manifest.html#the-publish-field).
         "publish" => publish: Option<Publish>, optional;
-        /// The files that are not packed.
+        /// The patterns that members can inherit of files that are not packaged, relative to each member.
         ///
         /// [Cargo reference](https://doc.rust-lang.org/cargo/reference/manifest.html#the-exclude-and-include-fields).
         "exclude" => exclude: Option<Vec<String>>, optional;
-        /// The files that are packed.
+        /// The patterns that members can inherit of files that are packaged, relative to each member.
         ///
         /// [Cargo reference](https://doc.rust-lang.org/cargo/reference/manifest.html#the-exclude-and-include-fields).
         "include" => include: Option<Vec<String>>, optional;
-        /// The address of the repository.
+        /// The URL of the source repository that members can inherit.
         ///
         /// [Cargo reference](https://doc.rust-lang.org/cargo/reference/manifest.html#the-repository-field).
         "repository" => repository: Option<String>, optional;
-        /// The oldest Rust that can build the package, as `1.63.0`.
+        /// The oldest supported version of Rust that members can inherit.
         ///
         /// [Cargo reference](https://doc.rust-lang.org/cargo/reference/manifest.html#the-rust-version-field).
         "rust-version" => rust_version: Option<String>, nullable;

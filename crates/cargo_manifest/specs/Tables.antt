@@ -17,6 +17,7 @@ dependencies_content m = entries_content dependency_content m.entries
 
 abbrev pub package_content : {M : Type 0} → (M → Data) → Package M → Contents.Package
 package_content tree p = record {
+  -- (made by scripts/keys --write)
   name = string_bytes p.name;
   edition = option_map (inh_content edition_content) p.edition;
   version = option_map (inh_content string_bytes) p.version;
@@ -57,6 +58,7 @@ package_form K = form (package_rows (tree_of K))
 
 abbrev pub workspace_package_content : WorkspacePackage → Contents.WorkspacePackage
 workspace_package_content p = record {
+  -- (made by scripts/keys --write)
   edition = option_map edition_content p.edition;
   version = option_map string_bytes p.version;
   authors = option_map (λ v. map string_bytes v.items) p.authors;
@@ -77,6 +79,7 @@ workspace_package_content p = record {
 
 abbrev pub workspace_content : {M : Type 0} → (M → Data) → Workspace M → Contents.Workspace
 workspace_content tree w = record {
+  -- (made by scripts/keys --write)
   members = map string_bytes w.members.items;
   default_members = option_map (λ v. map string_bytes v.items) w.default_members;
   exclude = option_map (λ v. map string_bytes v.items) w.exclude;
@@ -85,7 +88,7 @@ workspace_content tree w = record {
   «package» = option_map workspace_package_content w.package;
   metadata = option_map tree w.metadata;
   lints =
-      option_map (λ m. entries_content (λ l. entries_content lint_content l.entries) m.entries)
+      option_map (λ m. entries_content (λ m. entries_content lint_content m.entries) m.entries)
       w.lints;
 }
 
@@ -95,6 +98,7 @@ workspace_of K m w = workspace_content (written_as K m) w
 
 abbrev pub profiles_content : Profiles → Contents.Profiles
 profiles_content p = record {
+  -- (made by scripts/keys --write)
   release = option_map profile_content p.release;
   dev = option_map profile_content p.dev;
   test = option_map profile_content p.test;

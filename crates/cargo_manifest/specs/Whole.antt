@@ -11,19 +11,20 @@ use Rattle.cargo_manifest.specs.declared.manifest.Manifest.{Manifest}
 abbrev pub manifest_content :
     {P W : Type 0} → (P → Data) → (W → Data) → Manifest P W → Contents.Manifest
 manifest_content package_tree workspace_tree m = record {
+  -- (made by scripts/keys --write)
   «package» = option_map (package_content package_tree) m.package;
   cargo_features = option_map (λ v. map string_bytes v.items) m.cargo_features;
   workspace = option_map (workspace_content workspace_tree) m.workspace;
   dependencies = option_map dependencies_content m.dependencies;
   dev_dependencies = option_map dependencies_content m.dev_dependencies;
   build_dependencies = option_map dependencies_content m.build_dependencies;
-  target = option_map (λ t. entries_content platform_content t.entries) m.target;
-  features = option_map (λ f. entries_content (λ v. map string_bytes v.items) f.entries) m.features;
+  target = option_map (λ m. entries_content platform_content m.entries) m.target;
+  features = option_map (λ m. entries_content (λ v. map string_bytes v.items) m.entries) m.features;
   bin = map product_content m.bin.items;
   bench = map product_content m.bench.items;
   test = map product_content m.test.items;
   example = map product_content m.example.items;
-  patch = option_map (λ p. entries_content dependencies_content p.entries) m.patch;
+  patch = option_map (λ m. entries_content dependencies_content m.entries) m.patch;
   lib = option_map product_content m.lib;
   profile = option_map profiles_content m.profile;
   badges = option_map badges_content m.badges;

@@ -38,39 +38,79 @@ use toml::{Table, Value};
 /// ```
 #[derive(Clone, Debug, PartialEq, Drop)]
 pub struct Manifest<P = Value, W = Value> {
-    /// The package; `None` in a virtual workspace.
+    // (made by scripts/keys --write)
+    /// `[package]`; a virtual workspace has none.
+    ///
+    /// [Cargo reference](https://doc.rust-lang.org/cargo/reference/manifest.html#the-package-section).
     pub package: Option<Package<P>>,
     /// The unstable features of Cargo that are enabled; only a nightly Cargo has them.
+    ///
+    /// [Cargo reference](https://doc.rust-lang.org/cargo/reference/unstable.html).
     pub cargo_features: Option<Vec<String>>,
-    /// The workspace, where the manifest is that of its root.
+    /// `[workspace]`, where the manifest is that of a workspace's root.
+    ///
+    /// [Cargo reference](https://doc.rust-lang.org/cargo/reference/workspaces.html).
     pub workspace: Option<Workspace<W>>,
-    /// The dependencies of the package, by name; one that is renamed by its new name.
+    /// `[dependencies]`, by name; one that is renamed by its new name.
+    ///
+    /// [Cargo reference](https://doc.rust-lang.org/cargo/reference/specifying-dependencies.html).
     pub dependencies: Option<DepsSet>,
-    /// The dependencies of its tests, examples and benches.
+    /// `[dev-dependencies]`: those of tests, examples and benches.
+    ///
+    /// [Cargo reference](https://doc.rust-lang.org/cargo/reference/specifying-dependencies.html#development-dependencies).
     pub dev_dependencies: Option<DepsSet>,
-    /// The dependencies of its build script.
+    /// `[build-dependencies]`: those of the build script.
+    ///
+    /// [Cargo reference](https://doc.rust-lang.org/cargo/reference/specifying-dependencies.html#build-dependencies).
     pub build_dependencies: Option<DepsSet>,
-    /// The dependencies for single platforms, by target triple or `cfg(..)`.
+    /// `[target]`: the dependencies for single platforms, by target triple or `cfg(..)`.
+    ///
+    /// [Cargo reference](https://doc.rust-lang.org/cargo/reference/specifying-dependencies.html#platform-specific-dependencies).
     pub target: Option<TargetDepsSet>,
-    /// The features, each with what it enables; an optional dependency can be a feature that is not listed.
+    /// `[features]`: each with what it enables; an optional dependency can be a feature that is not listed.
+    ///
+    /// [Cargo reference](https://doc.rust-lang.org/cargo/reference/features.html#the-features-section).
     pub features: Option<FeatureSet>,
-    /// The declared binaries: not all, unless the manifest is completed, since others are discovered.
+    /// Each `[[bin]]`: not all binaries, unless the manifest is completed, since others are discovered. Default:
+    /// empty.
+    ///
+    /// [Cargo reference](https://doc.rust-lang.org/cargo/reference/cargo-targets.html#binaries).
     pub bin: Vec<Product>,
-    /// The declared benches: not all, unless the manifest is completed, since others are discovered.
+    /// Each `[[bench]]`: not all benches, unless the manifest is completed, since others are discovered. Default:
+    /// empty.
+    ///
+    /// [Cargo reference](https://doc.rust-lang.org/cargo/reference/cargo-targets.html#benchmarks).
     pub bench: Vec<Product>,
-    /// The declared integration tests: not all, unless the manifest is completed, since others are discovered.
+    /// Each `[[test]]`: not all integration tests, unless the manifest is completed, since others are discovered.
+    /// Default: empty.
+    ///
+    /// [Cargo reference](https://doc.rust-lang.org/cargo/reference/cargo-targets.html#tests).
     pub test: Vec<Product>,
-    /// The declared examples: not all, unless the manifest is completed, since others are discovered.
+    /// Each `[[example]]`: not all examples, unless the manifest is completed, since others are discovered.
+    /// Default: empty.
+    ///
+    /// [Cargo reference](https://doc.rust-lang.org/cargo/reference/cargo-targets.html#examples).
     pub example: Vec<Product>,
-    /// The dependencies that patch others, by the registry or URL of these; Cargo takes those of the root alone.
+    /// `[patch]`: the dependencies that patch others, by the registry or URL of these; Cargo takes those of the
+    /// root alone.
+    ///
+    /// [Cargo reference](https://doc.rust-lang.org/cargo/reference/overriding-dependencies.html#the-patch-section).
     pub patch: Option<PatchSet>,
-    /// The declared library; where it is `None` one may be discovered, unless the manifest is completed.
+    /// `[lib]`; where there is none, one may be discovered, unless the manifest is completed.
+    ///
+    /// [Cargo reference](https://doc.rust-lang.org/cargo/reference/cargo-targets.html#library).
     pub lib: Option<Product>,
-    /// The profiles; Cargo takes those of the workspace's root alone.
+    /// `[profile]`; Cargo takes those of the workspace's root alone.
+    ///
+    /// [Cargo reference](https://doc.rust-lang.org/cargo/reference/profiles.html).
     pub profile: Option<Profiles>,
-    /// The badges of the package.
+    /// `[badges]`.
+    ///
+    /// [Cargo reference](https://doc.rust-lang.org/cargo/reference/manifest.html#the-badges-section).
     pub badges: Option<Badges>,
-    /// The lints of the package, its own or inherited.
+    /// `[lints]`: the package's own, or inherited.
+    ///
+    /// [Cargo reference](https://doc.rust-lang.org/cargo/reference/manifest.html#the-lints-section).
     pub lints: Option<MaybeInheritedLintsSet>,
 }
 
@@ -78,6 +118,7 @@ pub struct Manifest<P = Value, W = Value> {
 macro_rules! manifest {
     ($make:ident $given:tt) => {
         $make! { $given
+            // (made by scripts/keys --write)
             package: optional "package";
             cargo_features: optional "cargo-features";
             workspace: optional "workspace";

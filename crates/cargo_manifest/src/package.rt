@@ -29,62 +29,123 @@ use toml::{Table, Value};
 /// It is well-formed where its metadata is absent or well-formed; a float in metadata of the type `Value` is not.
 #[derive(Clone, Debug, PartialEq, Drop)]
 pub struct Package<M = Value> {
+    // (made by scripts/keys --write)
     /// The name, from which its library and its main binary take theirs by default; it may have capital letters.
+    ///
+    /// [Cargo reference](https://doc.rust-lang.org/cargo/reference/manifest.html#the-name-field).
     pub name: String,
     /// The edition of its targets, its own or inherited; Cargo takes 2015 where there is none.
+    ///
+    /// [Cargo reference](https://doc.rust-lang.org/cargo/reference/manifest.html#the-edition-field).
     pub edition: Option<MaybeInherited<Edition>>,
-    /// The version, its own or inherited; Cargo takes `0.0.0` where there is none: [`Package::version`] says which one
-    /// holds.
+    /// The version, its own or inherited; Cargo takes `0.0.0` where there is none: [`Package::version`] says which
+    /// one holds.
+    ///
+    /// [Cargo reference](https://doc.rust-lang.org/cargo/reference/manifest.html#the-version-field).
     pub version: Option<MaybeInherited<String>>,
     /// The build script by its path, or false for none; absent or true, it is discovered: completion fills it in.
+    ///
+    /// [Cargo reference](https://doc.rust-lang.org/cargo/reference/manifest.html#the-build-field).
     pub build: Option<StringOrBool>,
     /// The path of its workspace's root; Cargo searches the folders above where there is none.
+    ///
+    /// [Cargo reference](https://doc.rust-lang.org/cargo/reference/manifest.html#the-workspace-field).
     pub workspace: Option<String>,
     /// The people and organizations that made it, such as `Alice <alice@example.com>`.
+    ///
+    /// [Cargo reference](https://doc.rust-lang.org/cargo/reference/manifest.html#the-authors-field).
     pub authors: Option<MaybeInherited<Vec<String>>>,
     /// The name of the native library that it links to.
+    ///
+    /// [Cargo reference](https://doc.rust-lang.org/cargo/reference/manifest.html#the-links-field).
     pub links: Option<String>,
     /// What it is, in a few words of plain text, not Markdown.
+    ///
+    /// [Cargo reference](https://doc.rust-lang.org/cargo/reference/manifest.html#the-description-field).
     pub description: Option<MaybeInherited<String>>,
     /// The URL of its home page.
+    ///
+    /// [Cargo reference](https://doc.rust-lang.org/cargo/reference/manifest.html#the-homepage-field).
     pub homepage: Option<MaybeInherited<String>>,
     /// The URL of its documentation; crates.io links to docs.rs where there is none.
+    ///
+    /// [Cargo reference](https://doc.rust-lang.org/cargo/reference/manifest.html#the-documentation-field).
     pub documentation: Option<MaybeInherited<String>>,
     /// The readme by its path, relative to the manifest; true for `README.md`, false for none.
+    ///
+    /// [Cargo reference](https://doc.rust-lang.org/cargo/reference/manifest.html#the-readme-field).
     pub readme: Option<MaybeInherited<StringOrBool>>,
     /// The keywords by which a registry finds it; crates.io takes at most five.
+    ///
+    /// [Cargo reference](https://doc.rust-lang.org/cargo/reference/manifest.html#the-keywords-field).
     pub keywords: Option<MaybeInherited<Vec<String>>>,
     /// The categories of crates.io in which it stands, by their slugs; at most five.
+    ///
+    /// [Cargo reference](https://doc.rust-lang.org/cargo/reference/manifest.html#the-categories-field).
     pub categories: Option<MaybeInherited<Vec<String>>>,
     /// The licence: an SPDX expression such as `MIT OR Apache-2.0`.
+    ///
+    /// [Cargo reference](https://doc.rust-lang.org/cargo/reference/manifest.html#the-license-and-license-file-fields).
     pub license: Option<MaybeInherited<String>>,
     /// The path of the licence's text, relative to the manifest, where the licence is not a standard one.
+    ///
+    /// [Cargo reference](https://doc.rust-lang.org/cargo/reference/manifest.html#the-license-and-license-file-fields).
     pub license_file: Option<MaybeInherited<String>>,
     /// The URL of its source repository.
+    ///
+    /// [Cargo reference](https://doc.rust-lang.org/cargo/reference/manifest.html#the-repository-field).
     pub repository: Option<MaybeInherited<String>>,
-    /// What tools other than Cargo read: `[package.metadata]`.
+    /// `[package.metadata]`: what tools other than Cargo read.
+    ///
+    /// [Cargo reference](https://doc.rust-lang.org/cargo/reference/manifest.html#the-metadata-table).
     pub metadata: Option<M>,
     /// The oldest version of Rust that it supports, such as `1.75`: a bare version, no requirement.
+    ///
+    /// [Cargo reference](https://doc.rust-lang.org/cargo/reference/manifest.html#the-rust-version-field).
     pub rust_version: Option<MaybeInherited<String>>,
     /// The files that are not packaged, by patterns as of gitignore; of no effect next to `include`.
+    ///
+    /// [Cargo reference](https://doc.rust-lang.org/cargo/reference/manifest.html#the-exclude-and-include-fields).
     pub exclude: Option<MaybeInherited<Vec<String>>>,
     /// The files that are packaged, by patterns as of gitignore.
+    ///
+    /// [Cargo reference](https://doc.rust-lang.org/cargo/reference/manifest.html#the-exclude-and-include-fields).
     pub include: Option<MaybeInherited<Vec<String>>>,
     /// The name of the binary that `cargo run` takes by default.
+    ///
+    /// [Cargo reference](https://doc.rust-lang.org/cargo/reference/manifest.html#the-default-run-field).
     pub default_run: Option<String>,
     /// False turns the discovery of a library off.
+    ///
+    /// [Cargo reference](https://doc.rust-lang.org/cargo/reference/cargo-targets.html#target-auto-discovery).
     pub autolib: Option<bool>,
-    /// Whether binaries are discovered, where the package says it; `Manifest::autobins` says what holds.
+    /// Whether binaries are discovered, where the package says it;
+    /// [`Manifest::autobins`](crate::Manifest::autobins) says what holds.
+    ///
+    /// [Cargo reference](https://doc.rust-lang.org/cargo/reference/cargo-targets.html#target-auto-discovery).
     pub autobins: Option<bool>,
-    /// Whether examples are discovered, where the package says it; `Manifest::autoexamples` says what holds.
+    /// Whether examples are discovered, where the package says it;
+    /// [`Manifest::autoexamples`](crate::Manifest::autoexamples) says what holds.
+    ///
+    /// [Cargo reference](https://doc.rust-lang.org/cargo/reference/cargo-targets.html#target-auto-discovery).
     pub autoexamples: Option<bool>,
-    /// Whether tests are discovered, where the package says it; `Manifest::autotests` says what holds.
+    /// Whether tests are discovered, where the package says it; [`Manifest::autotests`](crate::Manifest::autotests)
+    /// says what holds.
+    ///
+    /// [Cargo reference](https://doc.rust-lang.org/cargo/reference/cargo-targets.html#target-auto-discovery).
     pub autotests: Option<bool>,
-    /// Whether benches are discovered, where the package says it; `Manifest::autobenches` says what holds.
+    /// Whether benches are discovered, where the package says it;
+    /// [`Manifest::autobenches`](crate::Manifest::autobenches) says what holds.
+    ///
+    /// [Cargo reference](https://doc.rust-lang.org/cargo/reference/cargo-targets.html#target-auto-discovery).
     pub autobenches: Option<bool>,
     /// Whether, or to which registries, it may be published; to any where nothing is said.
+    ///
+    /// [Cargo reference](https://doc.rust-lang.org/cargo/reference/manifest.html#the-publish-field).
     pub publish: Option<MaybeInherited<Publish>>,
     /// The resolver, of a root package alone; by default 1, in the edition 2021 it is 2, and in 2024 it is 3.
+    ///
+    /// [Cargo reference](https://doc.rust-lang.org/cargo/reference/resolver.html#resolver-versions).
     pub resolver: Option<Resolver>,
 }
 
@@ -92,6 +153,7 @@ pub struct Package<M = Value> {
 macro_rules! package {
     ($make:ident $given:tt) => {
         $make! { $given
+            // (made by scripts/keys --write)
             name: required "name";
             edition: optional "edition";
             version: optional "version";

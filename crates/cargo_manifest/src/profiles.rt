@@ -31,17 +31,30 @@ use toml::{Table, Value};
 /// They are well-formed where each is, and no custom one is named `release`, `dev`, `test`, `bench` or `doc`.
 #[derive(Clone, Debug, PartialEq, Drop)]
 pub struct Profiles {
-    /// The profile of `--release` and of `cargo install`.
+    // (made by scripts/keys --write)
+    /// `[profile.release]`, of `--release` and of `cargo install`.
+    ///
+    /// [Cargo reference](https://doc.rust-lang.org/cargo/reference/profiles.html#release).
     pub release: Option<Profile>,
-    /// The profile that `cargo build` and others take by default.
+    /// `[profile.dev]`, which `cargo build` and others take by default.
+    ///
+    /// [Cargo reference](https://doc.rust-lang.org/cargo/reference/profiles.html#dev).
     pub dev: Option<Profile>,
-    /// The profile of `cargo test`, which inherits from `dev`.
+    /// `[profile.test]`, of `cargo test`; it inherits from `dev`.
+    ///
+    /// [Cargo reference](https://doc.rust-lang.org/cargo/reference/profiles.html#test).
     pub test: Option<Profile>,
-    /// The profile of `cargo bench`, which inherits from `release`.
+    /// `[profile.bench]`, of `cargo bench`; it inherits from `release`.
+    ///
+    /// [Cargo reference](https://doc.rust-lang.org/cargo/reference/profiles.html#bench).
     pub bench: Option<Profile>,
-    /// The profile of documentation, which Cargo no longer uses: it has no effect.
+    /// `[profile.doc]`, which Cargo no longer uses: it has no effect.
+    ///
+    /// [Cargo reference](https://doc.rust-lang.org/cargo/reference/profiles.html).
     pub doc: Option<Profile>,
-    /// The custom profiles, by name.
+    /// The custom profiles, by name. None can have one of the names above.
+    ///
+    /// [Cargo reference](https://doc.rust-lang.org/cargo/reference/profiles.html).
     pub custom: BTreeMap<String, Profile>,
 }
 
@@ -69,6 +82,7 @@ impl Profiles {
 macro_rules! profiles {
     ($make:ident $given:tt) => {
         $make! { $given
+            // (made by scripts/keys --write)
             release: optional "release";
             dev: optional "dev";
             test: optional "test";

@@ -23,37 +23,70 @@ use toml::{Table, Value};
 /// [Cargo reference](https://doc.rust-lang.org/cargo/reference/workspaces.html#the-package-table).
 #[derive(Clone, Debug, PartialEq, Eq, Drop)]
 pub struct WorkspacePackage {
+    // (made by scripts/keys --write)
     /// The edition that members can inherit.
+    ///
+    /// [Cargo reference](https://doc.rust-lang.org/cargo/reference/manifest.html#the-edition-field).
     pub edition: Option<Edition>,
     /// The version that members can inherit.
+    ///
+    /// [Cargo reference](https://doc.rust-lang.org/cargo/reference/manifest.html#the-version-field).
     pub version: Option<String>,
     /// The authors that members can inherit.
+    ///
+    /// [Cargo reference](https://doc.rust-lang.org/cargo/reference/manifest.html#the-authors-field).
     pub authors: Option<Vec<String>>,
     /// The description that members can inherit, in plain text.
+    ///
+    /// [Cargo reference](https://doc.rust-lang.org/cargo/reference/manifest.html#the-description-field).
     pub description: Option<String>,
     /// The URL of the home page that members can inherit.
+    ///
+    /// [Cargo reference](https://doc.rust-lang.org/cargo/reference/manifest.html#the-homepage-field).
     pub homepage: Option<String>,
     /// The URL of the documentation that members can inherit.
+    ///
+    /// [Cargo reference](https://doc.rust-lang.org/cargo/reference/manifest.html#the-documentation-field).
     pub documentation: Option<String>,
     /// The readme that members can inherit: its path, relative to the workspace's root, or a boolean.
+    ///
+    /// [Cargo reference](https://doc.rust-lang.org/cargo/reference/manifest.html#the-readme-field).
     pub readme: Option<StringOrBool>,
     /// The keywords that members can inherit.
+    ///
+    /// [Cargo reference](https://doc.rust-lang.org/cargo/reference/manifest.html#the-keywords-field).
     pub keywords: Option<Vec<String>>,
     /// The categories that members can inherit.
+    ///
+    /// [Cargo reference](https://doc.rust-lang.org/cargo/reference/manifest.html#the-categories-field).
     pub categories: Option<Vec<String>>,
     /// The licence that members can inherit, as an SPDX expression.
+    ///
+    /// [Cargo reference](https://doc.rust-lang.org/cargo/reference/manifest.html#the-license-and-license-file-fields).
     pub license: Option<String>,
     /// The path of the licence's text that members can inherit, relative to the workspace's root.
+    ///
+    /// [Cargo reference](https://doc.rust-lang.org/cargo/reference/manifest.html#the-license-and-license-file-fields).
     pub license_file: Option<String>,
     /// The URL of the source repository that members can inherit.
+    ///
+    /// [Cargo reference](https://doc.rust-lang.org/cargo/reference/manifest.html#the-repository-field).
     pub repository: Option<String>,
     /// The oldest supported version of Rust that members can inherit.
+    ///
+    /// [Cargo reference](https://doc.rust-lang.org/cargo/reference/manifest.html#the-rust-version-field).
     pub rust_version: Option<String>,
     /// The patterns that members can inherit of files that are not packaged, relative to each member.
+    ///
+    /// [Cargo reference](https://doc.rust-lang.org/cargo/reference/manifest.html#the-exclude-and-include-fields).
     pub exclude: Option<Vec<String>>,
     /// The patterns that members can inherit of files that are packaged, relative to each member.
+    ///
+    /// [Cargo reference](https://doc.rust-lang.org/cargo/reference/manifest.html#the-exclude-and-include-fields).
     pub include: Option<Vec<String>>,
     /// Whether, or to which registries, members that inherit it may be published.
+    ///
+    /// [Cargo reference](https://doc.rust-lang.org/cargo/reference/manifest.html#the-publish-field).
     pub publish: Option<Publish>,
 }
 
@@ -61,6 +94,7 @@ pub struct WorkspacePackage {
 macro_rules! workspace_package {
     ($make:ident $given:tt) => {
         $make! { $given
+            // (made by scripts/keys --write)
             edition: optional "edition";
             version: optional "version";
             authors: optional "authors";
@@ -141,21 +175,39 @@ impl Default for WorkspacePackage {
 /// It is well-formed where its metadata is absent or well-formed.
 #[derive(Clone, Debug, PartialEq, Eq, Drop)]
 pub struct Workspace<M = Value> {
-    /// The paths of members, or globs; not all, since the root package and path dependencies inside are members too.
+    // (made by scripts/keys --write)
+    /// The paths of members, or globs; not all, since the root package and path dependencies inside are members
+    /// too. Default: empty.
+    ///
+    /// [Cargo reference](https://doc.rust-lang.org/cargo/reference/workspaces.html#the-members-and-exclude-fields).
     pub members: Vec<String>,
     /// The members, by paths or globs, on which a command at the workspace's root works by default.
+    ///
+    /// [Cargo reference](https://doc.rust-lang.org/cargo/reference/workspaces.html#the-default-members-field).
     pub default_members: Option<Vec<String>>,
     /// The paths that are not members, though `members` or a path dependency names them.
+    ///
+    /// [Cargo reference](https://doc.rust-lang.org/cargo/reference/workspaces.html#the-members-and-exclude-fields).
     pub exclude: Option<Vec<String>>,
     /// The resolver of all members; by default that of the root package, or 1 in a virtual workspace.
+    ///
+    /// [Cargo reference](https://doc.rust-lang.org/cargo/reference/resolver.html#resolver-versions).
     pub resolver: Option<Resolver>,
-    /// The dependencies that members can inherit; Cargo allows no optional one.
+    /// `[workspace.dependencies]`: the dependencies that members can inherit; Cargo allows no optional one.
+    ///
+    /// [Cargo reference](https://doc.rust-lang.org/cargo/reference/workspaces.html#the-dependencies-table).
     pub dependencies: Option<DepsSet>,
-    /// The package fields that members can inherit.
+    /// `[workspace.package]`: the package fields that members can inherit.
+    ///
+    /// [Cargo reference](https://doc.rust-lang.org/cargo/reference/workspaces.html#the-package-table).
     pub package: Option<WorkspacePackage>,
-    /// What tools other than Cargo read: `[workspace.metadata]`.
+    /// `[workspace.metadata]`: what tools other than Cargo read.
+    ///
+    /// [Cargo reference](https://doc.rust-lang.org/cargo/reference/workspaces.html#the-metadata-table).
     pub metadata: Option<M>,
-    /// The lints that members can inherit, by tool and by the name of the lint or lint group.
+    /// `[workspace.lints]`: the lints that members can inherit, by tool and by the name of the lint or lint group.
+    ///
+    /// [Cargo reference](https://doc.rust-lang.org/cargo/reference/workspaces.html#the-lints-table).
     pub lints: Option<LintsSet>,
 }
 
@@ -163,6 +215,7 @@ pub struct Workspace<M = Value> {
 macro_rules! workspace {
     ($make:ident $given:tt) => {
         $make! { $given
+            // (made by scripts/keys --write)
             members: default_list "members";
             default_members: optional "default-members" | "default_members";
             exclude: optional "exclude";

@@ -20,6 +20,7 @@ use Rattle.manifest_parts.specs.declared.target.Target.{Target}
 -- DEPENDENCIES
 abbrev pub inherited_content : InheritedDependencyDetail → Contents.InheritedDependencyDetail
 inherited_content d = record {
+  -- (made by scripts/keys --write)
   features = option_map (λ v. map string_bytes v.items) d.features;
   «optional» = option_map (λ b. b) d.«optional»;
   default_features = option_map (λ b. b) d.default_features;
@@ -27,6 +28,7 @@ inherited_content d = record {
 
 abbrev pub detail_content : DependencyDetail → Contents.DependencyDetail
 detail_content d = record {
+  -- (made by scripts/keys --write)
   version = option_map string_bytes d.version;
   registry = option_map string_bytes d.registry;
   registry_index = option_map string_bytes d.registry_index;
@@ -49,6 +51,7 @@ dependency_content (Dependency.Detailed d) = Contents.detailed (detail_content d
 -- PRODUCTS
 abbrev pub product_content : Product → Contents.Product
 product_content p = record {
+  -- (made by scripts/keys --write)
   path = option_map string_bytes p.path;
   name = option_map string_bytes p.name;
   test = p.test;
@@ -66,6 +69,7 @@ product_content p = record {
 -- BADGES
 abbrev pub badge_content : Badge → Contents.Badge
 badge_content b = record {
+  -- (made by scripts/keys --write)
   repository = string_bytes b.repository;
   branch = string_bytes b.branch;
   service = option_map string_bytes b.service;
@@ -74,10 +78,14 @@ badge_content b = record {
 }
 
 abbrev pub maintenance_content : Maintenance → Contents.Maintenance
-maintenance_content m = record { status = status_content m.status }
+maintenance_content m = record {
+  -- (made by scripts/keys --write)
+  status = status_content m.status;
+}
 
 abbrev pub badges_content : Badges → Contents.Badges
 badges_content b = record {
+  -- (made by scripts/keys --write)
   appveyor = option_map badge_content b.appveyor;
   circle_ci = option_map badge_content b.circle_ci;
   gitlab = option_map badge_content b.gitlab;
@@ -91,7 +99,11 @@ badges_content b = record {
 
 -- LINTS
 abbrev pub lint_config_content : LintConfig → Contents.LintConfig
-lint_config_content l = record { level = level_content l.level; priority = l.priority }
+lint_config_content l = record {
+  -- (made by scripts/keys --write)
+  level = level_content l.level;
+  priority = l.priority;
+}
 
 abbrev pub lint_content : Lint → Contents.Lint
 lint_content (Lint.Level l) = Contents.lint_level (level_content l)
@@ -99,6 +111,7 @@ lint_content (Lint.Config c) = Contents.lint_config (lint_config_content c)
 
 abbrev pub lints_content : MaybeInheritedLintsSet → Contents.MaybeInheritedLintsSet
 lints_content l = record {
+  -- (made by scripts/keys --write)
   workspace = option_map (λ t. tt) l.workspace;
   lints = entries_content (λ m. entries_content lint_content m.entries) l.lints.entries;
 }
@@ -106,6 +119,7 @@ lints_content l = record {
 -- PROFILES
 abbrev pub profile_content : Profile → Contents.Profile
 profile_content p = record {
+  -- (made by scripts/keys --write)
   opt_level = option_map view p.opt_level;
   debug = option_map view p.debug;
   rpath = option_map (λ b. b) p.rpath;
@@ -125,6 +139,7 @@ profile_content p = record {
 -- PLATFORMS
 abbrev pub platform_content : Target → Contents.Target
 platform_content t = record {
+  -- (made by scripts/keys --write)
   dependencies = entries_content dependency_content t.dependencies.entries;
   dev_dependencies = entries_content dependency_content t.dev_dependencies.entries;
   build_dependencies = entries_content dependency_content t.build_dependencies.entries;

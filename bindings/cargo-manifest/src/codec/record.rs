@@ -1,11 +1,11 @@
 //! The macro that makes a type of its rows.
 
 /// A struct that stands in a manifest as a table, with what reads and writes it. A row says the key, its second spelling
-/// where it has one, the field, its type, and how the key is needed:
+/// where it has one, the field, its type, and whether it is required:
 ///
 /// | word | without the key | written |
 /// |---|---|---|
-/// | `needed` | no such table | always |
+/// | `required` | no such table | always |
 /// | `optional` | `None` | where it is there |
 /// | `nullable` | the same | the same; by serde also as nothing, which is `null` in JSON |
 /// | `default(x)` | `x` | always |
@@ -112,7 +112,7 @@ macro_rules! record {
 }
 pub(crate) use record;
 
-/// What a row does with its field, by how it is needed.
+/// What a row does with its field, by its need.
 macro_rules! row {
     (decode $reader:ident $field:ident metadata($place:ident)) => {
         $reader.aside.$place = Some($crate::codec::Form::decode($reader)?)
@@ -120,7 +120,7 @@ macro_rules! row {
     (decode $reader:ident $field:ident $how:ident $(($($with:tt)+))?) => {
         $field = Some($crate::codec::Form::decode($reader)?)
     };
-    (done $field:ident needed) => { $field? };
+    (done $field:ident required) => { $field? };
     (done $field:ident default($with:expr)) => { $field? };
     (done $field:ident lenient_default($with:expr)) => { $field? };
     (done $field:ident unless($with:expr)) => {
@@ -136,8 +136,8 @@ macro_rules! row {
         $aside.$place = $members.remove($key);
         None
     }};
-    (read $members:ident $aside:ident $key:literal ($($second:literal)?) needed) => {
-        $crate::codec::read::needed(&mut $members, $key, $crate::codec::row!(second $($second)?), $aside)?
+    (read $members:ident $aside:ident $key:literal ($($second:literal)?) required) => {
+        $crate::codec::read::required(&mut $members, $key, $crate::codec::row!(second $($second)?), $aside)?
     };
     (read $members:ident $aside:ident $key:literal ($($second:literal)?) optional) => {
         $crate::codec::read::optional(&mut $members, $key, $crate::codec::row!(second $($second)?), $aside)?

@@ -65,8 +65,8 @@ pub(crate) fn optional<T: Form>(
     read.map(Some).map_err(|misfit| misfit.below(Step::Key(spelling.into())))
 }
 
-/// The same for a key that is needed.
-pub(crate) fn needed<T: Form>(
+/// The same for a key that is required.
+pub(crate) fn required<T: Form>(
     members: &mut Map,
     key: &'static str,
     second: Option<&'static str>,
