@@ -12,7 +12,7 @@
 
 enum { THREADS = 4, ROOM = 4096 };
 
-typedef struct manifest_answer canonical(const uint8_t *, size_t, size_t, uint8_t *, size_t);
+typedef struct manifest_answer run(struct manifest_request, uint8_t *, size_t);
 
 struct answered {
     struct manifest_answer answer;
@@ -22,7 +22,7 @@ struct answered {
 static uint8_t bytes[ROOM];
 static size_t length;
 static struct answered answers[THREADS];
-static canonical *call;
+static run *call;
 static pthread_mutex_t loading = PTHREAD_MUTEX_INITIALIZER;
 
 static void *answer_in_thread(void *answered)
@@ -30,13 +30,14 @@ static void *answer_in_thread(void *answered)
     struct answered *own = answered;
     pthread_mutex_lock(&loading);
     pthread_mutex_unlock(&loading);
-    own->answer = call(bytes, length, SIZE_MAX, own->out, sizeof own->out);
+    struct manifest_request request = {{bytes, length}, {0, 0}, {0, 0}, SIZE_MAX, MANIFEST_OF_TEXT, MANIFEST_AS_TEXT, 0, 0};
+    own->answer = call(request, own->out, sizeof own->out);
     return 0;
 }
 
 static int load(const char *library)
 {
-    void *loaded = dlopen(library, RTLD_NOW | RTLD_LOCAL), *found = loaded ? dlsym(loaded, "manifest_canonical") : 0;
+    void *loaded = dlopen(library, RTLD_NOW | RTLD_LOCAL), *found = loaded ? dlsym(loaded, "manifest_run") : 0;
     if (!found) {
         fprintf(stderr, "%s\n", dlerror());
         return 0;

@@ -9,7 +9,7 @@
 
 enum which {
     CANONICAL, COMPLETED, RESOLVED, RESOLVED_COMPLETED, TABLE, COMPLETED_TABLE, RESOLVED_TABLE, RESOLVED_COMPLETED_TABLE,
-    TABLE_WITHOUT_METADATA, DOCUMENT, FINDINGS, CANONICAL_OF_TABLE, COMPLETED_OF_TABLE, RESOLVED_OF_TABLES
+    TABLE_WITHOUT_METADATA, DOCUMENT, FINDINGS, CANONICAL_OF_TABLE, COMPLETED_OF_TABLE, RESOLVED_OF_TABLES, COMPLETED_TEXT_OF_TABLE, ALL_OF_TABLES
 };
 
 /* A call, and its answer. For bytes, a root or folders that are null a null pointer and the length 0 are passed. */
@@ -239,6 +239,12 @@ static const struct call OF_TABLES[] = {
     {RESOLVED_OF_TABLES, .bytes = MEMBER, .root = ROOT, .status = MANIFEST_UNTAGGED, .text = ""},
     {RESOLVED_OF_TABLES, .bytes = MEMBER_TABLE, .root = "\x05", .status = MANIFEST_ROOT_SCHEMA,
      .cause = MANIFEST_WRONG_KIND, .text = "(top)"},
+    {COMPLETED_TEXT_OF_TABLE, .bytes = "\x08\x01" PACKAGE_TABLE, FOLDERS(SOURCES, HERE), .text = LIBRARY PACKAGE},
+    {COMPLETED_TEXT_OF_TABLE, .bytes = OWN, FOLDERS(HERE), .status = MANIFEST_UNTAGGED, .text = ""},
+    {ALL_OF_TABLES, .bytes = MEMBER_TABLE, .root = VERSIONS_TABLE, FOLDERS(HERE), .text = "\x08\x01" VERSIONED_TABLE},
+    {ALL_OF_TABLES, .bytes = MEMBER_TABLE, .root = VERSIONS_TABLE, FOLDERS(HERE, FAULTY), .status = MANIFEST_IO,
+     .cause = MANIFEST_OTHER_FAULT, .text = ""},
+    {ALL_OF_TABLES, .bytes = MEMBER_TABLE, .root = ROOT, FOLDERS(HERE), .status = MANIFEST_ROOT_UNTAGGED, .text = ""},
 };
 
 /* A text, repeated a given number of times. */
@@ -395,9 +401,23 @@ static struct manifest_answer made(const struct call *call, size_t most, uint8_t
     case COMPLETED_OF_TABLE:
         return manifest_completed_of_table(bytes, length, call->folders, call->folders_length, most, out, room);
     case RESOLVED_OF_TABLES:
+        return manifest_resolved_of_tables(bytes, length, root, root_length, most, out, room);
+    case COMPLETED_TEXT_OF_TABLE:
+    case ALL_OF_TABLES:
         break;
     }
-    return manifest_resolved_of_tables(bytes, length, root, root_length, most, out, room);
+    struct manifest_request request = {0};
+    request.bytes.at = bytes, request.bytes.length = length;
+    request.folders.at = call->folders, request.folders.length = call->folders_length;
+    request.most = most;
+    request.input = MANIFEST_OF_TABLE;
+    request.has_folders = 1;
+    if (call->which == ALL_OF_TABLES) {
+        request.root.at = root, request.root.length = root_length;
+        request.has_root = 200; /* (as each number but 0) */
+        request.output = 255;
+    }
+    return manifest_run(request, out, room);
 }
 
 /* How long the expected text is. */
@@ -553,6 +573,13 @@ static void print_layout(void)
            offsetof(struct manifest_bytes, length));
     printf("names: %zu, at %zu, length %zu\n", sizeof(struct manifest_names), offsetof(struct manifest_names, at),
            offsetof(struct manifest_names, length));
+    printf("folders: %zu, at %zu, length %zu\n", sizeof(struct manifest_folders), offsetof(struct manifest_folders, at),
+           offsetof(struct manifest_folders, length));
+    printf("request: %zu, bytes %zu, root %zu, folders %zu, most %zu, input %zu, output %zu, has_root %zu, has_folders %zu\n",
+           sizeof(struct manifest_request), offsetof(struct manifest_request, bytes), offsetof(struct manifest_request, root),
+           offsetof(struct manifest_request, folders), offsetof(struct manifest_request, most),
+           offsetof(struct manifest_request, input), offsetof(struct manifest_request, output),
+           offsetof(struct manifest_request, has_root), offsetof(struct manifest_request, has_folders));
 }
 
 int main(int words_length, char **words)

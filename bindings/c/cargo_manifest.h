@@ -140,7 +140,7 @@ enum manifest_status {
 /* The cause of MANIFEST_SCHEMA and MANIFEST_ROOT_SCHEMA. */
 enum manifest_cause {
     MANIFEST_WRONG_KIND = 1,    /* the value is of another kind */
-    MANIFEST_MISSING = 2,       /* a key that is needed is absent; the path ends in it */
+    MANIFEST_MISSING = 2,       /* a required key is absent; the path ends in it */
     MANIFEST_TWO_SPELLINGS = 3, /* a key stands there in both of its spellings */
     MANIFEST_NOT_A_CHOICE = 4,  /* the text is not among those that are known here */
     MANIFEST_OUT_OF_RANGE = 5,  /* the whole number is too large or too small */
@@ -197,28 +197,48 @@ struct manifest_folder {
     uint8_t fault;
 };
 
-/* The canonical text of the manifest that the bytes are, as TOML: its keys in the order of their bytes, each by its first
-   spelling. Comments, and keys that no manifest has, are left out. */
-struct manifest_answer manifest_canonical(const uint8_t *bytes, size_t bytes_length, size_t most, uint8_t *out,
-                                          size_t out_length);
+/* Borrowed folders. */
+struct manifest_folders {
+    const struct manifest_folder *at;
+    size_t length;
+};
 
-/* The same, completed over the folders: with the library, binaries, examples, tests, benches and build script that are
-   found in them. */
-struct manifest_answer manifest_completed(const uint8_t *bytes, size_t bytes_length,
-                                          const struct manifest_folder *folders, size_t folders_length, size_t most,
-                                          uint8_t *out, size_t out_length);
+/* What the bytes of a request are: each number but 0 is MANIFEST_OF_TABLE. */
+enum manifest_input {
+    MANIFEST_OF_TEXT = 0, /* the text of a Cargo.toml */
+    MANIFEST_OF_TABLE = 1 /* its table as tagged bytes, such as a call gives, or a program makes. A table has no old headers: its
+                             package is `package`. A float in it is refused as any other value that does not fit */
+};
 
-/* The same as the first, with what the manifest inherits from the workspace of `root` put in. `root` has the bytes of the
-   Cargo.toml in which the workspace stands. */
-struct manifest_answer manifest_resolved(const uint8_t *bytes, size_t bytes_length, const uint8_t *root,
-                                         size_t root_length, size_t most, uint8_t *out, size_t out_length);
+/* What a request asks for: each number but 0 is MANIFEST_AS_TABLE. */
+enum manifest_output {
+    MANIFEST_AS_TEXT = 0, /* the canonical text: TOML, its keys in the order of their bytes, each by its first spelling. Comments,
+                             and keys that no manifest has, are left out */
+    MANIFEST_AS_TABLE = 1 /* the table that the canonical text says, as tagged bytes: see below */
+};
 
-/* The same, resolved and then completed. */
-struct manifest_answer manifest_resolved_completed(const uint8_t *bytes, size_t bytes_length, const uint8_t *root,
-                                                   size_t root_length, const struct manifest_folder *folders,
-                                                   size_t folders_length, size_t most, uint8_t *out, size_t out_length);
+/* A request. All that it does not need is 0, so a program begins with `struct manifest_request request = {0};`, and with `{}` in
+   C++. */
+struct manifest_request {
+    /* the manifest, as `input` says */
+    struct manifest_bytes bytes;
+    /* where has_root is not 0: the manifest of the workspace's root, in the same form. What the manifest inherits from its
+       workspace is put in */
+    struct manifest_bytes root;
+    /* where has_folders is not 0: the folders of the manifest. It is completed over them, after what it inherits is put in: with
+       the library, binaries, examples, tests, benches and build script that are found there */
+    struct manifest_folders folders;
+    /* how many bytes the text or the table may take: see LIMITS */
+    size_t most;
+    uint8_t input;  /* one of enum manifest_input */
+    uint8_t output; /* one of enum manifest_output */
+    uint8_t has_root;
+    uint8_t has_folders;
+};
 
-/* The table that the canonical text says, as tagged bytes. A value is a tag and what stands after it:
+/* What the request asks for of the manifest that it makes.
+
+   A table is given as tagged bytes. A value is a tag and what stands after it:
 
       1  a text: how many bytes it has, and the bytes, which are UTF-8
       2  a whole number from 0 on: a number
@@ -234,27 +254,12 @@ struct manifest_answer manifest_resolved_completed(const uint8_t *bytes, size_t 
    for none, or 1 and a byte), and the nanosecond (0 for none, or 1 and a number). An offset is 0 for `Z`, 1 and the
    minutes ahead of UTC, or 2 and the minutes behind UTC less 1. `[package]` with `name = "a"` and `autobins = false` is
    8 1 7 `package` 8 2 8 `autobins` 4 4 `name` 1 1 `a`. */
-struct manifest_answer manifest_table(const uint8_t *bytes, size_t bytes_length, size_t most, uint8_t *out,
-                                      size_t out_length);
+struct manifest_answer manifest_run(struct manifest_request request, uint8_t *out, size_t out_length);
 
-/* The tables that the texts of the other three calls say, in the same way. */
-struct manifest_answer manifest_completed_table(const uint8_t *bytes, size_t bytes_length,
-                                                const struct manifest_folder *folders, size_t folders_length,
-                                                size_t most, uint8_t *out, size_t out_length);
-
-struct manifest_answer manifest_resolved_table(const uint8_t *bytes, size_t bytes_length, const uint8_t *root,
-                                               size_t root_length, size_t most, uint8_t *out, size_t out_length);
-
-struct manifest_answer manifest_resolved_completed_table(const uint8_t *bytes, size_t bytes_length, const uint8_t *root,
-                                                         size_t root_length, const struct manifest_folder *folders,
-                                                         size_t folders_length, size_t most, uint8_t *out,
-                                                         size_t out_length);
-
-/* The table that manifest_table gives, but that the metadata of the package and of the workspace is not looked at: where
-   there is any, it is written as the empty table. So no value in metadata refuses anything, not a float either, but for what
-   nests too deep. All calls above keep metadata as it is, and refuse a float in it as MANIFEST_HOLDS_FLOAT: whoever does not
-   need metadata asks for this table, and then for its text by manifest_canonical_of_table, or completes it by
-   manifest_completed_of_table. */
+/* The table of the manifest that the bytes of a Cargo.toml are, as tagged bytes, but that the metadata of the package and of the
+   workspace is not looked at: where there is any, it is written as the empty table. So no value in metadata refuses anything,
+   not a float either, but for what nests too deep. manifest_run keeps metadata as it is, and refuses a float in it as
+   MANIFEST_HOLDS_FLOAT: whoever does not need metadata asks for this table, and passes it to manifest_run. */
 struct manifest_answer manifest_table_without_metadata(const uint8_t *bytes, size_t bytes_length, size_t most,
                                                        uint8_t *out, size_t out_length);
 
@@ -274,7 +279,7 @@ enum manifest_found {
 
 /* What is found in the document that the bytes are, as in a manifest: every fault, and not the first one alone, what is
    ignored, and every key that nothing reads. The status is MANIFEST_ACCEPTED with faults too: they are what was asked for.
-   Without any, the bytes are a manifest, which manifest_canonical accepts if its text is not too long; and else the first
+   Without any, the bytes are a manifest, which manifest_run accepts if its text is not too long; and else the first
    fault is the one with which that refuses them. Metadata is not looked at here: a float in it, which Cargo takes, is no
    fault, though the calls that keep metadata refuse it, and before what is found here (see manifest_table_without_metadata).
 
@@ -294,26 +299,138 @@ enum manifest_found {
 struct manifest_answer manifest_findings(const uint8_t *bytes, size_t bytes_length, size_t most, uint8_t *out,
                                          size_t out_length);
 
-/* Calls whose bytes are no text but a tagged table, such as manifest_table gives, or a program makes. A table has no old
-   headers: its package is `package`. A float in it is refused as any other value that does not fit.
+/* The calls of earlier versions, each by the request that it is. */
+static inline struct manifest_request manifest_request_of(const uint8_t *bytes, size_t bytes_length, uint8_t input,
+                                                            uint8_t output, size_t most)
+{
+    struct manifest_request request;
+    request.bytes.at = bytes;
+    request.bytes.length = bytes_length;
+    request.root.at = 0;
+    request.root.length = 0;
+    request.folders.at = 0;
+    request.folders.length = 0;
+    request.most = most;
+    request.input = input;
+    request.output = output;
+    request.has_root = 0;
+    request.has_folders = 0;
+    return request;
+}
 
-   The canonical text of its manifest. */
-struct manifest_answer manifest_canonical_of_table(const uint8_t *bytes, size_t bytes_length, size_t most, uint8_t *out,
-                                                   size_t out_length);
+static inline void manifest_set_root(struct manifest_request *request, const uint8_t *root, size_t root_length)
+{
+    request->root.at = root;
+    request->root.length = root_length;
+    request->has_root = 1;
+}
 
-/* The tagged table of its manifest, completed over the folders. */
-struct manifest_answer manifest_completed_of_table(const uint8_t *bytes, size_t bytes_length,
-                                                   const struct manifest_folder *folders, size_t folders_length,
-                                                   size_t most, uint8_t *out, size_t out_length);
+static inline void manifest_set_folders(struct manifest_request *request, const struct manifest_folder *folders,
+                                          size_t folders_length)
+{
+    request->folders.at = folders;
+    request->folders.length = folders_length;
+    request->has_folders = 1;
+}
 
-/* The tagged table of its manifest, with what it inherits from the workspace of the root put in. The root's bytes are a
-   tagged table too. */
-struct manifest_answer manifest_resolved_of_tables(const uint8_t *bytes, size_t bytes_length, const uint8_t *root,
-                                                   size_t root_length, size_t most, uint8_t *out, size_t out_length);
+/* The canonical text of the manifest that the bytes are. */
+static inline struct manifest_answer manifest_canonical(const uint8_t *bytes, size_t bytes_length, size_t most,
+        uint8_t *out, size_t out_length)
+{
+    struct manifest_request request = manifest_request_of(bytes, bytes_length, MANIFEST_OF_TEXT, MANIFEST_AS_TEXT, most);
+    return manifest_run(request, out, out_length);
+}
+
+/* The same, completed over the folders. */
+static inline struct manifest_answer manifest_completed(const uint8_t *bytes, size_t bytes_length,
+        const struct manifest_folder *folders, size_t folders_length, size_t most, uint8_t *out, size_t out_length)
+{
+    struct manifest_request request = manifest_request_of(bytes, bytes_length, MANIFEST_OF_TEXT, MANIFEST_AS_TEXT, most);
+    manifest_set_folders(&request, folders, folders_length);
+    return manifest_run(request, out, out_length);
+}
+
+/* The same as the first, with what the manifest inherits from the workspace of the root put in. */
+static inline struct manifest_answer manifest_resolved(const uint8_t *bytes, size_t bytes_length,
+        const uint8_t *root, size_t root_length, size_t most, uint8_t *out, size_t out_length)
+{
+    struct manifest_request request = manifest_request_of(bytes, bytes_length, MANIFEST_OF_TEXT, MANIFEST_AS_TEXT, most);
+    manifest_set_root(&request, root, root_length);
+    return manifest_run(request, out, out_length);
+}
+
+/* The same, resolved and then completed. */
+static inline struct manifest_answer manifest_resolved_completed(const uint8_t *bytes, size_t bytes_length,
+        const uint8_t *root, size_t root_length, const struct manifest_folder *folders, size_t folders_length,
+        size_t most, uint8_t *out, size_t out_length)
+{
+    struct manifest_request request = manifest_request_of(bytes, bytes_length, MANIFEST_OF_TEXT, MANIFEST_AS_TEXT, most);
+    manifest_set_root(&request, root, root_length);
+    manifest_set_folders(&request, folders, folders_length);
+    return manifest_run(request, out, out_length);
+}
+
+/* The tables that these texts say, as tagged bytes. */
+static inline struct manifest_answer manifest_table(const uint8_t *bytes, size_t bytes_length, size_t most,
+        uint8_t *out, size_t out_length)
+{
+    struct manifest_request request = manifest_request_of(bytes, bytes_length, MANIFEST_OF_TEXT, MANIFEST_AS_TABLE, most);
+    return manifest_run(request, out, out_length);
+}
+
+static inline struct manifest_answer manifest_completed_table(const uint8_t *bytes, size_t bytes_length,
+        const struct manifest_folder *folders, size_t folders_length, size_t most, uint8_t *out, size_t out_length)
+{
+    struct manifest_request request = manifest_request_of(bytes, bytes_length, MANIFEST_OF_TEXT, MANIFEST_AS_TABLE, most);
+    manifest_set_folders(&request, folders, folders_length);
+    return manifest_run(request, out, out_length);
+}
+
+static inline struct manifest_answer manifest_resolved_table(const uint8_t *bytes, size_t bytes_length,
+        const uint8_t *root, size_t root_length, size_t most, uint8_t *out, size_t out_length)
+{
+    struct manifest_request request = manifest_request_of(bytes, bytes_length, MANIFEST_OF_TEXT, MANIFEST_AS_TABLE, most);
+    manifest_set_root(&request, root, root_length);
+    return manifest_run(request, out, out_length);
+}
+
+static inline struct manifest_answer manifest_resolved_completed_table(const uint8_t *bytes, size_t bytes_length,
+        const uint8_t *root, size_t root_length, const struct manifest_folder *folders, size_t folders_length,
+        size_t most, uint8_t *out, size_t out_length)
+{
+    struct manifest_request request = manifest_request_of(bytes, bytes_length, MANIFEST_OF_TEXT, MANIFEST_AS_TABLE, most);
+    manifest_set_root(&request, root, root_length);
+    manifest_set_folders(&request, folders, folders_length);
+    return manifest_run(request, out, out_length);
+}
+
+/* The canonical text of a tagged table, and the table of it, completed, or with what it inherits from a tagged root. */
+static inline struct manifest_answer manifest_canonical_of_table(const uint8_t *bytes, size_t bytes_length,
+        size_t most, uint8_t *out, size_t out_length)
+{
+    struct manifest_request request = manifest_request_of(bytes, bytes_length, MANIFEST_OF_TABLE, MANIFEST_AS_TEXT, most);
+    return manifest_run(request, out, out_length);
+}
+
+static inline struct manifest_answer manifest_completed_of_table(const uint8_t *bytes, size_t bytes_length,
+        const struct manifest_folder *folders, size_t folders_length, size_t most, uint8_t *out, size_t out_length)
+{
+    struct manifest_request request = manifest_request_of(bytes, bytes_length, MANIFEST_OF_TABLE, MANIFEST_AS_TABLE, most);
+    manifest_set_folders(&request, folders, folders_length);
+    return manifest_run(request, out, out_length);
+}
+
+static inline struct manifest_answer manifest_resolved_of_tables(const uint8_t *bytes, size_t bytes_length,
+        const uint8_t *root, size_t root_length, size_t most, uint8_t *out, size_t out_length)
+{
+    struct manifest_request request = manifest_request_of(bytes, bytes_length, MANIFEST_OF_TABLE, MANIFEST_AS_TABLE, most);
+    manifest_set_root(&request, root, root_length);
+    return manifest_run(request, out, out_length);
+}
 
 /* The version of these calls and of the tagged bytes: MANIFEST_VERSION, where the library is of the same version as this
    header. */
-#define MANIFEST_VERSION 3
+#define MANIFEST_VERSION 4
 uint32_t manifest_version(void);
 
 /* What a request for memory answers. */
@@ -358,6 +475,16 @@ MANIFEST_CHECK(names, sizeof(struct manifest_names) == 16 && offsetof(struct man
 MANIFEST_CHECK(folder, sizeof(struct manifest_folder) == 40 && offsetof(struct manifest_folder, path) == 0
                            && offsetof(struct manifest_folder, names) == 16
                            && offsetof(struct manifest_folder, fault) == 32);
+MANIFEST_CHECK(folders, sizeof(struct manifest_folders) == 16 && offsetof(struct manifest_folders, at) == 0
+                            && offsetof(struct manifest_folders, length) == 8);
+MANIFEST_CHECK(request, sizeof(struct manifest_request) == 64 && offsetof(struct manifest_request, bytes) == 0
+                            && offsetof(struct manifest_request, root) == 16
+                            && offsetof(struct manifest_request, folders) == 32
+                            && offsetof(struct manifest_request, most) == 48
+                            && offsetof(struct manifest_request, input) == 56
+                            && offsetof(struct manifest_request, output) == 57
+                            && offsetof(struct manifest_request, has_root) == 58
+                            && offsetof(struct manifest_request, has_folders) == 59);
 MANIFEST_CHECK(tried, sizeof(struct rattle_tried) == 16 && offsetof(struct rattle_tried, is_there) == 0
                           && offsetof(struct rattle_tried, block) == 8);
 #undef MANIFEST_CHECK

@@ -2,9 +2,9 @@
 from __future__ import annotations
 
 import ctypes
-from typing import Any, Optional
+from typing import Any, Callable, Optional
 
-from ._library import Call
+from ._library import Answer, Call, Request, manifest_run
 from ._listings import Listings
 from ._reader import utf8
 from ._refusal import refusal
@@ -25,37 +25,60 @@ def limit_of(most: Optional[int]) -> int:
     return min(most, _ANY)
 
 
-def answered(
-    call: Call,
+# what the bytes of a request are, and what it asks for: as the header has them
+OF_TEXT, OF_TABLE = 0, 1
+AS_TEXT, AS_TABLE = 0, 1
+
+
+def answered(call: Call, most: Optional[int], manifest: bytes) -> bytes:
+    """What a call of a text alone gives, in at most this many bytes; else the exception of its refusal is raised."""
+    limit = limit_of(most)
+    return _given(
+        lambda out, room: call(manifest, len(manifest), limit, out, room),
+        min(256 + 2 * len(manifest), limit + 1),
+        (manifest, b"", None),
+    )
+
+
+def asked(
+    output: int,
     most: Optional[int],
     manifest: bytes,
     root: Optional[bytes] = None,
     listings: Optional[Listings] = None,
+    *,
+    form: int = OF_TEXT,
 ) -> bytes:
-    """What the call gives, in at most this many bytes; else the exception of its refusal is raised.
+    """What a request gives, in at most this many bytes; else the exception of its refusal is raised.
 
-    The slices stand in the order of the header. The call is made with room that most texts fit into, and once more
-    where the text takes more.
+    `form` says what the bytes are, and `output` what is asked for of the manifest that they make, with what it inherits
+    from the root, and completed over the listings, where these are passed in.
     """
     limit = limit_of(most)
-    slices: list[Any] = [manifest, len(manifest)]
+    request = Request(bytes=(manifest, len(manifest)), most=limit, input=form, output=output)
     room = 256 + 2 * len(manifest)
     if root is not None:
-        slices += [root, len(root)]
+        request.root, request.has_root = (root, len(root)), 1
         room += 2 * len(root)
     if listings is not None:
         folders = listings.folders()
-        slices += [folders, len(folders)]
+        request.folders, request.has_folders = (folders, len(folders)), 1
         room += 128 * listings.count()
+    return _given(lambda out, room: manifest_run(request, out, room), min(room, limit + 1), (manifest, root or b"", listings))
+
+
+def _given(
+    call: Callable[[Any, int], Answer], room: int, given: tuple[bytes, bytes, Optional[Listings]]
+) -> bytes:
+    """What a call gives. It is made with room that most texts fit into, and once more where the text takes more."""
     # (there has to be a byte that can be pointed to)
-    room = min(room, limit + 1)
     while True:
         out = bytearray(room)
-        answer = call(*slices, limit, ctypes.byref(ctypes.c_char.from_buffer(out)), room)
+        answer = call(ctypes.byref(ctypes.c_char.from_buffer(out)), room)
         if answer.length <= room:
             break
         room = answer.length
     said = bytes(memoryview(out)[: answer.length])
     if answer.status == 0:
         return said
-    raise refusal(answer, utf8(said), manifest, root or b"", listings)
+    raise refusal(answer, utf8(said), *given)

@@ -3,11 +3,8 @@ from __future__ import annotations
 
 from typing import Any, Optional
 
-from ._answer import answered
-from ._library import manifest_canonical, manifest_completed, manifest_resolved
-from ._library import manifest_resolved_completed, manifest_table, manifest_completed_table
-from ._library import manifest_resolved_table, manifest_resolved_completed_table
-from ._library import manifest_canonical_of_table, manifest_completed_of_table, manifest_table_without_metadata
+from ._answer import AS_TABLE, AS_TEXT, OF_TABLE, answered, asked
+from ._library import manifest_table_without_metadata
 from ._listings import Folders
 from ._reader import utf8
 from ._tagged import decoded
@@ -42,8 +39,8 @@ def canonical(manifest: Text, *, most: Optional[int] = None, metadata: bool = Tr
     """
     given = bytes_of(manifest, "manifest")
     if not metadata:
-        return utf8(answered(manifest_canonical_of_table, most, _without_metadata(given)))
-    return utf8(answered(manifest_canonical, most, given))
+        return utf8(asked(AS_TEXT, most, _without_metadata(given), form=OF_TABLE))
+    return utf8(asked(AS_TEXT, most, given))
 
 
 def completed(
@@ -81,9 +78,8 @@ def completed(
     """
     given, listings = bytes_of(manifest, "manifest"), listings_of(manifest, folders)
     if not metadata:
-        table = answered(manifest_completed_of_table, None, _without_metadata(given), listings=listings)
-        return utf8(answered(manifest_canonical_of_table, most, table))
-    return utf8(answered(manifest_completed, most, given, listings=listings))
+        return utf8(asked(AS_TEXT, most, _without_metadata(given), listings=listings, form=OF_TABLE))
+    return utf8(asked(AS_TEXT, most, given, listings=listings))
 
 
 def resolved(manifest: Text, root: Text, *, most: Optional[int] = None) -> str:
@@ -100,7 +96,7 @@ def resolved(manifest: Text, root: Text, *, most: Optional[int] = None) -> str:
     name = "a"
     version = "2.0.0"
     """
-    return utf8(answered(manifest_resolved, most, bytes_of(manifest, "manifest"), bytes_of(root, "root")))
+    return utf8(asked(AS_TEXT, most, bytes_of(manifest, "manifest"), bytes_of(root, "root")))
 
 
 def resolved_completed(
@@ -123,8 +119,8 @@ def resolved_completed(
     edition = "2021"
     name = "a"
     """
-    given, lent = bytes_of(manifest, "manifest"), bytes_of(root, "root")
-    return utf8(answered(manifest_resolved_completed, most, given, lent, listings_of(manifest, folders)))
+    given, above = bytes_of(manifest, "manifest"), bytes_of(root, "root")
+    return utf8(asked(AS_TEXT, most, given, above, listings_of(manifest, folders)))
 
 
 def table(manifest: Text, *, most: Optional[int] = None, metadata: bool = True) -> dict[str, Any]:
@@ -145,8 +141,10 @@ def table(manifest: Text, *, most: Optional[int] = None, metadata: bool = True) 
     >>> table("name = 'a'\nmetadata = 0.5", metadata=False)
     {'package': {'metadata': {}, 'name': 'a'}}
     """
-    call = manifest_table if metadata else manifest_table_without_metadata
-    return _table_of(answered(call, most, bytes_of(manifest, "manifest")))
+    given = bytes_of(manifest, "manifest")
+    if not metadata:
+        return _table_of(answered(manifest_table_without_metadata, most, given))
+    return _table_of(asked(AS_TABLE, most, given))
 
 
 def completed_table(
@@ -160,7 +158,7 @@ def completed_table(
     {'package': {'build': 'build.rs', 'name': 'a'}}
     """
     given = bytes_of(manifest, "manifest")
-    return _table_of(answered(manifest_completed_table, most, given, listings=listings_of(manifest, folders)))
+    return _table_of(asked(AS_TABLE, most, given, listings=listings_of(manifest, folders)))
 
 
 def resolved_table(manifest: Text, root: Text, *, most: Optional[int] = None) -> dict[str, Any]:
@@ -172,7 +170,7 @@ def resolved_table(manifest: Text, root: Text, *, most: Optional[int] = None) ->
     >>> resolved_table("package = { name = 'a', version.workspace = true }", root)
     {'package': {'name': 'a', 'version': '2.0.0'}}
     """
-    return _table_of(answered(manifest_resolved_table, most, bytes_of(manifest, "manifest"), bytes_of(root, "root")))
+    return _table_of(asked(AS_TABLE, most, bytes_of(manifest, "manifest"), bytes_of(root, "root")))
 
 
 def resolved_completed_table(
@@ -187,8 +185,8 @@ def resolved_completed_table(
     >>> resolved_completed_table("package = { name = 'a', version.workspace = true }", root, {".": ["build.rs"]})
     {'package': {'build': 'build.rs', 'name': 'a', 'version': '2.0.0'}}
     """
-    given, lent = bytes_of(manifest, "manifest"), bytes_of(root, "root")
-    return _table_of(answered(manifest_resolved_completed_table, most, given, lent, listings_of(manifest, folders)))
+    given, above = bytes_of(manifest, "manifest"), bytes_of(root, "root")
+    return _table_of(asked(AS_TABLE, most, given, above, listings_of(manifest, folders)))
 
 
 def _table_of(held: bytes) -> dict[str, Any]:

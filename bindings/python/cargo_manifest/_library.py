@@ -44,13 +44,28 @@ class Folder(ctypes.Structure):
     _fields_ = [("path", Bytes), ("names", Names), ("fault", ctypes.c_uint8)]
 
 
+class Folders(ctypes.Structure):
+    """`struct manifest_folders`."""
+
+    _fields_ = [("at", ctypes.POINTER(Folder)), ("length", ctypes.c_size_t)]
+
+
+class Request(ctypes.Structure):
+    """`struct manifest_request`."""
+
+    _fields_ = [
+        ("bytes", Bytes),
+        ("root", Bytes),
+        ("folders", Folders),
+        ("most", ctypes.c_size_t),
+        ("input", ctypes.c_uint8),
+        ("output", ctypes.c_uint8),
+        ("has_root", ctypes.c_uint8),
+        ("has_folders", ctypes.c_uint8),
+    ]
+
+
 Call = Callable[..., Answer]
-
-_TEXT = (ctypes.c_char_p, ctypes.c_size_t)
-_FOLDERS = (ctypes.POINTER(Folder), ctypes.c_size_t)
-_MOST = ctypes.c_size_t
-_OUT = (ctypes.POINTER(ctypes.c_char), ctypes.c_size_t)
-
 
 def broken() -> RuntimeError:
     """What is raised of an answer that the library never gives."""
@@ -70,7 +85,7 @@ def _loaded() -> ctypes.CDLL:
 
 
 # the version of the calls that this package is written for: MANIFEST_VERSION of `cargo_manifest.h`
-_VERSION = 3
+_VERSION = 4
 
 
 def compare_versions(library: ctypes.CDLL) -> None:
@@ -86,29 +101,21 @@ def compare_versions(library: ctypes.CDLL) -> None:
                           f"{_VERSION}: name a {NAME} of that version by {VARIABLE}")
 
 
-def _declared(library: ctypes.CDLL, name: str, *slices: tuple[Any, Any]) -> Call:
-    """A call that takes these slices, each a pointer with its length, and after them how long its text may be, and the
-    memory for it."""
+def _declared(library: ctypes.CDLL, name: str, *takes: Any) -> Call:
+    """A call that takes these, and after them the memory for its text."""
     try:
         call = library[name]
     except AttributeError as fault:
         raise ImportError(f"the library has no call {name}: name a {NAME} that has it by {VARIABLE}") from fault
-    call.argtypes = [*(part for pair in slices for part in pair), _MOST, *_OUT]
+    call.argtypes = [*takes, ctypes.POINTER(ctypes.c_char), ctypes.c_size_t]
     call.restype = Answer
     return call
 
 
+# a text, and the most bytes that may come of it
+_TEXT = (ctypes.c_char_p, ctypes.c_size_t, ctypes.c_size_t)
 _LIBRARY = _loaded()
-manifest_canonical = _declared(_LIBRARY, "manifest_canonical", _TEXT)
-manifest_completed = _declared(_LIBRARY, "manifest_completed", _TEXT, _FOLDERS)
-manifest_resolved = _declared(_LIBRARY, "manifest_resolved", _TEXT, _TEXT)
-manifest_resolved_completed = _declared(_LIBRARY, "manifest_resolved_completed", _TEXT, _TEXT, _FOLDERS)
-manifest_table = _declared(_LIBRARY, "manifest_table", _TEXT)
-manifest_findings = _declared(_LIBRARY, "manifest_findings", _TEXT)
-manifest_table_without_metadata = _declared(_LIBRARY, "manifest_table_without_metadata", _TEXT)
-manifest_canonical_of_table = _declared(_LIBRARY, "manifest_canonical_of_table", _TEXT)
-manifest_completed_of_table = _declared(_LIBRARY, "manifest_completed_of_table", _TEXT, _FOLDERS)
-manifest_completed_table = _declared(_LIBRARY, "manifest_completed_table", _TEXT, _FOLDERS)
-manifest_resolved_table = _declared(_LIBRARY, "manifest_resolved_table", _TEXT, _TEXT)
-manifest_resolved_completed_table = _declared(_LIBRARY, "manifest_resolved_completed_table", _TEXT, _TEXT, _FOLDERS)
 compare_versions(_LIBRARY)
+manifest_run = _declared(_LIBRARY, "manifest_run", Request)
+manifest_findings = _declared(_LIBRARY, "manifest_findings", *_TEXT)
+manifest_table_without_metadata = _declared(_LIBRARY, "manifest_table_without_metadata", *_TEXT)

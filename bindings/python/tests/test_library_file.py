@@ -13,7 +13,7 @@ from cargo_manifest._found import NAME, PREBUILT
 
 from .places import LIBRARY, PACKAGE, TOP, VARIABLE, python
 
-SHOWN = "import cargo_manifest\nprint(cargo_manifest._calls.manifest_table, cargo_manifest._library._LIBRARY._name)"
+SHOWN = "import cargo_manifest\nprint(cargo_manifest._answer.manifest_run, cargo_manifest._library._LIBRARY._name)"
 
 
 class WithoutThisLibrary(unittest.TestCase):
@@ -54,13 +54,13 @@ class WithoutThisLibrary(unittest.TestCase):
         other = getattr(_ctypes, "__file__", None)
         if other is None:
             self.skipTest("this Python has no module of its own that is a library")
-        self.assertIn("no call manifest_canonical", self.fault(library=other))
+        self.assertIn("no call manifest_version", self.fault(library=other))
 
     def test_a_library_of_another_version(self) -> None:
         def version() -> int:
             return 1
 
-        with self.assertRaisesRegex(ImportError, "has version 1 of its calls.* written for version 3"):
+        with self.assertRaisesRegex(ImportError, "has version 1 of its calls.* written for version 4"):
             _library.compare_versions({"manifest_version": version})  # type: ignore[arg-type]
 
     def test_beside_the_modules_and_above(self) -> None:
@@ -98,7 +98,14 @@ class Declarations(unittest.TestCase):
             # (the program looks for the library by a name of its own)
             settings = {**os.environ, "LD_PRELOAD": LIBRARY}
             said = subprocess.run([program, "layout"], env=settings, check=True, capture_output=True, text=True).stdout
-        kinds = {"answer": _library.Answer, "folder": _library.Folder, "bytes": _library.Bytes, "names": _library.Names}
+        kinds = {
+            "answer": _library.Answer,
+            "folder": _library.Folder,
+            "bytes": _library.Bytes,
+            "names": _library.Names,
+            "folders": _library.Folders,
+            "request": _library.Request,
+        }
         self.assertEqual(said.splitlines(), [self.line(name, kind) for name, kind in kinds.items()])
 
     def test_no_slice_is_null(self) -> None:

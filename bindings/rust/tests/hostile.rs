@@ -58,65 +58,68 @@ struct Folder {
     fault: u8,
 }
 
-type OnBytes = unsafe extern "C" fn(*const u8, usize, usize, *mut u8, usize) -> Answer;
-type OverFolders = unsafe extern "C" fn(*const u8, usize, *const Folder, usize, usize, *mut u8, usize) -> Answer;
-type OfRoot = unsafe extern "C" fn(*const u8, usize, *const u8, usize, usize, *mut u8, usize) -> Answer;
-type OfBoth =
-    unsafe extern "C" fn(*const u8, usize, *const u8, usize, *const Folder, usize, usize, *mut u8, usize) -> Answer;
-
-/// Declares the calls of one type.
-macro_rules! declared {
-    ($($name:ident($($type:ty),+);)+) => {
-        extern "C" {
-            $(fn $name(bytes: *const u8, length: usize, $(_: $type,)+) -> Answer;)+
-        }
-    };
+/// `struct manifest_request`.
+#[repr(C)]
+struct Request {
+    bytes: Slice<u8>,
+    root: Slice<u8>,
+    folders: Slice<Folder>,
+    most: usize,
+    input: u8,
+    output: u8,
+    has_root: u8,
+    has_folders: u8,
 }
 
-declared! {
-    manifest_canonical(usize, *mut u8, usize);
-    manifest_table(usize, *mut u8, usize);
-    manifest_table_without_metadata(usize, *mut u8, usize);
-    manifest_document(usize, *mut u8, usize);
-    manifest_findings(usize, *mut u8, usize);
-    manifest_canonical_of_table(usize, *mut u8, usize);
-    manifest_completed(*const Folder, usize, usize, *mut u8, usize);
-    manifest_completed_table(*const Folder, usize, usize, *mut u8, usize);
-    manifest_completed_of_table(*const Folder, usize, usize, *mut u8, usize);
-    manifest_resolved(*const u8, usize, usize, *mut u8, usize);
-    manifest_resolved_table(*const u8, usize, usize, *mut u8, usize);
-    manifest_resolved_of_tables(*const u8, usize, usize, *mut u8, usize);
-    manifest_resolved_completed(*const u8, usize, *const Folder, usize, usize, *mut u8, usize);
-    manifest_resolved_completed_table(*const u8, usize, *const Folder, usize, usize, *mut u8, usize);
+type OnText = unsafe extern "C" fn(*const u8, usize, usize, *mut u8, usize) -> Answer;
+
+extern "C" {
+    fn manifest_run(request: Request, out: *mut u8, room: usize) -> Answer;
+    fn manifest_table_without_metadata(
+        bytes: *const u8,
+        length: usize,
+        most: usize,
+        out: *mut u8,
+        room: usize,
+    ) -> Answer;
+    fn manifest_document(bytes: *const u8, length: usize, most: usize, out: *mut u8, room: usize) -> Answer;
+    fn manifest_findings(bytes: *const u8, length: usize, most: usize, out: *mut u8, room: usize) -> Answer;
 }
 
+/// A call: of a text alone, or a request with a root, with folders, with both or with neither.
+#[derive(Clone, Copy)]
 enum Call {
-    OnBytes(OnBytes),
-    OverFolders(OverFolders),
-    OfRoot(OfRoot),
-    OfBoth(OfBoth),
+    OnText(OnText),
+    Run { has_root: bool, has_folders: bool },
 }
 
-use Call::{OfBoth as B, OfRoot as R, OnBytes as O, OverFolders as F};
-
-/// An export: its name, whether it takes tagged tables, whether it gives one, and the call.
+/// A call with its name, and whether it takes tagged tables, and whether it gives one.
 type Export = (&'static str, bool, bool, Call);
 
-const EXPORTS: [Export; 14] = [
-    ("canonical", false, false, O(manifest_canonical)),
-    ("completed", false, false, F(manifest_completed)),
-    ("resolved", false, false, R(manifest_resolved)),
-    ("resolved_completed", false, false, B(manifest_resolved_completed)),
-    ("table", false, true, O(manifest_table)),
-    ("completed_table", false, true, F(manifest_completed_table)),
-    ("resolved_table", false, true, R(manifest_resolved_table)),
-    ("resolved_completed_table", false, true, B(manifest_resolved_completed_table)),
-    ("table_without_metadata", false, true, O(manifest_table_without_metadata)),
-    ("document", false, true, O(manifest_document)),
-    ("findings", false, true, O(manifest_findings)),
-    ("canonical_of_table", true, false, O(manifest_canonical_of_table)),
-    ("completed_of_table", true, true, F(manifest_completed_of_table)),
-    ("resolved_of_tables", true, true, R(manifest_resolved_of_tables)),
+const fn run(has_root: bool, has_folders: bool) -> Call {
+    Call::Run { has_root, has_folders }
+}
+
+const EXPORTS: [Export; 19] = [
+    ("canonical", false, false, run(false, false)),
+    ("completed", false, false, run(false, true)),
+    ("resolved", false, false, run(true, false)),
+    ("resolved_completed", false, false, run(true, true)),
+    ("table", false, true, run(false, false)),
+    ("completed_table", false, true, run(false, true)),
+    ("resolved_table", false, true, run(true, false)),
+    ("resolved_completed_table", false, true, run(true, true)),
+    ("canonical of a table", true, false, run(false, false)),
+    ("completed of a table", true, false, run(false, true)),
+    ("resolved of tables", true, false, run(true, false)),
+    ("resolved_completed of tables", true, false, run(true, true)),
+    ("table of a table", true, true, run(false, false)),
+    ("completed_table of a table", true, true, run(false, true)),
+    ("resolved_table of tables", true, true, run(true, false)),
+    ("resolved_completed_table of tables", true, true, run(true, true)),
+    ("table_without_metadata", false, true, Call::OnText(manifest_table_without_metadata)),
+    ("document", false, true, Call::OnText(manifest_document)),
+    ("findings", false, true, Call::OnText(manifest_findings)),
 ];
 
 /// What is passed to an export.
@@ -135,35 +138,39 @@ impl Given<'_> {
 }
 
 /// The answer of a call, which may give this many bytes, with room for all or none of them. It has no more memory than it may.
-fn answer(call: &Call, given: &Given<'_>, most: usize, out: &mut [u8]) -> Answer {
+fn answer(export: &Export, given: &Given<'_>, most: usize, out: &mut [u8]) -> Answer {
     let mut answer = None;
-    let memory = heap::most_while(|| answer = Some(answered(call, given, most, out)));
+    let memory = heap::most_while(|| answer = Some(answered(export, given, most, out)));
     let bound = PRINTED.saturating_mul(most).saturating_add(EACH * given.size() + MORE);
     assert!(memory <= bound, "{memory} bytes of memory, where {} are passed in and {most} may be given", given.size());
     answer.expect("the call has returned")
 }
 
 /// The same, whatever memory it has.
-fn answered(call: &Call, given: &Given<'_>, most: usize, out: &mut [u8]) -> Answer {
-    let (bytes, length) = (given.bytes.as_ptr(), given.bytes.len());
-    let (root, root_length) = (given.root.as_ptr(), given.root.len());
-    let (folders, count) = (given.folders.as_ptr(), given.folders.len());
+fn answered(export: &Export, given: &Given<'_>, most: usize, out: &mut [u8]) -> Answer {
+    let &(_, takes_table, gives_table, call) = export;
     let (room, out) = (out.len(), if out.is_empty() { ptr::null_mut() } else { out.as_mut_ptr() });
     // SAFETY: all pointers are of slices that live through the call and do not overlap, with their lengths.
     unsafe {
         match call {
-            O(call) => call(bytes, length, most, out, room),
-            F(call) => call(bytes, length, folders, count, most, out, room),
-            R(call) => call(bytes, length, root, root_length, most, out, room),
-            B(call) => call(bytes, length, root, root_length, folders, count, most, out, room),
+            Call::OnText(call) => call(given.bytes.as_ptr(), given.bytes.len(), most, out, room),
+            Call::Run { has_root, has_folders } => {
+                let (bytes, root, folders) = (Slice::of(given.bytes), Slice::of(given.root), Slice::of(given.folders));
+                let (input, output) = (takes_table as u8, gives_table as u8);
+                let (has_root, has_folders) = (has_root as u8, has_folders as u8);
+                manifest_run(Request { bytes, root, folders, most, input, output, has_root, has_folders }, out, room)
+            }
         }
     }
 }
 
 /// Whether an export may answer this status, where there is memory.
 fn is_due(status: u8, export: &Export) -> bool {
-    let &(name, takes_table, gives_table, ref call) = export;
-    let (has_root, has_folders) = (matches!(call, R(_) | B(_)), matches!(call, F(_) | B(_)));
+    let &(name, takes_table, gives_table, call) = export;
+    let (has_root, has_folders) = match call {
+        Call::OnText(_) => (false, false),
+        Call::Run { has_root, has_folders } => (has_root, has_folders),
+    };
     match status {
         0 | 15 | 32 => true,
         1 | 4 => !takes_table,
@@ -217,7 +224,7 @@ fn check_text(text: &[u8]) {
     assert!(std::str::from_utf8(text).is_ok());
     let given = Given { bytes: text, root: &[], folders: &[] };
     let mut again = vec![0; text.len()];
-    let answer = answer(&O(manifest_canonical), &given, usize::MAX, &mut again);
+    let answer = answer(&EXPORTS[0], &given, usize::MAX, &mut again);
     let says = |header: &[u8]| text.split(|byte| *byte == b'\n').any(|line| line.starts_with(header));
     match answer.status {
         // (of what has neither a package nor a workspace, as a table may, the text is that of an old header without a name)
@@ -230,14 +237,14 @@ fn check_text(text: &[u8]) {
 
 /// What an export answers to what it is given, by all that has to hold of it.
 fn try_export(export: &Export, given: &Given<'_>, random: &mut Random) -> u8 {
-    let (name, _, gives_table, call) = export;
+    let (name, _, gives_table, _) = export;
     let mut out = vec![0; 1 << 16];
-    let whole = answer(call, given, MOST, &mut out);
+    let whole = answer(export, given, MOST, &mut out);
     assert!(is_due(whole.status, export), "{name}: {whole:?}");
     check_parts(whole, given);
     if whole.length > out.len() {
         out.resize(whole.length, 0);
-        assert_eq!(answer(call, given, MOST, &mut out), whole, "{name}");
+        assert_eq!(answer(export, given, MOST, &mut out), whole, "{name}");
     }
     if whole.status == 0 && !gives_table {
         check_text(&out[..whole.length]);
@@ -251,7 +258,7 @@ fn try_export(export: &Export, given: &Given<'_>, random: &mut Random) -> u8 {
             1 => whole.length,
             _ => whole.length.saturating_sub(1),
         };
-        check_limit(whole, answer(call, given, most, &mut []), most, *gives_table);
+        check_limit(whole, answer(export, given, most, &mut []), most, *gives_table);
     }
     whole.status
 }

@@ -5,6 +5,7 @@ pub use Rattle.manifest_bytes.specs.Decoded
 pub mod Given
 pub mod Told
 pub mod Answered
+pub mod Requested
 pub mod Read
 pub mod Made
 pub mod Unread

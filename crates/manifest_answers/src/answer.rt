@@ -3,6 +3,7 @@
 ghost use Rattle.std.specs.Prelude.{◌≡◌, option_copied};
 ghost use Rattle.manifest_answers.specs.declared.reading.Input.TheVariants.{Toml};
 ghost use Rattle.manifest_answers.specs.Answered.{IsHanded, Outcome, Hands, Answers, IsAnswered};
+ghost use Rattle.manifest_answers.specs.Requested.{input_of, output_of, AnswersRequest};
 ghost use Rattle.manifest_answers.specs.Made.{Makes, RefusesToMake};
 ghost use Rattle.manifest_answers.specs.Unread.{GivesUnread, RefusesUnread, GivesDocument, RefusesDocument};
 ghost use Rattle.manifest_answers.specs.Inspected.{GivesFindings, RefusesFindings};
@@ -109,6 +110,77 @@ pub fn respond(
     let text = output_or_refusal(alloc, asked.output, asked.most, made);
     let told = outcome(alloc, text);
     write_answer(&told, out)
+}
+
+/// What a program asks for: what the bytes are, what else is passed in, and what is to be written of the manifest. A
+/// number that is not 0 counts as 1; without `has_root` the root is not looked at, nor are the folders without
+/// `has_folders`.
+#[repr(C)]
+#[derive(Clone, Copy)]
+pub struct Request<'a> {
+    pub bytes: &'a [u8],
+    pub root: &'a [u8],
+    pub folders: &'a [Folder<'a>],
+    pub most: usize,
+    /// 0: the bytes, and those of the root, are the text of a `Cargo.toml`; 1: the tagged bytes of its table.
+    pub input: u8,
+    /// 0: the canonical text is asked for; 1: the table as tagged bytes.
+    pub output: u8,
+    pub has_root: u8,
+    pub has_folders: u8,
+}
+
+// as the other languages declare it: `scripts/library` compares the number
+const _: () = prove!(size_of::<Request<'static>>() == 64);
+
+/// What the bytes are, by the number of a request.
+fn input_of(number: u8) -> Input
+    ensures { result ≡ input_of number }
+{
+    if number == 0 {
+        Input::Toml
+    } else {
+        Input::Tagged
+    }
+}
+
+/// What is asked for, by the number of a request.
+fn output_of(number: u8) -> Output
+    ensures { result ≡ output_of number }
+{
+    if number == 0 {
+        Output::CanonicalText
+    } else {
+        Output::TaggedTable
+    }
+}
+
+/// Answers a request in the way of [`respond`].
+///
+/// ```ignore
+/// let asked = Request { bytes, root: &[], folders: &[], most, input: 0, output: 1, has_root: 0, has_folders: 0 };
+/// let answer = respond_request(alloc, asked, &mut out); // the table of the manifest, as tagged bytes
+/// ```
+pub fn respond_request(alloc: Global, request: Request<'_>, out: &mut [u8]) -> Answer
+    ensures answers { AnswersRequest request.entry out.old out.new result }
+    ensures dates { request.entry.input ≡ 0 → ¬ (result.status ≡ 7) }
+{
+    let asked = Asked {
+        input: input_of(request.input),
+        output: output_of(request.output),
+        most: request.most,
+    };
+    let root = if request.has_root == 0 {
+        None
+    } else {
+        Some(request.root)
+    };
+    let folders = if request.has_folders == 0 {
+        None
+    } else {
+        Some(request.folders)
+    };
+    respond(alloc, asked, request.bytes, root, folders, out)
 }
 
 /// Answers a call for the table of a manifest whose metadata is not looked at, in the way of [`respond`].

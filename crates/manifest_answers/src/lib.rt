@@ -11,7 +11,10 @@ mod refusal;
 mod telling;
 mod unread;
 
-pub use answer::{Answer, Asked, respond, respond_document, respond_findings, respond_unread};
+pub use answer::{
+    Answer, Asked, Request, respond, respond_document, respond_findings, respond_request,
+    respond_unread,
+};
 pub use folders::Folder;
 pub use making::Output;
 pub use reading::Input;
