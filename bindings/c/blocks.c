@@ -30,7 +30,7 @@ static size_t next(struct run *run, size_t below)
 /* Sizes about the limits between one kind of block and another come often; so do small ones, and none at all. */
 static size_t size_of_next(struct run *run)
 {
-    static const size_t LIMITS[] = {0, 8, 24, 40, 376, 392, 1024, 16384, 131072};
+    static const size_t LIMITS[] = {0, 8, 24, 40, 376, 392, 504, 760, 1024, 4088, 4104, 16384, 65536, 131072};
     size_t limit = LIMITS[next(run, sizeof LIMITS / sizeof LIMITS[0])];
     size_t near = limit + next(run, 5);
     return next(run, 3) ? next(run, 200) : near >= 2 ? near - 2 : near;

@@ -3,8 +3,10 @@
    that has no headers of a C library compiles this too.
 
    A call makes many small blocks and gives all of them back before it ends. So small blocks are cut from chunks that malloc
-   gave, and what is given back is kept for the next block of its size; with the last block of a thread all its chunks go
-   back to free. Each thread has its own chunks, and a call runs in one thread. Larger blocks come from malloc one by one. */
+   gave, and larger ones from the first chunk, where it has room. What is given back is kept for the next block of its size,
+   but for the last one that was cut, which is cut off again, and may grow where it stands; with the last block of a thread all
+   its chunks go back to free. Each thread has its own chunks, and a call runs in one thread. Blocks that are larger, or have no
+   room, come from malloc one by one. */
 typedef __SIZE_TYPE__ size_t;
 
 void *malloc(size_t size);
@@ -18,18 +20,20 @@ struct rattle_tried {
 };
 
 /* A block is aligned to 16, and before it stand 8 bytes that say how many units of 16 it takes with them, or 0 for a block
-   that malloc gave, which begins 16 bytes before it. */
-enum { UNIT = 16, HEADER = 8, MOST_UNITS = 24, FIRST_CHUNK = 1 << 14, LAST_CHUNK = 1 << 20 };
+   that malloc gave, which begins 16 bytes before it. Small blocks have each number of units; the larger ones that are cut from
+   the first chunk, each multiple of a step. */
+enum { UNIT = 16, HEADER = 8, SMALL_UNITS = 24, STEP = 16, MOST_UNITS = 256, FIRST_CHUNK = 1 << 16, LAST_CHUNK = 1 << 20 };
 
 /* A block that is kept for the next one of its size, and a chunk: each begins with the place of another one, or null. */
 struct linked {
     struct linked *next;
 };
 
-/* What a thread has: blocks that are kept, by their units; what is left of the last chunk, from the header of a block on;
-   the chunks, and how large the last one is; and how many blocks the library holds. */
+/* What a thread has: blocks that are kept, by their units, and the larger ones by their steps; what is left of the last chunk,
+   from the header of a block on; the chunks, and how large the last one is; and how many blocks the library holds. */
 struct heap {
-    struct linked *kept[MOST_UNITS + 1];
+    struct linked *kept[SMALL_UNITS + 1];
+    struct linked *larger[MOST_UNITS / STEP - 1];
     char *at;
     size_t left;
     struct linked *chunks;
@@ -57,7 +61,16 @@ static struct rattle_tried tried(void *block)
 /* How many units a block of this many bytes takes, or 0 where it comes from malloc. */
 static size_t units_for(size_t size)
 {
-    return size <= MOST_UNITS * UNIT - HEADER ? (size + HEADER + UNIT - 1) / UNIT : 0;
+    if (size > MOST_UNITS * UNIT - HEADER)
+        return 0;
+    size_t units = (size + HEADER + UNIT - 1) / UNIT;
+    return units <= SMALL_UNITS ? units : (units + STEP - 1) / STEP * STEP;
+}
+
+/* Where blocks of this many units are kept. */
+static struct linked **kept_for(size_t units)
+{
+    return units <= SMALL_UNITS ? &heap.kept[units] : &heap.larger[units / STEP - 2];
 }
 
 static size_t *header_of(void *block)
@@ -81,21 +94,35 @@ static _Bool add_chunk(void)
     return 1;
 }
 
-/* A block of this many units. */
-static void *small(size_t units)
+/* Whether this many units can be cut: larger blocks from the first chunk alone, small ones from each, and a new one. */
+static _Bool has_room(size_t units)
 {
-    struct linked *kept = heap.kept[units];
+    if (units <= SMALL_UNITS)
+        return heap.left >= units * UNIT || add_chunk();
+    return (heap.chunk != 0 || add_chunk()) && heap.chunk == FIRST_CHUNK && heap.left >= units * UNIT;
+}
+
+/* A block of this many units, or null. */
+static void *cut(size_t units)
+{
+    struct linked **place = kept_for(units), *kept = *place;
     if (kept) {
-        heap.kept[units] = kept->next;
+        *place = kept->next;
         return kept;
     }
-    if (heap.left < units * UNIT && !add_chunk())
+    if (!has_room(units))
         return 0;
     void *block = heap.at + HEADER;
     *header_of(block) = units;
     heap.at += units * UNIT;
     heap.left -= units * UNIT;
     return block;
+}
+
+/* Whether a block of this many units is the last one that was cut. */
+static _Bool is_last(void *block, size_t units)
+{
+    return (char *)block - HEADER + units * UNIT == heap.at;
 }
 
 /* The block that begins after the header of what malloc or realloc gave. */
@@ -112,7 +139,9 @@ static void *large(char *given)
 static void *made(size_t size)
 {
     size_t units = units_for(size);
-    void *block = units ? small(units) : large(malloc(size + UNIT));
+    void *block = units ? cut(units) : 0;
+    if (!block && (!units || units > SMALL_UNITS))
+        block = large(malloc(size + UNIT));
     heap.blocks += block != 0;
     return block;
 }
@@ -139,24 +168,39 @@ __attribute__((weak)) struct rattle_tried rattle_alloc(size_t size, size_t align
 __attribute__((weak)) void rattle_dealloc(void *block)
 {
     size_t units = *header_of(block);
-    if (units) {
-        struct linked *kept = block;
-        kept->next = heap.kept[units];
-        heap.kept[units] = kept;
-    } else {
+    if (!units) {
         free((char *)block - UNIT);
+    } else if (is_last(block, units)) {
+        heap.at -= units * UNIT;
+        heap.left += units * UNIT;
+    } else {
+        struct linked **place = kept_for(units), *kept = block;
+        kept->next = *place;
+        *place = kept;
     }
     if (--heap.blocks == 0)
         clear();
+}
+
+/* Makes the last block larger where it stands, if there is room. */
+static _Bool grows(void *block, size_t units, size_t wanted)
+{
+    size_t more = (wanted - units) * UNIT;
+    if (!is_last(block, units) || heap.left < more || (wanted > SMALL_UNITS && heap.chunk != FIRST_CHUNK))
+        return 0;
+    *header_of(block) = wanted;
+    heap.at += more;
+    heap.left -= more;
+    return 1;
 }
 
 __attribute__((weak)) struct rattle_tried rattle_realloc(void *block, size_t kept, size_t size, size_t align)
 {
     (void)align;
     size_t units = *header_of(block), wanted = units_for(size);
-    if (!units && !wanted)
+    if (!units && (!wanted || wanted > SMALL_UNITS))
         return tried(large(realloc((char *)block - UNIT, size + UNIT)));
-    if (units && wanted && wanted <= units)
+    if (units && wanted && (wanted <= units || grows(block, units, wanted)))
         return tried(block);
     void *moved = made(size);
     if (moved) {
