@@ -1,4 +1,6 @@
-//! Cargo manifests: read from bytes, completed from listings of folders, and written as their one canonical table.
+//! Cargo manifests. The bytes of a `Cargo.toml` come in, and listings of folders where a manifest is completed; a
+//! [`Manifest`] comes out, or its one canonical table, or an error with a key path. Begin with `src/manifest.rt`, the
+//! manifest and what it is written as, and `src/reading.rt`.
 //!
 //! ```ignore
 //! use cargo_manifest::{Error, Listings, Manifest};

@@ -1,5 +1,7 @@
-//! What each call of the library for programs in C, Rust and Python answers. The calls themselves, by the names and in the
-//! form that such programs call, are those of `manifest_ffi`, and each is one call of a function of this crate.
+//! What each call of the library for programs in C, Rust and Python answers. A request comes in (bytes, a root, folders);
+//! an [`Answer`] comes out, and a text or tagged bytes in the caller's memory. Begin with `src/answer.rt`. The calls
+//! themselves, by the names and in the form that such programs call, are those of `manifest_ffi`, and each is one call of
+//! a function of this crate.
 #![tactic(auto)]
 
 mod answer;

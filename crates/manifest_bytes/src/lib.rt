@@ -1,4 +1,6 @@
-//! Values as tagged bytes, for readers that need values and no text. `docs/LIBRARY.md` has the layout.
+//! Values as tagged bytes, for readers that need values and no text. A value of `toml` comes in and its bytes come out,
+//! or the other way round. Begin with `specs/Encoded.antt`, the bytes of each value, and `src/values.rt`;
+//! `docs/LIBRARY.md` has the layout.
 #![tactic(auto)]
 
 mod error;

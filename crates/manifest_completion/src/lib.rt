@@ -1,5 +1,6 @@
-//! Completion of a manifest from the listings of a filesystem: what it makes of a manifest, in `specs/`, and the calls
-//! that ask a filesystem and make it. `docs/COMPLETION.md` says how to read the definitions.
+//! Completion of a manifest from the listings of a filesystem. The declared targets of a package and a filesystem come
+//! in; the completed targets and the build script come out, or why there are none. Begin with `specs/Completed.antt`,
+//! what completion makes, and `src/completion.rt`; `docs/COMPLETION.md` says how to read the definitions.
 #![tactic(auto)]
 
 mod ask;

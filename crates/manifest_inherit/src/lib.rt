@@ -1,5 +1,6 @@
-//! What members inherit from a workspace: it is put into a manifest, as package fields, dependencies and lints.
-//! `docs/INHERITING.md` says how to read the definitions.
+//! What members inherit from a workspace: package fields, dependencies and lints. A manifest and the workspace that it
+//! belongs to come in; the manifest comes out with what it inherits, or each refusal at its key path. Begin with
+//! `specs/Resolved.antt` and `src/resolution.rt`; `docs/INHERITING.md` says how to read the definitions.
 #![tactic(auto)]
 
 mod dependency;

@@ -1,5 +1,6 @@
-//! The small types of a manifest, each with its kind: editions and other choices, dependencies, products, platforms,
-//! profiles, badges and lints.
+//! The small types of a manifest: editions and other choices, dependencies, products, platforms, profiles, badges and
+//! lints. A value of `toml` comes in, and a value of the type comes out, or what is found in it; and back. Begin with
+//! `src/dependency.rt`, a form with its rows, and `specs/Records.antt`, what each type holds.
 #![tactic(auto)]
 
 pub mod badges;

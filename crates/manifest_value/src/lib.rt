@@ -1,6 +1,6 @@
-//! Reading `toml`'s values into types, and writing them: key paths and faults, the trait by which a type names what
-//! it holds and which values it reads, readers and writers of std's types and by closures, and the rows of a form, read
-//! from one walk over the table.
+//! Reading `toml`'s values into types, and writing them. A value comes in, and a value of the type comes out, or a fault
+//! at a key path, or all that is found. Begin with `src/schema.rt`, the trait by which a type says what it holds and
+//! which values it reads, and `src/form.rt`, a type that is read by the rows of its table.
 #![tactic(auto)]
 
 pub mod closures;
