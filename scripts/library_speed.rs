@@ -48,7 +48,11 @@ fn table_alone(bytes: &[u8]) -> usize {
     let bytes = [bytes.as_ptr() as usize, bytes.len()];
     // SAFETY: both pointers are of as many bytes as is said.
     let answer = unsafe {
-        manifest_run(Request { bytes, root: [0; 2], folders: [0; 2], most: usize::MAX, numbers: [0, 1, 0, 0] }, &mut out, 0)
+        manifest_run(
+            Request { bytes, root: [0; 2], folders: [0; 2], most: usize::MAX, numbers: [0, 1, 0, 0] },
+            &mut out,
+            0,
+        )
     };
     assert!(answer.status == 0, "a table");
     answer.length

@@ -11,23 +11,8 @@ use std::process;
 const ARCHIVE: &str = "libcargo_manifest.a";
 
 /// The calls that this crate makes.
-const CALLS: [&str; 15] = [
-    "manifest_canonical",
-    "manifest_canonical_of_table",
-    "manifest_completed",
-    "manifest_completed_of_table",
-    "manifest_completed_table",
-    "manifest_document",
-    "manifest_findings",
-    "manifest_resolved",
-    "manifest_resolved_completed",
-    "manifest_resolved_completed_table",
-    "manifest_resolved_of_tables",
-    "manifest_resolved_table",
-    "manifest_table",
-    "manifest_table_without_metadata",
-    "manifest_version",
-];
+const CALLS: [&str; 5] =
+    ["manifest_document", "manifest_findings", "manifest_run", "manifest_table_without_metadata", "manifest_version"];
 
 /// The first 32 bits of the fractional parts of the cube roots of the first 64 primes.
 #[rustfmt::skip]

@@ -139,7 +139,7 @@ record! {
     #[derive(Debug, Clone, PartialEq, Eq, Default)]
     pub struct DependencyDetail {
         // (made by scripts/keys --write)
-        /// The version requirement, such as `1.2` or `>=1.2, <1.5`; every version meets it where there is none.
+        /// The version requirement, such as `1.2` or `>=1.2, <1.5`; any version where it is absent.
         ///
         /// [Cargo reference](https://doc.rust-lang.org/cargo/reference/specifying-dependencies.html#version-requirement-syntax).
         "version" => version: Option<String>, optional;

@@ -11,7 +11,7 @@ use std::str::FromStr;
 
 /// The manifest of a table that the library wrote, with its metadata.
 pub(crate) fn decode<P, W>(table: &[u8]) -> (Manifest<P, W>, Aside) {
-    let Some((manifest, mut aside)) = decoded(table) else { is_broken() };
+    let Some((manifest, mut aside)) = decoded(Reader::of_answer(table)) else { is_broken() };
     if cfg!(debug_assertions) {
         let Ok((again, kept)) = written(&manifest, aside) else { panic!("a manifest that was read is not written") };
         assert!(again == table, "a manifest is not written as it was read");
@@ -20,9 +20,8 @@ pub(crate) fn decode<P, W>(table: &[u8]) -> (Manifest<P, W>, Aside) {
     (manifest, aside)
 }
 
-/// The same, if the bytes are such a table.
-pub(crate) fn decoded<P, W>(table: &[u8]) -> Option<(Manifest<P, W>, Aside)> {
-    let mut reader = Reader::new(table);
+/// The same, if the bytes that are read are such a table.
+pub(crate) fn decoded<P, W>(mut reader: Reader<'_>) -> Option<(Manifest<P, W>, Aside)> {
     let manifest = Manifest::decode(&mut reader)?;
     reader.is_at_end().then_some((manifest, reader.aside))
 }

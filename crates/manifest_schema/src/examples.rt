@@ -6,7 +6,7 @@ ghost use Rattle.manifest_schema.specs.Prelude.{string, integer, boolean, array,
 ghost use Rattle.std.specs.Prelude.{◌≡◌, pos, negsuc, true, false, [], ◌∷◌, Some, None, codes};
 ghost use Rattle.manifest_schema.specs.PartForms.{priority};
 ghost use Rattle.manifest_schema.specs.Findings.{fault};
-ghost use Rattle.manifest_schema.specs.Defaults.{lent, no_badges, empty_workspace};
+ghost use Rattle.manifest_schema.specs.Defaults.{inherited_alone, no_badges, empty_workspace};
 ghost use Rattle.manifest_schema.specs.Examples.{one_entry, two_entries, bare, bare_by, everywhere, of_version, only_package, spelled_rows, lenient_rows, default_rows, rest_rows, at_key, two_items, bad_gitlab, OnlyFault, NoFault};
 
 /// A key that no row has is ignored, and is not written.
@@ -21,11 +21,11 @@ pub fn unused_key()
 
 /// `workspace = true` next to `version`: the dependency comes from the workspace, and `version` is ignored.
 #[tactic(auto, unfolding(crate::specs::PartForms::inherited_rows, crate::specs::Slots::put_some))]
-pub fn lent_dependency()
+pub fn inherited_dependency()
     ensures reads { dependency.reads
         (table (two_entries (codes "version") (integer (pos 3)) (codes "workspace") (boolean true)))
-        (by_workspace lent) }
-    ensures written { dependency.written (by_workspace lent)
+        (by_workspace inherited_alone) }
+    ensures written { dependency.written (by_workspace inherited_alone)
         ≡ table (one_entry (codes "workspace") (boolean true)) }
 {}
 
@@ -40,8 +40,8 @@ pub fn chosen_default_features()
 #[tactic(auto, unfolding(crate::specs::PartForms::inherited_rows, crate::specs::Slots::put_some, crate::specs::PartForms::platform_rows, crate::specs::ManifestForms::workspace_rows, crate::specs::ManifestForms::manifest_rows))]
 pub fn former_tables()
     ensures chosen { former_written kept kept (everywhere bare)
-        ≡ written_manifest kept kept (everywhere lent) }
-    ensures left { ManifestLeavesDefaults (everywhere lent) }
+        ≡ written_manifest kept kept (everywhere inherited_alone) }
+    ensures left { ManifestLeavesDefaults (everywhere inherited_alone) }
 {}
 
 /// `workspace = false` next to `version`: the dependency is the member's own, and `workspace` is ignored.

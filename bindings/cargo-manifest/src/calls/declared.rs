@@ -1,6 +1,6 @@
 //! The declarations of the library, and its calls with memory for their text.
 
-use super::folders::{with_folders, Folder};
+use super::folders::{with_folders, Folder, Slice};
 use super::listings::Listings;
 use super::refusal::{Cause, ListingError, Part, Refusal};
 use std::sync::OnceLock;
@@ -16,20 +16,53 @@ pub(crate) struct Answer {
     pub(crate) end: usize,
 }
 
+/// `struct manifest_request`: what a call is asked for. What is not passed in is empty.
+#[repr(C)]
+#[derive(Clone, Copy)]
+pub(crate) struct Request {
+    pub(crate) bytes: Slice<u8>,
+    pub(crate) root: Slice<u8>,
+    pub(crate) folders: Slice<Folder>,
+    pub(crate) most: usize,
+    pub(crate) input: u8,
+    pub(crate) output: u8,
+    pub(crate) has_root: u8,
+    pub(crate) has_folders: u8,
+}
+
+impl Request {
+    /// A request of bytes alone.
+    pub(crate) fn of(input: Input, output: Output, bytes: &[u8], most: usize) -> Request {
+        let (root, folders) = (Slice::of(&[]), Slice::of(&[]));
+        let (input, output) = (input as u8, output as u8);
+        Request { bytes: Slice::of(bytes), root, folders, most, input, output, has_root: 0, has_folders: 0 }
+    }
+
+    /// The same with a root.
+    fn over(self, root: &[u8]) -> Request {
+        Request { root: Slice::of(root), has_root: 1, ..self }
+    }
+
+    /// The same with folders.
+    fn with(self, folders: &[Folder]) -> Request {
+        Request { folders: Slice::of(folders), has_folders: 1, ..self }
+    }
+}
+
 // The signatures of `bindings/c/cargo_manifest.h`. No tool compares them: `scripts/library` compares the
 // sizes and offsets of the two, and runs both.
 extern "C" {
     fn manifest_version() -> u32;
+    pub(crate) fn manifest_run(request: Request, out: *mut u8, out_length: usize) -> Answer;
 }
 
-/// Declares calls that take a root, folders or both, in this order, between the bytes and `most`.
+/// Declares calls of a text alone.
 macro_rules! declared {
-    ($($name:ident($($slice:ident: $item:ty, $length:ident),*);)+) => {
+    ($($name:ident)+) => {
         extern "C" {
             $(pub(crate) fn $name(
                 bytes: *const u8,
                 bytes_length: usize,
-                $($slice: *const $item, $length: usize,)*
                 most: usize,
                 out: *mut u8,
                 out_length: usize,
@@ -38,30 +71,24 @@ macro_rules! declared {
     };
 }
 
-declared! {
-    manifest_canonical();
-    manifest_table();
-    manifest_table_without_metadata();
-    manifest_document();
-    manifest_findings();
-    manifest_canonical_of_table();
-    manifest_completed(folders: Folder, folders_length);
-    manifest_completed_table(folders: Folder, folders_length);
-    manifest_resolved(root: u8, root_length);
-    manifest_resolved_table(root: u8, root_length);
-    manifest_resolved_completed(root: u8, root_length, folders: Folder, folders_length);
-    manifest_resolved_completed_table(root: u8, root_length, folders: Folder, folders_length);
-    manifest_completed_of_table(folders: Folder, folders_length);
-    manifest_resolved_of_tables(root: u8, root_length);
+declared! { manifest_table_without_metadata manifest_document manifest_findings }
+
+/// What the bytes of a request are.
+#[derive(Clone, Copy)]
+pub(crate) enum Input {
+    /// The text of a `Cargo.toml`.
+    Text = 0,
+    /// The tagged bytes of its table.
+    Table = 1,
 }
 
 /// What is asked for of a manifest.
 #[derive(Clone, Copy)]
 pub(crate) enum Output {
     /// Its canonical text.
-    Text,
+    Text = 0,
     /// The tagged bytes of its table.
-    Table,
+    Table = 1,
 }
 
 /// Ends at an answer that no contract of the library allows: the archive is of another version than this crate, or this
@@ -112,7 +139,7 @@ fn version() -> u32 {
 }
 
 /// The version of the calls that this crate is written for.
-const VERSION: u32 = 3;
+const VERSION: u32 = 4;
 
 /// Compares the versions of this crate and of the archive, at the first call.
 fn version_fits() {
@@ -159,46 +186,42 @@ pub(super) fn room_for_table(bytes: usize) -> usize {
     bytes.saturating_add(bytes / 8).saturating_add(256)
 }
 
+/// What a request gives, in a first memory of this many bytes.
+///
+/// # Safety
+///
+/// The slices of the request, and those that its folders hold, live through the call.
+unsafe fn asked(request: Request, room: usize) -> Result<Vec<u8>, Refusal> {
+    bytes_of(room.min(request.most), |out, room| {
+        // SAFETY: `out` is memory of its own; the caller says the rest.
+        unsafe { manifest_run(request, out, room) }
+    })
+}
+
 /// What is asked for of the manifest that the bytes are, in at most this many bytes.
 pub(crate) fn read(output: Output, bytes: &[u8], most: usize) -> Result<Vec<u8>, Refusal> {
-    let call = match output {
-        Output::Text => manifest_canonical,
-        Output::Table => manifest_table,
-    };
     let room = match output {
         Output::Text => room_for(bytes.len(), 0),
         Output::Table => room_for_table(bytes.len()),
     };
-    bytes_of(room.min(most), |out, room| {
-        // SAFETY: both pointers are of slices that live through the call and do not overlap, with their lengths.
-        unsafe { call(bytes.as_ptr(), bytes.len(), most, out, room) }
-    })
+    // SAFETY: the slices are borrowed through the call, here and below.
+    unsafe { asked(Request::of(Input::Text, output, bytes, most), room) }
 }
 
 /// The same, completed over listings.
 pub(crate) fn complete(output: Output, bytes: &[u8], listings: &Listings, most: usize) -> Result<Vec<u8>, Refusal> {
-    let call = match output {
-        Output::Text => manifest_completed,
-        Output::Table => manifest_completed_table,
-    };
+    let request = Request::of(Input::Text, output, bytes, most);
     with_folders(listings, |folders| {
-        bytes_of(room_for(bytes.len(), listings.len()).min(most), |out, room| {
-            // SAFETY: as in `read`; so do the slices that the folders hold.
-            unsafe { call(bytes.as_ptr(), bytes.len(), folders.as_ptr(), folders.len(), most, out, room) }
-        })
+        // SAFETY: as in `read`; so are the slices that the folders hold.
+        unsafe { asked(request.with(folders), room_for(bytes.len(), listings.len())) }
     })
 }
 
 /// The same, with what it inherits from the workspace of the root put in.
 pub(crate) fn resolve(output: Output, bytes: &[u8], root: &[u8], most: usize) -> Result<Vec<u8>, Refusal> {
-    let call = match output {
-        Output::Text => manifest_resolved,
-        Output::Table => manifest_resolved_table,
-    };
-    bytes_of(room_for(bytes.len().saturating_add(root.len()), 0).min(most), |out, room| {
-        // SAFETY: as in `read`.
-        unsafe { call(bytes.as_ptr(), bytes.len(), root.as_ptr(), root.len(), most, out, room) }
-    })
+    let request = Request::of(Input::Text, output, bytes, most).over(root);
+    // SAFETY: as in `read`.
+    unsafe { asked(request, room_for(bytes.len().saturating_add(root.len()), 0)) }
 }
 
 /// The same, resolved and then completed.
@@ -209,43 +232,42 @@ pub(crate) fn resolve_and_complete(
     listings: &Listings,
     most: usize,
 ) -> Result<Vec<u8>, Refusal> {
-    let call = match output {
-        Output::Text => manifest_resolved_completed,
-        Output::Table => manifest_resolved_completed_table,
-    };
+    let request = Request::of(Input::Text, output, bytes, most).over(root);
+    let room = room_for(bytes.len().saturating_add(root.len()), listings.len());
     with_folders(listings, |folders| {
-        bytes_of(room_for(bytes.len().saturating_add(root.len()), listings.len()).min(most), |out, room| {
-            let (at, count) = (folders.as_ptr(), folders.len());
-            // SAFETY: as in `complete`.
-            unsafe { call(bytes.as_ptr(), bytes.len(), root.as_ptr(), root.len(), at, count, most, out, room) }
-        })
+        // SAFETY: as in `complete`.
+        unsafe { asked(request.with(folders), room) }
     })
 }
 
-/// A call that takes one slice.
 type OnSlice = unsafe extern "C" fn(*const u8, usize, usize, *mut u8, usize) -> Answer;
 
-/// What a call answers that takes one slice, in at most this many bytes.
+/// What a call answers that takes one text, in at most this many bytes.
 pub(crate) fn of_text(call: OnSlice, bytes: &[u8], most: usize) -> Result<Vec<u8>, Refusal> {
     bytes_of(room_for(bytes.len(), 0).min(most), |out, room| {
-        // SAFETY: as in `read`.
+        // SAFETY: both pointers are of slices that live through the call and do not overlap, with their lengths.
         unsafe { call(bytes.as_ptr(), bytes.len(), most, out, room) }
     })
 }
 
-/// A table, completed over folders that have this many names.
-pub(crate) fn of_table(table: &[u8], folders: &[Folder], names: usize) -> Result<Vec<u8>, Refusal> {
-    bytes_of(room_for(table.len(), names), |out, room| {
-        let (at, count) = (folders.as_ptr(), folders.len());
+/// The canonical text of a table.
+pub(crate) fn of_table(table: &[u8]) -> Result<Vec<u8>, Refusal> {
+    // SAFETY: as in `read`.
+    unsafe { asked(Request::of(Input::Table, Output::Text, table, ANY), room_for(table.len(), 0)) }
+}
+
+/// A table, completed over listings.
+pub(crate) fn complete_table(table: &[u8], listings: &Listings) -> Result<Vec<u8>, Refusal> {
+    let request = Request::of(Input::Table, Output::Table, table, ANY);
+    with_folders(listings, |folders| {
         // SAFETY: as in `complete`.
-        unsafe { manifest_completed_of_table(table.as_ptr(), table.len(), at, count, ANY, out, room) }
+        unsafe { asked(request.with(folders), room_for(table.len(), listings.len())) }
     })
 }
 
 /// A table, with what it inherits from the workspace of the root's put in.
-pub(crate) fn of_tables(member: &[u8], root: &[u8]) -> Result<Vec<u8>, Refusal> {
-    bytes_of(room_for(member.len().saturating_add(root.len()), 0), |out, room| {
-        // SAFETY: as in `read`.
-        unsafe { manifest_resolved_of_tables(member.as_ptr(), member.len(), root.as_ptr(), root.len(), ANY, out, room) }
-    })
+pub(crate) fn resolve_table(member: &[u8], root: &[u8]) -> Result<Vec<u8>, Refusal> {
+    let request = Request::of(Input::Table, Output::Table, member, ANY).over(root);
+    // SAFETY: as in `read`.
+    unsafe { asked(request, room_for(member.len().saturating_add(root.len()), 0)) }
 }

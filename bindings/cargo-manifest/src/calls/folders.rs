@@ -3,7 +3,7 @@
 use super::listings::Listings;
 use super::refusal::ListingError;
 
-/// A slice that is borrowed: `struct manifest_bytes` and `struct manifest_names` of `bindings/c/cargo_manifest.h`.
+/// A slice that is borrowed: `struct manifest_bytes`, `manifest_names` and `manifest_folders` of `bindings/c/cargo_manifest.h`.
 #[repr(C)]
 pub(crate) struct Slice<T> {
     pub(crate) at: *const T,
@@ -11,10 +11,18 @@ pub(crate) struct Slice<T> {
 }
 
 impl<T> Slice<T> {
-    fn of(items: &[T]) -> Slice<T> {
+    pub(crate) fn of(items: &[T]) -> Slice<T> {
         Slice { at: items.as_ptr(), length: items.len() }
     }
 }
+
+impl<T> Clone for Slice<T> {
+    fn clone(&self) -> Slice<T> {
+        *self
+    }
+}
+
+impl<T> Copy for Slice<T> {}
 
 /// `struct manifest_folder`.
 #[repr(C)]

@@ -1,12 +1,11 @@
 //! Calls on the tagged bytes of a whole manifest's table.
 
-use super::declared::{self, of_table, of_tables, of_text, text_of, ANY};
-use super::folders::with_folders;
+use super::declared::{self, complete_table, of_table, of_text, read, resolve_table, text_of, Output, ANY};
 use super::{Apart, Listings, Refusal};
 
 /// The table of the manifest that the bytes are.
 pub(crate) fn table(bytes: &[u8]) -> Result<Vec<u8>, Refusal> {
-    of_text(declared::manifest_table, bytes, ANY)
+    read(Output::Table, bytes, ANY)
 }
 
 /// The same with an empty table in the place of metadata, and the document that has it: where metadata has a float.
@@ -23,15 +22,15 @@ pub(crate) fn document(bytes: &[u8]) -> Result<Vec<u8>, Refusal> {
 
 /// The canonical text of a table.
 pub(crate) fn canonical(table: &[u8]) -> Result<String, Refusal> {
-    of_text(declared::manifest_canonical_of_table, table, ANY).map(text_of)
+    of_table(table).map(text_of)
 }
 
 /// The table, completed over listings.
 pub(crate) fn completed(table: &[u8], listings: &Listings) -> Result<Vec<u8>, Refusal> {
-    with_folders(listings, |folders| of_table(table, folders, listings.len()))
+    complete_table(table, listings)
 }
 
 /// The table, with what it inherits from the workspace of the root's put in.
 pub(crate) fn resolved(member: &[u8], root: &[u8]) -> Result<Vec<u8>, Refusal> {
-    of_tables(member, root)
+    resolve_table(member, root)
 }

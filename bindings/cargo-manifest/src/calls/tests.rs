@@ -1,6 +1,6 @@
 //! What only this crate sees: memory for the answer, memory that is refused, and how the declarations lie in memory.
 
-use super::declared::{manifest_canonical, room_for, room_for_table, Answer};
+use super::declared::{manifest_run, room_for, room_for_table, Answer, Input, Output, Request, ANY};
 use super::folders::{Folder, Slice};
 use super::heap::refusals::{blocks, with_refused};
 use super::{
@@ -23,7 +23,7 @@ const FIVE: [&[u8]; 5] = [
 fn call(bytes: &[u8], room: usize) -> (Answer, Vec<u8>) {
     let mut out = vec![0xAA; room + 8];
     // SAFETY: both pointers are of slices that live through the call and do not overlap; `room` is at most the length.
-    let answer = unsafe { manifest_canonical(bytes.as_ptr(), bytes.len(), usize::MAX, out.as_mut_ptr(), room) };
+    let answer = unsafe { manifest_run(Request::of(Input::Text, Output::Text, bytes, ANY), out.as_mut_ptr(), room) };
     (answer, out)
 }
 
@@ -143,7 +143,24 @@ fn layout() {
         offset_of!(Folder, names),
         offset_of!(Folder, fault),
     );
-    for (name, size) in [("bytes", size_of::<Slice<u8>>()), ("names", size_of::<Slice<Slice<u8>>>())] {
+    let slices = [
+        ("bytes", size_of::<Slice<u8>>()),
+        ("names", size_of::<Slice<Slice<u8>>>()),
+        ("folders", size_of::<Slice<Folder>>()),
+    ];
+    for (name, size) in slices {
         println!("{name}: {size}, at {}, length {}", offset_of!(Slice<u8>, at), offset_of!(Slice<u8>, length));
     }
+    println!(
+        "request: {}, bytes {}, root {}, folders {}, most {}, input {}, output {}, has_root {}, has_folders {}",
+        size_of::<Request>(),
+        offset_of!(Request, bytes),
+        offset_of!(Request, root),
+        offset_of!(Request, folders),
+        offset_of!(Request, most),
+        offset_of!(Request, input),
+        offset_of!(Request, output),
+        offset_of!(Request, has_root),
+        offset_of!(Request, has_folders),
+    );
 }

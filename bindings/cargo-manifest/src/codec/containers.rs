@@ -7,6 +7,7 @@ use crate::value::Value;
 use std::collections::BTreeMap;
 
 impl Form for String {
+    #[inline]
     fn decode(reader: &mut Reader<'_>) -> Option<String> {
         reader.string().map(str::to_owned)
     }
@@ -30,6 +31,7 @@ impl Encode for String {
 }
 
 impl Form for bool {
+    #[inline]
     fn decode(reader: &mut Reader<'_>) -> Option<bool> {
         match reader.byte()? {
             FALSE => Some(false),
@@ -74,6 +76,7 @@ macro_rules! small_integer {
     ($($integer:ident)+) => {
         $(
             impl Form for $integer {
+                #[inline]
                 fn decode(reader: &mut Reader<'_>) -> Option<$integer> {
                     integer(reader)?.try_into().ok()
                 }
@@ -100,6 +103,7 @@ macro_rules! small_integer {
 small_integer! { i8 u16 }
 
 impl<T: Form> Form for Vec<T> {
+    #[inline]
     fn decode(reader: &mut Reader<'_>) -> Option<Vec<T>> {
         let count = reader.array()?;
         let mut items = Vec::with_capacity(reader.at_most::<T>(count));
@@ -139,9 +143,20 @@ impl<T: Encode> Encode for Vec<T> {
     }
 }
 
+/// How many entries a map has in one node: up to here inserting them one by one is faster than by a list.
+const ONE_NODE: u64 = 11;
+
 impl<T: Form> Form for BTreeMap<String, T> {
+    #[inline]
     fn decode(reader: &mut Reader<'_>) -> Option<BTreeMap<String, T>> {
         let mut keys = reader.table()?;
+        if keys.left() <= ONE_NODE {
+            let mut map = BTreeMap::new();
+            while let Some(key) = keys.next(reader)? {
+                map.insert(key.to_owned(), T::decode(reader)?);
+            }
+            return Some(map);
+        }
         let mut members = Vec::with_capacity(reader.at_most::<(String, T)>(keys.left()));
         while let Some(key) = keys.next(reader)? {
             members.push((key.to_owned(), T::decode(reader)?));
@@ -180,6 +195,7 @@ impl<T: Encode> Encode for BTreeMap<String, T> {
 
 /// A value that is there. (Whether a key is absent its row says.)
 impl<T: Form> Form for Option<T> {
+    #[inline]
     fn decode(reader: &mut Reader<'_>) -> Option<Option<T>> {
         T::decode(reader).map(Some)
     }

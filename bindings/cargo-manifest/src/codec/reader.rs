@@ -16,19 +16,27 @@ pub(crate) const FLOAT: u8 = 9;
 /// Bytes that are read from the beginning. Each function answers `None` where the bytes are not what it reads.
 pub(crate) struct Reader<'a> {
     left: &'a [u8],
+    /// Whether the library has written the bytes: then each string in them is UTF-8, by the contract of its call.
+    is_written: bool,
     /// The metadata that was met.
     pub(crate) aside: Aside,
 }
 
 impl<'a> Reader<'a> {
     pub(crate) fn new(bytes: &'a [u8]) -> Reader<'a> {
-        Reader { left: bytes, aside: Aside::default() }
+        Reader { left: bytes, is_written: false, aside: Aside::default() }
+    }
+
+    /// The same for bytes that a call of the library has answered.
+    pub(crate) fn of_answer(bytes: &'a [u8]) -> Reader<'a> {
+        Reader { is_written: true, ..Reader::new(bytes) }
     }
 
     pub(crate) fn is_at_end(&self) -> bool {
         self.left.is_empty()
     }
 
+    #[inline]
     pub(crate) fn byte(&mut self) -> Option<u8> {
         let (first, left) = self.left.split_first()?;
         self.left = left;
@@ -41,6 +49,7 @@ impl<'a> Reader<'a> {
     }
 
     /// Steps over the tag, if it is the next byte.
+    #[inline]
     pub(crate) fn tag(&mut self, tag: u8) -> Option<()> {
         (self.byte()? == tag).then_some(())
     }
@@ -76,6 +85,7 @@ impl<'a> Reader<'a> {
     }
 
     /// The bytes of a string without its tag.
+    #[inline]
     fn bytes(&mut self) -> Option<&'a [u8]> {
         let length = usize::try_from(self.number()?).ok()?;
         let (bytes, left) = self.left.split_at_checked(length)?;
@@ -84,11 +94,20 @@ impl<'a> Reader<'a> {
     }
 
     /// A string without its tag.
+    #[inline]
+    #[allow(unsafe_code)]
     pub(crate) fn str(&mut self) -> Option<&'a str> {
-        std::str::from_utf8(self.bytes()?).ok()
+        let bytes = self.bytes()?;
+        if self.is_written && !cfg!(debug_assertions) {
+            // SAFETY: the tagged bytes of a table are those of its values (`encoded`, in the contract of the call), whose strings
+            // are UTF-8; the archive is of the version that this crate was written for.
+            return Some(unsafe { std::str::from_utf8_unchecked(bytes) });
+        }
+        std::str::from_utf8(bytes).ok()
     }
 
     /// A string, whose tag is next.
+    #[inline]
     pub(crate) fn string(&mut self) -> Option<&'a str> {
         self.tag(STRING)?;
         self.str()
@@ -155,6 +174,7 @@ impl<'a> Keys<'a> {
     }
 
     /// The next key, whose value stands after it; or `None`, where there are no more.
+    #[inline]
     pub(crate) fn next(&mut self, reader: &mut Reader<'a>) -> Option<Option<&'a str>> {
         if self.left == 0 {
             return Some(None);

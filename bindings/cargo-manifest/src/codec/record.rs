@@ -33,6 +33,7 @@ macro_rules! record {
         }
 
         impl $(<$($param),+>)? $crate::codec::Form for $name $(<$($param),+>)? {
+            #[inline]
             fn decode(reader: &mut $crate::codec::Reader<'_>) -> Option<Self> {
                 $(#[allow(unused_mut, unused_assignments)] let mut $field = None;)+
                 $(let mut $others = Vec::new();)?

@@ -1,6 +1,6 @@
 //! Bytes that are no table of a manifest.
 
-use crate::codec::Aside;
+use crate::codec::{Aside, Reader};
 use crate::reading::{decoded, encode};
 use crate::value::tests::Random;
 use crate::value::{self, Value};
@@ -28,7 +28,7 @@ fn is_unwritten(value: &Value) -> bool {
 
 /// Whether the bytes are read as a manifest: then they are exactly those that are written of it.
 fn is_read(bytes: &[u8]) -> bool {
-    let Some((manifest, aside)) = decoded::<Value, Value>(bytes) else { return false };
+    let Some((manifest, aside)) = decoded::<Value, Value>(Reader::new(bytes)) else { return false };
     let value = value::decoded(bytes).expect("a manifest is a value too");
     match encode(&manifest, aside) {
         Ok(again) => assert_eq!(again, bytes, "{manifest:?}"),

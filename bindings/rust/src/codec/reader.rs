@@ -27,7 +27,7 @@ impl<'a> Reader<'a> {
         Reader { left: bytes, is_written: false, aside: Aside::default() }
     }
 
-    /// The same of bytes that a call of the library has answered.
+    /// The same for bytes that a call of the library has answered.
     pub(crate) fn of_answer(bytes: &'a [u8]) -> Reader<'a> {
         Reader { is_written: true, ..Reader::new(bytes) }
     }
