@@ -6,4 +6,3 @@
 
 pub mod examples;
 pub mod kinds;
-pub mod laws;
