@@ -3,7 +3,7 @@
 //!
 //! Each function returns at once: it is there for its contract, a law of the definitions.
 
-ghost use Rattle.manifest_schema.specs.Prelude.{kept, tree_of, MeansOne, WrittenIsRead, AcceptedIsWellFormed, WrittenMeansTheSame, RewrittenMeansTheSame, RewrittenTwiceIsOnce, SameExactly, SameWrittenIsSame, FaultyMeansNothing, AcceptedOrFaulty, FindsEveryFault, FaultlessIfMeant, SameWithoutUnused, RewrittenWithoutUnused, FindsEachOnce, FindsNothingWritten, FindsNothingRewritten, IsClean, WritesEachRow, form, manifest_rows, OldWrittenIsRead, MeantDatesAreValid, WrittenDatesAreValid};
+ghost use Rattle.manifest_schema.specs.Prelude.{tree_of, MeansOne, WrittenIsRead, AcceptedIsWellFormed, WrittenMeansTheSame, RewrittenMeansTheSame, RewrittenTwiceIsOnce, SameExactly, SameWrittenIsSame, FaultyMeansNothing, AcceptedOrFaulty, FindsEveryFault, FaultlessIfMeant, SameWithoutUnused, RewrittenWithoutUnused, FindsEachOnce, FindsNothingWritten, FindsNothingRewritten, IsClean, WritesEachRow, form, manifest_rows, OldTopUnused, OldWrittenIsRead, MeantDatesAreValid, WrittenDatesAreValid};
 ghost use Rattle.manifest_completion.specs.Laws.{CompletedIsFixed};
 ghost use Rattle.cargo_manifest.specs.Completes.{StoredDecides, StoredDecidesUnfound};
 ghost use Rattle.cargo_manifest.specs.Dates.{ParsedDatesAreValid, ReadDatesAreValid, CompletedDatesAreValid};
@@ -23,11 +23,13 @@ pub fn means_one<P: Metadata, W: Metadata>()
 
 /// What is written of a well-formed manifest is read as that manifest, by the form of a manifest (which takes no old
 /// header into account).
+#[tactic(auto, using(manifest_schema::proofs::MeaningLaws::written_is_read, manifest_schema::proofs::KindLaws::tree_sound))]
 pub fn written_is_read<P: Metadata, W: Metadata>()
     ensures { WrittenIsRead (tree_of P.kind) (tree_of W.kind) }
 {}
 
 /// What a table means is well-formed, and has a package or a workspace.
+#[tactic(auto, using(manifest_schema::proofs::MeaningLaws::accepted_is_well_formed, manifest_schema::proofs::KindLaws::tree_sound))]
 pub fn accepted_is_well_formed<P: Metadata, W: Metadata>()
     ensures { AcceptedIsWellFormed (tree_of P.kind) (tree_of W.kind) }
 {}
@@ -42,11 +44,13 @@ pub fn well_formed_by_parts<P: Metadata, W: Metadata>()
 {}
 
 /// What is written of a well-formed manifest with a package or a workspace means that manifest.
+#[tactic(auto, using(manifest_schema::proofs::MeaningLaws::written_means_the_same, manifest_schema::proofs::KindLaws::tree_sound))]
 pub fn written_means_the_same<P: Metadata, W: Metadata>()
     ensures { WrittenMeansTheSame (tree_of P.kind) (tree_of W.kind) }
 {}
 
 /// The rewritten table of an accepted table (the canonical table of what it means) means the same manifest.
+#[tactic(auto, using(manifest_schema::proofs::MeaningLaws::rewritten_means_the_same, manifest_schema::proofs::KindLaws::tree_sound))]
 pub fn rewritten_means_the_same<P: Metadata, W: Metadata>()
     ensures { RewrittenMeansTheSame (tree_of P.kind) (tree_of W.kind) }
 {}
@@ -71,47 +75,51 @@ pub fn faulty_means_nothing<P: Metadata, W: Metadata>()
     ensures { FaultyMeansNothing (tree_of P.kind) (tree_of W.kind) }
 {}
 
-/// A table means a manifest or has a fault, with metadata kept as it is: that of the type `Value`.
-pub fn accepted_or_faulty()
-    ensures { AcceptedOrFaulty (tree_of kept) (tree_of kept) }
+/// A table means a manifest or has a fault.
+pub fn accepted_or_faulty<P: Metadata, W: Metadata>()
+    ensures { AcceptedOrFaulty (tree_of P.kind) (tree_of W.kind) }
 {}
 
-/// Each fault of a table is found, and no other.
+/// Each fault of a table is found, and no other: those by the form of a manifest, and where the table has no header those
+/// of the old package, whose paths begin with `project` where the table has it.
+#[tactic(auto, using(manifest_schema::proofs::FoundLaws::finds_every_fault))]
 pub fn finds_every_fault<P: Metadata, W: Metadata>()
     ensures { FindsEveryFault (tree_of P.kind) (tree_of W.kind) }
 {}
 
-/// No fault is found in a table exactly if it means a manifest, with metadata kept as it is: that of the type `Value`.
-pub fn faultless_if_meant()
-    ensures { FaultlessIfMeant (tree_of kept) (tree_of kept) }
+/// No fault is found in a table exactly if it means a manifest.
+#[tactic(auto, using(manifest_schema::proofs::FoundLaws::faultless_if_meant, manifest_schema::proofs::KindLaws::tree_sound))]
+pub fn faultless_if_meant<P: Metadata, W: Metadata>()
+    ensures { FaultlessIfMeant (tree_of P.kind) (tree_of W.kind) }
 {}
 
-/// A table whose keys ascend, as those of a document do, means the same manifest and has the same faults without the
-/// keys that nothing reads, with metadata kept as it is.
-pub fn same_without_unused()
-    ensures { SameWithoutUnused (tree_of kept) (tree_of kept) }
+/// A table whose keys ascend, as those of a document and of the tables inside it do, means the same manifest and has the
+/// same faults without the keys that nothing reads: those that are found as unused are indeed of no use.
+pub fn same_without_unused<P: Metadata, W: Metadata>()
+    ensures { SameWithoutUnused (tree_of P.kind) (tree_of W.kind) }
 {}
 
 /// An accepted table whose keys ascend, as do those of the tables inside, is rewritten to the same table with its
-/// unused keys and without them, with metadata of the type `Value`.
-pub fn rewritten_without_unused()
-    ensures { RewrittenWithoutUnused (tree_of kept) (tree_of kept) }
+/// unused keys and without them.
+pub fn rewritten_without_unused<P: Metadata, W: Metadata>()
+    ensures { RewrittenWithoutUnused (tree_of P.kind) (tree_of W.kind) }
 {}
 
-/// Each place of a table whose keys ascend, as do those of the tables inside, is reported once, with metadata of the
-/// type `Value`: no two findings have the same path, and none stands inside the value that another one stands at.
-pub fn finds_each_once()
-    ensures { FindsEachOnce (tree_of kept) (tree_of kept) }
+/// Each place of a table whose keys ascend, as do those of the tables inside, is reported once: no two findings have
+/// the same path, and none stands inside the value that another one stands at.
+#[tactic(auto, using(manifest_schema::proofs::FoundOnce::finds_each_once, manifest_schema::proofs::KindLaws::tree_sound))]
+pub fn finds_each_once<P: Metadata, W: Metadata>()
+    ensures { FindsEachOnce (tree_of P.kind) (tree_of W.kind) }
 {}
 
 /// Nothing is found in what is written of a well-formed manifest with a package or a workspace, nor in the rewritten
-/// table of an accepted table, with metadata of the type `Value`: no fault, nothing that is ignored, and no key that
-/// nothing reads. Nor does the form of a manifest (which takes no old header into account) find anything in what is
-/// written of any well-formed manifest.
-pub fn finds_nothing_written()
-    ensures form { IsClean (form (manifest_rows (tree_of kept) (tree_of kept))) }
-    ensures written { FindsNothingWritten (tree_of kept) (tree_of kept) }
-    ensures rewritten { FindsNothingRewritten (tree_of kept) (tree_of kept) }
+/// table of an accepted table: no fault, nothing that is ignored, and no key that nothing reads. Nor does the form of a
+/// manifest (which takes no old header into account) find anything in what is written of any well-formed manifest.
+#[tactic(auto, using(manifest_schema::proofs::WrittenLaws::finds_nothing_written, manifest_schema::proofs::WrittenLaws::finds_nothing_rewritten, manifest_schema::proofs::KindLaws::tree_sound))]
+pub fn finds_nothing_written<P: Metadata, W: Metadata>()
+    ensures form { IsClean (form (manifest_rows (tree_of P.kind) (tree_of W.kind))) }
+    ensures written { FindsNothingWritten (tree_of P.kind) (tree_of W.kind) }
+    ensures rewritten { FindsNothingRewritten (tree_of P.kind) (tree_of W.kind) }
 {}
 
 /// The table that is written of a well-formed manifest holds what the need of each row writes, under the first spelling
@@ -119,6 +127,13 @@ pub fn finds_nothing_written()
 #[tactic(auto, using(manifest_schema::proofs::WrittenLaws::manifest_by_rows))]
 pub fn manifest_is_written_by_rows<P: Metadata, W: Metadata>()
     ensures { WritesEachRow (manifest_rows (tree_of P.kind) (tree_of W.kind)) }
+{}
+
+/// At the top of a table without a header a key is unused exactly if no row of a manifest has it, and, where the table
+/// has the old `project`, it is not that key, or else no row of the package has it, which is read from the same table.
+#[tactic(auto, using(manifest_schema::proofs::Pinned::old_top_is_unused, manifest_schema::proofs::KindLaws::tree_sound))]
+pub fn old_top_is_unused<P: Metadata, W: Metadata>()
+    ensures { OldTopUnused (tree_of P.kind) (tree_of W.kind) }
 {}
 
 /// Where no inherited dependency of a manifest chooses its default features, what is written of the manifest is what

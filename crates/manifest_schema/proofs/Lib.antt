@@ -23,7 +23,6 @@ pub mod GoodLaws
 pub mod FormerLaws
 pub mod CopyLaws
 pub mod ScalarLaws
-pub mod ReadScalars
 pub mod DateLaws
 pub mod OneFaultLaws
 pub mod FaultPlaces

@@ -5,4 +5,3 @@
 
 pub mod examples;
 pub mod kinds;
-pub mod laws;

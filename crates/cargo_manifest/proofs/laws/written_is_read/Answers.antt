@@ -1,6 +1,0 @@
-use Rattle.manifest_schema.proofs.KindLaws.{tree_sound}
-use Rattle.manifest_schema.proofs.MeaningLaws.{written_is_read}
-use Rattle.cargo_manifest.proofs.laws.written_is_read.Goals as goal
-
-pub returns : goal.returns
-returns g c = written_is_read (tree_sound g.met.P.Schema.lawful) (tree_sound g.met.W.Schema.lawful)

@@ -1,6 +1,0 @@
-use Rattle.manifest_schema.proofs.KindLaws.{tree_sound}
-use Rattle.manifest_schema.proofs.FoundLaws.{faulty_means_nothing}
-use Rattle.manifest_schema.proofs.laws.faulty_means_nothing.Goals as goal
-
-pub returns : goal.returns
-returns g c = faulty_means_nothing (tree_sound g.met.P.SoundKind.sound) (tree_sound g.met.W.SoundKind.sound)

@@ -1,8 +1,0 @@
-use Rattle.manifest_schema.proofs.KindLaws.{tree_sound}
-use Rattle.manifest_schema.proofs.OldLaws.{clean_of}
-use Rattle.manifest_schema.proofs.ManifestLaws.{manifest_sound}
-use Rattle.manifest_schema.proofs.laws.finds_nothing_written.Goals as goal
-
-pub returns-clause-form : goal.returns-clause-form
-returns-clause-form g c =
-    clean_of (manifest_sound _ _ (tree_sound g.met.P.SoundKind.sound) (tree_sound g.met.W.SoundKind.sound))

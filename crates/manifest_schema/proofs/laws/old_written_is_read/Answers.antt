@@ -1,6 +1,0 @@
-use Rattle.manifest_schema.proofs.KindLaws.{tree_sound}
-use Rattle.manifest_schema.proofs.FormerLaws.{old_written_is_read}
-use Rattle.manifest_schema.proofs.laws.old_written_is_read.Goals as goal
-
-pub returns : goal.returns
-returns g c = old_written_is_read (tree_sound g.met.P.SoundKind.sound) (tree_sound g.met.W.SoundKind.sound)
