@@ -48,25 +48,16 @@ impl<'a> Reader<'a> {
             self.old.left.now result self.new.left.now }
         ensures held { IsTaken take_number self.old.left.now result self.new.left.now }
     {
-        self.number_within(9)
-    }
-
-    /// A number of one byte and at most `more` bytes after it.
-    #[tactic(auto, using(std::proofs::lemmas::Grind::common_steps, crate::proofs::NumberLemmas::number_more, crate::proofs::NumberLemmas::number_last))]
-    fn number_within(&mut self, more: usize) -> Option<u64>
-        ensures reads { Reads (λ n. (n < 2 ^ 64) × (n < 128 ^ (more + 1))) number_bytes
-            self.old.left.now result self.new.left.now }
-        ensures held { IsTaken take_number self.old.left.now result self.new.left.now }
-    {
-        let byte = self.byte()?;
-        if byte < 128 {
-            return Some(u64::from(byte));
+        let mut number: u64 = 0;
+        let mut unit: u64 = 1;
+        loop {
+            let byte = self.byte()?;
+            number = number.checked_add(u64::from(byte % 128).checked_mul(unit)?)?;
+            if byte < 128 {
+                return Some(number);
+            }
+            unit = unit.checked_mul(128)?;
         }
-        if more == 0 {
-            return None;
-        }
-        let high = self.number_within(more - 1)?;
-        high.checked_mul(128)?.checked_add(u64::from(byte - 128))
     }
 
     /// A string without its tag: its length in bytes, and the bytes; `None` where they end too early or are not UTF-8.
