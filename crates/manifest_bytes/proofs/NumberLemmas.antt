@@ -17,13 +17,7 @@ groups_same zero (suc g) n h k =
 groups_same (suc f) zero n h k =
     let none : n ≡ 0 = omega arith in
     rw none refl
-groups_same (suc f) (suc g) n h k = by_size (nat_lt n 128) refl (λ p q. groups_same f g (n / 128) p q)
-  where
-    by_size : (b : Bool) → nat_lt n 128 ≡ b → (n / 128 ≤ f → n / 128 ≤ g → groups f (n / 128) ≡ groups g (n / 128)) → (if b then n ∷ [] else (n % 128 + 128) ∷ groups f (n / 128)) ≡ (if b then n ∷ [] else (n % 128 + 128) ∷ groups g (n / 128))
-    by_size true e same = refl
-    by_size false e same =
-        let large : 128 ≤ n = grind (arith, nat_tests) in
-        ap (λ bs. (n % 128 + 128) ∷ bs) (same (omega arith) (omega arith))
+groups_same (suc f) (suc g) n h k = grind (arith, nat_tests, groups_same f g (n / 128))
 
 -- the bytes of a number from 128 on, and of one below
 pub number_more : (n : ℕ) → 128 ≤ n → number_bytes n ≡ (n % 128 + 128) ∷ number_bytes (n / 128)
@@ -55,15 +49,7 @@ unfolding groups
 groups_back zero n rest h =
     let none : n ≡ 0 = omega arith in
     rw none refl
-groups_back (suc f) n rest h = by_size (nat_lt n 128) refl (λ p. groups_back f (n / 128) rest p)
-  where
-    by_size : (b : Bool) → nat_lt n 128 ≡ b → (n / 128 ≤ f → take_number (groups f (n / 128) ++ rest) ≡ Some (n / 128, rest)) → take_number ((if b then n ∷ [] else (n % 128 + 128) ∷ groups f (n / 128)) ++ rest) ≡ Some (n, rest)
-    by_size true e back = rw e refl
-    by_size false e back =
-        let large : 128 ≤ n = grind (arith, nat_tests) in
-        let marked : nat_lt (n % 128 + 128) 128 ≡ false = grind (arith, nat_tests) in
-        let low : n % 128 + 128 - 128 + 128 * (n / 128) ≡ n = omega arith in
-        rw (marked, back (omega arith), low) refl
+groups_back (suc f) n rest h = grind (arith, nat_tests, groups_back f (n / 128) rest)
 
 pub number_back : (n : ℕ) (rest : List ℕ) → take_number (number_bytes n ++ rest) ≡ Some (n, rest)
 unfolding number_bytes
@@ -75,25 +61,20 @@ ReadsAbove number unit old result new =
     (n : ℕ) (rest : List ℕ) → number + unit * n < 2 ^ 64 → old ≡ number_bytes n ++ rest →
     (result ≡ Some (number + unit * n)) × (new ≡ rest)
 
-abbrev pub TakenAbove : ℕ → ℕ → List ℕ → Option ℕ → List ℕ → Type 0
-TakenAbove number unit = IsTaken (λ bs. made (λ n. number + unit * n) (take_number bs))
+-- what is taken of a number whose first byte is its last, or is not
+pub taken_last : (old mid : List ℕ) (byte : ℕ) → take_byte old ≡ Some (byte, mid) → byte < 128 →
+    take_number old ≡ Some (byte, mid)
+taken_last [] mid byte h small = absurd (none-some _ h)
+taken_last (b ∷ bs) mid byte h small = grind (arith, nat_tests, some_pair_parts b byte bs mid h)
 
--- that of a byte which is not the last, by what is read in the next unit
-pub taken_above : (old mid new : List ℕ) (byte number unit above more : ℕ) (result : Option ℕ) →
-    (take_byte old ≡ Some (byte, mid)) × (length mid ≤ length old) → byte < 256 → 128 ≤ byte →
-    above ≡ number + byte % 128 * unit → more ≡ unit * 128 →
-    TakenAbove above more mid result new → TakenAbove number unit old result new
-taken_above old mid new byte number unit above more None h fits marked e f held = tt
-taken_above [] mid new byte number unit above more (Some x) h fits marked e f held = absurd (none-some _ h.0)
-taken_above (b ∷ bs) mid new byte number unit above more (Some x) h fits marked e f held =
-    let (same, left) = some_pair_parts _ _ _ _ h.0 in
-    let large : nat_lt b 128 ≡ false = grind (arith, nat_tests) in
-    let fewer = h.1 in
-    (rw (large, left, same) (rest (take_number mid) held.0), omega (arith, held.1))
+pub taken_more : (old mid rest : List ℕ) (byte n : ℕ) → take_byte old ≡ Some (byte, mid) → 128 ≤ byte →
+    take_number mid ≡ Some (n, rest) → take_number old ≡ Some (byte - 128 + 128 * n, rest)
+taken_more [] mid rest byte n h large more = absurd (none-some _ h)
+taken_more (b ∷ bs) mid rest byte n h large more = grind (arith, nat_tests, some_pair_parts b byte bs mid h)
+
+pub above : (number unit byte n : ℕ) → byte < 256 → 128 ≤ byte →
+    number + unit * (byte - 128 + 128 * n) ≡ number + byte % 128 * unit + unit * 128 * n
+above number unit byte n fits marked = low (byte - 128) (omega arith)
   where
-    low : (n r : ℕ) → byte ≡ r + 128 → byte % 128 ≡ r → number + unit * (r + 128 * n) ≡ above + more * n
-    low n r is small = rw (e, f, small) (omega arith)
-
-    rest : (t : Taken ℕ) → made (λ n. above + more * n) t ≡ Some (x, new) → made (λ n. number + unit * n) (with_low (byte - 128) t) ≡ Some (x, new)
-    rest None k = absurd (none-some _ k)
-    rest (Some r) k = rw (low r.0 (byte - 128) (omega arith) (omega arith)) k
+    low : (r : ℕ) → byte % 128 ≡ r → number + unit * (r + 128 * n) ≡ number + byte % 128 * unit + unit * 128 * n
+    low r e = rw e (omega arith)
