@@ -2,7 +2,6 @@ pub mod NumberLemmas
 pub mod TagLemmas
 pub mod ItemLemmas
 pub mod MemberLemmas
-pub mod HeldLemmas
 pub mod ValueLemmas
 pub mod DecodedLemmas
 pub mod FloatLemmas
