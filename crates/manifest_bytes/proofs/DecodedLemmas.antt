@@ -9,7 +9,7 @@ use Rattle.toml_datetime.specs.declared.datetime.Offset.{Offset}
 use Rattle.toml_datetime.specs.declared.datetime.Offset.TheVariants.{Z, Custom}
 use Rattle.toml_datetime.specs.declared.datetime.Datetime.{Datetime}
 use Rattle.toml.specs.Data.{depth}
-use Rattle.manifest_bytes.specs.Numbers.{number_bytes, take_number}
+use Rattle.manifest_bytes.specs.Numbers.{Taken, number_bytes, take_number}
 use Rattle.manifest_bytes.specs.Encoded.{text_bytes, part_bytes, date_bytes, second_bytes, time_bytes, offset_bytes, datetime_bytes, item_count, member_count, encoded, items_bytes, members_bytes}
 use Rattle.manifest_bytes.specs.Decoded.{take_byte, take_front, take_text, take_part, take_date, take_time, take_offset, take_datetime, take_items, take_members, take_value, whole}
 use Rattle.manifest_bytes.specs.Laws.{EncodedIsDecoded}
@@ -25,43 +25,28 @@ pub text_back : (t rest : List ℕ) → take_text (text_bytes t ++ rest) ≡ Som
 text_back t rest = rw (append_assoc (number_bytes (length t)) t rest, number_back (length t) (t ++ rest), front_back t rest) refl
 
 -- DATES
-second_back : (s : Option ℕ) (rest : List ℕ) → take_part take_byte (part_bytes second_bytes s ++ rest) ≡ Some (s, rest)
-second_back None rest = refl
-second_back (Some s) rest = refl
-
-nano_back : (n : Option ℕ) (rest : List ℕ) → take_part take_number (part_bytes number_bytes n ++ rest) ≡ Some (n, rest)
-nano_back None rest = refl
-nano_back (Some n) rest = rw (number_back n rest) refl
+part_back : {A : Type 0} (take : List ℕ → Taken A) (bytes : A → List ℕ) → ((a : A) (rest : List ℕ) → take (bytes a ++ rest) ≡ Some (a, rest)) →
+    (part : Option A) (rest : List ℕ) → take_part take (part_bytes bytes part ++ rest) ≡ Some (part, rest)
+part_back take bytes back None rest = refl
+part_back take bytes back (Some a) rest = rw (back a rest) refl
 
 date_back : (d : Date) (rest : List ℕ) → take_date (date_bytes d ++ rest) ≡ Some (d, rest)
 date_back d rest = rw (number_back d.year rest) refl
 
 time_back : (t : Time) (rest : List ℕ) → take_time (time_bytes t ++ rest) ≡ Some (t, rest)
-time_back t rest = rw (append_assoc (part_bytes second_bytes t.second) (part_bytes number_bytes t.nanosecond) rest, second_back t.second (part_bytes number_bytes t.nanosecond ++ rest), nano_back t.nanosecond rest) refl
+time_back t rest = rw (append_assoc (part_bytes second_bytes t.second) (part_bytes number_bytes t.nanosecond) rest, part_back take_byte second_bytes (λ s rest. refl) t.second (part_bytes number_bytes t.nanosecond ++ rest), part_back take_number number_bytes number_back t.nanosecond rest) refl
 
 offset_back : (o : Offset) (rest : List ℕ) → take_offset (offset_bytes o ++ rest) ≡ Some (o, rest)
 offset_back Z rest = refl
 offset_back (Custom (pos n)) rest = rw (number_back n rest) refl
 offset_back (Custom (negsuc n)) rest = rw (number_back n rest) refl
 
-dates_back : (d : Option Date) (rest : List ℕ) → take_part take_date (part_bytes date_bytes d ++ rest) ≡ Some (d, rest)
-dates_back None rest = refl
-dates_back (Some d) rest = rw (date_back d rest) refl
-
-times_back : (t : Option Time) (rest : List ℕ) → take_part take_time (part_bytes time_bytes t ++ rest) ≡ Some (t, rest)
-times_back None rest = refl
-times_back (Some t) rest = rw (time_back t rest) refl
-
-offsets_back : (o : Option Offset) (rest : List ℕ) → take_part take_offset (part_bytes offset_bytes o ++ rest) ≡ Some (o, rest)
-offsets_back None rest = refl
-offsets_back (Some o) rest = rw (offset_back o rest) refl
-
 datetime_back : (t : Datetime) (rest : List ℕ) → take_datetime (datetime_bytes t ++ rest) ≡ Some (t, rest)
 datetime_back t rest =
     let date = part_bytes date_bytes t.date in
     let time = part_bytes time_bytes t.time in
     let offset = part_bytes offset_bytes t.offset in
-    rw (append_assoc date (time ++ offset) rest, append_assoc time offset rest, dates_back t.date (time ++ (offset ++ rest)), times_back t.time (offset ++ rest), offsets_back t.offset rest) refl
+    rw (append_assoc date (time ++ offset) rest, append_assoc time offset rest, part_back take_date date_bytes date_back t.date (time ++ (offset ++ rest)), part_back take_time time_bytes time_back t.time (offset ++ rest), part_back take_offset offset_bytes offset_back t.offset rest) refl
 
 -- VALUES
 mutual
@@ -96,14 +81,9 @@ mutual
 -- bytes are longer than what they hold is deep
 mutual
   shallow : (d : Data) → depth d ≤ length (encoded d)
-  shallow (string s) = omega arith
-  shallow (integer (pos n)) = omega arith
-  shallow (integer (negsuc n)) = omega arith
-  shallow (boolean b) = omega arith
-  shallow (datetime t) = omega arith
-  shallow (float x) = omega arith
   shallow (array ds) = let inner = items_shallow ds in omega (arith, length-append (number_bytes (item_count ds)) (items_bytes ds))
   shallow (table ms) = let inner = members_shallow ms in omega (arith, length-append (number_bytes (member_count ms)) (members_bytes ms))
+  shallow _ = omega arith
 
   items_shallow : (ds : Items) → items_depth ds ≤ length (items_bytes ds)
   items_shallow no_items = omega arith

@@ -1,9 +1,7 @@
 pub mod NumberLemmas
-pub mod ReadLemmas
-pub mod PartLemmas
 pub mod TagLemmas
-pub mod ThenLemmas
-pub mod HeldLemmas
+pub mod ItemLemmas
+pub mod MemberLemmas
 pub mod ValueLemmas
 pub mod DecodedLemmas
 pub mod FloatLemmas

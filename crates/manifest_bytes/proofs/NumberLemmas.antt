@@ -1,8 +1,11 @@
 -- Lemmas on whole numbers as bytes.
-use Rattle.std.proofs.Common.{◌≡◌, ℕ, zero, suc, ◌+◌, ◌-◌, ◌*◌, ◌/◌, ◌%◌, ◌≤◌, ◌<◌, List, [], ◌∷◌, ◌++◌, Bool, true, false, if◌then◌else◌, Some, refl, ap, arith}
+use Rattle.std.proofs.Common.{◌≡◌, ℕ, zero, suc, ◌+◌, ◌-◌, ◌*◌, ◌/◌, ◌%◌, ◌≤◌, ◌<◌, List, [], ◌∷◌, ◌++◌, length, Bool, true, false, if◌then◌else◌, Option, Some, None, ◌^◌, refl, ap, arith}
 use Rattle.std.proofs.lemmas.Bool.Decides.{nat_tests}
+use Rattle.std.proofs.lemmas.Option.{none-some, some_pair_parts}
 use Rattle.std.specs.Prelude.{nat_lt}
-use Rattle.manifest_bytes.specs.Numbers.{groups, number_bytes, take_number}
+use Rattle.manifest_bytes.specs.Numbers.{groups, number_bytes, Taken, with_low, take_number}
+use Rattle.manifest_bytes.specs.Decoded.{made, take_byte}
+use Rattle.manifest_bytes.specs.Read.{IsTaken}
 
 -- room for more bytes changes none
 groups_same : (f g n : ℕ) → n ≤ f → n ≤ g → groups f n ≡ groups g n
@@ -14,13 +17,7 @@ groups_same zero (suc g) n h k =
 groups_same (suc f) zero n h k =
     let none : n ≡ 0 = omega arith in
     rw none refl
-groups_same (suc f) (suc g) n h k = by_size (nat_lt n 128) refl (λ p q. groups_same f g (n / 128) p q)
-  where
-    by_size : (b : Bool) → nat_lt n 128 ≡ b → (n / 128 ≤ f → n / 128 ≤ g → groups f (n / 128) ≡ groups g (n / 128)) → (if b then n ∷ [] else (n % 128 + 128) ∷ groups f (n / 128)) ≡ (if b then n ∷ [] else (n % 128 + 128) ∷ groups g (n / 128))
-    by_size true e same = refl
-    by_size false e same =
-        let large : 128 ≤ n = grind (arith, nat_tests) in
-        ap (λ bs. (n % 128 + 128) ∷ bs) (same (omega arith) (omega arith))
+groups_same (suc f) (suc g) n h k = grind (arith, nat_tests, groups_same f g (n / 128))
 
 -- the bytes of a number from 128 on, and of one below
 pub number_more : (n : ℕ) → 128 ≤ n → number_bytes n ≡ (n % 128 + 128) ∷ number_bytes (n / 128)
@@ -39,22 +36,45 @@ number_last (suc m) h =
     let small : nat_lt (suc m) 128 ≡ true = grind (arith, nat_tests) in
     rw small refl
 
+-- a number times a unit, by the lowest bits and the others
+pub parts : (unit n : ℕ) → unit * n ≡ unit * (n % 128) + unit * 128 * (n / 128)
+parts unit n = rows (n / 128) (n % 128) (omega arith)
+  where
+    rows : (q r : ℕ) → n ≡ 128 * q + r → unit * n ≡ unit * r + unit * 128 * q
+    rows q r e = rw e (omega arith)
+
 -- A NUMBER is what its bytes hold
 groups_back : (f n : ℕ) (rest : List ℕ) → n ≤ f → take_number (groups f n ++ rest) ≡ Some (n, rest)
 unfolding groups
 groups_back zero n rest h =
     let none : n ≡ 0 = omega arith in
     rw none refl
-groups_back (suc f) n rest h = by_size (nat_lt n 128) refl (λ p. groups_back f (n / 128) rest p)
-  where
-    by_size : (b : Bool) → nat_lt n 128 ≡ b → (n / 128 ≤ f → take_number (groups f (n / 128) ++ rest) ≡ Some (n / 128, rest)) → take_number ((if b then n ∷ [] else (n % 128 + 128) ∷ groups f (n / 128)) ++ rest) ≡ Some (n, rest)
-    by_size true e back = rw e refl
-    by_size false e back =
-        let large : 128 ≤ n = grind (arith, nat_tests) in
-        let marked : nat_lt (n % 128 + 128) 128 ≡ false = grind (arith, nat_tests) in
-        let low : n % 128 + 128 - 128 + 128 * (n / 128) ≡ n = omega arith in
-        rw (marked, back (omega arith), low) refl
+groups_back (suc f) n rest h = grind (arith, nat_tests, groups_back f (n / 128) rest)
 
 pub number_back : (n : ℕ) (rest : List ℕ) → take_number (number_bytes n ++ rest) ≡ Some (n, rest)
 unfolding number_bytes
 number_back n rest = groups_back n n rest (omega arith)
+
+-- WHAT IS READ of what stands above a number, which counts in a unit
+abbrev pub ReadsAbove : ℕ → ℕ → List ℕ → Option ℕ → List ℕ → Type 0
+ReadsAbove number unit old result new =
+    (n : ℕ) (rest : List ℕ) → number + unit * n < 2 ^ 64 → old ≡ number_bytes n ++ rest →
+    (result ≡ Some (number + unit * n)) × (new ≡ rest)
+
+-- what is taken of a number whose first byte is its last, or is not
+pub taken_last : (old mid : List ℕ) (byte : ℕ) → take_byte old ≡ Some (byte, mid) → byte < 128 →
+    take_number old ≡ Some (byte, mid)
+taken_last [] mid byte h small = absurd (none-some _ h)
+taken_last (b ∷ bs) mid byte h small = grind (arith, nat_tests, some_pair_parts b byte bs mid h)
+
+pub taken_more : (old mid rest : List ℕ) (byte n : ℕ) → take_byte old ≡ Some (byte, mid) → 128 ≤ byte →
+    take_number mid ≡ Some (n, rest) → take_number old ≡ Some (byte - 128 + 128 * n, rest)
+taken_more [] mid rest byte n h large more = absurd (none-some _ h)
+taken_more (b ∷ bs) mid rest byte n h large more = grind (arith, nat_tests, some_pair_parts b byte bs mid h)
+
+pub above : (number unit byte n : ℕ) → byte < 256 → 128 ≤ byte →
+    number + unit * (byte - 128 + 128 * n) ≡ number + byte % 128 * unit + unit * 128 * n
+above number unit byte n fits marked = low (byte - 128) (omega arith)
+  where
+    low : (r : ℕ) → byte % 128 ≡ r → number + unit * (r + 128 * n) ≡ number + byte % 128 * unit + unit * 128 * n
+    low r e = rw e (omega arith)

@@ -10,7 +10,3 @@ item_count-view (v ∷ vs) = ap suc (item_count-view vs)
 pub member_count-view : (ms : List (String Global × Value)) → member_count (members_view ms) ≡ length ms
 member_count-view [] = refl
 member_count-view (m ∷ ms) = ap suc (member_count-view ms)
-
--- what was appended in two steps
-pub appended : (out numbered old count bytes : List ℕ) → out ++ [] ≡ numbered ++ bytes → numbered ≡ old ++ count → out ≡ old ++ (count ++ bytes)
-appended out numbered old count bytes h k = sym (append-nil out) ∙ h ∙ ap (λ bs. bs ++ bytes) k ∙ append_assoc old count bytes

@@ -6,17 +6,13 @@ use Rattle.manifest_bytes.specs.Numbers.{Taken, take_number}
 use Rattle.manifest_bytes.specs.Decoded.{made, take_tagged}
 use Rattle.manifest_bytes.specs.declared.error.DecodeError.{DecodeError}
 use Rattle.manifest_bytes.specs.declared.error.DecodeError.TheVariants.{TooDeep, Memory}
+use Rattle.manifest_bytes.specs.declared.error.Unread.{Unread}
+use Rattle.manifest_bytes.specs.declared.error.Unread.TheVariants.{Invalid, Refused}
 
 -- THE NEXT BYTE is read where there is one
 abbrev pub ReadsByte : List ℕ → Option ℕ → List ℕ → Type 0
 ReadsByte old result new =
     (b : ℕ) (rest : List ℕ) → old ≡ b ∷ rest → (result ≡ Some b) × (new ≡ rest)
-
--- so is whether a part follows
-abbrev pub ReadsFlag : List ℕ → Option Bool → List ℕ → Type 0
-ReadsFlag old result new =
-    (has : Bool) (rest : List ℕ) → old ≡ (if has then 1 else 0) ∷ rest →
-    (result ≡ Some has) × (new ≡ rest)
 
 -- WHAT FITS is read where its bytes stand, and what was after them is left
 abbrev pub Reads : {A : Type 0} → (A → Type 0) → (A → List ℕ) → List ℕ → Option A → List ℕ → Type 0
@@ -35,10 +31,6 @@ abbrev pub IsTaken : {A : Type 0} → (List ℕ → Taken A) → List ℕ → Op
 IsTaken take old result new =
     IfSome result (λ x. (take old ≡ Some (x, new)) × (length new ≤ length old))
 
--- whether a part follows
-abbrev pub IsFlag : List ℕ → Option Bool → List ℕ → Type 0
-IsFlag old result new = IfSome result (λ has. old ≡ (if has then 1 else 0) ∷ new)
-
 -- what stands after a tag: a float by its bits, and else as `decoded` takes it
 abbrev pub take_simple : ℕ → List ℕ → Taken Data
 take_simple tag bs =
@@ -56,9 +48,17 @@ ReadsWithin deep deepest Is (Ok (Some x)) = (deep ≤ deepest) × Is x
 ReadsWithin deep deepest Is (Ok None) = ⊥
 ReadsWithin deep deepest Is (Err error) = Refuses deep deepest error
 
+-- the same of the readers below: the bytes are no others
+abbrev pub RefusesRead : ℕ → ℕ → Unread → Type 0
+RefusesRead deep deepest Invalid = ⊥
+RefusesRead deep deepest (Refused error) = Refuses deep deepest error
+
+abbrev pub ReadsTo : {A : Type 0} → ℕ → ℕ → (A → Type 0) → Result A Unread → Type 0
+ReadsTo deep deepest Is (Ok x) = (deep ≤ deepest) × Is x
+ReadsTo deep deepest Is (Err error) = RefusesRead deep deepest error
+
 -- no more is left than there was; and what is too deep has more than `deepest` bytes
-abbrev pub Shrinks : {A : Type 0} → ℕ → List ℕ → Result (Option A) DecodeError → List ℕ → Type 0
-Shrinks deepest old (Ok (Some x)) new = length new ≤ length old
-Shrinks deepest old (Ok None) new = Unit {0}
-Shrinks deepest old (Err TooDeep) new = deepest < length old
-Shrinks deepest old (Err (Memory refused)) new = Unit {0}
+abbrev pub Shrinks : {A : Type 0} → ℕ → List ℕ → Result A Unread → List ℕ → Type 0
+Shrinks deepest old (Ok x) new = length new ≤ length old
+Shrinks deepest old (Err (Refused TooDeep)) new = deepest < length old
+Shrinks deepest old (Err _) new = Unit {0}

@@ -4,26 +4,24 @@
 //! any order. So `value_of_bytes` encodes the result again, and returns it only if the bytes are equal. By `shrinks` no
 //! more is left than there was, and what is too deep has more than `deepest` bytes.
 
-ghost use Rattle.std.specs.Prelude.{◌≡◌, ℕ, ◌+◌, ◌<◌, ◌^◌, List, ◌∷◌, ◌++◌, Bool, IfSome, IsSomeAnd, IfOk, IfErr, OnOk, IsTrue, option_map, option_copied, string_bytes, alloc_error};
+ghost use Rattle.std.specs.Prelude.{◌≡◌, ℕ, ◌+◌, ◌<◌, ◌^◌, List, ◌∷◌, ◌++◌, length, ◌≤◌, Bool, IfSome, IsSomeAnd, IfOk, IfErr, OnOk, IsTrue, option_map, option_copied, string_bytes, alloc_error};
 ghost use Rattle.std.specs.BTreeMap.{insert_entry};
 ghost use Rattle.std.specs.String.{string_cmp};
 ghost use Rattle.toml.specs.Data.{Data, array, table, depth, Items, items_depth, Members, members_depth};
 ghost use Rattle.toml.specs.View.{view, array_view, table_view};
 ghost use Rattle.manifest_bytes.specs.declared.error.DecodeError.TheVariants.{TooDeep, Memory};
-ghost use Rattle.manifest_bytes.specs.Numbers.{number_bytes, take_number};
+ghost use Rattle.manifest_bytes.specs.declared.error.Unread.TheVariants.{Refused};
+ghost use Rattle.manifest_bytes.specs.Numbers.{Taken, number_bytes, take_number};
 ghost use Rattle.manifest_bytes.specs.Decoded.{take_byte, take_text, take_part, take_date, take_time, take_offset, take_datetime};
 ghost use Rattle.manifest_bytes.specs.Encoded.{text_bytes, part_bytes, date_bytes, second_bytes, time_bytes, offset_bytes, datetime_bytes, item_count, member_count, encoded, items_bytes, members_bytes};
 ghost use Rattle.manifest_bytes.specs.Held.{FitsText, FitsDate, FitsTime, FitsOffset, FitsDatetime, FitsValue, FitItems, FitMembers};
-ghost use Rattle.manifest_bytes.specs.Read.{ReadsByte, ReadsFlag, Reads, is_simple, IsTaken, IsFlag, take_simple, ReadsWithin, Shrinks};
+ghost use Rattle.manifest_bytes.specs.Read.{ReadsByte, Reads, is_simple, IsTaken, take_simple, ReadsTo, Shrinks};
 
-use crate::error::DecodeError;
-use std::alloc::Global;
+use crate::error::{DecodeError, Unread};
+use std::alloc::{AllocError, Global};
 use std::num::f64_from_bits_with_nan;
 use toml::{Table, Value};
 use toml_datetime::{Date, Datetime, Offset, Time};
-
-/// What is read; `Ok(None)` where the bytes hold no such thing; an error where it nests too deep or memory runs out.
-type Read<T> = Result<Option<T>, DecodeError>;
 
 /// The bytes that are still to be read. Each method returns what stands at their beginning, and moves past it; `None`
 /// where that is not there.
@@ -52,7 +50,7 @@ impl<'a> Reader<'a> {
     {
         let mut number: u64 = 0;
         let mut unit: u64 = 1;
-        for _ in 0..9_usize {
+        loop {
             let byte = self.byte()?;
             number = number.checked_add(u64::from(byte % 128).checked_mul(unit)?)?;
             if byte < 128 {
@@ -60,8 +58,6 @@ impl<'a> Reader<'a> {
             }
             unit = unit.checked_mul(128)?;
         }
-        let last = u64::from(self.byte()?);
-        number.checked_add(last.checked_mul(unit)?)
     }
 
     /// A string without its tag: its length in bytes, and the bytes; `None` where they end too early or are not UTF-8.
@@ -77,140 +73,17 @@ impl<'a> Reader<'a> {
         std::str::from_utf8(text).ok()
     }
 
-    /// The byte before a part that may be left out: 0 where it is absent, 1 where it follows; `None` for another byte.
-    fn has_part(&mut self) -> Option<bool>
-        ensures reads { ReadsFlag self.old.left.now result self.new.left.now }
-        ensures held { IsFlag self.old.left.now result self.new.left.now }
+    /// A part that may be left out: `Some(None)` of the byte 0, `Some(Some(part))` of the byte 1 and the part, and
+    /// `None` where the bytes are neither.
+    fn part<T: Part>(&mut self) -> Option<Option<T>>
+        ensures reads { Reads (λ part. IfSome part T.fits) (part_bytes T.bytes)
+            self.old.left.now result self.new.left.now }
+        ensures held { IsTaken (take_part T.take) self.old.left.now result self.new.left.now }
     {
         match self.byte()? {
-            0 => Some(false),
-            1 => Some(true),
+            0 => Some(None),
+            1 => Some(Some(T::read(self)?)),
             _ => None,
-        }
-    }
-
-    /// Reads a date: a byte for the month, a byte for the day, and the year as a number (LEB128); `None` where the
-    /// bytes are no date.
-    fn date(&mut self) -> Option<Date>
-        ensures reads { Reads FitsDate date_bytes self.old.left.now result self.new.left.now }
-        ensures held { IsTaken take_date self.old.left.now result self.new.left.now }
-    {
-        let month = self.byte()?;
-        let day = self.byte()?;
-        let year = u16::try_from(self.number()?).ok()?;
-        Some(Date { year, month, day })
-    }
-
-    /// Reads the seconds of a time, which may be absent: `Some(None)` of the byte 0, `Some(Some(s))` of the byte 1 and
-    /// the byte `s`, and `None` where the bytes are neither.
-    fn second(&mut self) -> Option<Option<u8>>
-        ensures reads { Reads (λ s. IfSome s (λ b. b < 2 ^ 8)) (part_bytes second_bytes)
-            self.old.left.now result self.new.left.now }
-        ensures held { IsTaken (take_part take_byte) self.old.left.now result self.new.left.now }
-    {
-        if self.has_part()? {
-            Some(Some(self.byte()?))
-        } else {
-            Some(None)
-        }
-    }
-
-    /// A number that is a `u32`; `None` if the bytes end or it exceeds that.
-    fn short_number(&mut self) -> Option<u32>
-        ensures reads { Reads (λ n. n < 2 ^ 32) number_bytes
-            self.old.left.now result self.new.left.now }
-        ensures held { IsTaken take_number self.old.left.now result self.new.left.now }
-    {
-        u32::try_from(self.number()?).ok()
-    }
-
-    /// Reads the nanoseconds of a time, which may be absent: `Some(None)` of the byte 0, `Some(Some(n))` of the byte 1
-    /// and the number `n` (LEB128), and `None` where the bytes are neither.
-    fn nanosecond(&mut self) -> Option<Option<u32>>
-        ensures reads { Reads (λ s. IfSome s (λ n. n < 2 ^ 32)) (part_bytes number_bytes)
-            self.old.left.now result self.new.left.now }
-        ensures held { IsTaken (take_part take_number) self.old.left.now result self.new.left.now }
-    {
-        if self.has_part()? {
-            Some(Some(self.short_number()?))
-        } else {
-            Some(None)
-        }
-    }
-
-    /// Reads a time: a byte for the hour, a byte for the minute, then the seconds and the nanoseconds, each of which
-    /// may be absent; `None` where the bytes are no time.
-    fn time(&mut self) -> Option<Time>
-        ensures reads { Reads FitsTime time_bytes self.old.left.now result self.new.left.now }
-        ensures held { IsTaken take_time self.old.left.now result self.new.left.now }
-    {
-        let hour = self.byte()?;
-        let minute = self.byte()?;
-        let second = self.second()?;
-        let nanosecond = self.nanosecond()?;
-        Some(Time {
-            hour,
-            minute,
-            second,
-            nanosecond,
-        })
-    }
-
-    /// An offset: 0 for `Z`, 1 and the minutes, or 2 and -1 minus the minutes, where they are below 0.
-    fn offset(&mut self) -> Option<Offset>
-        ensures reads { Reads FitsOffset offset_bytes self.old.left.now result self.new.left.now }
-        ensures held { IsTaken take_offset self.old.left.now result self.new.left.now }
-    {
-        match self.byte()? {
-            0 => Some(Offset::Z),
-            1 => {
-                let minutes = i16::try_from(self.number()?).ok()?;
-                Some(Offset::Custom { minutes })
-            }
-            2 => {
-                let behind = i16::try_from(self.number()?).ok()?;
-                Some(Offset::Custom { minutes: !behind })
-            }
-            _ => None,
-        }
-    }
-
-    /// A date that may be absent: the byte 0, or 1 and the date.
-    fn date_part(&mut self) -> Option<Option<Date>>
-        ensures reads { Reads (λ d. IfSome d FitsDate) (part_bytes date_bytes)
-            self.old.left.now result self.new.left.now }
-        ensures held { IsTaken (take_part take_date) self.old.left.now result self.new.left.now }
-    {
-        if self.has_part()? {
-            Some(Some(self.date()?))
-        } else {
-            Some(None)
-        }
-    }
-
-    /// A time that may be absent: the byte 0, or 1 and the time.
-    fn time_part(&mut self) -> Option<Option<Time>>
-        ensures reads { Reads (λ t. IfSome t FitsTime) (part_bytes time_bytes)
-            self.old.left.now result self.new.left.now }
-        ensures held { IsTaken (take_part take_time) self.old.left.now result self.new.left.now }
-    {
-        if self.has_part()? {
-            Some(Some(self.time()?))
-        } else {
-            Some(None)
-        }
-    }
-
-    /// An offset that may be absent: the byte 0, or 1 and the offset.
-    fn offset_part(&mut self) -> Option<Option<Offset>>
-        ensures reads { Reads (λ o. IfSome o FitsOffset) (part_bytes offset_bytes)
-            self.old.left.now result self.new.left.now }
-        ensures held { IsTaken (take_part take_offset) self.old.left.now result self.new.left.now }
-    {
-        if self.has_part()? {
-            Some(Some(self.offset()?))
-        } else {
-            Some(None)
         }
     }
 
@@ -220,9 +93,9 @@ impl<'a> Reader<'a> {
             self.old.left.now result self.new.left.now }
         ensures held { IsTaken take_datetime self.old.left.now result self.new.left.now }
     {
-        let date = self.date_part()?;
-        let time = self.time_part()?;
-        let offset = self.offset_part()?;
+        let date = self.part()?;
+        let time = self.part()?;
+        let offset = self.part()?;
         Some(Datetime { date, time, offset })
     }
 
@@ -247,14 +120,118 @@ impl<'a> Reader<'a> {
     }
 }
 
-/// Reads a string without its tag, as [`Reader::text`] does, and copies it; `Ok(None)` where there is none.
+/// What may be left out of a date-time or of a time: how it is read without the byte that says whether it is there.
+trait Part: Sized {
+    /// Whether a part is one that the type holds.
+    ghost fits: { Self → Type 0 };
+
+    /// The bytes of a part.
+    ghost bytes: { Self → List ℕ };
+
+    /// The part that some bytes begin with, and what is left of them.
+    ghost take: { List ℕ → Taken Self };
+
+    /// Reads a part; `None` where the bytes are none.
+    fn read(reader: &mut Reader<'_>) -> Option<Self>
+        ensures reads { Reads fits bytes reader.old.left.now result reader.new.left.now }
+        ensures held { IsTaken take reader.old.left.now result reader.new.left.now };
+}
+
+/// The seconds of a time: a byte.
+impl Part for u8 {
+    ghost fits = { λ second. second < 2 ^ 8 };
+
+    ghost bytes = { second_bytes };
+
+    ghost take = { take_byte };
+
+    fn read(reader: &mut Reader<'_>) -> Option<u8> {
+        reader.byte()
+    }
+}
+
+/// The nanoseconds of a time: a number.
+impl Part for u32 {
+    ghost fits = { λ nanosecond. nanosecond < 2 ^ 32 };
+
+    ghost bytes = { number_bytes };
+
+    ghost take = { take_number };
+
+    fn read(reader: &mut Reader<'_>) -> Option<u32> {
+        u32::try_from(reader.number()?).ok()
+    }
+}
+
+/// A byte for the month, a byte for the day, and the year as a number.
+impl Part for Date {
+    ghost fits = { FitsDate };
+
+    ghost bytes = { date_bytes };
+
+    ghost take = { take_date };
+
+    fn read(reader: &mut Reader<'_>) -> Option<Date> {
+        let month = reader.byte()?;
+        let day = reader.byte()?;
+        let year = u16::try_from(reader.number()?).ok()?;
+        Some(Date { year, month, day })
+    }
+}
+
+/// A byte for the hour, a byte for the minute, then the seconds and the nanoseconds, each of which may be absent.
+impl Part for Time {
+    ghost fits = { FitsTime };
+
+    ghost bytes = { time_bytes };
+
+    ghost take = { take_time };
+
+    fn read(reader: &mut Reader<'_>) -> Option<Time> {
+        let hour = reader.byte()?;
+        let minute = reader.byte()?;
+        let second = reader.part()?;
+        let nanosecond = reader.part()?;
+        Some(Time {
+            hour,
+            minute,
+            second,
+            nanosecond,
+        })
+    }
+}
+
+/// 0 for `Z`, 1 and the minutes, or 2 and -1 minus the minutes, where they are below 0.
+impl Part for Offset {
+    ghost fits = { FitsOffset };
+
+    ghost bytes = { offset_bytes };
+
+    ghost take = { take_offset };
+
+    fn read(reader: &mut Reader<'_>) -> Option<Offset> {
+        match reader.byte()? {
+            0 => Some(Offset::Z),
+            1 => {
+                let minutes = i16::try_from(reader.number()?).ok()?;
+                Some(Offset::Custom { minutes })
+            }
+            2 => {
+                let behind = i16::try_from(reader.number()?).ok()?;
+                Some(Offset::Custom { minutes: !behind })
+            }
+            _ => None,
+        }
+    }
+}
+
+/// Reads a string without its tag, as [`Reader::text`] does, and copies it.
 #[inline(never)]
-fn read_text(alloc: Global, reader: &mut Reader<'_>) -> Read<String>
-    ensures reads { (t : List ℕ) (rest : List ℕ) → FitsText t →
-        reader.old.left.now ≡ text_bytes t ++ rest →
-        ReadsWithin 0 0 (λ s. (string_bytes s ≡ t) × (reader.new.left.now ≡ rest)) result }
-    ensures shrinks { Shrinks 0 reader.old.left.now result reader.new.left.now }
-    ensures refused { IfErr result (λ error. error ≡ Memory alloc_error) }
+fn read_text(alloc: Global, reader: &mut Reader<'_>) -> Result<Option<String>, AllocError>
+    ensures reads { IfOk result (λ text. let read = option_map (λ s. string_bytes s) text in
+        Reads FitsText text_bytes reader.old.left.now read reader.new.left.now) }
+    ensures shrinks { IfOk result (λ text. IfSome text (λ s.
+        length reader.new.left.now ≤ length reader.old.left.now)) }
 {
     match reader.text() {
         Some(text) => Ok(Some(String::from_str(alloc, text)?)),
@@ -264,42 +241,40 @@ fn read_text(alloc: Global, reader: &mut Reader<'_>) -> Read<String>
 
 /// The depth that is left for the values inside an array or a table: one less. Refuses with `TooDeep` where none is
 /// left.
-fn inside(deepest: usize) -> Result<usize, DecodeError>
+fn inside(deepest: usize) -> Result<usize, Unread>
     ensures less { IfOk result (λ inside. inside + 1 ≡ deepest) }
-    ensures refused { IfErr result (λ error. (deepest ≡ 0) × (error ≡ TooDeep)) }
+    ensures refused { IfErr result (λ error. (deepest ≡ 0) × (error ≡ Refused TooDeep)) }
 {
     if deepest == 0 {
-        Err(DecodeError::TooDeep)
+        Err(Unread::Refused(DecodeError::TooDeep))
     } else {
         Ok(deepest - 1)
     }
 }
 
-/// Reads a value with its tag. `Ok(None)` where the bytes do not begin with one; refuses with `TooDeep` where its
-/// arrays and tables nest deeper than `deepest`, which takes more than `deepest` bytes, and when out of memory.
+/// Reads a value with its tag. Refuses with `TooDeep` where its arrays and tables nest deeper than `deepest`, which
+/// takes more than `deepest` bytes, and when out of memory.
 #[cycle(reading)]
-pub(crate) fn read_value(alloc: Global, deepest: usize, reader: &mut Reader<'_>) -> Read<Value>
+pub(crate) fn read_value(
+    alloc: Global,
+    deepest: usize,
+    reader: &mut Reader<'_>,
+) -> Result<Value, Unread>
     ensures reads { (d : Data) (rest : List ℕ) → FitsValue d →
         reader.old.left.now ≡ encoded d ++ rest →
-        ReadsWithin (depth d) deepest
+        ReadsTo (depth d) deepest
         (λ v. (view v ≡ d) × (reader.new.left.now ≡ rest)) result }
     ensures shrinks { Shrinks deepest reader.old.left.now result reader.new.left.now }
 {
     match reader.byte() {
         Some(1) => match read_text(alloc, reader)? {
-            Some(text) => Ok(Some(Value::String(text))),
-            None => Ok(None),
+            Some(text) => Ok(Value::String(text)),
+            None => Err(Unread::Invalid),
         },
-        Some(7) => match read_items(alloc, inside(deepest)?, reader)? {
-            Some(items) => Ok(Some(Value::Array(items))),
-            None => Ok(None),
-        },
-        Some(8) => match read_members(alloc, inside(deepest)?, reader)? {
-            Some(members) => Ok(Some(Value::Table(members))),
-            None => Ok(None),
-        },
-        Some(tag) => Ok(reader.simple(tag)),
-        None => Ok(None),
+        Some(7) => Ok(Value::Array(read_items(alloc, inside(deepest)?, reader)?)),
+        Some(8) => Ok(Value::Table(read_members(alloc, inside(deepest)?, reader)?)),
+        Some(tag) => reader.simple(tag).ok_or(Unread::Invalid),
+        None => Err(Unread::Invalid),
     }
 }
 
@@ -307,32 +282,28 @@ pub(crate) fn read_value(alloc: Global, deepest: usize, reader: &mut Reader<'_>)
 /// nest `deepest` deep. (It is compiled apart from [`read_value`], so that a value takes the stack of one kind alone.)
 #[inline(never)]
 #[cycle(reading)]
-fn read_items(alloc: Global, deepest: usize, reader: &mut Reader<'_>) -> Read<Vec<Value>>
+fn read_items(alloc: Global, deepest: usize, reader: &mut Reader<'_>) -> Result<Vec<Value>, Unread>
     ensures reads { (ds : Items) (rest : List ℕ) → FitsValue (array ds) →
         reader.old.left.now ≡ (number_bytes (item_count ds) ++ items_bytes ds) ++ rest →
-        ReadsWithin (items_depth ds) deepest
+        ReadsTo (items_depth ds) deepest
         (λ v. (array_view v ≡ ds) × (reader.new.left.now ≡ rest)) result }
     ensures shrinks { Shrinks deepest reader.old.left.now result reader.new.left.now }
 {
     let mut items = Vec::new(alloc);
-    let Some(count) = reader.number() else {
-        return Ok(None);
-    };
+    let count = reader.number().ok_or(Unread::Invalid)?;
     for _ in 0..count {
-        match read_value(alloc, deepest, reader)? {
-            Some(item) => items.push(item)?,
-            None => return Ok(None),
-        }
+        let item = read_value(alloc, deepest, reader)?;
+        items.push(item)?;
     }
-    Ok(Some(items))
+    Ok(items)
 }
 
 /// Puts an entry into a table, in the place of one of the same key. (It is compiled apart, as [`read_items`] is.)
 #[inline(never)]
-fn put(members: &mut Table, key: String, member: Value) -> Result<(), DecodeError>
+fn put(members: &mut Table, key: String, member: Value) -> Result<(), Unread>
     ensures put { OnOk result
         (members.new.entries ≡ insert_entry string_cmp members.old.entries key member) }
-    ensures refused { IfErr result (λ error. error ≡ Memory alloc_error) }
+    ensures refused { IfErr result (λ error. error ≡ Refused (Memory alloc_error)) }
 {
     let _former = members.insert(key, member)?;
     Ok(())
@@ -342,25 +313,21 @@ fn put(members: &mut Table, key: String, member: Value) -> Result<(), DecodeErro
 /// passes here, and is refused by `value_of_bytes`. (It is compiled apart, as [`read_items`] is.)
 #[inline(never)]
 #[cycle(reading)]
-fn read_members(alloc: Global, deepest: usize, reader: &mut Reader<'_>) -> Read<Table>
+fn read_members(alloc: Global, deepest: usize, reader: &mut Reader<'_>) -> Result<Table, Unread>
     ensures reads { (ms : Members) (rest : List ℕ) → FitsValue (table ms) →
         reader.old.left.now ≡ (number_bytes (member_count ms) ++ members_bytes ms) ++ rest →
-        ReadsWithin (members_depth ms) deepest
+        ReadsTo (members_depth ms) deepest
         (λ m. (table_view m ≡ ms) × (reader.new.left.now ≡ rest)) result }
     ensures shrinks { Shrinks deepest reader.old.left.now result reader.new.left.now }
 {
     let mut members = Table::new(alloc);
-    let Some(count) = reader.number() else {
-        return Ok(None);
-    };
+    let count = reader.number().ok_or(Unread::Invalid)?;
     for _ in 0..count {
         let Some(key) = read_text(alloc, reader)? else {
-            return Ok(None);
+            return Err(Unread::Invalid);
         };
-        match read_value(alloc, deepest, reader)? {
-            Some(member) => put(&mut members, key, member)?,
-            None => return Ok(None),
-        }
+        let member = read_value(alloc, deepest, reader)?;
+        put(&mut members, key, member)?;
     }
-    Ok(Some(members))
+    Ok(members)
 }

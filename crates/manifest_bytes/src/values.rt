@@ -9,7 +9,7 @@ ghost use Rattle.manifest_bytes.specs.declared.error.DecodeError.TheVariants.{To
 ghost use Rattle.manifest_bytes.specs.Held.{FitsValue};
 ghost use Rattle.manifest_bytes.specs.Read.{ReadsWithin};
 
-use crate::error::DecodeError;
+use crate::error::{DecodeError, Unread};
 use crate::reading::{Reader, read_value};
 use std::alloc::{AllocError, Global};
 use std::num::f64_to_bits_with_nan;
@@ -18,7 +18,7 @@ use toml_datetime::{Date, Datetime, Offset, Time};
 
 /// Appends a number as unsigned LEB128: groups of seven bits, the lowest first, with 128 added to each but the last.
 /// After an error `out` may hold a part of it, as after an error of any function here.
-#[tactic(auto, using(crate::proofs::NumberLemmas::number_more, crate::proofs::NumberLemmas::number_last))]
+#[tactic(auto, using(std::proofs::lemmas::Grind::common_steps, crate::proofs::NumberLemmas::number_more, crate::proofs::NumberLemmas::number_last))]
 fn push_number(out: &mut Vec<u8>, number: u64) -> Result<(), AllocError>
     ensures { OnOk result (out.new.items ≡ out.old.items ++ number_bytes number) }
 {
@@ -263,8 +263,10 @@ pub fn value_of_bytes(
     ensures deep { IfErr result (λ error. error ≡ TooDeep → deepest < length bytes.now) }
 {
     let mut reader = Reader { left: bytes };
-    let Some(value) = read_value(alloc, deepest, &mut reader)? else {
-        return Ok(None);
+    let value = match read_value(alloc, deepest, &mut reader) {
+        Ok(value) => value,
+        Err(Unread::Invalid) => return Ok(None),
+        Err(Unread::Refused(error)) => return Err(error),
     };
     let again = value_bytes(alloc, &value)?;
     if again.as_slice() == bytes {
