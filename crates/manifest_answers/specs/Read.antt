@@ -1,17 +1,19 @@
 -- What the bytes of a call are, and why they are refused.
 use Rattle.manifest_schema.specs.Prelude.{AllocError, Data, Members, members_depth, IsMemory, IsWithin, Text, Kind, Faults, first_found, form, Manifest, manifest_rows, means, reads_manifest, kept_metadata}
-use Rattle.std.specs.Prelude.{◌≡◌, ◌⊎◌, ◌<◌, ◌≤◌, Some, None, true, false, IsUtf8}
+use Rattle.std.specs.Prelude.{◌≡◌, ◌⊎◌, ◌<◌, ◌≤◌, Some, None, true, false, IsUtf8, length}
 use Rattle.toml.specs.Parse.{parse_document}
 use Rattle.manifest_value.specs.Refusals.{RefusedIn, IsOutOfMemory}
 use Rattle.manifest_value.specs.declared.error.Error.{Error}
 use Rattle.manifest_value.specs.declared.error.Error.TheVariants.{Parse, Utf8, Memory}
 use Rattle.manifest_value.specs.declared.error.ParseFault.TheVariants.{Toml as NoToml, Schema}
 use Rattle.cargo_manifest.specs.Answers.{IsFaulty}
+use Rattle.toml.specs.Data.{depth}
 use Rattle.manifest_bytes.specs.Encoded.{encoded}
+use Rattle.manifest_bytes.specs.Held.{FitsValue}
 use Rattle.manifest_answers.specs.declared.reading.Input.{Input}
 use Rattle.manifest_answers.specs.declared.reading.Input.TheVariants.{Toml, Tagged}
 use Rattle.manifest_answers.specs.declared.refusal.InputError.{InputError}
-use Rattle.manifest_answers.specs.declared.refusal.InputError.TheVariants.{Manifest as NoManifest, TooDeep}
+use Rattle.manifest_answers.specs.declared.refusal.InputError.TheVariants.{Manifest as NoManifest, Untagged, TooDeep}
 use Rattle.manifest_nesting.specs.Nesting.{nests_too_deep}
 
 -- memory ran out
@@ -86,10 +88,21 @@ abbrev pub HoldFault : Text → Error → Type 0
 HoldFault bytes e =
     (value : Data) × (bytes ≡ encoded value) × RefusedIn (first_fault value) e
 
--- they are not: they are the bytes of a value with this first fault, or memory ran out; the other refusals promise nothing
+-- the bytes are those of no value
+abbrev pub AreUntagged : Text → Type 0
+AreUntagged bytes = (d : Data) → FitsValue d → bytes ≡ encoded d → ⊥
+
+-- a value whose bytes they are nests more than 128 deep in its whole table; in any case they are more bytes than that
+abbrev pub AreTaggedTooDeep : Text → Type 0
+AreTaggedTooDeep bytes =
+    ((d : Data) → FitsValue d → bytes ≡ encoded d → 129 < depth d) × (129 < length bytes)
+
+-- they are not: they are the bytes of a value with this first fault, of none, or of one that nests too deep; or memory
+-- ran out
 abbrev pub RefusesTaggedInput : Text → InputError → Type 0
 RefusesTaggedInput bytes (NoManifest e) = IsOutOfMemory e ⊎ HoldFault bytes e
-RefusesTaggedInput bytes _ = Unit {0}
+RefusesTaggedInput bytes Untagged = AreUntagged bytes
+RefusesTaggedInput bytes TooDeep = AreTaggedTooDeep bytes
 
 -- THE BYTES ARE THE MANIFEST, one way or the other
 abbrev pub Are : Input → Text → Manifest → Type 0
