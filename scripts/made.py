@@ -282,6 +282,33 @@ def code_rows(form):
             yield f'{row.field}: {code_need(row)} "{row.key}"{second};'
 
 
+def rowed_head(form):
+    """The beginning of the impl of `Rowed`."""
+    name = form.name.removesuffix("_rows")
+    return [
+        f"ghost Content = {{ Contents.{form.record} }};", "",
+        f"ghost content = {{ {CONTENTS[form.name]} }};", "",
+        f"ghost rows = {{ {form.name} }};", "",
+        "fn names() -> &'static [Spellings] {", f"    {name.upper()}", "}", "",
+    ]
+
+
+def rowed_rest(form, has_unfit):
+    """The end of it: the methods that go over the rows. A form of which each row is always well-formed says so by hand."""
+    name = form.name.removesuffix("_rows")
+    methods = {
+        "read_row(&mut self, alloc: Global, i: usize, key: Word, slot: &mut RowSlot<'_>) -> RowRead":
+            "read_row_of(self, alloc, i, key, slot)",
+        "row_findings(&self, alloc: Global, i: usize, key: Word, slot: &RowSlot<'_>) -> Found":
+            "findings_of_row(self, alloc, i, key, slot)",
+        "put_row(&self, alloc: Global, i: usize, key: Word, out: &mut Table) -> RowPut": "put_row_of(self, alloc, i, key, out)",
+    }
+    if has_unfit:
+        methods["row_is_well_formed(&self, i: usize) -> bool"] = "good_row_of(self, i)"
+    lines = [line for head, call in methods.items() for line in (f"fn {head} {{", f"    {name}!({call})", "}", "")]
+    return lines[:-1] if has_unfit else lines
+
+
 # THE RUST CRATE
 # what it has for a default
 RUST_VALUES = {"[]": "Vec::new()", "{}": "BTreeMap::new()", '"master"': '"master".into()'}

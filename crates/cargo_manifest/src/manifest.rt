@@ -174,6 +174,7 @@ impl<P: Metadata, W: Metadata> Rowed for Manifest<P, W> {
         Manifest::default(alloc)
     }
 
+    // (made by scripts/keys --write)
     fn read_row(&mut self, alloc: Global, i: usize, key: Word, slot: &mut RowSlot<'_>) -> RowRead {
         manifest!(read_row_of(self, alloc, i, key, slot))
     }

@@ -268,6 +268,7 @@ impl<M: Metadata> Rowed for Package<M> {
         package_with_name(String::new(alloc))
     }
 
+    // (made by scripts/keys --write)
     fn read_row(&mut self, alloc: Global, i: usize, key: Word, slot: &mut RowSlot<'_>) -> RowRead {
         package!(read_row_of(self, alloc, i, key, slot))
     }

@@ -96,6 +96,7 @@ static PROFILES: &[Spellings] = profiles!(names_of_rows());
 /// [`Rowed`] says what each method does. The body `profiles!(read_row_of(..))` is made of the rows of `profiles!`, as a
 /// `match` on the row's index `i`, and so are the others (`manifest_value::row_macros`).
 impl Rowed for Profiles {
+    // (made by scripts/keys --write)
     ghost Content = { Contents.Profiles };
 
     ghost content = { profiles_content };
@@ -110,6 +111,7 @@ impl Rowed for Profiles {
         Profiles::default(alloc)
     }
 
+    // (made by scripts/keys --write)
     fn read_row(&mut self, alloc: Global, i: usize, key: Word, slot: &mut RowSlot<'_>) -> RowRead {
         profiles!(read_row_of(self, alloc, i, key, slot))
     }

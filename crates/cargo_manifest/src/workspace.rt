@@ -119,6 +119,7 @@ static LENT: &[Spellings] = workspace_package!(names_of_rows());
 /// The rows of `workspace_package!`. [`Rowed`] says what each method does, and `manifest_value::row_macros` what the
 /// macro makes of the rows.
 impl Rowed for WorkspacePackage {
+    // (made by scripts/keys --write)
     ghost Content = { Contents.WorkspacePackage };
 
     ghost content = { workspace_package_content };
@@ -126,13 +127,14 @@ impl Rowed for WorkspacePackage {
     ghost rows = { workspace_package_rows };
 
     fn names() -> &'static [Spellings] {
-        LENT
+        WORKSPACE_PACKAGE
     }
 
     fn empty(_alloc: Global) -> WorkspacePackage {
         WorkspacePackage::default()
     }
 
+    // (made by scripts/keys --write)
     fn read_row(&mut self, alloc: Global, i: usize, key: Word, slot: &mut RowSlot<'_>) -> RowRead {
         workspace_package!(read_row_of(self, alloc, i, key, slot))
     }
@@ -261,6 +263,7 @@ impl<M: Metadata> Rowed for Workspace<M> {
         Workspace::default(alloc)
     }
 
+    // (made by scripts/keys --write)
     fn read_row(&mut self, alloc: Global, i: usize, key: Word, slot: &mut RowSlot<'_>) -> RowRead {
         workspace!(read_row_of(self, alloc, i, key, slot))
     }
