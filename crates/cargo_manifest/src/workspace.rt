@@ -114,7 +114,7 @@ macro_rules! workspace_package {
     };
 }
 
-static LENT: &[Spellings] = workspace_package!(names_of_rows());
+static WORKSPACE_PACKAGE: &[Spellings] = workspace_package!(names_of_rows());
 
 /// The rows of `workspace_package!`. [`Rowed`] says what each method does, and `manifest_value::row_macros` what the
 /// macro makes of the rows.
