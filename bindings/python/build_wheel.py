@@ -46,8 +46,8 @@ def project() -> dict[str, str]:
 
 def base_name() -> str:
     """Name and version, as they begin the names of files and folders."""
-    told = project()
-    return f"{told['name'].replace('-', '_')}-{told['version']}"
+    project_table = project()
+    return f"{project_table['name'].replace('-', '_')}-{project_table['version']}"
 
 
 def library() -> bytes:
@@ -80,18 +80,18 @@ def modules() -> Files:
 
 def metadata() -> bytes:
     """The metadata of the package, and its README."""
-    told = project()
+    project_table = project()
     lines = [
         "Metadata-Version: 2.4",
-        f"Name: {told['name']}",
-        f"Version: {told['version']}",
-        f"Summary: {told['description']}",
-        f"License-Expression: {told['license']}",
+        f"Name: {project_table['name']}",
+        f"Version: {project_table['version']}",
+        f"Summary: {project_table['description']}",
+        f"License-Expression: {project_table['license']}",
         *(f"License-File: {name}" for name in LICENCES),
-        f"Requires-Python: {told['requires-python']}",
+        f"Requires-Python: {project_table['requires-python']}",
         "Description-Content-Type: text/markdown",
         "",
-        (HERE / told["readme"]).read_text(encoding="utf-8"),
+        (HERE / project_table["readme"]).read_text(encoding="utf-8"),
     ]
     return "\n".join(lines).encode("utf-8")
 

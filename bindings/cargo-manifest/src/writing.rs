@@ -40,10 +40,10 @@ impl<PackageMetadata: WrittenMetadata, WorkspaceMetadata: WrittenMetadata>
             workspace: workspace.map(|metadata| metadata.written("workspace.metadata")).transpose()?,
         };
         let holds_float = |value: &mut Value| value.holds_float();
-        let behind =
+        let after =
             [("package", aside.package.take_if(holds_float)), ("workspace", aside.workspace.take_if(holds_float))];
         let mut text = tables::canonical(&encode(self, aside)?).map_err(refused_table)?;
-        for (table, metadata) in behind {
+        for (table, metadata) in after {
             if let Some(metadata) = metadata {
                 // (the table of the header stands around it)
                 if metadata.depth() > DEPTH_LIMIT - 1 {

@@ -87,10 +87,10 @@ class Wheel(Built):
         wheel = self.wheel()
         self.assertEqual(wheel.name, f"{BASE}-py3-none-manylinux_2_17_x86_64.musllinux_1_1_x86_64.whl")
         with zipfile.ZipFile(wheel) as packed:
-            told = email.message_from_bytes(packed.read(f"{BASE}.dist-info/WHEEL"))
-        self.assertEqual((told["Wheel-Version"], told["Root-Is-Purelib"]), ("1.0", "false"))
+            said = email.message_from_bytes(packed.read(f"{BASE}.dist-info/WHEEL"))
+        self.assertEqual((said["Wheel-Version"], said["Root-Is-Purelib"]), ("1.0", "false"))
         tags = ["py3-none-manylinux_2_17_x86_64", "py3-none-musllinux_1_1_x86_64"]
-        self.assertEqual(told.get_all("Tag"), tags)
+        self.assertEqual(said.get_all("Tag"), tags)
 
     def test_taken_by_pip(self) -> None:
         for system in ("manylinux_2_17_x86_64", "musllinux_1_1_x86_64"):
@@ -110,12 +110,12 @@ class Wheel(Built):
 
     def test_metadata(self) -> None:
         with zipfile.ZipFile(self.wheel()) as packed:
-            told = email.message_from_string(packed.read(f"{BASE}.dist-info/METADATA").decode("utf-8"))
+            said = email.message_from_string(packed.read(f"{BASE}.dist-info/METADATA").decode("utf-8"))
         readme = (PROJECT / "README.md").read_text(encoding="utf-8")
-        self.assertEqual((told["Name"], told["Version"]), ("cargo-manifest-proved", VERSION))
-        self.assertEqual((told["License-Expression"], told["Requires-Python"]), ("MIT OR Apache-2.0", ">=3.9"))
-        self.assertEqual(told.get_all("License-File"), ["LICENSE-APACHE", "LICENSE-MIT"])
-        self.assertEqual(told.get_payload(), readme)
+        self.assertEqual((said["Name"], said["Version"]), ("cargo-manifest-proved", VERSION))
+        self.assertEqual((said["License-Expression"], said["Requires-Python"]), ("MIT OR Apache-2.0", ">=3.9"))
+        self.assertEqual(said.get_all("License-File"), ["LICENSE-APACHE", "LICENSE-MIT"])
+        self.assertEqual(said.get_payload(), readme)
 
     def test_record(self) -> None:
         with zipfile.ZipFile(self.wheel()) as packed:

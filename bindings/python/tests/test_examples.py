@@ -45,7 +45,7 @@ class Documented(unittest.TestCase):
             self.assertIn(">>> ", getattr(cargo_manifest, call).__doc__)
             self.assertRegex(getattr(cargo_manifest, call).__doc__, "[Rr]aises ")
 
-    def test_types_can_be_told(self) -> None:
+    def test_types_can_be_checked(self) -> None:
         returned = {call: typing.get_type_hints(getattr(cargo_manifest, call))["return"] for call in CALLS}
         self.assertEqual(returned, {**dict.fromkeys(CALLS, str), "table": dict[str, typing.Any]})
         self.assertIn("cause", typing.get_type_hints(cargo_manifest.ManifestError))

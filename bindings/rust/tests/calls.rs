@@ -56,10 +56,10 @@ fn the_place_of_no_toml_lies_within_the_bytes() {
 #[test]
 fn what_is_answered_may_go_to_other_threads() {
     fn goes<T: Send + Sync + 'static>() {}
-    fn is_told<E: std::error::Error + Send + Sync + 'static>() {}
+    fn is_an_error<E: std::error::Error + Send + Sync + 'static>() {}
     goes::<Value>();
     goes::<Listings>();
-    is_told::<Refusal>();
+    is_an_error::<Refusal>();
 }
 
 #[test]

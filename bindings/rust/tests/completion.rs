@@ -105,7 +105,7 @@ fn own(error: Error) -> &'static str {
 }
 
 #[test]
-fn what_refuses_is_the_error_of_the_folder_and_nothing_is_asked_behind_it() {
+fn what_refuses_is_the_error_of_the_folder_and_nothing_is_asked_after_it() {
     let files = ["src/lib.rs", "src/bin/a.rs", "tests/t.rs"];
     let refused = |path, kind| {
         let folders = Folders::of(&files).with_fault(".", kind, "a later one").with_fault(path, kind, "this one");
@@ -134,7 +134,7 @@ fn what_does_not_refuse() {
 }
 
 #[test]
-fn a_library_without_a_file_refuses_behind_src() {
+fn a_library_without_a_file_refuses_after_src() {
     for files in [&["src/p.rs"][..], &[]] {
         let (asked, answer) = completed(OWN_LIBRARY, &Folders::of(files));
         let Err(Error::Other(text)) = answer else { panic!("{answer:?}") };

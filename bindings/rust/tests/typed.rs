@@ -225,7 +225,7 @@ fn what_no_table_holds_is_not_written() {
 }
 
 #[test]
-fn metadata_with_a_float_is_written_behind_the_text() {
+fn metadata_with_a_float_is_written_after_the_text() {
     let mut manifest: Manifest = "[package]\nname = 'a'\n[workspace]\n".parse().unwrap();
     let metadata = [("x", Value::from(0.5)), ("y z", vec![f64::INFINITY, -0.0].into()), ("n", f64::NAN.into())];
     manifest.package.as_mut().unwrap().metadata = Some(Value::from_iter(metadata));

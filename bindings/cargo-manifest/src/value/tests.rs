@@ -42,9 +42,9 @@ fn put_offset(offset: &Offset, out: &mut Vec<u8>) {
             out.push(1);
             put_number(*ahead as u64, out);
         }
-        Offset::Minutes(behind) => {
+        Offset::Minutes(minutes) => {
             out.push(2);
-            put_number((-1 - i64::from(*behind)) as u64, out);
+            put_number((-1 - i64::from(*minutes)) as u64, out);
         }
     }
 }
@@ -266,9 +266,9 @@ fn numbers_of_values() {
         (&[128, 128, 128, 128, 16], Some(1 << 32)),
         (&[128, 128, 2], Some(1 << 15)),
     ];
-    for (before, behind, most) in PLACES {
+    for (before, after, most) in PLACES {
         for (number, is) in NUMBERS.into_iter().chain(more) {
-            let bytes = [before, number, behind].concat();
+            let bytes = [before, number, after].concat();
             assert_eq!(is_read(&bytes), is.is_some_and(|is| is <= most), "{bytes:?}");
         }
     }
@@ -347,7 +347,7 @@ fn keys_ascend_strictly_by_their_bytes() {
 }
 
 #[test]
-fn nothing_may_stand_behind_a_value() {
+fn nothing_may_stand_after_a_value() {
     let mut random = Random(0x9e37_79b9_7f4a_7c15);
     for _ in 0..2_000 {
         let bytes = bytes_of(&random.value(3));

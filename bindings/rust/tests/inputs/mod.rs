@@ -298,7 +298,7 @@ pub fn table(random: &mut Random) -> Vec<u8> {
         2 => b"\x08\x02\x07package\x08\x01\x04name\x01\x01p\x07profile\x08\x01\x03dev\x08\x01\x05debug",
         _ => b"\x08\x01\x01x",
     };
-    let behind: &[u8] = if before.ends_with(b"metadata") && before[3] == b'p' { b"\x04name\x01\x01p" } else { b"" };
+    let after: &[u8] = if before.ends_with(b"metadata") && before[3] == b'p' { b"\x04name\x01\x01p" } else { b"" };
     let fronts = random.one_of(&[&FRONTS[..1], &FRONTS[1..], &FRONTS]);
     let mut bytes = before.to_vec();
     for _ in 0..random.one_of(&DEPTHS) {
@@ -307,7 +307,7 @@ pub fn table(random: &mut Random) -> Vec<u8> {
     let inner: &[u8] =
         random.one_of(&[&b"\x05"[..], b"\x01\x01x", b"\x02\x80\x01", b"\x07\x00", b"\x08\x00", b"\x06\x00\x00\x00"]);
     bytes.extend(inner);
-    bytes.extend(behind);
+    bytes.extend(after);
     if random.one_in(4) {
         damage(random, &mut bytes);
     }
