@@ -1,40 +1,31 @@
 -- Lemmas on whole numbers as bytes.
-use Rattle.std.proofs.Common.{◌≡◌, ℕ, zero, suc, ◌+◌, ◌-◌, ◌*◌, ◌/◌, ◌%◌, ◌≤◌, ◌<◌, List, [], ◌∷◌, ◌++◌, length, Bool, true, false, if◌then◌else◌, Option, Some, None, ◌^◌, refl, ap, arith}
+use Rattle.std.proofs.Common.{◌≡◌, ℕ, zero, suc, ◌+◌, ◌-◌, ◌*◌, ◌/◌, ◌%◌, ◌≤◌, ◌<◌, List, [], ◌∷◌, ◌++◌, Option, Some, ◌^◌, refl, arith}
 use Rattle.std.proofs.lemmas.Bool.Decides.{nat_tests}
+use Rattle.std.proofs.lemmas.Grind.{common_steps}
 use Rattle.std.proofs.lemmas.Option.{none-some, some_pair_parts}
-use Rattle.std.specs.Prelude.{nat_lt}
-use Rattle.manifest_bytes.specs.Numbers.{groups, number_bytes, Taken, with_low, take_number}
-use Rattle.manifest_bytes.specs.Decoded.{made, take_byte}
-use Rattle.manifest_bytes.specs.Read.{IsTaken}
+use Rattle.manifest_bytes.specs.Numbers.{groups, number_bytes, take_number}
+use Rattle.manifest_bytes.specs.Decoded.{take_byte}
 
 -- room for more bytes changes none
 groups_same : (f g n : ℕ) → n ≤ f → n ≤ g → groups f n ≡ groups g n
 unfolding groups
 groups_same zero zero n h k = refl
-groups_same zero (suc g) n h k =
-    let none : n ≡ 0 = omega arith in
-    rw none refl
-groups_same (suc f) zero n h k =
-    let none : n ≡ 0 = omega arith in
-    rw none refl
+groups_same zero (suc g) n h k = grind (arith, nat_tests)
+groups_same (suc f) zero n h k = grind (arith, nat_tests)
 groups_same (suc f) (suc g) n h k = grind (arith, nat_tests, groups_same f g (n / 128))
 
 -- the bytes of a number from 128 on, and of one below
 pub number_more : (n : ℕ) → 128 ≤ n → number_bytes n ≡ (n % 128 + 128) ∷ number_bytes (n / 128)
 unfolding number_bytes groups
 number_more zero h = absurd (omega arith)
-number_more (suc m) h =
-    let large : nat_lt (suc m) 128 ≡ false = grind (arith, nat_tests) in
-    let less : suc m / 128 ≤ m = omega arith in
-    let enough : suc m / 128 ≤ suc m / 128 = omega arith in
-    rw large (ap (λ bs. (suc m % 128 + 128) ∷ bs) (groups_same m (suc m / 128) (suc m / 128) less enough))
+number_more (suc m) h = grind (arith, nat_tests, groups_same m (suc m / 128) (suc m / 128))
 
 pub number_last : (n : ℕ) → n < 128 → number_bytes n ≡ n ∷ []
 unfolding number_bytes groups
 number_last zero h = refl
-number_last (suc m) h =
-    let small : nat_lt (suc m) 128 ≡ true = grind (arith, nat_tests) in
-    rw small refl
+number_last (suc m) h = grind (arith, nat_tests)
+
+pub ruleset number_steps = (common_steps, number_more, number_last)
 
 -- a number times a unit, by the lowest bits and the others
 pub parts : (unit n : ℕ) → unit * n ≡ unit * (n % 128) + unit * 128 * (n / 128)
@@ -46,9 +37,7 @@ parts unit n = rows (n / 128) (n % 128) (omega arith)
 -- A NUMBER is what its bytes hold
 groups_back : (f n : ℕ) (rest : List ℕ) → n ≤ f → take_number (groups f n ++ rest) ≡ Some (n, rest)
 unfolding groups
-groups_back zero n rest h =
-    let none : n ≡ 0 = omega arith in
-    rw none refl
+groups_back zero n rest h = grind (arith, nat_tests)
 groups_back (suc f) n rest h = grind (arith, nat_tests, groups_back f (n / 128) rest)
 
 pub number_back : (n : ℕ) (rest : List ℕ) → take_number (number_bytes n ++ rest) ≡ Some (n, rest)
