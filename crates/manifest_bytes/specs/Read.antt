@@ -43,12 +43,13 @@ Refuses deep deepest TooDeep = deepest < deep
 Refuses deep deepest (Memory refused) = Unit {0}
 
 -- WHAT NESTS `deep` DEEP is read, and nests at most `deepest` deep; or it is refused
-abbrev pub ReadsWithin : {A : Type 0} → ℕ → ℕ → (A → Type 0) → Result (Option A) DecodeError → Type 0
+abbrev pub ReadsWithin : {A : Type 0} →
+    ℕ → ℕ → (A → Type 0) → Result (Option A) DecodeError → Type 0
 ReadsWithin deep deepest Is (Ok (Some x)) = (deep ≤ deepest) × Is x
 ReadsWithin deep deepest Is (Ok None) = ⊥
 ReadsWithin deep deepest Is (Err error) = Refuses deep deepest error
 
--- the same of the readers below: the bytes are no others
+-- so say the readers below `value_of_bytes`, which never find the bytes of such a thing invalid
 abbrev pub RefusesRead : ℕ → ℕ → Unread → Type 0
 RefusesRead deep deepest Invalid = ⊥
 RefusesRead deep deepest (Refused error) = Refuses deep deepest error

@@ -131,7 +131,7 @@ trait Part: Sized {
     /// The part that some bytes begin with, and what is left of them.
     ghost take: { List ℕ → Taken Self };
 
-    /// Reads a part; `None` where the bytes are none.
+    /// Reads a part; `None` where the bytes are not those of one.
     fn read(reader: &mut Reader<'_>) -> Option<Self>
         ensures reads { Reads fits bytes reader.old.left.now result reader.new.left.now }
         ensures held { IsTaken take reader.old.left.now result reader.new.left.now };
