@@ -60,10 +60,3 @@ pub taken_more : (old mid rest : List ℕ) (byte n : ℕ) → take_byte old ≡ 
     take_number mid ≡ Some (n, rest) → take_number old ≡ Some (byte - 128 + 128 * n, rest)
 taken_more [] mid rest byte n h large more = absurd (none-some _ h)
 taken_more (b ∷ bs) mid rest byte n h large more = grind (arith, nat_tests, some_pair_parts b byte bs mid h)
-
-pub above : (number unit byte n : ℕ) → byte < 256 → 128 ≤ byte →
-    number + unit * (byte - 128 + 128 * n) ≡ number + byte % 128 * unit + unit * 128 * n
-above number unit byte n fits marked = low (byte - 128) (omega arith)
-  where
-    low : (r : ℕ) → byte % 128 ≡ r → number + unit * (r + 128 * n) ≡ number + byte % 128 * unit + unit * 128 * n
-    low r e = rw e (omega arith)

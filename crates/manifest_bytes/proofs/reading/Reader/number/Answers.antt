@@ -1,6 +1,6 @@
-use Rattle.std.proofs.Common.{arith}
+use Rattle.std.proofs.Common.{◌+◌, ◌-◌, ◌*◌, arith}
 use Rattle.std.proofs.lemmas.Grind.{common_steps}
-use Rattle.manifest_bytes.proofs.NumberLemmas.{number_steps, parts, taken_last, taken_more, above}
+use Rattle.manifest_bytes.proofs.NumberLemmas.{number_steps, parts, taken_last, taken_more}
 use Rattle.manifest_bytes.proofs.reading.Reader.number.Goals as goal
 
 pub returns-in_err-byte-clause-reads : goal.returns-in_err-byte-clause-reads
@@ -28,7 +28,6 @@ loop-byte-preserved c = record {
   reads = λ result new next. c.loop-byte.invariant.reads _ _ (λ n rest fits h. grind (arith, number_steps, parts c.loop-byte.unit n, next));
   held = λ n rest h.
       let all = c.loop-byte.invariant.held _ _ (taken_more _ _ rest c.in_ok-byte.byte n c.in_ok-byte.ensures.held.0 c.if-byte-lt128.false h) in
-      let sum = above c.loop-byte.number c.loop-byte.unit c.in_ok-byte.byte n (omega arith) c.if-byte-lt128.false in
-      grind (arith, common_steps);
+      grind (arith, common_steps, parts c.loop-byte.unit (c.in_ok-byte.byte - 128 + 128 * n));
   fewer = grind (arith, common_steps);
 }
