@@ -2,9 +2,7 @@
 use Rattle.std.proofs.Common.{◌≡◌, ℕ, zero, suc, ◌+◌, ◌-◌, ◌*◌, ◌/◌, ◌%◌, ◌≤◌, ◌<◌, List, [], ◌∷◌, ◌++◌, Option, Some, ◌^◌, refl, arith}
 use Rattle.std.proofs.lemmas.Bool.Decides.{nat_tests}
 use Rattle.std.proofs.lemmas.Grind.{common_steps}
-use Rattle.std.proofs.lemmas.Option.{none-some, some_pair_parts}
 use Rattle.manifest_bytes.specs.Numbers.{groups, number_bytes, take_number}
-use Rattle.manifest_bytes.specs.Decoded.{take_byte}
 
 -- room for more bytes changes none
 groups_same : (f g n : ℕ) → n ≤ f → n ≤ g → groups f n ≡ groups g n
@@ -51,12 +49,9 @@ ReadsAbove number unit old result new =
     (result ≡ Some (number + unit * n)) × (new ≡ rest)
 
 -- what is taken of a number whose first byte is its last, or is not
-pub taken_last : (old mid : List ℕ) (byte : ℕ) → take_byte old ≡ Some (byte, mid) → byte < 128 →
-    take_number old ≡ Some (byte, mid)
-taken_last [] mid byte h small = absurd (none-some _ h)
-taken_last (b ∷ bs) mid byte h small = grind (arith, nat_tests, some_pair_parts b byte bs mid h)
+pub taken_last : (byte : ℕ) (mid : List ℕ) → byte < 128 → take_number (byte ∷ mid) ≡ Some (byte, mid)
+taken_last byte mid small = grind (arith, nat_tests)
 
-pub taken_more : (old mid rest : List ℕ) (byte n : ℕ) → take_byte old ≡ Some (byte, mid) → 128 ≤ byte →
-    take_number mid ≡ Some (n, rest) → take_number old ≡ Some (byte - 128 + 128 * n, rest)
-taken_more [] mid rest byte n h large more = absurd (none-some _ h)
-taken_more (b ∷ bs) mid rest byte n h large more = grind (arith, nat_tests, some_pair_parts b byte bs mid h)
+pub taken_more : (byte n : ℕ) (mid rest : List ℕ) → 128 ≤ byte → take_number mid ≡ Some (n, rest) →
+    take_number (byte ∷ mid) ≡ Some (byte - 128 + 128 * n, rest)
+taken_more byte n mid rest large more = grind (arith, nat_tests)

@@ -3,52 +3,52 @@ use Rattle.std.proofs.lemmas.Grind.{common_steps}
 use Rattle.std.proofs.lemmas.Option.{same_Some}
 use Rattle.toml.proofs.Views.{view-String, view-Array, view-Table}
 use Rattle.manifest_bytes.specs.Encoded.{encoded}
-use Rattle.manifest_bytes.proofs.TagLemmas.{tag_there, tag_read, tag_string, tag_array, tag_table, passed_on}
+use Rattle.manifest_bytes.proofs.TagLemmas.{not_empty, tag_string, tag_array, tag_table, passed_on}
 use Rattle.manifest_bytes.proofs.ItemLemmas.{item_next, items_read}
 use Rattle.manifest_bytes.proofs.MemberLemmas.{member_next, members_read}
 use Rattle.manifest_bytes.proofs.reading.+reading.Goals as goal
 
 pub read_value-returns-in-None-clause-reads : goal.read_value-returns-in-None-clause-reads
-read_value-returns-in-None-clause-reads t c d rest fits h = tag_there d _ _ rest h c.in-None.ensures.reads
+read_value-returns-in-None-clause-reads t c d rest fits h = not_empty d rest (rw c.in-None.ensures at h)
 
 pub read_value-returns-in-Some-2-clause-reads : goal.read_value-returns-in-Some-2-clause-reads
 read_value-returns-in-Some-2-clause-reads t c d rest fits h =
-    let all = tag_read d _ _ rest 1 _ h c.in-Some-eq1.ensures.reads c.in-Some-eq1.field-0-test in
+    let all = rw (c.in-Some-eq1.ensures, c.in-Some-eq1.field-0-test) at h in
     let (s, is, left) = tag_string d _ rest all in
     let read = c.in_ok-text-in-Some-eq1.ensures.reads s rest (rw is at fits) left in
     grind (arith, common_steps, view-String)
 
 pub read_value-returns-in-None-2-clause-reads : goal.read_value-returns-in-None-2-clause-reads
 read_value-returns-in-None-2-clause-reads t c d rest fits h =
-    let all = tag_read d _ _ rest 1 _ h c.in-Some-eq1.ensures.reads c.in-Some-eq1.field-0-test in
+    let all = rw (c.in-Some-eq1.ensures, c.in-Some-eq1.field-0-test) at h in
     let (s, is, left) = tag_string d _ rest all in
     let read = c.in_ok-text-in-Some-eq1.ensures.reads s rest (rw is at fits) left in
     grind (arith, common_steps, view-String)
 
 pub read_value-returns-in_ok-read_items-in-Some-eq7-clause-reads : goal.read_value-returns-in_ok-read_items-in-Some-eq7-clause-reads
 read_value-returns-in_ok-read_items-in-Some-eq7-clause-reads t c d rest fits h =
-    let all = tag_read d _ _ rest 7 _ h c.in-Some-eq7.ensures.reads c.in-Some-eq7.field-0-test in
+    let all = rw (c.in-Some-eq7.ensures, c.in-Some-eq7.field-0-test) at h in
     let (ds, is, left) = tag_array d _ rest all in
     let read = c.read_items.ensures.reads ds rest (rw is at fits) left in
     grind (arith, common_steps, view-Array)
 
 pub read_value-returns-in_err-read_items-in-Some-eq7-clause-reads : goal.read_value-returns-in_err-read_items-in-Some-eq7-clause-reads
 read_value-returns-in_err-read_items-in-Some-eq7-clause-reads t c d rest fits h =
-    let all = tag_read d _ _ rest 7 _ h c.in-Some-eq7.ensures.reads c.in-Some-eq7.field-0-test in
+    let all = rw (c.in-Some-eq7.ensures, c.in-Some-eq7.field-0-test) at h in
     let (ds, is, left) = tag_array d _ rest all in
     let read = c.read_items.ensures.reads ds rest (rw is at fits) left in
     grind (arith, common_steps, view-Array)
 
 pub read_value-returns-in_ok-read_members-in-Some-eq8-clause-reads : goal.read_value-returns-in_ok-read_members-in-Some-eq8-clause-reads
 read_value-returns-in_ok-read_members-in-Some-eq8-clause-reads t c d rest fits h =
-    let all = tag_read d _ _ rest 8 _ h c.in-Some-eq8.ensures.reads c.in-Some-eq8.field-0-test in
+    let all = rw (c.in-Some-eq8.ensures, c.in-Some-eq8.field-0-test) at h in
     let (ms, is, left) = tag_table d _ rest all in
     let read = c.read_members.ensures.reads ms rest (rw is at fits) left in
     grind (arith, common_steps, view-Table)
 
 pub read_value-returns-in_err-read_members-in-Some-eq8-clause-reads : goal.read_value-returns-in_err-read_members-in-Some-eq8-clause-reads
 read_value-returns-in_err-read_members-in-Some-eq8-clause-reads t c d rest fits h =
-    let all = tag_read d _ _ rest 8 _ h c.in-Some-eq8.ensures.reads c.in-Some-eq8.field-0-test in
+    let all = rw (c.in-Some-eq8.ensures, c.in-Some-eq8.field-0-test) at h in
     let (ms, is, left) = tag_table d _ rest all in
     let read = c.read_members.ensures.reads ms rest (rw is at fits) left in
     grind (arith, common_steps, view-Table)
