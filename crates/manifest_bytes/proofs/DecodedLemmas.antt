@@ -87,17 +87,11 @@ mutual
 
   items_shallow : (ds : Items) → items_depth ds ≤ length (items_bytes ds)
   items_shallow no_items = omega arith
-  items_shallow (item d ds) =
-      let one = shallow d in
-      let more = items_shallow ds in
-      omega (arith, length-append (encoded d) (items_bytes ds))
+  items_shallow (item d ds) = grind (arith, length-append, shallow d, items_shallow ds)
 
   members_shallow : (ms : Members) → members_depth ms ≤ length (members_bytes ms)
   members_shallow no_members = omega arith
-  members_shallow (member k d ms) =
-      let one = shallow d in
-      let more = members_shallow ms in
-      omega (arith, length-append (encoded d) (members_bytes ms), length-append (text_bytes k) (encoded d ++ members_bytes ms))
+  members_shallow (member k d ms) = grind (arith, length-append, shallow d, members_shallow ms)
 
 pub encoded_is_decoded : EncodedIsDecoded
 encoded_is_decoded d p =

@@ -35,13 +35,12 @@ item_next (item d ds) [] deepest left rest fits h some = record {
 }
 item_next (item e ds) (w ∷ vs) deepest left rest fits h some =
     let next = item_next ds vs deepest left rest fits.1 h.2 (omega arith) in
-    let deep = next.inside in
     record {
       d = next.d;
       after = next.after;
       fits = next.fits;
       bytes = next.bytes;
-      inside = omega arith;
+      inside = omega (arith, next.inside);
       read = λ v new low same is. (h.0, h.1, next.read v new low same is);
     }
 
@@ -54,5 +53,4 @@ items_read no_items (v ∷ vs) deepest left rest h none = absurd h
 items_read (item d ds) [] deepest left rest h none = absurd (omega arith)
 items_read (item d ds) (v ∷ vs) deepest left rest h none =
     let (deep, (same, end)) = items_read ds vs deepest left rest h.2 (omega arith) in
-    let low = h.1 in
-    (omega arith, (rw (h.0, same) refl, end))
+    (omega (arith, h.1), (rw (h.0, same) refl, end))

@@ -53,7 +53,6 @@ member_next (member k d ms) [] deepest left rest fits h some = record {
 }
 member_next (member m e ms) (w ∷ es) deepest left rest fits h some =
     let next = member_next ms es deepest left rest fits.3 h.3 (omega arith) in
-    let deep = next.inside in
     record {
       k = next.k;
       d = next.d;
@@ -61,13 +60,11 @@ member_next (member m e ms) (w ∷ es) deepest left rest fits h some =
       named = next.named;
       fits = next.fits;
       bytes = next.bytes;
-      inside = omega arith;
+      inside = omega (arith, next.inside);
       above = λ l first. nat_list_cmp_total.trans l m next.k (below_from l m first) (next.above m fits.1);
       last = λ key v named.
-          let under : slice_cmp nat_cmp (string_bytes w.0) (string_bytes key) ≡ Less =
-          rw (h.0, named) (next.above m fits.1) in
           let above : slice_cmp nat_cmp (string_bytes key) (string_bytes w.0) ≡ Greater =
-          nat_list_cmp_total.antisymm (string_bytes key) (string_bytes w.0) ∙ ap ordering_reverse under in
+          rw (h.0, named) (nat_list_cmp_total.antisymm next.k m ∙ ap ordering_reverse (next.above m fits.1)) in
           rw above (ap (λ t. w ∷ t) (next.last key v named));
       read = λ key v new named low same is. (h.0, h.1, h.2, next.read key v new named low same is);
     }
@@ -81,5 +78,4 @@ members_read no_members (e ∷ es) deepest left rest h none = absurd h
 members_read (member k d ms) [] deepest left rest h none = absurd (omega arith)
 members_read (member k d ms) (e ∷ es) deepest left rest h none =
     let (deep, (same, end)) = members_read ms es deepest left rest h.3 (omega arith) in
-    let low = h.2 in
-    (omega arith, (rw (h.0, h.1, same) refl, end))
+    (omega (arith, h.2), (rw (h.0, h.1, same) refl, end))

@@ -1,40 +1,29 @@
 -- Lemmas on whole numbers as bytes.
-use Rattle.std.proofs.Common.{◌≡◌, ℕ, zero, suc, ◌+◌, ◌-◌, ◌*◌, ◌/◌, ◌%◌, ◌≤◌, ◌<◌, List, [], ◌∷◌, ◌++◌, length, Bool, true, false, if◌then◌else◌, Option, Some, None, ◌^◌, refl, ap, arith}
+use Rattle.std.proofs.Common.{◌≡◌, ℕ, zero, suc, ◌+◌, ◌-◌, ◌*◌, ◌/◌, ◌%◌, ◌≤◌, ◌<◌, List, [], ◌∷◌, ◌++◌, Option, Some, ◌^◌, refl, arith}
 use Rattle.std.proofs.lemmas.Bool.Decides.{nat_tests}
-use Rattle.std.proofs.lemmas.Option.{none-some, some_pair_parts}
-use Rattle.std.specs.Prelude.{nat_lt}
-use Rattle.manifest_bytes.specs.Numbers.{groups, number_bytes, Taken, with_low, take_number}
-use Rattle.manifest_bytes.specs.Decoded.{made, take_byte}
-use Rattle.manifest_bytes.specs.Read.{IsTaken}
+use Rattle.std.proofs.lemmas.Grind.{common_steps}
+use Rattle.manifest_bytes.specs.Numbers.{groups, number_bytes, take_number}
 
 -- room for more bytes changes none
 groups_same : (f g n : ℕ) → n ≤ f → n ≤ g → groups f n ≡ groups g n
 unfolding groups
 groups_same zero zero n h k = refl
-groups_same zero (suc g) n h k =
-    let none : n ≡ 0 = omega arith in
-    rw none refl
-groups_same (suc f) zero n h k =
-    let none : n ≡ 0 = omega arith in
-    rw none refl
+groups_same zero (suc g) n h k = grind (arith, nat_tests)
+groups_same (suc f) zero n h k = grind (arith, nat_tests)
 groups_same (suc f) (suc g) n h k = grind (arith, nat_tests, groups_same f g (n / 128))
 
 -- the bytes of a number from 128 on, and of one below
 pub number_more : (n : ℕ) → 128 ≤ n → number_bytes n ≡ (n % 128 + 128) ∷ number_bytes (n / 128)
 unfolding number_bytes groups
 number_more zero h = absurd (omega arith)
-number_more (suc m) h =
-    let large : nat_lt (suc m) 128 ≡ false = grind (arith, nat_tests) in
-    let less : suc m / 128 ≤ m = omega arith in
-    let enough : suc m / 128 ≤ suc m / 128 = omega arith in
-    rw large (ap (λ bs. (suc m % 128 + 128) ∷ bs) (groups_same m (suc m / 128) (suc m / 128) less enough))
+number_more (suc m) h = grind (arith, nat_tests, groups_same m (suc m / 128) (suc m / 128))
 
 pub number_last : (n : ℕ) → n < 128 → number_bytes n ≡ n ∷ []
 unfolding number_bytes groups
 number_last zero h = refl
-number_last (suc m) h =
-    let small : nat_lt (suc m) 128 ≡ true = grind (arith, nat_tests) in
-    rw small refl
+number_last (suc m) h = grind (arith, nat_tests)
+
+pub ruleset number_steps = (common_steps, number_more, number_last)
 
 -- a number times a unit, by the lowest bits and the others
 pub parts : (unit n : ℕ) → unit * n ≡ unit * (n % 128) + unit * 128 * (n / 128)
@@ -46,9 +35,7 @@ parts unit n = rows (n / 128) (n % 128) (omega arith)
 -- A NUMBER is what its bytes hold
 groups_back : (f n : ℕ) (rest : List ℕ) → n ≤ f → take_number (groups f n ++ rest) ≡ Some (n, rest)
 unfolding groups
-groups_back zero n rest h =
-    let none : n ≡ 0 = omega arith in
-    rw none refl
+groups_back zero n rest h = grind (arith, nat_tests)
 groups_back (suc f) n rest h = grind (arith, nat_tests, groups_back f (n / 128) rest)
 
 pub number_back : (n : ℕ) (rest : List ℕ) → take_number (number_bytes n ++ rest) ≡ Some (n, rest)
@@ -62,19 +49,9 @@ ReadsAbove number unit old result new =
     (result ≡ Some (number + unit * n)) × (new ≡ rest)
 
 -- what is taken of a number whose first byte is its last, or is not
-pub taken_last : (old mid : List ℕ) (byte : ℕ) → take_byte old ≡ Some (byte, mid) → byte < 128 →
-    take_number old ≡ Some (byte, mid)
-taken_last [] mid byte h small = absurd (none-some _ h)
-taken_last (b ∷ bs) mid byte h small = grind (arith, nat_tests, some_pair_parts b byte bs mid h)
+pub taken_last : (byte : ℕ) (mid : List ℕ) → byte < 128 → take_number (byte ∷ mid) ≡ Some (byte, mid)
+taken_last byte mid small = grind (arith, nat_tests)
 
-pub taken_more : (old mid rest : List ℕ) (byte n : ℕ) → take_byte old ≡ Some (byte, mid) → 128 ≤ byte →
-    take_number mid ≡ Some (n, rest) → take_number old ≡ Some (byte - 128 + 128 * n, rest)
-taken_more [] mid rest byte n h large more = absurd (none-some _ h)
-taken_more (b ∷ bs) mid rest byte n h large more = grind (arith, nat_tests, some_pair_parts b byte bs mid h)
-
-pub above : (number unit byte n : ℕ) → byte < 256 → 128 ≤ byte →
-    number + unit * (byte - 128 + 128 * n) ≡ number + byte % 128 * unit + unit * 128 * n
-above number unit byte n fits marked = low (byte - 128) (omega arith)
-  where
-    low : (r : ℕ) → byte % 128 ≡ r → number + unit * (r + 128 * n) ≡ number + byte % 128 * unit + unit * 128 * n
-    low r e = rw e (omega arith)
+pub taken_more : (byte n : ℕ) (mid rest : List ℕ) → 128 ≤ byte → take_number mid ≡ Some (n, rest) →
+    take_number (byte ∷ mid) ≡ Some (byte - 128 + 128 * n, rest)
+taken_more byte n mid rest large more = grind (arith, nat_tests)

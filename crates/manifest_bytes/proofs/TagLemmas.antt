@@ -1,8 +1,6 @@
 -- Lemmas on the value that a tag stands for, and on what is read of it.
-use Rattle.std.proofs.Common.{◌≡◌, ℕ, ◌<◌, ◌≤◌, ◌^◌, List, [], ◌∷◌, ◌++◌, drop, Some, None, IsTrue, Result, IsErrAnd, arith, to_bits, from_bits, refl, sym, ap}
+use Rattle.std.proofs.Common.{◌≡◌, ℕ, ◌<◌, ◌≤◌, ◌^◌, List, [], ◌∷◌, ◌++◌, drop, IsTrue, Result, IsErrAnd, arith, to_bits, from_bits, refl, ap}
 use Rattle.std.proofs.lemmas.Float.{T_from_true}
-use Rattle.std.proofs.lemmas.Option.{none-some}
-use Rattle.std.proofs.lemmas.Result.{err_from_is_err_and}
 use Rattle.std.specs.Float.{Float, binary64}
 use lib.Ieee.{fits}
 use lib.Ieee.Bits.{of_bits-to_bits, to_bits-lt}
@@ -10,24 +8,13 @@ use Rattle.toml_datetime.specs.declared.datetime.Datetime.{Datetime}
 use Rattle.toml.specs.Data.{Data, string, datetime, array, table, Items, Members}
 use Rattle.manifest_bytes.specs.Numbers.{number_bytes}
 use Rattle.manifest_bytes.specs.Encoded.{text_bytes, datetime_bytes, item_count, member_count, encoded, items_bytes, members_bytes}
-use Rattle.manifest_bytes.specs.Read.{ReadsByte, RefusesRead, ReadsTo}
-use Rattle.manifest_bytes.specs.declared.error.DecodeError.TheVariants.{TooDeep, Memory}
+use Rattle.manifest_bytes.specs.Read.{RefusesRead, ReadsTo}
 use Rattle.manifest_bytes.specs.declared.error.Unread.{Unread}
-use Rattle.manifest_bytes.specs.declared.error.Unread.TheVariants.{Invalid, Refused}
 
--- THE NEXT BYTE is the tag of a value
-not_empty : (d : Data) (rest : List ℕ) → encoded d ++ rest ≡ [] → ⊥
+-- A VALUE has a byte
+pub not_empty : (d : Data) (rest : List ℕ) → [] ≡ encoded d ++ rest → ⊥
 not_empty (string t) rest h = cc
 not_empty _ rest h = grind arith
-
-pub tag_there : (d : Data) (old mid rest : List ℕ) → old ≡ encoded d ++ rest → ReadsByte old None mid → ⊥
-tag_there d [] mid rest h reads = not_empty d rest (sym h)
-tag_there d (b ∷ bs) mid rest h reads = none-some _ (reads b bs refl).0
-
-pub tag_read : (d : Data) (old mid rest : List ℕ) (tag byte : ℕ) → old ≡ encoded d ++ rest →
-    ReadsByte old (Some byte) mid → byte ≡ tag → tag ∷ mid ≡ encoded d ++ rest
-tag_read d [] mid rest tag byte h reads is = absurd (not_empty d rest (sym h))
-tag_read d (b ∷ bs) mid rest tag byte h reads is = let (same, left) = reads b bs refl in cc
 
 -- THE VALUE OF A TAG
 pub tag_string : (d : Data) (left rest : List ℕ) → 1 ∷ left ≡ encoded d ++ rest →
@@ -58,15 +45,7 @@ pub bits_back : (x : Float) → IsTrue (fits binary64 x) → from_bits binary64 
 bits_back x h = of_bits-to_bits binary64 x (T_from_true _ h)
 
 -- WHAT REFUSES a part refuses the whole
-deeper : (part low all deepest : ℕ) (error : Unread) → (low < part → deepest < all) → RefusesRead part low error →
-    RefusesRead all deepest error
-deeper part low all deepest Invalid h none = absurd none
-deeper part low all deepest (Refused TooDeep) h refused = h refused
-deeper part low all deepest (Refused (Memory reason)) h refused = tt
-
-pub passed_on : {B : Type 0} (Is : B → Type 0) (part low all deepest : ℕ) (error : Unread) (result : Result B Unread) →
-    IsErrAnd result (λ same. same ≡ error) → (low < part → deepest < all) → RefusesRead part low error →
+pub passed_on : {B : Type 0} (Is : B → Type 0) (part all deepest : ℕ) (error : Unread) (result : Result B Unread) →
+    IsErrAnd result (λ same. same ≡ error) → part ≤ all → RefusesRead part deepest error →
     ReadsTo all deepest Is result
-passed_on Is part low all deepest error result is h refused =
-    let p = err_from_is_err_and result is in
-    rw (p.1, p.2) (deeper part low all deepest error h refused)
+passed_on Is part all deepest error result is h refused = grind arith

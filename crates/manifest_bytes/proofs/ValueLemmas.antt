@@ -1,6 +1,6 @@
 -- Lemmas on the bytes of lists and of tables.
 use Rattle.manifest_schema.specs.Prelude.{items_view, members_view, Value}
-use Rattle.std.proofs.Common.{◌≡◌, suc, List, [], ◌∷◌, ◌++◌, length, ℕ, String, Global, refl, ap, sym, ◌∙◌, append_assoc, append-nil}
+use Rattle.std.proofs.Common.{◌≡◌, suc, List, [], ◌∷◌, length, String, Global, refl, ap}
 use Rattle.manifest_bytes.specs.Encoded.{item_count, member_count}
 
 pub item_count-view : (vs : List Value) → item_count (items_view vs) ≡ length vs

@@ -1,5 +1,5 @@
 -- What a reader makes of bytes that begin with those of what it reads.
-use Rattle.std.specs.Prelude.{◌≡◌, ℕ, ◌<◌, ◌≤◌, List, ◌∷◌, ◌++◌, length, Bool, true, false, if◌then◌else◌, ◌==◌, IfSome, from_bits, Option, Some, None, Result, Ok, Err}
+use Rattle.std.specs.Prelude.{◌≡◌, ℕ, ◌<◌, ◌≤◌, List, [], ◌∷◌, ◌++◌, length, Bool, true, false, if◌then◌else◌, ◌==◌, IfSome, from_bits, Option, Some, None, Result, Ok, Err}
 use Rattle.std.specs.Float.{binary64}
 use Rattle.toml.specs.Data.{Data, string, float, array, table}
 use Rattle.manifest_bytes.specs.Numbers.{Taken, take_number}
@@ -10,9 +10,9 @@ use Rattle.manifest_bytes.specs.declared.error.Unread.{Unread}
 use Rattle.manifest_bytes.specs.declared.error.Unread.TheVariants.{Invalid, Refused}
 
 -- THE NEXT BYTE is read where there is one
-abbrev pub ReadsByte : List ℕ → Option ℕ → List ℕ → Type 0
-ReadsByte old result new =
-    (b : ℕ) (rest : List ℕ) → old ≡ b ∷ rest → (result ≡ Some b) × (new ≡ rest)
+abbrev pub IsNext : List ℕ → Option ℕ → List ℕ → Type 0
+IsNext old None new = old ≡ []
+IsNext old (Some b) new = old ≡ b ∷ new
 
 -- WHAT FITS is read where its bytes stand, and what was after them is left
 abbrev pub Reads : {A : Type 0} → (A → Type 0) → (A → List ℕ) → List ℕ → Option A → List ℕ → Type 0
@@ -43,12 +43,13 @@ Refuses deep deepest TooDeep = deepest < deep
 Refuses deep deepest (Memory refused) = Unit {0}
 
 -- WHAT NESTS `deep` DEEP is read, and nests at most `deepest` deep; or it is refused
-abbrev pub ReadsWithin : {A : Type 0} → ℕ → ℕ → (A → Type 0) → Result (Option A) DecodeError → Type 0
+abbrev pub ReadsWithin : {A : Type 0} →
+    ℕ → ℕ → (A → Type 0) → Result (Option A) DecodeError → Type 0
 ReadsWithin deep deepest Is (Ok (Some x)) = (deep ≤ deepest) × Is x
 ReadsWithin deep deepest Is (Ok None) = ⊥
 ReadsWithin deep deepest Is (Err error) = Refuses deep deepest error
 
--- the same of the readers below: the bytes are no others
+-- so say the readers below `value_of_bytes`, which never find the bytes of such a thing invalid
 abbrev pub RefusesRead : ℕ → ℕ → Unread → Type 0
 RefusesRead deep deepest Invalid = ⊥
 RefusesRead deep deepest (Refused error) = Refuses deep deepest error

@@ -15,7 +15,7 @@ ghost use Rattle.manifest_bytes.specs.Numbers.{Taken, number_bytes, take_number}
 ghost use Rattle.manifest_bytes.specs.Decoded.{take_byte, take_text, take_part, take_date, take_time, take_offset, take_datetime};
 ghost use Rattle.manifest_bytes.specs.Encoded.{text_bytes, part_bytes, date_bytes, second_bytes, time_bytes, offset_bytes, datetime_bytes, item_count, member_count, encoded, items_bytes, members_bytes};
 ghost use Rattle.manifest_bytes.specs.Held.{FitsText, FitsDate, FitsTime, FitsOffset, FitsDatetime, FitsValue, FitItems, FitMembers};
-ghost use Rattle.manifest_bytes.specs.Read.{ReadsByte, Reads, is_simple, IsTaken, take_simple, ReadsTo, Shrinks};
+ghost use Rattle.manifest_bytes.specs.Read.{IsNext, Reads, is_simple, IsTaken, take_simple, ReadsTo, Shrinks};
 
 use crate::error::{DecodeError, Unread};
 use std::alloc::{AllocError, Global};
@@ -33,8 +33,7 @@ pub(crate) struct Reader<'a> {
 impl<'a> Reader<'a> {
     /// The next byte, which is then passed; `None` at the end.
     fn byte(&mut self) -> Option<u8>
-        ensures reads { ReadsByte self.old.left.now result self.new.left.now }
-        ensures held { IsTaken take_byte self.old.left.now result self.new.left.now }
+        ensures { IsNext self.old.left.now result self.new.left.now }
     {
         let (first, left) = self.left.split_first()?;
         self.left = left;
@@ -131,7 +130,7 @@ trait Part: Sized {
     /// The part that some bytes begin with, and what is left of them.
     ghost take: { List ℕ → Taken Self };
 
-    /// Reads a part; `None` where the bytes are none.
+    /// Reads a part; `None` where the bytes are not those of one.
     fn read(reader: &mut Reader<'_>) -> Option<Self>
         ensures reads { Reads fits bytes reader.old.left.now result reader.new.left.now }
         ensures held { IsTaken take reader.old.left.now result reader.new.left.now };

@@ -18,7 +18,7 @@ use toml_datetime::{Date, Datetime, Offset, Time};
 
 /// Appends a number as unsigned LEB128: groups of seven bits, the lowest first, with 128 added to each but the last.
 /// After an error `out` may hold a part of it, as after an error of any function here.
-#[tactic(auto, using(std::proofs::lemmas::Grind::common_steps, crate::proofs::NumberLemmas::number_more, crate::proofs::NumberLemmas::number_last))]
+#[tactic(auto, using(crate::proofs::NumberLemmas::number_steps))]
 fn push_number(out: &mut Vec<u8>, number: u64) -> Result<(), AllocError>
     ensures { OnOk result (out.new.items ≡ out.old.items ++ number_bytes number) }
 {

@@ -21,8 +21,9 @@ abbrev pub invariant-read_items-loop : goal.invariant-read_items-loop
 invariant-read_items-loop l = record {
   left : (ds : Items) (rest : List ℕ) → FitsValue (array ds) →
       l.fn.reader.left.now ≡ (number_bytes (item_count ds) ++ items_bytes ds) ++ rest →
-      (item_count ds ≡ l.count) × ItemsLeft ds l.items.items l.deepest l.reader.left.now rest;
-  counted : length l.items.items ≡ l.counter;
+      (item_count ds ≡ l.count)
+      × (length l.items.items ≡ l.counter)
+      × ItemsLeft ds l.items.items l.deepest l.reader.left.now rest;
   fewer : length l.reader.left.now ≤ length l.fn.reader.left.now;
 }
 
