@@ -36,8 +36,8 @@ impl<P: Copied, W: Copied> Copied for Manifest<P, W> {
     ghost held = { λ m see look.
         manifest_content (λ p. see (P.held p)) (λ w. look (W.held w)) m };
 
-    ghost copies = { let whole_copied : (see : P.Held → Data) (look : W.Held → Data) (x y : AManifest P W)
-        → ⟦<Manifest<P, W> as Clone>⟧.is_clone x y
+    ghost copies = { let whole_copied : (see : P.Held → Data) (look : W.Held → Data)
+        (x y : AManifest P W) → ⟦<Manifest<P, W> as Clone>⟧.is_clone x y
         → option_map (package_content (λ p. see (P.held p))) y.package
         ≡ option_map (package_content (λ p. see (P.held p))) x.package
         → option_map (workspace_content (λ w. look (W.held w))) y.workspace
