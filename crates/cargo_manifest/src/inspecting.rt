@@ -9,11 +9,10 @@ ghost use Rattle.manifest_value.specs.Found.{fault_of, found};
 use crate::manifest::Manifest;
 use crate::package::Package;
 use crate::reading::has_package_or_workspace;
+use manifest_value::findings::{Findings, Found};
 use manifest_value::form_findings::{entries_left_over, findings_of_closed, findings_of_form};
 use manifest_value::readers::find;
-use manifest_value::{
-    Findings, Found, KeyPath, Metadata, Schema, SchemaFault, entries_without, spelled,
-};
+use manifest_value::{KeyPath, Metadata, Schema, SchemaFault, entries_without, spelled};
 use std::alloc::{AllocError, Global};
 use toml::{Table, Value};
 
