@@ -48,24 +48,33 @@ impl<P: Copied, W: Copied> Copied for Manifest<P, W> {
         let content = manifest_content (λ p. see (P.held p)) (λ w. look (W.held w)) in
         by_rows (manifest_rows kept kept) (manifest_built kept kept) (content y) (content x)
         (unfold manifest_rows in (
-        let cargo_features = some_copied ⟦<Option<Vec<String>> as Clone>⟧.is_clone
+        let cargo_features : option_map (λ v. map string_bytes v.items) y.cargo_features
+        ≡ option_map (λ v. map string_bytes v.items) x.cargo_features
+        = some_copied ⟦<Option<Vec<String>> as Clone>⟧.is_clone
         (λ v. map string_bytes v.items)
         (λ a k. k) (λ a k. k)
         (λ a b k. items_copied string_bytes (λ s t q. q) a.items b.items k.0)
         x.cargo_features y.cargo_features c.1.0 in
-        let target = some_copied ⟦<Option<TargetDepsSet> as Clone>⟧.is_clone
+        let target : option_map (λ t. entries_content platform_content t.entries) y.target
+        ≡ option_map (λ t. entries_content platform_content t.entries) x.target
+        = some_copied ⟦<Option<TargetDepsSet> as Clone>⟧.is_clone
         (λ t. entries_content platform_content t.entries)
         (λ a k. k) (λ a k. k)
         (λ a b k. entries_copied platform_content platform_copied a.entries b.entries k)
         x.target y.target c.1.1.1.1.1.1.0 in
-        let features = some_copied ⟦<Option<FeatureSet> as Clone>⟧.is_clone
+        let features :
+        option_map (λ f. entries_content (λ v. map string_bytes v.items) f.entries) y.features
+        ≡ option_map (λ f. entries_content (λ v. map string_bytes v.items) f.entries) x.features
+        = some_copied ⟦<Option<FeatureSet> as Clone>⟧.is_clone
         (λ f. entries_content (λ v. map string_bytes v.items) f.entries)
         (λ a k. k) (λ a k. k)
         (λ a b k. entries_copied (λ v. map string_bytes v.items)
         (λ d e h. items_copied string_bytes (λ s t q. q) d.items e.items h.0)
         a.entries b.entries k)
         x.features y.features c.1.1.1.1.1.1.1.0 in
-        let patch = some_copied ⟦<Option<PatchSet> as Clone>⟧.is_clone
+        let patch : option_map (λ q. entries_content dependencies_content q.entries) y.patch
+        ≡ option_map (λ q. entries_content dependencies_content q.entries) x.patch
+        = some_copied ⟦<Option<PatchSet> as Clone>⟧.is_clone
         (λ q. entries_content dependencies_content q.entries)
         (λ a k. k) (λ a k. k)
         (λ a b k. entries_copied dependencies_content

@@ -1,6 +1,6 @@
 -- No table that is written of a well-formed manifest has a float, where none is written of metadata.
-use Rattle.manifest_schema.specs.Prelude.{IfSome, Data, Kind, plain, plain_items, plain_members, tree_of, good_some, form, profiles_rows, package_rows, workspace_rows, written_manifest}
-use Rattle.std.proofs.Common.{◌≡◌, true, Option, Some, None, refl, sym, ap, ◌∙◌, subst}
+use Rattle.manifest_schema.specs.Prelude.{IfSome, Data, Kind, plain, tree_of, good_some, form, profiles_rows, package_rows, workspace_rows, written_manifest}
+use Rattle.std.proofs.Common.{◌≡◌, true, Option, Some, None, sym, ap, ◌∙◌, subst, rules}
 use Rattle.manifest_schema.specs.Contents.{Profiles}
 use Rattle.manifest_schema.proofs.PartLaws.{profiles_sound}
 use Rattle.manifest_schema.proofs.GoodLaws.{package_metadata_good, workspace_metadata_good, manifest_parts_good}
@@ -14,26 +14,10 @@ tree_floatless K h x g = ap plain (sym g.2) ∙ h g.0 g.1
 
 -- the property of values without floats, and the one that every value has
 floats_by_scalars : ByScalars (λ d. plain d ≡ true)
-floats_by_scalars = record {
-  text_has = λ s. refl;
-  whole_has = λ z. refl;
-  flag_has = λ b. refl;
-  no_item = refl;
-  no_entry = refl;
-  item_has = λ d ds. both_are (plain d) (plain_items ds);
-  entry_has = λ k d ms. both_are (plain d) (plain_members ms);
-}
+floats_by_scalars = search (rules, both_are)
 
 any_by_scalars : ByScalars (λ d. Unit {0})
-any_by_scalars = record {
-  text_has = λ s. tt;
-  whole_has = λ z. tt;
-  flag_has = λ b. tt;
-  no_item = tt;
-  no_entry = tt;
-  item_has = λ d ds. (λ h. (tt, tt), λ h. tt);
-  entry_has = λ k d ms. (λ h. (tt, tt), λ h. tt);
-}
+any_by_scalars = search rules
 
 -- what is well-formed in profiles is read from what is written of them
 profiles_floatless : (p : Profiles) → (form profiles_rows).good p → plain ((form profiles_rows).written p) ≡ true
