@@ -17,7 +17,7 @@ KINDS = {
     "publish": ("boolean or list of texts", "", "Publish", "publish_content", "Publish"),
     "codegen": ("whole number from 0 to 65535", "", "ℤ", "pos", "u16"),
     "priority": ("whole number from -128 to 127", "", "ℤ", "λ n. n", "i8"),
-    "kept": ("any value without a float", "values without a float", "Data", "view", "Value"),
+    "raw": ("any value without a float", "values without a float", "Data", "view", "Value"),
     "metadata": ("metadata", "", "Data", "tree", "M"),
     "dependency": ("dependency", "dependencies", "Dependency", "dependency_content", "Dependency"),
     "lint": ("lint", "lints", "Lint", "lint_content", "Lint"),

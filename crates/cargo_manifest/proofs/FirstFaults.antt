@@ -1,5 +1,5 @@
 -- The first fault of a table without a header, and of the document of a text.
-use Rattle.manifest_schema.specs.Prelude.{Data, table, Members, key, Kind, IsSound, form, package_rows, manifest_rows, Rows, Manifest, IsFaultless, first_found, found_behind, unused_keys, without, row_findings, left_over, form_findings, old_findings}
+use Rattle.manifest_schema.specs.Prelude.{Data, table, Members, key, Kind, IsSound, form, package_rows, manifest_rows, Rows, Manifest, IsFaultless, first_found, found_under, unused_keys, without, row_findings, left_over, form_findings, old_findings}
 use Rattle.std.proofs.Common.{[], ◌∷◌, ◌++◌, Option, Some, None, codes, sym, ◌∙◌}
 use Rattle.manifest_schema.proofs.Faultless.{faults-keys}
 use Rattle.manifest_schema.proofs.ManifestLaws.{manifest_sound}
@@ -18,10 +18,13 @@ rows_same rows ms f h =
 
 module _ (K W : Kind Data) (ms : Members) where
   -- a fault of the manifest's rows comes first
-  pub first_of_rows : (o : Option Data) (f : ReadFault) → FaultIn (first_found ((form (manifest_rows K W)).findings (table ms))) f → FaultIn (first_found (old_findings K W ms o)) f
+  pub first_of_rows : (o : Option Data) (f : ReadFault)
+      → FaultIn (first_found ((form (manifest_rows K W)).findings (table ms))) f
+      → FaultIn (first_found (old_findings K W ms o)) f
   first_of_rows (Some d) f h =
       first_before (row_findings (manifest_rows K W) ms)
-      (found_behind (key (codes "project")) ((form (package_rows K)).findings d) ++ unused_keys (without (codes "project" ∷ []) (left_over (manifest_rows K W) ms)))
+      (found_under (key (codes "project")) ((form (package_rows K)).findings d)
+      ++ unused_keys (without (codes "project" ∷ []) (left_over (manifest_rows K W) ms)))
       f (rows_same (manifest_rows K W) ms f h)
   first_of_rows None f h =
       first_before (row_findings (manifest_rows K W) ms)
@@ -35,9 +38,10 @@ module _ (K W : Kind Data) (ms : Members) where
         sym (faults-keys (row_findings (manifest_rows K W) ms) (left_over (manifest_rows K W) ms))
         ∙ read_clean (form (manifest_rows K W)) (manifest_sound K W k w) (table ms) m r
 
-    pub first_of_package : (o : Option Data) (f : ReadFault) → FaultIn (first_found (old_package_findings K ms o)) f → FaultIn (first_found (old_findings K W ms o)) f
+    pub first_of_package : (o : Option Data) (f : ReadFault) → FaultIn (first_found (old_package_findings K ms o)) f
+        → FaultIn (first_found (old_findings K W ms o)) f
     first_of_package (Some d) f h =
-        let inside = found_behind (key (codes "project")) ((form (package_rows K)).findings d) in
+        let inside = found_under (key (codes "project")) ((form (package_rows K)).findings d) in
         let rest = unused_keys (without (codes "project" ∷ []) (left_over (manifest_rows K W) ms)) in
         first_after (row_findings (manifest_rows K W) ms) (inside ++ rest) f rows_clean (first_before inside rest f h)
     first_of_package None f h =

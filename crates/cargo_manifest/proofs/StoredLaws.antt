@@ -12,16 +12,20 @@ use Rattle.cargo_manifest.specs.Completes.{StoredDecides, StoredDecidesUnfound}
 pub stored_decides : StoredDecides
 stored_decides stored old new (Ok u) h =
     ⊎_elim (λ same. same) (λ lost. cc)
-    (by_stored (completed old h.0) (completed old (stored_map stored)) (completed_to new) (manifest_settled stored h.0 old h.1.allowed) h.2)
+    (by_stored (completed old h.0) (completed old (stored_map stored)) (completed_to new) (manifest_settled stored h.0
+    old h.1.allowed) h.2)
 stored_decides stored old new (Err (Io e)) h =
     ⊎_elim (λ same. inl same) (λ lost. inr cc)
-    (by_stored (completed old h.0) (completed old (stored_map stored)) (refused (error_kind e)) (manifest_settled stored h.0 old h.1.allowed) h.2)
+    (by_stored (completed old h.0) (completed old (stored_map stored)) (refused (error_kind e))
+    (manifest_settled stored h.0 old h.1.allowed) h.2)
 stored_decides stored old new (Err (Other s)) h =
     ⊎_elim (λ same. (same, h.1)) (λ lost. cc)
-    (by_stored (completed old h.0.0) (completed old (stored_map stored)) no_library (manifest_settled stored h.0.0 old h.0.1.allowed) h.0.2)
+    (by_stored (completed old h.0.0) (completed old (stored_map stored)) no_library (manifest_settled stored h.0.0 old
+    h.0.1.allowed) h.0.2)
 stored_decides stored old new (Err (Memory e)) h = tt
 stored_decides stored old new (Err (Parse e)) h = absurd h
 stored_decides stored old new (Err (Utf8 e)) h = absurd h
 
 pub stored_decides_unfound : StoredDecidesUnfound
-stored_decides_unfound stored m r h = is_outcome stored (manifest_asked_unfound m) (manifest_unfound m) (unfound_settled stored m) r h
+stored_decides_unfound stored m r h = is_outcome stored (manifest_asked_unfound m) (manifest_unfound m)
+    (unfound_settled stored m) r h

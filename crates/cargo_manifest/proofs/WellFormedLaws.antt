@@ -3,7 +3,8 @@ use Rattle.manifest_schema.specs.Prelude.{Data, Kind, map_of, good_some, form, W
 use Rattle.manifest_schema.proofs.GoodLaws.{package_good, package_metadata_good, workspace_good, workspace_metadata_good, manifest_good, manifest_parts_good}
 use Rattle.cargo_manifest.specs.WellFormed.{PackageByMetadata, WorkspaceByParts, ManifestByParts}
 
-lints_good : (K : Kind Data) (w : Workspace) → (form (workspace_rows K)).good w → good_some (map_of (map_of lint)) w.lints
+lints_good : (K : Kind Data) (w : Workspace) → (form (workspace_rows K)).good w → good_some (map_of (map_of lint))
+    w.lints
 unfolding workspace_rows
 lints_good K w g = assumption
 

@@ -1,5 +1,5 @@
 -- What each answer says of the bytes that were read. K and W are the kinds of metadata of package and workspace.
-use Rattle.manifest_schema.specs.Prelude.{Data, table, Members, key, form, package_rows, Finding, found_behind, foremost, manifest_faults, members_depth, members_have_valid_dates, IsDocumentText, IsMemory, IsWithin, Kind, tree_of, Manifest, means, rewritten, well_formed, is_headed}
+use Rattle.manifest_schema.specs.Prelude.{Data, table, Members, key, form, package_rows, Finding, found_under, foremost, manifest_faults, members_depth, members_have_valid_dates, IsDocumentText, IsMemory, IsWithin, Kind, tree_of, Manifest, means, rewritten, well_formed, is_headed}
 use Rattle.std.specs.Prelude.{◌≡◌, ◌<◌, ◌≤◌, ◌⊎◌, ℕ, List, length, true, false, Option, Some, None, IsUtf8, codes, string_bytes}
 use Rattle.toml.specs.Parse.{parse_document}
 use Rattle.manifest_value.specs.declared.fault.SchemaFault.{SchemaFault}
@@ -51,7 +51,7 @@ Refuses K W bytes e = IsUtf8 bytes × RefusesText K W bytes e
 -- what is found of the package of a table without a header, which is `project` or else the whole table
 abbrev pub old_package_findings : Kind Data → Members → Option Data → List Finding
 old_package_findings K ms (Some d) =
-    found_behind (key (codes "project")) ((form (package_rows K)).findings d)
+    found_under (key (codes "project")) ((form (package_rows K)).findings d)
 old_package_findings K ms None = (form (package_rows K)).findings (table ms)
 
 -- the table that is written of a manifest of the code, whose metadata has the contents p and w of these kinds

@@ -1,5 +1,5 @@
 -- What is promised of date-times: where a document is read, and where a manifest is completed.
-use Rattle.manifest_schema.specs.Prelude.{Members, kept, tree_of, Manifest, KeepsValidDates}
+use Rattle.manifest_schema.specs.Prelude.{Members, raw, tree_of, Manifest, KeepsValidDates}
 use Rattle.std.specs.Prelude.{◌≡◌, ℕ, List, Some}
 use Rattle.toml.specs.Parse.{parse_document}
 use Rattle.manifest_schema.specs.Dates.{MembersHaveValidDates}
@@ -15,7 +15,7 @@ ParsedDatesAreValid =
 -- so is each that the manifest of a document keeps
 abbrev pub ReadDatesAreValid : Type 0
 ReadDatesAreValid =
-    (bytes : List ℕ) (m : Manifest) → IsDocumentOf (tree_of kept) (tree_of kept) bytes m
+    (bytes : List ℕ) (m : Manifest) → IsDocumentOf (tree_of raw) (tree_of raw) bytes m
     → KeepsValidDates m
 
 -- a completed manifest keeps no other date-time than the manifest did

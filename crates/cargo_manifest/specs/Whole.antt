@@ -37,5 +37,5 @@ abbrev pub manifest_of :
 manifest_of K L p w m = manifest_content (written_as K p) (written_as L w) m
 
 -- the same, where the workspace's metadata is kept as it stands
-abbrev pub manifest_kept : {P A : Type 0} → Kind A → (P → A) → Manifest P Value → Contents.Manifest
-manifest_kept K p m = manifest_content (written_as K p) view m
+abbrev pub manifest_raw : {P A : Type 0} → Kind A → (P → A) → Manifest P Value → Contents.Manifest
+manifest_raw K p m = manifest_content (written_as K p) view m

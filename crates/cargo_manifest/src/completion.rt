@@ -7,7 +7,7 @@ ghost use Rattle.cargo_manifest.specs.Tables.{package_of};
 ghost use Rattle.manifest_completion.specs.Completed.{targets_of, with_targets, autobins, autoexamples, autotests, autobenches};
 ghost use Rattle.manifest_completion.specs.Outcome.{declared_content, completed_content};
 ghost use Rattle.cargo_manifest.specs.Completes.{Completes, IsUnfound};
-ghost use Rattle.cargo_manifest.specs.Whole.{manifest_kept};
+ghost use Rattle.cargo_manifest.specs.Whole.{manifest_raw};
 
 use crate::manifest::Manifest;
 use crate::package::Package;
@@ -26,7 +26,7 @@ fn declared_targets<'a, P: Metadata>(
 ) -> DeclaredTargets<'a>
     ensures { declared_content result
         ≡ targets_of (package_of P.kind P.content «package».now)
-        (manifest_kept P.kind P.content manifest.now) }
+        (manifest_raw P.kind P.content manifest.now) }
 {
     DeclaredTargets {
         name: package.name.as_str(),
@@ -49,9 +49,9 @@ fn declared_targets<'a, P: Metadata>(
 /// manifest without a package the contract says nothing: it is not called with one. `completed_content before c` is
 /// what `c` holds, with the name, the edition and the flags of `before`, which `c` does not have.
 fn put_targets<P: Metadata>(manifest: &mut Manifest<P, Value>, completed: CompletedTargets)
-    ensures { let old = manifest_kept P.kind P.content manifest.old in
+    ensures { let old = manifest_raw P.kind P.content manifest.old in
         (p : Contents.Package) → old.«package» ≡ Some p
-        → manifest_kept P.kind P.content manifest.new
+        → manifest_raw P.kind P.content manifest.new
         ≡ with_targets p old (completed_content (targets_of p old) completed) }
 {
     let CompletedTargets {
@@ -82,7 +82,7 @@ impl<P: Metadata> Manifest<P, Value> {
     /// let adds = manifest.autobins(); // false
     /// ```
     pub fn autobins(&self) -> bool
-        ensures { result ≡ autobins (manifest_kept P.kind P.content self.now) }
+        ensures { result ≡ autobins (manifest_raw P.kind P.content self.now) }
     {
         match &self.package {
             Some(package) => discovers(package.autobins, is_legacy(&package.edition), &self.bin),
@@ -96,7 +96,7 @@ impl<P: Metadata> Manifest<P, Value> {
     /// let adds = manifest.autoexamples();
     /// ```
     pub fn autoexamples(&self) -> bool
-        ensures { result ≡ autoexamples (manifest_kept P.kind P.content self.now) }
+        ensures { result ≡ autoexamples (manifest_raw P.kind P.content self.now) }
     {
         match &self.package {
             Some(package) => discovers(
@@ -114,7 +114,7 @@ impl<P: Metadata> Manifest<P, Value> {
     /// let adds = manifest.autotests();
     /// ```
     pub fn autotests(&self) -> bool
-        ensures { result ≡ autotests (manifest_kept P.kind P.content self.now) }
+        ensures { result ≡ autotests (manifest_raw P.kind P.content self.now) }
     {
         match &self.package {
             Some(package) => discovers(package.autotests, is_legacy(&package.edition), &self.test),
@@ -128,7 +128,7 @@ impl<P: Metadata> Manifest<P, Value> {
     /// let adds = manifest.autobenches();
     /// ```
     pub fn autobenches(&self) -> bool
-        ensures { result ≡ autobenches (manifest_kept P.kind P.content self.now) }
+        ensures { result ≡ autobenches (manifest_raw P.kind P.content self.now) }
     {
         match &self.package {
             Some(package) => {
@@ -164,8 +164,8 @@ impl<P: Metadata> Manifest<P, Value> {
         alloc: Global,
         fs: &FS,
     ) -> Result<(), Error>
-        ensures answers { Completes (FS.allows fs.now) (manifest_kept P.kind P.content self.old)
-            (manifest_kept P.kind P.content self.new) result }
+        ensures answers { Completes (FS.allows fs.now) (manifest_raw P.kind P.content self.old)
+            (manifest_raw P.kind P.content self.new) result }
         ensures refused { OnErr result (self.new ≡ self.old) }
         ensures without { self.old.«package» ≡ None → (result ≡ Ok tt) × (self.new ≡ self.old) }
     {
@@ -196,7 +196,7 @@ impl<P: Metadata> Manifest<P, Value> {
         alloc: Global,
         fs: &FS,
     ) -> Result<Vec<KeyPath>, Error>
-        ensures answers { IsUnfound (FS.allows fs.now) (manifest_kept P.kind P.content self.now)
+        ensures answers { IsUnfound (FS.allows fs.now) (manifest_raw P.kind P.content self.now)
             result }
         ensures without { self.now.«package» ≡ None → IsOkAnd result (λ v. v.items ≡ []) }
     {

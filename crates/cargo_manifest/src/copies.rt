@@ -1,6 +1,6 @@
 //! Copies of manifests: each holds what it is copied from, whatever tree is made of its metadata.
 
-ghost use Rattle.manifest_schema.specs.Prelude.{fun_ext, Data, kept, manifest_rows, package_rows, workspace_rows};
+ghost use Rattle.manifest_schema.specs.Prelude.{fun_ext, Data, raw, manifest_rows, package_rows, workspace_rows};
 ghost use Rattle.std.specs.Prelude.{◌≡◌, map, option_map, string_bytes};
 ghost use Rattle.std.proofs.Common.{ap, rules};
 ghost use Rattle.manifest_schema.specs.Contents;
@@ -8,7 +8,7 @@ ghost use Rattle.manifest_schema.proofs.ManifestLaws.{manifest_built, package_bu
 ghost use Rattle.manifest_schema.proofs.CopyLaws.{copy_laws, items_copied, some_copied, entries_copied};
 ghost use Rattle.manifest_value.specs.Entries.{entries_content};
 ghost use Rattle.manifest_value.proofs.FormLemmas.{by_rows};
-ghost use Rattle.manifest_parts.proofs.CopyLaws.{lent_copied};
+ghost use Rattle.manifest_parts.proofs.CopyLaws.{shared_copied};
 ghost use Rattle.manifest_parts.specs.Records.{lint_content, dependency_content, product_content, badges_content, lints_content, platform_content};
 ghost use Rattle.manifest_parts.specs.contracts.copies.BadgesCopied.TheImpl.Laws.{copies-law as badges_copied};
 ghost use Rattle.manifest_parts.specs.contracts.copies.LintCopied.TheImpl.Laws.{copies-law as lint_copied};
@@ -46,7 +46,7 @@ impl<P: Copied, W: Copied> Copied for Manifest<P, W> {
         ≡ manifest_content (λ p. see (P.held p)) (λ w. look (W.held w)) x
         = λ see look x y c the_package workspace.
         let content = manifest_content (λ p. see (P.held p)) (λ w. look (W.held w)) in
-        by_rows (manifest_rows kept kept) (manifest_built kept kept) (content y) (content x)
+        by_rows (manifest_rows raw raw) (manifest_built raw raw) (content y) (content x)
         (unfold manifest_rows in (
         let cargo_features : option_map (λ v. map string_bytes v.items) y.cargo_features
         ≡ option_map (λ v. map string_bytes v.items) x.cargo_features
@@ -103,8 +103,8 @@ impl<P: Copied, W: Copied> Copied for Manifest<P, W> {
         let seen : (a b : P) → P.is_clone a b → see (P.held b) ≡ see (P.held a)
         = λ a b k. ap see (P.copies a b k) in
         let content = package_content (λ m. see (P.held m)) in
-        by_rows (package_rows kept) (package_built kept) (content y) (content x)
-        (unfold package_rows in Prim.search (rules, copy_laws, lent_copied, seen)) in
+        by_rows (package_rows raw) (package_built raw) (content y) (content x)
+        (unfold package_rows in Prim.search (rules, copy_laws, shared_copied, seen)) in
         let workspace_copied : (see : W.Held → Data) (x y : AWorkspace W)
         → ⟦<Workspace<W> as Clone>⟧.is_clone x y
         → workspace_content (λ m. see (W.held m)) y ≡ workspace_content (λ m. see (W.held m)) x
@@ -112,7 +112,7 @@ impl<P: Copied, W: Copied> Copied for Manifest<P, W> {
         let seen : (a b : W) → W.is_clone a b → see (W.held b) ≡ see (W.held a)
         = λ a b k. ap see (W.copies a b k) in
         let content = workspace_content (λ m. see (W.held m)) in
-        by_rows (workspace_rows kept) (workspace_built kept) (content y) (content x)
+        by_rows (workspace_rows raw) (workspace_built raw) (content y) (content x)
         (unfold workspace_rows in (
         let lints :
         option_map (λ m. entries_content (λ l. entries_content lint_content l.entries) m.entries)

@@ -1,7 +1,7 @@
 //! Copies of workspaces: each holds what it is copied from, whatever tree is made of
 //! its metadata.
 
-ghost use Rattle.manifest_schema.specs.Prelude.{fun_ext, Data, kept, workspace_rows};
+ghost use Rattle.manifest_schema.specs.Prelude.{fun_ext, Data, raw, workspace_rows};
 ghost use Rattle.std.specs.Prelude.{◌≡◌, map, option_map, String, string_bytes};
 ghost use Rattle.std.proofs.Common.{ap, rules};
 ghost use Rattle.manifest_schema.specs.Contents;
@@ -29,7 +29,7 @@ impl<M: Copied> Copied for Workspace<M> {
         let seen : (a b : M) → M.is_clone a b → see (M.held b) ≡ see (M.held a)
         = λ a b k. ap see (M.copies a b k) in
         let content = workspace_content (λ m. see (M.held m)) in
-        by_rows (workspace_rows kept) (workspace_built kept) (content y) (content x)
+        by_rows (workspace_rows raw) (workspace_built raw) (content y) (content x)
         (unfold workspace_rows in (
         let lints :
         option_map (λ m. entries_content (λ l. entries_content lint_content l.entries) m.entries)

@@ -1,9 +1,9 @@
 //! A manifest from a file, completed by the folder that the file stands in.
 
-ghost use Rattle.manifest_schema.specs.Prelude.{view, kept, tree_of};
+ghost use Rattle.manifest_schema.specs.Prelude.{view, raw, tree_of};
 ghost use Rattle.std.specs.Prelude.{◌≡◌, ◌⊎◌, Ok, None, IfOk, IfErr, OnErr, IsSome};
 ghost use Rattle.cargo_manifest.specs.Answers.{Refuses};
-ghost use Rattle.cargo_manifest.specs.Whole.{manifest_content, manifest_kept};
+ghost use Rattle.cargo_manifest.specs.Whole.{manifest_content, manifest_raw};
 ghost use Rattle.cargo_manifest.specs.Folders.{folder_of, CompletesIn, IsCompletedOf, RefusesCompleted, IsOfPath, RefusesPath};
 
 use crate::manifest::Manifest;
@@ -22,10 +22,10 @@ fn from_bytes<P: Metadata, R: Files + AllocGlobal + Clone + Drop>(
     bytes: &[u8],
 ) -> Result<Manifest<P, Value>, Error>
     ensures ok { IfOk result (λ m.
-        IsCompletedOf (tree_of P.kind) (tree_of kept) (folder_of path.entry) bytes.now
-        (manifest_kept P.kind P.content m)) }
-    ensures refused { IfErr result (λ e. Refuses (tree_of P.kind) (tree_of kept) bytes.now e
-        ⊎ RefusesCompleted (tree_of P.kind) (tree_of kept) (folder_of path.entry) bytes.now e) }
+        IsCompletedOf (tree_of P.kind) (tree_of raw) (folder_of path.entry) bytes.now
+        (manifest_raw P.kind P.content m)) }
+    ensures refused { IfErr result (λ e. Refuses (tree_of P.kind) (tree_of raw) bytes.now e
+        ⊎ RefusesCompleted (tree_of P.kind) (tree_of raw) (folder_of path.entry) bytes.now e) }
 {
     let mut manifest = match Manifest::from_slice_with_metadata(rt.alloc(), bytes) {
         Ok(manifest) => manifest,
@@ -59,8 +59,8 @@ impl<P: Metadata> Manifest<P, Value> {
         path: Path<'_>,
     ) -> Result<(), Error>
         ensures answers { CompletesIn (folder_of path.entry)
-            (manifest_kept P.kind P.content self.old)
-            (manifest_kept P.kind P.content self.new) result }
+            (manifest_raw P.kind P.content self.old)
+            (manifest_raw P.kind P.content self.new) result }
         ensures refused { OnErr result (self.new ≡ self.old) }
         ensures without { self.old.«package» ≡ None → IsSome (folder_of path.entry)
             → (result ≡ Ok tt) × (self.new ≡ self.old) }
@@ -88,10 +88,10 @@ impl<P: Metadata> Manifest<P, Value> {
         path: Path<'_>,
     ) -> Result<Manifest<P, Value>, Error>
         ensures ok { IfOk result (λ m.
-            IsOfPath (tree_of P.kind) (tree_of kept) (folder_of path.entry)
-            (manifest_kept P.kind P.content m)) }
+            IsOfPath (tree_of P.kind) (tree_of raw) (folder_of path.entry)
+            (manifest_raw P.kind P.content m)) }
         ensures refused { IfErr result
-            (RefusesPath (tree_of P.kind) (tree_of kept) (folder_of path.entry)) }
+            (RefusesPath (tree_of P.kind) (tree_of raw) (folder_of path.entry)) }
     {
         match fs::read(rt, path) {
             Ok(bytes) => from_bytes(rt, path, bytes.as_slice()),
@@ -112,10 +112,10 @@ impl Manifest<Value, Value> {
         path: Path<'_>,
     ) -> Result<Manifest<Value, Value>, Error>
         ensures ok { IfOk result (λ m.
-            IsOfPath (tree_of kept) (tree_of kept) (folder_of path.entry)
+            IsOfPath (tree_of raw) (tree_of raw) (folder_of path.entry)
             (manifest_content view view m)) }
         ensures refused { IfErr result
-            (RefusesPath (tree_of kept) (tree_of kept) (folder_of path.entry)) }
+            (RefusesPath (tree_of raw) (tree_of raw) (folder_of path.entry)) }
     {
         Manifest::from_path_with_metadata(rt, path)
     }

@@ -1,7 +1,7 @@
 //! What is found in the table of a document: each fault, what does not fit where that is no fault, and each key that
 //! nothing reads.
 
-ghost use Rattle.manifest_schema.specs.Prelude.{get_member, table_view, kept, tree_of, manifest_findings, manifest_faults, manifest_ignored, manifest_unused, old_findings};
+ghost use Rattle.manifest_schema.specs.Prelude.{get_member, table_view, raw, tree_of, manifest_findings, manifest_faults, manifest_ignored, manifest_unused, old_findings};
 ghost use Rattle.std.specs.Prelude.{◌≡◌, codes, map, IfOk};
 ghost use Rattle.manifest_value.specs.Faults.{path_of};
 ghost use Rattle.manifest_value.specs.Found.{fault_of, found};
@@ -68,7 +68,7 @@ pub fn inspect_with_metadata<P: Metadata, W: Metadata>(alloc: Global, table: &Ta
 /// ```
 pub fn inspect(alloc: Global, table: &Table) -> Found
     ensures { IfOk result (λ f. found f
-        ≡ manifest_findings (tree_of kept) (tree_of kept) (table_view table.now)) }
+        ≡ manifest_findings (tree_of raw) (tree_of raw) (table_view table.now)) }
 {
     inspect_with_metadata::<Value, Value>(alloc, table)
 }
@@ -85,7 +85,7 @@ pub fn inspect(alloc: Global, table: &Table) -> Found
 /// ```
 pub fn faults(alloc: Global, table: &Table) -> Result<Vec<SchemaFault>, AllocError>
     ensures { IfOk result (λ v. map fault_of v.items
-        ≡ manifest_faults (tree_of kept) (tree_of kept) (table_view table.now)) }
+        ≡ manifest_faults (tree_of raw) (tree_of raw) (table_view table.now)) }
 {
     inspect(alloc, table)?.faults(alloc)
 }
@@ -99,7 +99,7 @@ pub fn faults(alloc: Global, table: &Table) -> Result<Vec<SchemaFault>, AllocErr
 /// ```
 pub fn ignored(alloc: Global, table: &Table) -> Result<Vec<SchemaFault>, AllocError>
     ensures { IfOk result (λ v. map fault_of v.items
-        ≡ manifest_ignored (tree_of kept) (tree_of kept) (table_view table.now)) }
+        ≡ manifest_ignored (tree_of raw) (tree_of raw) (table_view table.now)) }
 {
     inspect(alloc, table)?.ignored(alloc)
 }
@@ -114,7 +114,7 @@ pub fn ignored(alloc: Global, table: &Table) -> Result<Vec<SchemaFault>, AllocEr
 /// ```
 pub fn unused_keys(alloc: Global, table: &Table) -> Result<Vec<KeyPath>, AllocError>
     ensures { IfOk result (λ v. map path_of v.items
-        ≡ manifest_unused (tree_of kept) (tree_of kept) (table_view table.now)) }
+        ≡ manifest_unused (tree_of raw) (tree_of raw) (table_view table.now)) }
 {
     inspect(alloc, table)?.unused(alloc)
 }

@@ -124,10 +124,10 @@ pub fn finds_nothing_written<P: Metadata, W: Metadata>()
 
 /// Where nothing of its metadata is ignored, as of metadata of the type `Value`, what is ignored of a table is exactly
 /// what does not fit in its badges: the fault of a badge, or of the maintenance, under its key.
-#[tactic(auto, using(manifest_schema::proofs::IgnoredLaws::ignores_badges_alone, manifest_schema::proofs::IgnoredLaws::kept_ignores_nothing))]
+#[tactic(auto, using(manifest_schema::proofs::IgnoredLaws::ignores_badges_alone, manifest_schema::proofs::IgnoredLaws::raw_ignores_nothing))]
 pub fn badges_alone_are_ignored<P: Metadata, W: Metadata>()
     ensures badges { IgnoresBadgesAlone (tree_of P.kind) (tree_of W.kind) }
-    ensures kept { IgnoresNothing (tree_of kept) }
+    ensures kept { IgnoresNothing (tree_of raw) }
 {}
 
 /// The table that is written of a well-formed manifest holds what the need of each row writes, under the first spelling

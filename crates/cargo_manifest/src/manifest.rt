@@ -1,7 +1,7 @@
 //! A manifest.
 #![tactic(auto, unfolding(manifest_schema::specs::ManifestForms::manifest_rows))]
 
-ghost use Rattle.manifest_schema.specs.Prelude.{Data, no_members, table_view, form, tree_of, kept, manifest_rows, rewritten};
+ghost use Rattle.manifest_schema.specs.Prelude.{Data, no_members, table_view, form, tree_of, raw, manifest_rows, rewritten};
 ghost use Rattle.std.specs.Prelude.{◌≡◌, IfOk};
 ghost use Rattle.manifest_schema.specs.Contents;
 ghost use Rattle.manifest_schema.proofs.KindLaws.{tree_sound};
@@ -151,7 +151,7 @@ impl<P, W> Manifest<P, W> {
     /// ```
     pub fn default(alloc: Global) -> Manifest<P, W>
         ensures { (f : P → Data) (g : W → Data)
-            → IsOfTable (manifest_rows kept kept) (manifest_content f g) no_members result }
+            → IsOfTable (manifest_rows raw raw) (manifest_content f g) no_members result }
     {
         // the struct and the allocator; no row is required
         manifest!(empty_of(Manifest, alloc, ()))

@@ -1,7 +1,7 @@
 //! The package of a manifest.
 #![tactic(auto, unfolding(manifest_schema::specs::ManifestForms::package_rows))]
 
-ghost use Rattle.manifest_schema.specs.Prelude.{Data, string, no_members, member, tree_of, kept, form, package_rows};
+ghost use Rattle.manifest_schema.specs.Prelude.{Data, string, no_members, member, tree_of, raw, form, package_rows};
 ghost use Rattle.std.specs.Prelude.{◌≡◌, Some, string_bytes, codes};
 ghost use Rattle.manifest_schema.specs.Contents;
 ghost use Rattle.manifest_schema.proofs.KindLaws.{tree_sound};
@@ -197,7 +197,7 @@ impl<M> Package<M> {
     /// ```
     pub fn new(name: String, version: String) -> Package<M>
         ensures { (f : M → Data)
-            → IsOfTable (package_rows kept) (package_content f)
+            → IsOfTable (package_rows raw) (package_content f)
             (member (codes "name") (string (string_bytes name))
             (member (codes "version") (string (string_bytes version)) no_members)) result }
     {
@@ -229,7 +229,7 @@ impl<M> Package<M> {
 /// What the table `{ name = NAME }` is read as: a package of this name, in which every other field is `None`.
 fn package_with_name<M>(name: String) -> Package<M>
     ensures { (f : M → Data)
-        → IsOfTable (package_rows kept) (package_content f)
+        → IsOfTable (package_rows raw) (package_content f)
         (member (codes "name") (string (string_bytes name)) no_members) result }
 {
     // the struct, nothing in place of the allocator, and what `name`, the required row, holds
@@ -249,7 +249,7 @@ fn package_with_name<M>(name: String) -> Package<M>
 pub fn package_from<M: Metadata>(alloc: Global, table: &Table) -> Result<Package<M>, ReadFault>
     ensures { Gives (package_form M.kind) (package_of M.kind M.content) (data_of table.now) result }
 {
-    read_form(alloc, TableSource::Lent(table))
+    read_form(alloc, TableSource::Borrowed(table))
 }
 
 /// [`Rowed`] says what each method does. The body `package!(read_row_of(..))` is made of the rows of `package!`, as a

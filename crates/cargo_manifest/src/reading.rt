@@ -1,11 +1,11 @@
 //! A manifest from bytes or from a text.
 
-ghost use Rattle.manifest_schema.specs.Prelude.{get_member, view, table_view, kept, tree_of, has_header, old_package, means, means_by, findings_by, manifest_findings};
+ghost use Rattle.manifest_schema.specs.Prelude.{get_member, view, table_view, raw, tree_of, has_header, old_package, means, means_by, findings_by, manifest_findings};
 ghost use Rattle.std.specs.Prelude.{◌≡◌, false, codes, IfOk, IfErr, OnOk, IsUtf8};
 ghost use Rattle.manifest_schema.specs.Meaning.{has};
 ghost use Rattle.manifest_value.specs.Reading.{Reads, GivesOr};
 ghost use Rattle.cargo_manifest.specs.Tables.{package_of, package_form};
-ghost use Rattle.cargo_manifest.specs.Whole.{manifest_content, manifest_of, manifest_kept};
+ghost use Rattle.cargo_manifest.specs.Whole.{manifest_content, manifest_of, manifest_raw};
 ghost use Rattle.cargo_manifest.specs.Answers.{IsDocumentOf, Refuses, RefusesTable, RefusesText, old_package_findings};
 
 use crate::manifest::Manifest;
@@ -57,7 +57,7 @@ fn read_headless<P: Metadata, W: Metadata>(
         GivesOr (λ u. means_by (tree_of P.kind) (tree_of W.kind) false (table_view table.now) m)
         (findings_by (tree_of P.kind) (tree_of W.kind) false (table_view table.now)) result }
 {
-    read_form_into(manifest, alloc, TableSource::Lent(table))?;
+    read_form_into(manifest, alloc, TableSource::Borrowed(table))?;
     match read_old_package(alloc, table) {
         Ok(package) => {
             drop(manifest.package.replace(package));
@@ -80,7 +80,7 @@ fn read_table<P: Metadata, W: Metadata>(
         (manifest_findings (tree_of P.kind) (tree_of W.kind) (table_view table)) result }
 {
     if has_package_or_workspace(&table) {
-        read_form_into(manifest, alloc, TableSource::Taken(table))
+        read_form_into(manifest, alloc, TableSource::Owned(table))
     } else {
         read_headless(manifest, alloc, &table)
     }
@@ -220,9 +220,9 @@ impl<P: Metadata> Manifest<P, Value> {
         bytes: &[u8],
     ) -> Result<Manifest<P, Value>, Error>
         ensures ok { IfOk result
-            (λ m. IsUtf8 bytes.now × IsDocumentOf (tree_of P.kind) (tree_of kept) bytes.now
-            (manifest_kept P.kind P.content m)) }
-        ensures refused { IfErr result (Refuses (tree_of P.kind) (tree_of kept) bytes.now) }
+            (λ m. IsUtf8 bytes.now × IsDocumentOf (tree_of P.kind) (tree_of raw) bytes.now
+            (manifest_raw P.kind P.content m)) }
+        ensures refused { IfErr result (Refuses (tree_of P.kind) (tree_of raw) bytes.now) }
     {
         manifest_by!(read_bytes, alloc, bytes)
     }
@@ -238,8 +238,8 @@ impl Manifest<Value, Value> {
     pub fn from_slice(alloc: Global, bytes: &[u8]) -> Result<Manifest<Value, Value>, Error>
         ensures ok { IfOk result
             (λ m. IsUtf8 bytes.now
-            × IsDocumentOf (tree_of kept) (tree_of kept) bytes.now (manifest_content view view m)) }
-        ensures refused { IfErr result (Refuses (tree_of kept) (tree_of kept) bytes.now) }
+            × IsDocumentOf (tree_of raw) (tree_of raw) bytes.now (manifest_content view view m)) }
+        ensures refused { IfErr result (Refuses (tree_of raw) (tree_of raw) bytes.now) }
     {
         manifest_by!(read_bytes, alloc, bytes)
     }
@@ -252,9 +252,9 @@ impl Manifest<Value, Value> {
     /// ```
     pub fn from_str(alloc: Global, text: &str) -> Result<Manifest<Value, Value>, Error>
         ensures ok { IfOk result
-            (λ m. IsDocumentOf (tree_of kept) (tree_of kept) text.now
+            (λ m. IsDocumentOf (tree_of raw) (tree_of raw) text.now
             (manifest_content view view m)) }
-        ensures refused { IfErr result (RefusesText (tree_of kept) (tree_of kept) text.now) }
+        ensures refused { IfErr result (RefusesText (tree_of raw) (tree_of raw) text.now) }
     {
         manifest_by!(read_text, alloc, text)
     }

@@ -1,7 +1,7 @@
 //! The workspace of a manifest, and the package fields that members can inherit from it.
 #![tactic(auto, unfolding(manifest_schema::specs::ManifestForms::workspace_package_rows, manifest_schema::specs::ManifestForms::workspace_rows))]
 
-ghost use Rattle.manifest_schema.specs.Prelude.{Data, no_members, form, tree_of, kept, workspace_package_rows, workspace_rows};
+ghost use Rattle.manifest_schema.specs.Prelude.{Data, no_members, form, tree_of, raw, workspace_package_rows, workspace_rows};
 ghost use Rattle.manifest_schema.specs.Contents;
 ghost use Rattle.manifest_schema.proofs.KindLaws.{tree_sound};
 ghost use Rattle.manifest_schema.proofs.ManifestLaws.{workspace_package_sound, workspace_sound};
@@ -240,7 +240,7 @@ impl<M> Workspace<M> {
     /// ```
     pub fn default(alloc: Global) -> Workspace<M>
         ensures { (f : M → Data)
-            → IsOfTable (workspace_rows kept) (workspace_content f) no_members result }
+            → IsOfTable (workspace_rows raw) (workspace_content f) no_members result }
     {
         // the struct and the allocator; no row is required
         workspace!(empty_of(Workspace, alloc, ()))

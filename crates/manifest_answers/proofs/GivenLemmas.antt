@@ -19,9 +19,9 @@ in_order_rest n [] h = tt
 in_order_rest n (m ∷ ns) h = h.1
 
 -- the last of some names are names
-pub names_behind : (front back : List (Bor Text)) → AreNames (texts (front ++ back)) → AreNames (texts back)
-names_behind [] back h = h
-names_behind (n ∷ front) back h = names_behind front back (h.0.1, in_order_rest n.now (texts (front ++ back)) h.1)
+pub names_under : (front back : List (Bor Text)) → AreNames (texts (front ++ back)) → AreNames (texts back)
+names_under [] back h = h
+names_under (n ∷ front) back h = names_under front back (h.0.1, in_order_rest n.now (texts (front ++ back)) h.1)
 
 is_lt_Less : (o : Ordering) → is_lt o ≡ true → o ≡ Less
 is_lt_Less Less h = refl
@@ -35,12 +35,14 @@ IsLeast (Some t) (n ∷ ns) = t.now ≡ n
 IsLeast _ _ = ⊥
 
 -- one name more is before the least of the others exactly where they are in order with it
-pub before_least : (least : Option (Bor Text)) (n : Text) (ns : List Text) → IsLeast least ns → AreInOrder (n ∷ ns) → goes_before n least ≡ true
+pub before_least : (least : Option (Bor Text)) (n : Text) (ns : List Text) → IsLeast least ns → AreInOrder (n ∷ ns)
+    → goes_before n least ≡ true
 before_least None n ns h o = refl
 before_least (Some t) n [] h o = absurd h
 before_least (Some t) n (m ∷ ns) h o = rw (h, o.0) refl
 
-pub in_order_before : (least : Option (Bor Text)) (n : Text) (ns : List Text) → IsLeast least ns → goes_before n least ≡ true → AreInOrder ns → AreInOrder (n ∷ ns)
+pub in_order_before : (least : Option (Bor Text)) (n : Text) (ns : List Text) → IsLeast least ns
+    → goes_before n least ≡ true → AreInOrder ns → AreInOrder (n ∷ ns)
 in_order_before None n [] h before o = tt
 in_order_before None n (m ∷ ns) h before o = absurd h
 in_order_before (Some t) n [] h before o = absurd h
@@ -49,7 +51,8 @@ in_order_before (Some t) n (m ∷ ns) h before o =
     (rw h at less, o)
 
 -- a name that is before those of a set goes first
-pub insert_first : (ks : List (String Global)) (k : String Global) (ns : List Text) → map string_bytes ks ≡ ns → AreInOrder (string_bytes k ∷ ns)
+pub insert_first : (ks : List (String Global)) (k : String Global) (ns : List Text) → map string_bytes ks ≡ ns
+    → AreInOrder (string_bytes k ∷ ns)
     → map string_bytes (insert_key string_cmp ks k) ≡ string_bytes k ∷ ns
 insert_first [] k ns same o = ap (λ ts. string_bytes k ∷ ts) same
 insert_first (x ∷ ks) k [] same o = cc
@@ -59,26 +62,32 @@ insert_first (x ∷ ks) k (n ∷ ns) same o =
     rw less (ap (λ ts. string_bytes k ∷ ts) same)
 
 -- FOLDERS
-pub listings_behind : (front back : List Folder) → AreListings (front ++ back) → AreListings back
-listings_behind [] back h = h
-listings_behind (f ∷ front) back h = listings_behind front back h.2
+pub listings_under : (front back : List Folder) → AreListings (front ++ back) → AreListings back
+listings_under [] back h = h
+listings_under (f ∷ front) back h = listings_under front back h.2
 
 -- one folder more in the map, before those that are there
-pub one_listed : (m n : BTreeMap (Bor Text) Listed) (path : Bor Text) (l : Listed) (f : Folder) (fs : List Folder) → path.now ≡ f.path.now → listed_answer l ≡ folder_answer f →
-    tree.Updates (λ x y. slice_cmp nat_cmp x.now y.now) m n path (Some l) → ((q : Text) → listed_at m q ≡ folder_at fs q) → (q : Text) → listed_at n q ≡ folder_at (f ∷ fs) q
+pub one_listed : (m n : BTreeMap (Bor Text) Listed) (path : Bor Text) (l : Listed) (f : Folder) (fs : List Folder)
+    → path.now ≡ f.path.now → listed_answer l ≡ folder_answer f →
+    tree.Updates (λ x y. slice_cmp nat_cmp x.now y.now) m n path (Some l)
+    → ((q : Text) → listed_at m q ≡ folder_at fs q) → (q : Text) → listed_at n q ≡ folder_at (f ∷ fs) q
 one_listed m n path l f fs named here updates had q =
-    rw (btree_map_updates_str path.now m n (Some l) updates q, named, bytes_eq-sym f.path.now q) (one (bytes_eq q f.path.now) (get_by (λ (k : Bor Text). slice_cmp nat_cmp q k.now) m) (had q))
+    rw (btree_map_updates_str path.now m n (Some l) updates q, named, bytes_eq-sym f.path.now q)
+    (one (bytes_eq q f.path.now) (get_by (λ (k : Bor Text). slice_cmp nat_cmp q k.now) m) (had q))
   where
-    one : (b : Bool) (o : Option Listed) → option_map listed_answer o ≡ folder_at fs q → option_map listed_answer (cond b (Some l) o) ≡ (if b then Some (folder_answer f) else folder_at fs q)
+    one : (b : Bool) (o : Option Listed) → option_map listed_answer o ≡ folder_at fs q → option_map listed_answer
+        (cond b (Some l) o) ≡ (if b then Some (folder_answer f) else folder_at fs q)
     one true o e = ap Some here
     one false o e = e
 
 -- a path that a map has is that of a folder
-pub was_there : (o : Option Listed) (a : Option Answer) → option_map listed_answer o ≡ a → is_some o ≡ true → a ≡ None → ⊥
+pub was_there : (o : Option Listed) (a : Option Answer) → option_map listed_answer o ≡ a → is_some o ≡ true → a ≡ None
+    → ⊥
 was_there None a same had none = cc
 was_there (Some l) a same had none = cc
 
-pub was_not_there : (o : Option Listed) (a : Option Answer) → option_map listed_answer o ≡ a → is_some o ≡ false → a ≡ None
+pub was_not_there : (o : Option Listed) (a : Option Answer) → option_map listed_answer o ≡ a → is_some o ≡ false
+    → a ≡ None
 was_not_there None a same had = sym same
 was_not_there (Some l) a same had = cc
 

@@ -15,13 +15,15 @@ use Rattle.manifest_answers.specs.Unread.{no_metadata, unread_table, GivesUnread
 no_metadata_floatless : IsFloatless no_metadata
 no_metadata_floatless = tree_floatless unread (λ x g. refl)
 
-unread_held : (bytes : List ℕ) (m : Manifest) → IsSourceOf no_metadata no_metadata bytes m → decoded (encoded (unread_table m)) ≡ Some (unread_table m)
+unread_held : (bytes : List ℕ) (m : Manifest) → IsSourceOf no_metadata no_metadata bytes m
+    → decoded (encoded (unread_table m)) ≡ Some (unread_table m)
 unread_held bytes m is =
     let lawful = tree_sound unread_sound in
     let formed = (accepted_is_well_formed lawful lawful is.document m is.meant).0 in
     table_is_decoded no_metadata no_metadata no_metadata_floatless no_metadata_floatless m formed
 
-pub unread_made : (most : ℕ) (bytes : List ℕ) (m : Manifest) (r : Result (Vec ℕ Global) Refusal) → IsSourceOf no_metadata no_metadata bytes m
+pub unread_made : (most : ℕ) (bytes : List ℕ) (m : Manifest) (r : Result (Vec ℕ Global) Refusal)
+    → IsSourceOf no_metadata no_metadata bytes m
     → IsMade (AreWithin most (encoded (unread_table m))) (RefusesTagged most (encoded (unread_table m))) r
     → IsMade (GivesUnread most bytes) (RefusesUnread most bytes) r
 unread_made most bytes m (Ok v) is h = (m, is, h, ap decoded h.0 ∙ unread_held bytes m is)

@@ -7,7 +7,7 @@ use Rattle.manifest_value.specs.Faults.{step_of, cause_of}
 use Rattle.manifest_value.specs.Found.{choices_of, found_among}
 use Rattle.manifest_value.specs.declared.findings.FindingNode.{FindingNode, fold-FindingNode}
 use Rattle.manifest_value.specs.declared.findings.FindingNode.TheOpen.{FindingNode-F}
-use Rattle.manifest_answers.specs.Told.{cause_number}
+use Rattle.manifest_answers.specs.Report.{cause_number}
 use Rattle.manifest_answers.specs.Read.{IsDocument, IsNoDocument}
 use Rattle.manifest_answers.specs.Unread.{no_metadata}
 use Rattle.manifest_answers.specs.Made.{Refusals, IsOutOfMemory, OfBytes, AreWithin, RefusesTagged}

@@ -3,7 +3,7 @@ pub use Rattle.cargo_manifest.specs.Answers
 pub use Rattle.manifest_bytes.specs.Encoded
 pub use Rattle.manifest_bytes.specs.Decoded
 pub mod Given
-pub mod Told
+pub mod Report
 pub mod Answered
 pub mod Requested
 pub mod Read

@@ -1,5 +1,5 @@
 -- What the bytes of a call are, and why they are refused.
-use Rattle.manifest_schema.specs.Prelude.{AllocError, Data, Members, members_depth, IsMemory, IsWithin, Text, Kind, Faults, first_found, form, Manifest, manifest_rows, means, reads_manifest, kept_metadata}
+use Rattle.manifest_schema.specs.Prelude.{AllocError, Data, Members, members_depth, IsMemory, IsWithin, Text, Kind, Faults, first_found, form, Manifest, manifest_rows, means, reads_manifest, raw_metadata}
 use Rattle.std.specs.Prelude.{◌≡◌, ◌⊎◌, ◌<◌, ◌≤◌, Some, None, true, false, IsUtf8, length}
 use Rattle.toml.specs.Parse.{parse_document}
 use Rattle.manifest_value.specs.Refusals.{RefusedIn, IsOutOfMemory}
@@ -34,7 +34,8 @@ AreTooDeep bytes =
     ⊎ ((document : Members) × (parse_document bytes ≡ Some document)
     × (128 < members_depth document))
 
--- the text is no such document: it nests too deep; it is no TOML, at a place in it (where that is said because memory ran
+-- the text is no such document: it nests too deep; it is no TOML, at a place in it (where that is said because memory
+-- ran
 -- out, it may be TOML); or memory ran out
 abbrev pub RefusesToParse : Text → InputError → Type 0
 RefusesToParse text TooDeep = AreTooDeep text
@@ -70,12 +71,12 @@ RefusesSource K W bytes e = IsNoDocument bytes e
 pub record IsTaggedOf (bytes : Text) (m : Manifest) : Type 0 where
   pub value : Data
   pub tagged : bytes ≡ encoded value
-  pub read : reads_manifest kept_metadata kept_metadata value m
+  pub read : reads_manifest raw_metadata raw_metadata value m
 
 -- the first fault that the form of a manifest finds in a value
 abbrev pub first_fault : Data → Faults
 first_fault value =
-    first_found ((form (manifest_rows kept_metadata kept_metadata)).findings value)
+    first_found ((form (manifest_rows raw_metadata raw_metadata)).findings value)
 
 -- the value is refused: this is its first fault, or memory ran out
 abbrev pub RefusesValue : Data → InputError → Type 0
@@ -106,9 +107,9 @@ RefusesTaggedInput bytes TooDeep = AreTaggedTooDeep bytes
 
 -- THE BYTES ARE THE MANIFEST, one way or the other
 abbrev pub Are : Input → Text → Manifest → Type 0
-Are Toml = IsSourceOf kept_metadata kept_metadata
+Are Toml = IsSourceOf raw_metadata raw_metadata
 Are Tagged = IsTaggedOf
 
 abbrev pub RefusesToRead : Input → Text → InputError → Type 0
-RefusesToRead Toml = RefusesSource kept_metadata kept_metadata
+RefusesToRead Toml = RefusesSource raw_metadata raw_metadata
 RefusesToRead Tagged = RefusesTaggedInput

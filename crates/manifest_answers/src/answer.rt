@@ -2,7 +2,7 @@
 
 ghost use Rattle.std.specs.Prelude.{◌≡◌, option_copied};
 ghost use Rattle.manifest_answers.specs.declared.reading.Input.TheVariants.{Toml};
-ghost use Rattle.manifest_answers.specs.Answered.{IsHanded, Outcome, Hands, Answers, IsAnswered};
+ghost use Rattle.manifest_answers.specs.Answered.{IsCopiedOut, Outcome, Returns, Answers, IsAnswered};
 ghost use Rattle.manifest_answers.specs.Requested.{input_of, output_of, AnswersRequest};
 ghost use Rattle.manifest_answers.specs.Made.{Makes, RefusesToMake};
 ghost use Rattle.manifest_answers.specs.Unread.{GivesUnread, RefusesUnread, GivesDocument, RefusesDocument};
@@ -13,7 +13,7 @@ use crate::inspecting::document_findings;
 use crate::making::{Output, make, output_or_refusal};
 use crate::reading::Input;
 use crate::refusal::Refusal;
-use crate::telling::{Told, tell, with_text};
+use crate::reporting::{Report, report_of, with_text};
 use crate::unread::{document_table, unread_table};
 use std::alloc::Global;
 
@@ -39,7 +39,7 @@ const _: () = prove!(size_of::<Answer>() == 32);
 /// Copies a text to the beginning of `out`, where there is room for all of it. Returns how long the text is in either
 /// case.
 fn copy_to_front(text: &[u8], out: &mut [u8]) -> usize
-    ensures { IsHanded text.now result out.old out.new }
+    ensures { IsCopiedOut text.now result out.old out.new }
 {
     let length = text.len();
     if length <= out.len() {
@@ -50,27 +50,27 @@ fn copy_to_front(text: &[u8], out: &mut [u8]) -> usize
 
 /// The report (numbers and text) of what was made: status 0 and the text that was made, or the numbers and the text of
 /// the refusal.
-fn outcome(alloc: Global, made: Result<Vec<u8>, Refusal>) -> Told
+fn outcome(alloc: Global, made: Result<Vec<u8>, Refusal>) -> Report
     ensures { Outcome made result }
 {
     match made {
         Ok(text) => with_text(0, 0, text),
-        Err(refusal) => tell(alloc, refusal),
+        Err(refusal) => report_of(alloc, refusal),
     }
 }
 
 /// Copies the text of a report to the beginning of `out`, if there is room for all of it, and returns its numbers and
 /// the length of the text.
-fn write_answer(told: &Told, out: &mut [u8]) -> Answer
-    ensures { Hands told.now out.old out.new result }
+fn write_answer(report: &Report, out: &mut [u8]) -> Answer
+    ensures { Returns report.now out.old out.new result }
 {
-    let length = copy_to_front(told.text.as_slice(), out);
+    let length = copy_to_front(report.text.as_slice(), out);
     Answer {
-        status: told.status,
-        cause: told.cause,
+        status: report.status,
+        cause: report.cause,
         length,
-        start: told.start,
-        end: told.end,
+        start: report.start,
+        end: report.end,
     }
 }
 
@@ -108,8 +108,8 @@ pub fn respond(
 {
     let made = make(alloc, asked.most, asked.input, bytes, root, folders);
     let text = output_or_refusal(alloc, asked.output, asked.most, made);
-    let told = outcome(alloc, text);
-    write_answer(&told, out)
+    let report = outcome(alloc, text);
+    write_answer(&report, out)
 }
 
 /// What a program asks for: what the bytes are, what else is passed in, and what is to be written of the manifest. A
@@ -193,8 +193,8 @@ pub fn respond_unread(alloc: Global, bytes: &[u8], most: usize, out: &mut [u8]) 
         out.old out.new result }
 {
     let table = unread_table(alloc, bytes, most);
-    let told = outcome(alloc, table);
-    write_answer(&told, out)
+    let report = outcome(alloc, table);
+    write_answer(&report, out)
 }
 
 /// Answers a call for a TOML document as tagged bytes, whatever it means as a manifest, in the way of [`respond`].
@@ -207,8 +207,8 @@ pub fn respond_document(alloc: Global, bytes: &[u8], most: usize, out: &mut [u8]
         out.old out.new result }
 {
     let document = document_table(alloc, bytes, most);
-    let told = outcome(alloc, document);
-    write_answer(&told, out)
+    let report = outcome(alloc, document);
+    write_answer(&report, out)
 }
 
 /// Answers a call for what is found in a TOML document as in a manifest, in the way of [`respond`].
@@ -221,6 +221,6 @@ pub fn respond_findings(alloc: Global, bytes: &[u8], most: usize, out: &mut [u8]
         out.old out.new result }
 {
     let findings = document_findings(alloc, bytes, most);
-    let told = outcome(alloc, findings);
-    write_answer(&told, out)
+    let report = outcome(alloc, findings);
+    write_answer(&report, out)
 }

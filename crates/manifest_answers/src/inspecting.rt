@@ -11,7 +11,7 @@ ghost use Rattle.manifest_answers.specs.Inspected.{pair_data, triple_data, index
 use crate::making::tagged_bytes;
 use crate::reading::document;
 use crate::refusal::Refusal;
-use crate::telling::cause_number;
+use crate::reporting::cause_number;
 use cargo_manifest::{Cause, Choices, FindingNode, Step, Unread, Value, inspect_with_metadata};
 use std::alloc::{AllocError, Global};
 use toml::Table;

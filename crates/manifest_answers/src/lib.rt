@@ -10,7 +10,7 @@ mod inspecting;
 mod making;
 mod reading;
 mod refusal;
-mod telling;
+mod reporting;
 mod unread;
 
 pub use answer::{

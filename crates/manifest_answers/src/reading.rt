@@ -1,7 +1,7 @@
 //! What the bytes of a call are: a document, or the tagged bytes of a table, that nests no deeper than the limit; and
 //! the manifest that it means.
 
-ghost use Rattle.manifest_schema.specs.Prelude.{kept_metadata, means, reads_manifest, view, table_view, tree_of};
+ghost use Rattle.manifest_schema.specs.Prelude.{raw_metadata, means, reads_manifest, view, table_view, tree_of};
 ghost use Rattle.std.specs.Prelude.{◌≡◌, Some, false, IfOk, IfErr};
 ghost use Rattle.toml.specs.Parse.{parse_document};
 ghost use Rattle.cargo_manifest.specs.Whole.{manifest_content, manifest_of};
@@ -114,11 +114,11 @@ pub(crate) fn release<P: Metadata, W: Metadata>(manifest: Box<Manifest<P, W>>) {
 /// The manifest that the form of a manifest reads of a value, on the heap. What the value holds is moved into it.
 #[inline(never)]
 fn from_value(alloc: Global, value: Value) -> Result<Box<Manifest>, InputError>
-    ensures ok { IfOk result (λ m. reads_manifest kept_metadata kept_metadata (view value)
+    ensures ok { IfOk result (λ m. reads_manifest raw_metadata raw_metadata (view value)
         (manifest_content view view m.value)) }
     ensures refused { IfErr result (RefusesValue (view value)) }
 {
-    match Manifest::read(alloc, Source::Taken(value)) {
+    match Manifest::read(alloc, Source::Owned(value)) {
         Ok(manifest) => Ok(Box::new(alloc, manifest)?),
         Err(fault) => Err(InputError::Manifest(refusal(fault))),
     }

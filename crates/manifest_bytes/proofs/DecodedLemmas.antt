@@ -22,10 +22,16 @@ front_back t rest =
     rw (fits, take_at t rest (length t) refl, drop_at t rest (length t) refl) refl
 
 pub text_back : (t rest : List ℕ) → take_text (text_bytes t ++ rest) ≡ Some (t, rest)
-text_back t rest = rw (append_assoc (number_bytes (length t)) t rest, number_back (length t) (t ++ rest), front_back t rest) refl
+text_back t rest = rw (
+  append_assoc (number_bytes (length t)) t rest,
+  number_back (length t) (t ++ rest),
+  front_back t
+      rest,
+) refl
 
 -- DATES
-part_back : {A : Type 0} (take : List ℕ → Taken A) (bytes : A → List ℕ) → ((a : A) (rest : List ℕ) → take (bytes a ++ rest) ≡ Some (a, rest)) →
+part_back : {A : Type 0} (take : List ℕ → Taken A) (bytes : A → List ℕ) → ((a : A) (rest : List ℕ)
+    → take (bytes a ++ rest) ≡ Some (a, rest)) →
     (part : Option A) (rest : List ℕ) → take_part take (part_bytes bytes part ++ rest) ≡ Some (part, rest)
 part_back take bytes back None rest = refl
 part_back take bytes back (Some a) rest = rw (back a rest) refl
@@ -34,7 +40,12 @@ date_back : (d : Date) (rest : List ℕ) → take_date (date_bytes d ++ rest) �
 date_back d rest = rw (number_back d.year rest) refl
 
 time_back : (t : Time) (rest : List ℕ) → take_time (time_bytes t ++ rest) ≡ Some (t, rest)
-time_back t rest = rw (append_assoc (part_bytes second_bytes t.second) (part_bytes number_bytes t.nanosecond) rest, part_back take_byte second_bytes (λ s rest. refl) t.second (part_bytes number_bytes t.nanosecond ++ rest), part_back take_number number_bytes number_back t.nanosecond rest) refl
+time_back t rest = rw (
+  append_assoc (part_bytes second_bytes t.second) (part_bytes number_bytes t.nanosecond) rest,
+  part_back take_byte second_bytes (λ s rest. refl) t.second (part_bytes number_bytes t.nanosecond ++ rest),
+  part_back
+      take_number number_bytes number_back t.nanosecond rest,
+) refl
 
 offset_back : (o : Offset) (rest : List ℕ) → take_offset (offset_bytes o ++ rest) ≡ Some (o, rest)
 offset_back Z rest = refl
@@ -46,11 +57,20 @@ datetime_back t rest =
     let date = part_bytes date_bytes t.date in
     let time = part_bytes time_bytes t.time in
     let offset = part_bytes offset_bytes t.offset in
-    rw (append_assoc date (time ++ offset) rest, append_assoc time offset rest, part_back take_date date_bytes date_back t.date (time ++ (offset ++ rest)), part_back take_time time_bytes time_back t.time (offset ++ rest), part_back take_offset offset_bytes offset_back t.offset rest) refl
+    rw (
+      append_assoc date (time ++ offset) rest,
+      append_assoc time offset rest,
+      part_back take_date date_bytes date_back
+          t.date (time ++ (offset ++ rest)),
+      part_back take_time time_bytes time_back t.time (offset ++ rest),
+      part_back
+          take_offset offset_bytes offset_back t.offset rest,
+    ) refl
 
 -- VALUES
 mutual
-  pub value_back : (d : Data) (deep : ℕ) (rest : List ℕ) → plain d ≡ true → depth d < deep → take_value deep (encoded d ++ rest) ≡ Some (d, rest)
+  pub value_back : (d : Data) (deep : ℕ) (rest : List ℕ) → plain d ≡ true → depth d < deep → take_value deep (encoded d
+      ++ rest) ≡ Some (d, rest)
   value_back d zero rest p h = absurd (omega arith)
   value_back (string s) (suc deep) rest p h = rw (text_back s rest) refl
   value_back (integer (pos n)) (suc deep) rest p h = rw (number_back n rest) refl
@@ -61,28 +81,60 @@ mutual
   value_back (float x) (suc deep) rest p h = cc
   value_back (array ds) (suc deep) rest p h =
       let n = item_count ds in
-      rw (append_assoc (number_bytes n) (items_bytes ds) rest, number_back n (items_bytes ds ++ rest), items_back ds deep rest p (omega arith)) refl
+      rw (
+        append_assoc (number_bytes n) (items_bytes ds) rest,
+        number_back n (items_bytes ds ++ rest),
+        items_back ds
+            deep rest p (omega arith),
+      ) refl
   value_back (table ms) (suc deep) rest p h =
       let n = member_count ms in
-      rw (append_assoc (number_bytes n) (members_bytes ms) rest, number_back n (members_bytes ms ++ rest), members_back ms deep rest p (omega arith)) refl
+      rw (
+        append_assoc (number_bytes n) (members_bytes ms) rest,
+        number_back n (members_bytes ms ++ rest),
+        members_back
+            ms deep rest p (omega arith),
+      ) refl
 
-  items_back : (ds : Items) (deep : ℕ) (rest : List ℕ) → plain_items ds ≡ true → items_depth ds < deep → take_items (take_value deep) (item_count ds) (items_bytes ds ++ rest) ≡ Some (ds, rest)
+  items_back : (ds : Items) (deep : ℕ) (rest : List ℕ) → plain_items ds ≡ true → items_depth ds < deep
+      → take_items (take_value deep) (item_count ds) (items_bytes ds ++ rest) ≡ Some (ds, rest)
   items_back no_items deep rest p h = refl
   items_back (item d ds) deep rest p h =
       let (one, more) = and_parts (plain d) (plain_items ds) p in
-      rw (append_assoc (encoded d) (items_bytes ds) rest, value_back d deep (items_bytes ds ++ rest) one (omega arith), items_back ds deep rest more (omega arith)) refl
+      rw (
+        append_assoc (encoded d) (items_bytes ds) rest,
+        value_back d deep (items_bytes ds ++ rest) one (omega arith),
+        items_back ds deep rest more (omega arith),
+      ) refl
 
-  members_back : (ms : Members) (deep : ℕ) (rest : List ℕ) → plain_members ms ≡ true → members_depth ms < deep → take_members (take_value deep) (member_count ms) (members_bytes ms ++ rest) ≡ Some (ms, rest)
+  members_back : (ms : Members) (deep : ℕ) (rest : List ℕ) → plain_members ms ≡ true → members_depth ms < deep
+      → take_members (take_value deep) (member_count ms) (members_bytes ms ++ rest) ≡ Some (ms, rest)
   members_back no_members deep rest p h = refl
   members_back (member k d ms) deep rest p h =
       let (one, more) = and_parts (plain d) (plain_members ms) p in
-      rw (append_assoc (text_bytes k) (encoded d ++ members_bytes ms) rest, append_assoc (encoded d) (members_bytes ms) rest, text_back k (encoded d ++ (members_bytes ms ++ rest)), value_back d deep (members_bytes ms ++ rest) one (omega arith), members_back ms deep rest more (omega arith)) refl
+      rw (
+        append_assoc (text_bytes k) (encoded d ++ members_bytes ms) rest,
+        append_assoc (encoded d) (members_bytes ms)
+            rest,
+        text_back k (encoded d ++ (members_bytes ms ++ rest)),
+        value_back d deep (members_bytes ms ++ rest) one
+            (omega arith),
+        members_back ms deep rest more (omega arith),
+      ) refl
 
 -- bytes are longer than what they hold is deep
 mutual
   shallow : (d : Data) → depth d ≤ length (encoded d)
-  shallow (array ds) = let inner = items_shallow ds in omega (arith, length-append (number_bytes (item_count ds)) (items_bytes ds))
-  shallow (table ms) = let inner = members_shallow ms in omega (arith, length-append (number_bytes (member_count ms)) (members_bytes ms))
+  shallow (array ds) = let inner = items_shallow ds in omega (
+    arith,
+    length-append (number_bytes (item_count ds))
+        (items_bytes ds),
+  )
+  shallow (table ms) = let inner = members_shallow ms in omega (
+    arith,
+    length-append (number_bytes (member_count ms))
+        (members_bytes ms),
+  )
   shallow _ = omega arith
 
   items_shallow : (ds : Items) → items_depth ds ≤ length (items_bytes ds)

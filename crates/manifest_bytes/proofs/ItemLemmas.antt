@@ -9,7 +9,8 @@ use Rattle.manifest_bytes.specs.Held.{FitsValue, FitItems}
 -- the values that were read are the first of some items, and the bytes of the others are left
 abbrev pub ItemsLeft : Items → List Value → ℕ → List ℕ → List ℕ → Type 0
 ItemsLeft ds [] deepest left rest = left ≡ items_bytes ds ++ rest
-ItemsLeft (item d ds) (v ∷ vs) deepest left rest = (view v ≡ d) × (depth d ≤ deepest) × ItemsLeft ds vs deepest left rest
+ItemsLeft (item d ds) (v ∷ vs) deepest left rest = (view v ≡ d) × (depth d ≤ deepest) × ItemsLeft ds vs deepest left
+    rest
 ItemsLeft no_items (v ∷ vs) deepest left rest = ⊥
 
 -- the next item, and that it is left no more once it is read

@@ -14,9 +14,9 @@ made f None = None
 made f (Some r) = Some (f r.0, r.1)
 
 -- what is read after it
-abbrev pub behind : {A B : Type 0} → Taken A → (A → List ℕ → Taken B) → Taken B
-behind None next = None
-behind (Some r) next = next r.0 r.1
+abbrev pub under : {A B : Type 0} → Taken A → (A → List ℕ → Taken B) → Taken B
+under None next = None
+under (Some r) next = next r.0 r.1
 
 -- A BYTE
 abbrev pub take_byte : List ℕ → Taken ℕ
@@ -28,7 +28,7 @@ abbrev pub take_front : ℕ → List ℕ → Taken (List ℕ)
 take_front n bs = if nat_lt (length bs) n then None else Some (take n bs, drop n bs)
 
 abbrev pub take_text : List ℕ → Taken (List ℕ)
-take_text bs = behind (take_number bs) take_front
+take_text bs = under (take_number bs) take_front
 
 -- A PART that may be left out
 abbrev pub take_part : {A : Type 0} → (List ℕ → Taken A) → List ℕ → Taken (Option A)
@@ -38,13 +38,13 @@ take_part read (b ∷ bs) = if b == 0 then Some (None, bs) else made Some (read 
 -- A DATE-TIME
 abbrev pub take_date : List ℕ → Taken Date
 take_date bs =
-    behind (take_byte bs) (λ month cs. behind (take_byte cs) (λ day ds.
+    under (take_byte bs) (λ month cs. under (take_byte cs) (λ day ds.
     made (λ year. record { year = year; month = month; day = day }) (take_number ds)))
 
 abbrev pub take_time : List ℕ → Taken Time
 take_time bs =
-    behind (take_byte bs) (λ hour cs. behind (take_byte cs) (λ minute ds.
-    behind (take_part take_byte ds) (λ second es.
+    under (take_byte bs) (λ hour cs. under (take_byte cs) (λ minute ds.
+    under (take_part take_byte ds) (λ second es.
     made (λ nano. record { hour = hour; minute = minute; second = second; nanosecond = nano })
     (take_part take_number es))))
 
@@ -57,7 +57,7 @@ take_offset (way ∷ bs) = if way == 0 then Some (Z, bs) else made (offset_of wa
 
 abbrev pub take_datetime : List ℕ → Taken Datetime
 take_datetime bs =
-    behind (take_part take_date bs) (λ date cs. behind (take_part take_time cs) (λ time ds.
+    under (take_part take_date bs) (λ date cs. under (take_part take_time cs) (λ time ds.
     made (λ offset. record { date = date; time = time; offset = offset })
     (take_part take_offset ds)))
 
@@ -65,12 +65,12 @@ take_datetime bs =
 abbrev pub take_items : (List ℕ → Taken Data) → ℕ → List ℕ → Taken Items
 take_items read zero bs = Some (no_items, bs)
 take_items read (suc n) bs =
-    behind (read bs) (λ d cs. made (item d) (take_items read n cs))
+    under (read bs) (λ d cs. made (item d) (take_items read n cs))
 
 abbrev pub take_members : (List ℕ → Taken Data) → ℕ → List ℕ → Taken Members
 take_members read zero bs = Some (no_members, bs)
 take_members read (suc n) bs =
-    behind (take_text bs) (λ k cs. behind (read cs) (λ d ds.
+    under (take_text bs) (λ k cs. under (read cs) (λ d ds.
     made (member k d) (take_members read n ds)))
 
 -- what stands after a tag
@@ -82,8 +82,8 @@ take_tagged read tag bs =
     else if tag == 4 then Some (boolean false, bs)
     else if tag == 5 then Some (boolean true, bs)
     else if tag == 6 then made datetime (take_datetime bs)
-    else if tag == 7 then made array (behind (take_number bs) (take_items read))
-    else if tag == 8 then made table (behind (take_number bs) (take_members read))
+    else if tag == 7 then made array (under (take_number bs) (take_items read))
+    else if tag == 8 then made table (under (take_number bs) (take_members read))
     else None
 
 -- A VALUE that nests at most this deep

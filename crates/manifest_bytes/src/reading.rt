@@ -216,8 +216,8 @@ impl Part for Offset {
                 Some(Offset::Custom { minutes })
             }
             2 => {
-                let behind = i16::try_from(reader.number()?).ok()?;
-                Some(Offset::Custom { minutes: !behind })
+                let under = i16::try_from(reader.number()?).ok()?;
+                Some(Offset::Custom { minutes: !under })
             }
             _ => None,
         }

@@ -9,7 +9,7 @@ use cargo_manifest::{
     StringOrBool, StripSetting, Target, True, Value, Workspace, WorkspacePackage,
 };
 use manifest_value::error::refusal;
-use manifest_value::{holds_float, kept};
+use manifest_value::{holds_float, raw};
 use std::alloc::Global;
 use std::collections::BTreeMap;
 
@@ -24,7 +24,7 @@ fn answer_as<T: Schema>(alloc: Global, text: &str) -> anyhow::Result<String> {
 fn answer_kept(alloc: Global, text: &str) -> anyhow::Result<String> {
     let value = Value::from_str(alloc, text)?;
     let line = answer_of_value(alloc, &Value::from_value(alloc, &value))?;
-    let copy = answer_of_value(alloc, &kept(alloc, &value).map_err(refusal))?;
+    let copy = answer_of_value(alloc, &raw(alloc, &value).map_err(refusal))?;
     if copy == line && line.starts_with("error: holds a float") == holds_float(&value) {
         Ok(line)
     } else {

@@ -37,9 +37,11 @@ files_differ canon_file complete_file ws (f, e, _) (g, h, _) = absurd (verbs_dif
 files_differ canon_file complete_member ws (f, e, _) (g, r, h, _, _) = absurd (canon_is_no_member f g r (sym e ∙ h))
 files_differ complete_file canon_file ws (f, e, _) (g, h, _) = absurd (verbs_differ g f (sym h ∙ e))
 files_differ complete_file complete_file ws p q = refl
-files_differ complete_file complete_member ws (f, e, _) (g, r, h, _, _) = absurd (complete_is_no_member f g r (sym e ∙ h))
+files_differ complete_file complete_member ws (f, e, _) (g, r, h, _, _) =
+    absurd (complete_is_no_member f g r (sym e ∙ h))
 files_differ complete_member canon_file ws (f, r, e, _, _) (g, h, _) = absurd (canon_is_no_member g f r (sym h ∙ e))
-files_differ complete_member complete_file ws (f, r, e, _, _) (g, h, _) = absurd (complete_is_no_member g f r (sym h ∙ e))
+files_differ complete_member complete_file ws (f, r, e, _, _) (g, h, _) =
+    absurd (complete_is_no_member g f r (sym h ∙ e))
 files_differ complete_member complete_member ws p q = refl
 
 -- words that ask for standard input ask for no file
@@ -72,9 +74,11 @@ one_asked (Some a) (Some b) ws p q = ap Some (files_differ a b ws p q)
 
 -- four words are taken for a member where they ask for one, and else are wrong
 member_asked : (v f o r : Text) → AskForMember v f o r → v ∷ f ∷ o ∷ r ∷ [] ≡ member_words f r
-member_asked v f o r m = ap (λ x. x ∷ f ∷ o ∷ r ∷ []) m.verb_is ∙ ap (λ x. codes "complete" ∷ f ∷ x ∷ r ∷ []) m.option_is
+member_asked v f o r m = ap (λ x. x ∷ f ∷ o ∷ r ∷ []) m.verb_is ∙ ap (λ x. codes "complete" ∷ f ∷ x ∷ r ∷ [])
+    m.option_is
 
-four_ask : (v f o r : String Global) (a : Asked) → Asks a (v ∷ f ∷ o ∷ r ∷ []) → AskForMember (string_bytes v) (string_bytes f) (string_bytes o) (string_bytes r)
+four_ask : (v f o r : String Global) (a : Asked) → Asks a (v ∷ f ∷ o ∷ r ∷ []) → AskForMember (string_bytes v)
+    (string_bytes f) (string_bytes o) (string_bytes r)
 four_ask v f o r canon_file (g, e, is_file) =
     let lengths : ◌≡◌ {A = ℕ} 4 2 = ap length e in absurd (omega (arith, lengths))
 four_ask v f o r complete_file (g, e, is_file) =
@@ -86,17 +90,26 @@ four_ask v f o r complete_member (g, s, e, g_is, s_is) = record {
   root_is = λ dash. s_is (sym (ap (λ ws. get_or ws 3 []) e) ∙ dash);
 }
 
-pub four_taken : (v f o r : String Global) (x : Option Request) → IsFourOf (string_bytes v) (string_bytes f) (string_bytes o) (string_bytes r) x → IsRequestOf (v ∷ f ∷ o ∷ r ∷ []) x
+pub four_taken : (v f o r : String Global) (x : Option Request) → IsFourOf (string_bytes v) (string_bytes f)
+    (string_bytes o) (string_bytes r) x → IsRequestOf (v ∷ f ∷ o ∷ r ∷ []) x
 four_taken v f o r (Some CanonInput) p = absurd p
 four_taken v f o r (Some (CanonFile g)) p = absurd p
 four_taken v f o r (Some (CompleteFile g)) p = absurd p
-four_taken v f o r (Some (CompleteMember g s)) m = (string_bytes f, string_bytes r, member_asked _ _ _ _ m, m.file_is, m.root_is)
+four_taken v f o r (Some (CompleteMember g s)) m = (
+  string_bytes f,
+  string_bytes r,
+  member_asked _ _ _ _ m,
+  m.file_is,
+  m.root_is,
+)
 four_taken v f o r None not = ((λ i. i), λ a q. not (four_ask v f o r a q))
 
-pub served_file : (b : Option Asked) (a : Asked) (ws : List (String Global)) (known old new : Option (List ℕ)) → AskFor b ws → Asks a ws → Serves b known old new → PrintsOne (MayPrint a) old new
+pub served_file : (b : Option Asked) (a : Asked) (ws : List (String Global)) (known old new : Option (List ℕ))
+    → AskFor b ws → Asks a ws → Serves b known old new → PrintsOne (MayPrint a) old new
 served_file b a ws known old new q asks s = subst (λ x. Serves x known old new) (one_asked b (Some a) ws q asks) s
 
-pub failed_file : (b : Option Asked) (a : Asked) (ws : List (String Global)) (known old new : Option (List ℕ)) → AskFor b ws → Asks a ws → Fails b known old new → BeginsOne (MayPrint a) old new
+pub failed_file : (b : Option Asked) (a : Asked) (ws : List (String Global)) (known old new : Option (List ℕ))
+    → AskFor b ws → Asks a ws → Fails b known old new → BeginsOne (MayPrint a) old new
 failed_file b a ws known old new q asks s = subst (λ x. Fails x known old new) (one_asked b (Some a) ws q asks) s
 
 -- words that ask for something are not wrong

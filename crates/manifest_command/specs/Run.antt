@@ -1,5 +1,5 @@
 -- What a run of the program leaves.
-use Rattle.manifest_schema.specs.Prelude.{Global, Bor, Appends, Keeps, Text, Manifest, kept_metadata}
+use Rattle.manifest_schema.specs.Prelude.{Global, Bor, Appends, Keeps, Text, Manifest, raw_metadata}
 use Rattle.std.specs.Prelude.{◌≡◌, ◌≢◌, ℕ, ◌⊎◌, List, [], ◌∷◌, ◌++◌, map, Option, Some, None, String, string_bytes, codes}
 use Rattle.manifest_value.specs.declared.error.Error.{Error}
 use Rattle.manifest_value.specs.declared.error.Error.TheVariants.{Io}
@@ -102,7 +102,7 @@ IsBegun bytes old new = BeginsOne (Means bytes) old new
 -- why bytes have no canonical text: reading refuses them, or printing refuses the rewritten table of what they mean
 abbrev pub RefusesCanonical : List ℕ → Error → Type 0
 RefusesCanonical bytes e =
-    Refuses kept_metadata kept_metadata bytes e
+    Refuses raw_metadata raw_metadata bytes e
     ⊎ ((m : Manifest) × Means bytes m × RefusesToPrint (rewritten m) e)
 
 -- why the bytes were not printed, and what was written: at an I/O fault at most a beginning, and else nothing

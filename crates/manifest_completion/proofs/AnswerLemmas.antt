@@ -19,7 +19,8 @@ padded [] given = []
 padded (n ∷ ns) [] = fault NotFound ∷ padded ns []
 padded (n ∷ ns) (a ∷ given) = a ∷ padded ns given
 
-skip : (n : Text) (a : Answer) (es : List (Text × Answer)) (ms : List Text) → AllByRecursion (λ m. bytes_eq n m ≡ false) ms → map (entry_answer ((n, a) ∷ es)) ms ≡ map (entry_answer es) ms
+skip : (n : Text) (a : Answer) (es : List (Text × Answer)) (ms : List Text) → AllByRecursion (λ m. bytes_eq n m ≡ false)
+    ms → map (entry_answer ((n, a) ∷ es)) ms ≡ map (entry_answer es) ms
 skip n a es [] h = refl
 skip n a es (m ∷ ms) h = rw h.0 (ap (λ (xs : List Answer). entry_answer es m ∷ xs) (skip n a es ms h.1))
 
@@ -27,7 +28,8 @@ none_there : (ms : List Text) → map (entry_answer []) ms ≡ padded ms []
 none_there [] = refl
 none_there (m ∷ ms) = ap (λ (xs : List Answer). fault NotFound ∷ xs) (none_there ms)
 
-lookups : (ns : List Text) (given : List Answer) → IsDistinct bytes_eq ns → map (entry_answer (zip ns given)) ns ≡ padded ns given
+lookups : (ns : List Text) (given : List Answer) → IsDistinct bytes_eq ns → map (entry_answer (zip ns given))
+    ns ≡ padded ns given
 unfolding IsDistinct
 lookups [] given h = refl
 lookups (n ∷ ns) [] h = none_there (n ∷ ns)
@@ -39,22 +41,27 @@ or_cases : (b x y : Bool) → (b ≡ false → x ≡ y) → (b || x) ≡ (b || y
 or_cases true x y h = refl
 or_cases false x y h = h refl
 
-any_padded : (P : Text → Answer → Type 0) (d : Text) (ns : List Text) (given : List Answer) → AreAllowedAnswers P d ns given → list_any is_memory_fault (padded ns given) ≡ list_any is_memory_fault given
+any_padded : (P : Text → Answer → Type 0) (d : Text) (ns : List Text) (given : List Answer) → AreAllowedAnswers P d ns
+    given → list_any is_memory_fault (padded ns given) ≡ list_any is_memory_fault given
 any_padded P d [] [] h = refl
 any_padded P d [] (a ∷ given) h = absurd h
 any_padded P d (n ∷ ns) [] h = absurd h
 any_padded P d (n ∷ ns) (a ∷ given) h = or_cases (is_memory_fault a) _ _ (λ e. any_padded P d ns given (rw e at h.1))
 
-pub any_map : {A B : Type 0} (p : B → Bool) (f : A → B) (xs : List A) → list_any p (map f xs) ≡ list_any (λ x. p (f x)) xs
+pub any_map : {A B : Type 0} (p : B → Bool) (f : A → B) (xs : List A) → list_any p (map f xs) ≡ list_any (λ x. p (f x))
+    xs
 any_map p f [] = refl
 any_map p f (x ∷ xs) = ap (λ b. p (f x) || b) (any_map p f xs)
 
 -- the answers for the entries, where the map has this folder
-pub entry_answers : (l : ListingMap) (d : TargetFolder) (a : FolderAnswers) → folder_of l d ≡ folder_listing a → IsDistinct bytes_eq (names_of (answer_of a.own)) → map (λ n. at l (entry d n)) (names_of (answer_of a.own)) ≡ padded (names_of (answer_of a.own)) (answers_of a.entries)
+pub entry_answers : (l : ListingMap) (d : TargetFolder) (a : FolderAnswers) → folder_of l d ≡ folder_listing a
+    → IsDistinct bytes_eq (names_of (answer_of a.own)) → map (λ n. at l (entry d n))
+    (names_of (answer_of a.own)) ≡ padded (names_of (answer_of a.own)) (answers_of a.entries)
 entry_answers l d a e h = rw e (lookups (names_of (answer_of a.own)) (answers_of a.entries) h)
 
 -- whether the folder or an entry ran out of memory
-pub folder_fault : (l : ListingMap) (d : TargetFolder) (a : FolderAnswers) → folder_of l d ≡ folder_listing a → IsAnsweredInTurn d a → has_memory_fault (at l) (folder_places l d) ≡ ran_out_of_memory a
+pub folder_fault : (l : ListingMap) (d : TargetFolder) (a : FolderAnswers) → folder_of l d ≡ folder_listing a
+    → IsAnsweredInTurn d a → has_memory_fault (at l) (folder_places l d) ≡ ran_out_of_memory a
 folder_fault l d a e h =
     let ns = names_of (answer_of a.own) in
     let own : (folder_of l d).own ≡ answer_of a.own = ap (λ (f : FolderListing). f.own) e in
@@ -69,16 +76,21 @@ module _ (allows : Text → Answer → Type 0) (l : ListingMap) where
   abbrev Holds : Place → Type 0
   Holds p = allows (path_text p) (at l p)
 
-  pub allowed_append : (xs ys : List Place) → AllByRecursion Holds (up_to_memory_fault (at l) xs) → (has_memory_fault (at l) xs ≡ false → AllByRecursion Holds (up_to_memory_fault (at l) ys)) → AllByRecursion Holds (up_to_memory_fault (at l) (xs ++ ys))
+  pub allowed_append : (xs ys : List Place) → AllByRecursion Holds (up_to_memory_fault (at l) xs)
+      → (has_memory_fault (at l) xs ≡ false → AllByRecursion Holds (up_to_memory_fault (at l) ys))
+      → AllByRecursion Holds (up_to_memory_fault (at l) (xs ++ ys))
   allowed_append [] ys h k = k refl
   allowed_append (x ∷ xs) ys h k = (
     h.0,
     stops_or Holds (is_memory_fault (at l x)) (up_to_memory_fault (at l) (xs ++ ys))
-        (λ e. allowed_append xs ys (goes_on Holds (is_memory_fault (at l x)) (up_to_memory_fault (at l) xs) h.1 e) (λ f. k (or_from (is_memory_fault (at l x)) (has_memory_fault (at l) xs) e f))),
+        (λ e. allowed_append xs ys (goes_on Holds (is_memory_fault (at l x)) (up_to_memory_fault (at l) xs) h.1 e)
+        (λ f. k (or_from (is_memory_fault (at l x)) (has_memory_fault (at l) xs) e f))),
   )
 
   -- the answers for the entries are allowed, up to the first that ran out of memory
-  entries_held : (d : TargetFolder) (ns : List Text) (given : List Answer) → map (λ n. at l (entry d n)) ns ≡ padded ns given → AreAllowedAnswers allows (folder_text d) ns given → AllByRecursion Holds (up_to_memory_fault (at l) (map (entry d) ns))
+  entries_held : (d : TargetFolder) (ns : List Text) (given : List Answer) → map (λ n. at l (entry d n)) ns ≡ padded ns
+      given → AreAllowedAnswers allows (folder_text d) ns given → AllByRecursion Holds (up_to_memory_fault (at l)
+      (map (entry d) ns))
   entries_held d [] given e h = tt
   entries_held d (n ∷ ns) [] e h = absurd h
   entries_held d (n ∷ ns) (a ∷ given) e h =
@@ -91,16 +103,20 @@ module _ (allows : Text → Answer → Type 0) (l : ListingMap) where
       )
 
   -- the same for the folder before them
-  pub folder_held : (d : TargetFolder) (a : FolderAnswers) → folder_of l d ≡ folder_listing a → FolderIsAnswered allows (folder_text d) a → AllByRecursion Holds (up_to_memory_fault (at l) (folder_places l d))
+  pub folder_held : (d : TargetFolder) (a : FolderAnswers) → folder_of l d ≡ folder_listing a → FolderIsAnswered allows
+      (folder_text d) a → AllByRecursion Holds (up_to_memory_fault (at l) (folder_places l d))
   folder_held d a e h =
       let own : (folder_of l d).own ≡ answer_of a.own = ap (λ (f : FolderListing). f.own) e in
       rw own (
         h.own.1,
-        stops_or Holds (is_memory_fault (answer_of a.own)) (up_to_memory_fault (at l) (map (entry d) (names_of (answer_of a.own))))
-            (λ q. entries_held d (names_of (answer_of a.own)) (answers_of a.entries) (entry_answers l d a e (ascending_differ (names_of (answer_of a.own)) h.own.0)) h.entries),
+        stops_or Holds (is_memory_fault (answer_of a.own)) (up_to_memory_fault (at l)
+            (map (entry d) (names_of (answer_of a.own))))
+            (λ q. entries_held d (names_of (answer_of a.own)) (answers_of a.entries)
+            (entry_answers l d a e (ascending_differ (names_of (answer_of a.own)) h.own.0)) h.entries),
       )
 
-  pub root_held : (asks : Bool) → (asks ≡ true → allows (path_text root) (at l root)) → AllByRecursion Holds (up_to_memory_fault (at l) (root_places asks))
+  pub root_held : (asks : Bool) → (asks ≡ true → allows (path_text root) (at l root)) → AllByRecursion Holds
+      (up_to_memory_fault (at l) (root_places asks))
   root_held true h = (h refl, stops_or Holds (is_memory_fault (at l root)) [] (λ q. tt))
   root_held false h = tt
 
@@ -112,32 +128,40 @@ match_map : (b : Bool) (P Q Q' : Type 0) → (Q → Q') → MatchBool b P Q → 
 match_map true P Q Q' f m = m
 match_map false P Q Q' f m = f m
 
-entries_ascend : (P : Text → Answer → Type 0) (d : Text) (ns : List Text) (given : List Answer) → AreAllowedAnswers P d ns given → AllByRecursion Ascends given
+entries_ascend : (P : Text → Answer → Type 0) (d : Text) (ns : List Text) (given : List Answer) → AreAllowedAnswers P d
+    ns given → AllByRecursion Ascends given
 entries_ascend P d [] [] h = tt
 entries_ascend P d [] (a ∷ given) h = absurd h
 entries_ascend P d (n ∷ ns) [] h = absurd h
 entries_ascend P d (n ∷ ns) (a ∷ given) h = (h.0.0, one (is_memory_fault a) given h.1 (entries_ascend P d ns given))
   where
-    one : (b : Bool) (bs : List Answer) → MatchBool b (bs ≡ []) (AreAllowedAnswers P d ns bs) → (AreAllowedAnswers P d ns bs → AllByRecursion Ascends bs) → AllByRecursion Ascends bs
+    one : (b : Bool) (bs : List Answer) → MatchBool b (bs ≡ []) (AreAllowedAnswers P d ns bs)
+        → (AreAllowedAnswers P d ns bs → AllByRecursion Ascends bs) → AllByRecursion Ascends bs
     one true bs e k = rw e tt
     one false bs e k = k e
 
-looked_up : (ns : List Text) (given : List Answer) (n : Text) → AllByRecursion Ascends given → Ascends (entry_answer (zip ns given) n)
+looked_up : (ns : List Text) (given : List Answer) (n : Text) → AllByRecursion Ascends given
+    → Ascends (entry_answer (zip ns given) n)
 looked_up [] given n h = none_ascend
 looked_up (m ∷ ns) [] n h = none_ascend
 looked_up (m ∷ ns) (a ∷ given) n h = one (bytes_eq m n) h.0 (looked_up ns given n h.1)
   where
-    one : (b : Bool) → Ascends a → Ascends (entry_answer (zip ns given) n) → Ascends (if b then a else entry_answer (zip ns given) n)
+    one : (b : Bool) → Ascends a → Ascends (entry_answer (zip ns given) n)
+        → Ascends (if b then a else entry_answer (zip ns given) n)
     one true x y = x
     one false x y = y
 
-folder_ascends : (a : FolderAnswers) (P : Text → Answer → Type 0) (d : Text) → FolderIsAnswered P d a → (n : Text) → Ascends (entry_answer (folder_listing a).entries n)
-folder_ascends a P d h n = looked_up (names_of (answer_of a.own)) (answers_of a.entries) n (entries_ascend P d (names_of (answer_of a.own)) (answers_of a.entries) h.entries)
+folder_ascends : (a : FolderAnswers) (P : Text → Answer → Type 0) (d : Text) → FolderIsAnswered P d a → (n : Text)
+    → Ascends (entry_answer (folder_listing a).entries n)
+folder_ascends a P d h n = looked_up (names_of (answer_of a.own)) (answers_of a.entries) n
+    (entries_ascend P d (names_of (answer_of a.own)) (answers_of a.entries) h.entries)
 
 abbrev anything : Text → Answer → Type 0
 anything path a = Unit {0}
 
-map_ascends : (a : Answers) → IsAnsweredInTurn bins a.bins → IsAnsweredInTurn examples a.examples → IsAnsweredInTurn tests a.tests → IsAnsweredInTurn benches a.benches → Ascends (answer_of a.root) → Ascends (answer_of a.source) → NamesAscend (listing_map a)
+map_ascends : (a : Answers) → IsAnsweredInTurn bins a.bins → IsAnsweredInTurn examples a.examples
+    → IsAnsweredInTurn tests a.tests → IsAnsweredInTurn benches a.benches → Ascends (answer_of a.root)
+    → Ascends (answer_of a.source) → NamesAscend (listing_map a)
 map_ascends a b e t n r s source = s
 map_ascends a b e t n r s (folder bins) = b.own.0
 map_ascends a b e t n r s (folder examples) = e.own.0
@@ -151,28 +175,47 @@ map_ascends a b e t n r s root = r
 
 -- WEAKER
 module _ (P Q : Text → Answer → Type 0) (weaker : (path : Text) (a : Answer) → P path a → Q path a) where
-  entries_weaker : (d : Text) (ns : List Text) (given : List Answer) → AreAllowedAnswers P d ns given → AreAllowedAnswers Q d ns given
+  entries_weaker : (d : Text) (ns : List Text) (given : List Answer) → AreAllowedAnswers P d ns given
+      → AreAllowedAnswers Q d ns given
   entries_weaker d [] [] h = tt
   entries_weaker d [] (a ∷ given) h = absurd h
   entries_weaker d (n ∷ ns) [] h = absurd h
-  entries_weaker d (n ∷ ns) (a ∷ given) h = ((h.0.0, weaker (joined d n) a h.0.1), match_map (is_memory_fault a) (given ≡ []) (AreAllowedAnswers P d ns given) (AreAllowedAnswers Q d ns given) (entries_weaker d ns given) h.1)
+  entries_weaker d (n ∷ ns) (a ∷ given) h = (
+    (h.0.0, weaker (joined d n) a h.0.1),
+    match_map (is_memory_fault a)
+        (given ≡ []) (AreAllowedAnswers P d ns given) (AreAllowedAnswers Q d ns given) (entries_weaker d ns given) h.1,
+  )
 
   pub folder_weaker : (d : Text) (a : FolderAnswers) → FolderIsAnswered P d a → FolderIsAnswered Q d a
-  folder_weaker d a h = record { own = (h.own.0, weaker d (answer_of a.own) h.own.1); entries = entries_weaker d (names_of (answer_of a.own)) (answers_of a.entries) h.entries }
+  folder_weaker d a h = record {
+    own = (h.own.0, weaker d (answer_of a.own) h.own.1);
+    entries =
+        entries_weaker d (names_of (answer_of a.own)) (answers_of a.entries) h.entries;
+  }
 
-answered_in_turn : (P : Text → Answer → Type 0) (d : TargetFolder) (a : FolderAnswers) → FolderIsAnswered P (folder_text d) a → IsAnsweredInTurn d a
+answered_in_turn : (P : Text → Answer → Type 0) (d : TargetFolder) (a : FolderAnswers)
+    → FolderIsAnswered P (folder_text d) a → IsAnsweredInTurn d a
 answered_in_turn P d a h = folder_weaker P anything (λ path answer p. tt) (folder_text d) a h
 
 -- of a folder that is asked only where completion goes on
 abbrev pub IsAllowedUnless : Bool → (Text → Answer → Type 0) → TargetFolder → FolderAnswers → Type 0
-IsAllowedUnless stopped allows d a = FolderIsAnswered (λ path answer. stopped ≡ false → allows path answer) (folder_text d) a
+IsAllowedUnless stopped allows d a = FolderIsAnswered (λ path answer. stopped ≡ false → allows path answer)
+    (folder_text d) a
 
-answered_on : (stopped : Bool) (allows : Text → Answer → Type 0) (d : TargetFolder) (a : FolderAnswers) → IsAllowedUnless stopped allows d a → stopped ≡ false → FolderIsAnswered allows (folder_text d) a
-answered_on stopped allows d a h e = folder_weaker (λ path answer. stopped ≡ false → allows path answer) allows (λ path answer p. p e) (folder_text d) a h
+answered_on : (stopped : Bool) (allows : Text → Answer → Type 0) (d : TargetFolder) (a : FolderAnswers)
+    → IsAllowedUnless stopped allows d a → stopped ≡ false → FolderIsAnswered allows (folder_text d) a
+answered_on stopped allows d a h e = folder_weaker (λ path answer. stopped ≡ false → allows path answer) allows
+    (λ path answer p. p e) (folder_text d) a h
 
 -- of a folder that is not asked
-pub none_answered : (stopped : Bool) (allows : Text → Answer → Type 0) (d : Text) (a : FolderAnswers) → stopped ≡ true → answer_of a.own ≡ fault NotFound → a.entries.items ≡ [] → FolderIsAnswered (λ path answer. stopped ≡ false → allows path answer) d a
-none_answered stopped allows d a e own none = record { own = rw own (none_ascend, λ f. cc (e, f)); entries = rw (own, none) tt }
+pub none_answered : (stopped : Bool) (allows : Text → Answer → Type 0) (d : Text) (a : FolderAnswers) → stopped ≡ true
+    → answer_of a.own ≡ fault NotFound → a.entries.items ≡ [] → FolderIsAnswered (λ path answer. stopped ≡ false
+    → allows path answer) d a
+none_answered stopped allows d a e own none = record {
+  own = rw own (none_ascend, λ f. cc (e, f));
+  entries =
+      rw (own, none) tt;
+}
 
 -- ALL that was answered
 pub all_answered : (allows : Text → Answer → Type 0) (asks : Bool) (a : Answers) →
@@ -180,8 +223,11 @@ pub all_answered : (allows : Text → Answer → Type 0) (asks : Bool) (a : Answ
     FolderIsAnswered allows (folder_text bins) a.bins →
     IsAllowedUnless (ran_out_of_memory a.bins) allows examples a.examples →
     IsAllowedUnless (ran_out_of_memory a.bins || ran_out_of_memory a.examples) allows tests a.tests →
-    IsAllowedUnless ((ran_out_of_memory a.bins || ran_out_of_memory a.examples) || ran_out_of_memory a.tests) allows benches a.benches →
-    IsAllowedAnswer (λ path answer. (asks && not (((ran_out_of_memory a.bins || ran_out_of_memory a.examples) || ran_out_of_memory a.tests) || ran_out_of_memory a.benches)) ≡ true → allows path answer) (path_text root) (answer_of a.root) →
+    IsAllowedUnless ((ran_out_of_memory a.bins || ran_out_of_memory a.examples) || ran_out_of_memory a.tests) allows
+    benches a.benches →
+    IsAllowedAnswer (λ path answer.
+    (asks && not (((ran_out_of_memory a.bins || ran_out_of_memory a.examples) || ran_out_of_memory a.tests)
+    || ran_out_of_memory a.benches)) ≡ true → allows path answer) (path_text root) (answer_of a.root) →
     AllIsAnswered allows asks a
 all_answered allows asks a s b e t n r =
     let ob = answered_in_turn _ bins a.bins b in let oe = answered_in_turn _ examples a.examples e in
@@ -197,16 +243,24 @@ all_answered allows asks a s b e t n r =
           s.1,
           (
               let l = listing_map a in
-              let bp = folder_places l bins in let ep = folder_places l examples in let tp = folder_places l tests in let np = folder_places l benches in let rp = root_places asks in
-              subst (λ (ps : List Place). AllByRecursion (λ p. allows (path_text p) (at l p)) (up_to_memory_fault (at l) ps)) (together l rp)
+              let bp = folder_places l bins in let ep = folder_places l examples in let tp = folder_places l tests in
+              let np = folder_places l benches in let rp = root_places asks in
+              subst (λ (ps : List Place). AllByRecursion (λ p. allows (path_text p) (at l p)) (up_to_memory_fault (at l)
+              ps)) (together l rp)
               (allowed_append allows l bp (ep ++ (tp ++ (np ++ rp))) (folder_held allows l bins a.bins refl b) (λ q1.
               let f1 : ran_out_of_memory a.bins ≡ false = sym (folder_fault l bins a.bins refl ob) ∙ q1 in
-              allowed_append allows l ep (tp ++ (np ++ rp)) (folder_held allows l examples a.examples refl (answered_on (ran_out_of_memory a.bins) allows examples a.examples e f1)) (λ q2.
-              let f2 = or_from (ran_out_of_memory a.bins) (ran_out_of_memory a.examples) f1 (sym (folder_fault l examples a.examples refl oe) ∙ q2) in
-              allowed_append allows l tp (np ++ rp) (folder_held allows l tests a.tests refl (answered_on _ allows tests a.tests t f2)) (λ q3.
-              let f3 = or_from (ran_out_of_memory a.bins || ran_out_of_memory a.examples) (ran_out_of_memory a.tests) f2 (sym (folder_fault l tests a.tests refl ot) ∙ q3) in
-              allowed_append allows l np rp (folder_held allows l benches a.benches refl (answered_on _ allows benches a.benches n f3)) (λ q4.
-              let f4 = or_from ((ran_out_of_memory a.bins || ran_out_of_memory a.examples) || ran_out_of_memory a.tests) (ran_out_of_memory a.benches) f3 (sym (folder_fault l benches a.benches refl on) ∙ q4) in
+              allowed_append allows l ep (tp ++ (np ++ rp)) (folder_held allows l examples a.examples refl
+              (answered_on (ran_out_of_memory a.bins) allows examples a.examples e f1)) (λ q2.
+              let f2 = or_from (ran_out_of_memory a.bins) (ran_out_of_memory a.examples) f1
+              (sym (folder_fault l examples a.examples refl oe) ∙ q2) in
+              allowed_append allows l tp (np ++ rp) (folder_held allows l tests a.tests refl (answered_on _ allows tests
+              a.tests t f2)) (λ q3.
+              let f3 = or_from (ran_out_of_memory a.bins || ran_out_of_memory a.examples) (ran_out_of_memory a.tests) f2
+              (sym (folder_fault l tests a.tests refl ot) ∙ q3) in
+              allowed_append allows l np rp (folder_held allows l benches a.benches refl (answered_on _ allows benches
+              a.benches n f3)) (λ q4.
+              let f4 = or_from ((ran_out_of_memory a.bins || ran_out_of_memory a.examples) || ran_out_of_memory a.tests)
+              (ran_out_of_memory a.benches) f3 (sym (folder_fault l benches a.benches refl on) ∙ q4) in
               root_held allows l asks (λ y. r.1 (and_from asks _ y (ap not f4))))))))),
         );
       };

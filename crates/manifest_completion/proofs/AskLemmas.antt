@@ -7,7 +7,8 @@ use Rattle.manifest_completion.specs.Listings.{Answer, joined, is_memory_fault, 
 use Rattle.manifest_completion.specs.Asking.{IsAllowedAnswer, AreAllowedAnswers}
 
 -- NAMES of a set ascend
-above : (x : String Global) (xs : List (String Global)) → AllByRecursion (λ y. string_cmp x y ≡ Less) xs → AllByRecursion (λ n. slice_cmp nat_cmp (string_bytes x) n ≡ Less) (map string_bytes xs)
+above : (x : String Global) (xs : List (String Global)) → AllByRecursion (λ y. string_cmp x y ≡ Less) xs
+    → AllByRecursion (λ n. slice_cmp nat_cmp (string_bytes x) n ≡ Less) (map string_bytes xs)
 above x [] h = tt
 above x (y ∷ ys) h = (h.0, above x ys h.1)
 
@@ -24,7 +25,8 @@ none_ascend = tt
 below_differs : (a b : Text) → slice_cmp nat_cmp a b ≡ Less → bytes_eq a b ≡ false
 below_differs a b h = sym (is_eq-slice_cmp a b) ∙ ap is_eq h
 
-none_same : (n : Text) (ns : List Text) → AllByRecursion (λ m. slice_cmp nat_cmp n m ≡ Less) ns → AllByRecursion (λ m. bytes_eq n m ≡ false) ns
+none_same : (n : Text) (ns : List Text) → AllByRecursion (λ m. slice_cmp nat_cmp n m ≡ Less) ns
+    → AllByRecursion (λ m. bytes_eq n m ≡ false) ns
 none_same n [] h = tt
 none_same n (m ∷ ns) h = (below_differs n m h.0, none_same n ns h.1)
 
@@ -39,14 +41,17 @@ module _ (allows : Text → Answer → Type 0) (d : Text) where
   Answered n a = IsAllowedAnswer allows (joined d n) a × (is_memory_fault a ≡ false)
 
   -- each entry was asked, and found memory
-  pub entries_all : (ns : List Text) (given : List Answer) → AllZip Answered ns given → AreAllowedAnswers allows d ns given
+  pub entries_all : (ns : List Text) (given : List Answer) → AllZip Answered ns given → AreAllowedAnswers allows d ns
+      given
   entries_all [] [] h = tt
   entries_all [] (a ∷ given) h = absurd h
   entries_all (n ∷ ns) [] h = absurd h
   entries_all (n ∷ ns) (a ∷ given) h = (h.0.0, rw h.0.1 (entries_all ns given h.1))
 
   -- the last one that was asked found none
-  pub entries_stop : (ns : List Text) (given : List Answer) (n : Text) (rest : List Text) (a : Answer) → AllZip Answered ns given → IsAllowedAnswer allows (joined d n) a → is_memory_fault a ≡ true → AreAllowedAnswers allows d (ns ++ n ∷ rest) (given ++ a ∷ [])
+  pub entries_stop : (ns : List Text) (given : List Answer) (n : Text) (rest : List Text) (a : Answer)
+      → AllZip Answered ns given → IsAllowedAnswer allows (joined d n) a → is_memory_fault a ≡ true
+      → AreAllowedAnswers allows d (ns ++ n ∷ rest) (given ++ a ∷ [])
   entries_stop [] [] n rest a h ok e = (ok, rw e refl)
   entries_stop [] (b ∷ given) n rest a h ok e = absurd h
   entries_stop (m ∷ ns) [] n rest a h ok e = absurd h

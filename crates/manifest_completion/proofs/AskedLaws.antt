@@ -46,7 +46,8 @@ unfolding IsDistinct
 differ_up_to f [] h = tt
 differ_up_to f (p ∷ ps) h = one (is_memory_fault (f p)) (apart_up_to f p ps h.0) (differ_up_to f ps h.1)
   where
-    one : (b : Bool) → AllApart p (up_to_memory_fault f ps) → Differ (up_to_memory_fault f ps) → Differ (p ∷ (if b then [] else up_to_memory_fault f ps))
+    one : (b : Bool) → AllApart p (up_to_memory_fault f ps) → Differ (up_to_memory_fault f ps)
+        → Differ (p ∷ (if b then [] else up_to_memory_fault f ps))
     one true a k = (tt, tt)
     one false a k = (a, k)
 
@@ -63,11 +64,13 @@ entry_eq examples n m = refl
 entry_eq tests n m = refl
 entry_eq benches n m = refl
 
-all_apart : (p : Place) (d : TargetFolder) (ns : List Text) → ((n : Text) → bytes_eq (path_text p) (path_text (entry d n)) ≡ false) → AllApart p (map (entry d) ns)
+all_apart : (p : Place) (d : TargetFolder) (ns : List Text)
+    → ((n : Text) → bytes_eq (path_text p) (path_text (entry d n)) ≡ false) → AllApart p (map (entry d) ns)
 all_apart p d [] h = tt
 all_apart p d (n ∷ ns) h = (h n, all_apart p d ns h)
 
-entry_all_apart : (d : TargetFolder) (n : Text) (ns : List Text) → AllByRecursion (λ m. bytes_eq n m ≡ false) ns → AllApart (entry d n) (map (entry d) ns)
+entry_all_apart : (d : TargetFolder) (n : Text) (ns : List Text) → AllByRecursion (λ m. bytes_eq n m ≡ false) ns
+    → AllApart (entry d n) (map (entry d) ns)
 entry_all_apart d n [] h = tt
 entry_all_apart d n (m ∷ ns) h = (entry_eq d n m ∙ h.0, entry_all_apart d n ns h.1)
 
@@ -78,7 +81,11 @@ entries_differ d (n ∷ ns) h = (entry_all_apart d n ns h.0, entries_differ d ns
 
 places_differ : (l : ListingMap) (d : TargetFolder) → HasNoNameTwice l → Differ (folder_places l d)
 unfolding IsDistinct
-places_differ l d h = (all_apart (folder d) d (names_of (at l (folder d))) (folder_apart d), entries_differ d (names_of (at l (folder d))) (h (folder d)))
+places_differ l d h = (
+  all_apart (folder d) d (names_of (at l (folder d))) (folder_apart d),
+  entries_differ d
+      (names_of (at l (folder d))) (h (folder d)),
+)
 
 -- PLACES BY THE FIRST BYTE of their text
 abbrev folder_byte : TargetFolder → ℕ
@@ -109,11 +116,13 @@ by_byte : (p q : Place) → nat_eq (byte p) (byte q) ≡ false → bytes_eq (pat
 by_byte p q e = let x = rest_of p in let y = rest_of q in rw (x.1, y.1, e) refl
 
 -- a place and a folder with another first byte
-folder_by_byte : (p : Place) (d : TargetFolder) (ns : List Text) → nat_eq (byte p) (folder_byte d) ≡ false → AllApart p (folder d ∷ map (entry d) ns)
+folder_by_byte : (p : Place) (d : TargetFolder) (ns : List Text) → nat_eq (byte p) (folder_byte d) ≡ false
+    → AllApart p (folder d ∷ map (entry d) ns)
 folder_by_byte p d ns e = (by_byte p (folder d) e, all_apart p d ns (λ n. by_byte p (entry d n) e))
 
 -- the places of a folder and any places of which its first byte is not one
-folder_across : (l : ListingMap) (d : TargetFolder) (qs : List Place) → ((p : Place) → byte p ≡ folder_byte d → AllApart p qs) → Across (folder_places l d) qs
+folder_across : (l : ListingMap) (d : TargetFolder) (qs : List Place) → ((p : Place) → byte p ≡ folder_byte d
+    → AllApart p qs) → Across (folder_places l d) qs
 folder_across l d qs h = (h (folder d) refl, entries (names_of (at l (folder d))))
   where
     entries : (ms : List Text) → Across (map (entry d) ms) qs
@@ -125,39 +134,66 @@ at_root : (asks : Bool) (p : Place) → nat_eq (byte p) 46 ≡ false → AllApar
 at_root true p e = (by_byte p root e, tt)
 at_root false p e = tt
 
-from_benches : (l : ListingMap) (asks : Bool) (p : Place) → nat_eq (byte p) 46 ≡ false → nat_eq (byte p) 98 ≡ false → AllApart p (folder_places l benches ++ root_places asks)
-from_benches l asks p r b = apart_append p (folder_places l benches) (root_places asks) (folder_by_byte p benches (names_of (at l (folder benches))) b) (at_root asks p r)
+from_benches : (l : ListingMap) (asks : Bool) (p : Place) → nat_eq (byte p) 46 ≡ false → nat_eq (byte p) 98 ≡ false
+    → AllApart p (folder_places l benches ++ root_places asks)
+from_benches l asks p r b = apart_append p (folder_places l benches) (root_places asks)
+    (folder_by_byte p benches (names_of (at l (folder benches))) b) (at_root asks p r)
 
-from_tests : (l : ListingMap) (asks : Bool) (p : Place) → nat_eq (byte p) 46 ≡ false → nat_eq (byte p) 98 ≡ false → nat_eq (byte p) 116 ≡ false → AllApart p (folder_places l tests ++ (folder_places l benches ++ root_places asks))
-from_tests l asks p r b t = apart_append p (folder_places l tests) _ (folder_by_byte p tests (names_of (at l (folder tests))) t) (from_benches l asks p r b)
+from_tests : (l : ListingMap) (asks : Bool) (p : Place) → nat_eq (byte p) 46 ≡ false → nat_eq (byte p) 98 ≡ false
+    → nat_eq (byte p) 116 ≡ false → AllApart p (folder_places l tests ++ (folder_places l benches ++ root_places asks))
+from_tests l asks p r b t = apart_append p (folder_places l tests) _
+    (folder_by_byte p tests (names_of (at l (folder tests))) t) (from_benches l asks p r b)
 
-from_examples : (l : ListingMap) (asks : Bool) (p : Place) → byte p ≡ 115 → AllApart p (folder_places l examples ++ (folder_places l tests ++ (folder_places l benches ++ root_places asks)))
-from_examples l asks p s = apart_append p (folder_places l examples) _ (folder_by_byte p examples (names_of (at l (folder examples))) (rw s refl)) (from_tests l asks p (rw s refl) (rw s refl) (rw s refl))
+from_examples : (l : ListingMap) (asks : Bool) (p : Place) → byte p ≡ 115 → AllApart p (folder_places l examples
+    ++ (folder_places l tests ++ (folder_places l benches ++ root_places asks)))
+from_examples l asks p s = apart_append p (folder_places l examples) _ (folder_by_byte p examples
+    (names_of (at l (folder examples))) (rw s refl)) (from_tests l asks p (rw s refl) (rw s refl) (rw s refl))
 
-benches_differ : (l : ListingMap) (asks : Bool) → HasNoNameTwice l → Differ (folder_places l benches ++ root_places asks)
+benches_differ : (l : ListingMap) (asks : Bool) → HasNoNameTwice l → Differ (folder_places l benches
+    ++ root_places asks)
 unfolding IsDistinct
-benches_differ l asks h = differ_append (folder_places l benches) (root_places asks) (places_differ l benches h) (one asks) (folder_across l benches (root_places asks) (λ p e. at_root asks p (rw e refl)))
+benches_differ l asks h = differ_append (folder_places l benches) (root_places asks) (places_differ l benches h)
+    (one asks) (folder_across l benches (root_places asks) (λ p e. at_root asks p (rw e refl)))
   where
     one : (b : Bool) → Differ (root_places b)
     one true = (tt, tt)
     one false = tt
 
-tests_differ : (l : ListingMap) (asks : Bool) → HasNoNameTwice l → Differ (folder_places l tests ++ (folder_places l benches ++ root_places asks))
-tests_differ l asks h = differ_append (folder_places l tests) (folder_places l benches ++ root_places asks) (places_differ l tests h) (benches_differ l asks h) (folder_across l tests (folder_places l benches ++ root_places asks) (λ p e. from_benches l asks p (rw e refl) (rw e refl)))
+tests_differ : (l : ListingMap) (asks : Bool) → HasNoNameTwice l → Differ (folder_places l tests
+    ++ (folder_places l benches ++ root_places asks))
+tests_differ l asks h = differ_append (folder_places l tests) (folder_places l benches ++ root_places asks)
+    (places_differ l tests h) (benches_differ l asks h) (folder_across l tests (folder_places l benches
+    ++ root_places asks) (λ p e. from_benches l asks p (rw e refl) (rw e refl)))
 
-examples_differ : (l : ListingMap) (asks : Bool) → HasNoNameTwice l → Differ (folder_places l examples ++ (folder_places l tests ++ (folder_places l benches ++ root_places asks)))
-examples_differ l asks h = differ_append (folder_places l examples) (folder_places l tests ++ (folder_places l benches ++ root_places asks)) (places_differ l examples h) (tests_differ l asks h) (folder_across l examples (folder_places l tests ++ (folder_places l benches ++ root_places asks)) (λ p e. from_tests l asks p (rw e refl) (rw e refl) (rw e refl)))
+examples_differ : (l : ListingMap) (asks : Bool) → HasNoNameTwice l → Differ (folder_places l examples
+    ++ (folder_places l tests ++ (folder_places l benches ++ root_places asks)))
+examples_differ l asks h = differ_append (folder_places l examples) (folder_places l tests ++ (folder_places l benches
+    ++ root_places asks)) (places_differ l examples h) (tests_differ l asks h)
+    (folder_across l examples (folder_places l tests ++ (folder_places l benches ++ root_places asks))
+    (λ p e. from_tests l asks p (rw e refl) (rw e refl) (rw e refl)))
 
-bins_differ : (l : ListingMap) (asks : Bool) → HasNoNameTwice l → Differ (folder_places l bins ++ (folder_places l examples ++ (folder_places l tests ++ (folder_places l benches ++ root_places asks))))
-bins_differ l asks h = differ_append (folder_places l bins) (folder_places l examples ++ (folder_places l tests ++ (folder_places l benches ++ root_places asks))) (places_differ l bins h) (examples_differ l asks h) (folder_across l bins (folder_places l examples ++ (folder_places l tests ++ (folder_places l benches ++ root_places asks))) (λ p e. from_examples l asks p e))
+bins_differ : (l : ListingMap) (asks : Bool) → HasNoNameTwice l → Differ (folder_places l bins
+    ++ (folder_places l examples ++ (folder_places l tests ++ (folder_places l benches ++ root_places asks))))
+bins_differ l asks h = differ_append (folder_places l bins) (folder_places l examples
+    ++ (folder_places l tests ++ (folder_places l benches ++ root_places asks))) (places_differ l bins h)
+    (examples_differ l asks h) (folder_across l bins (folder_places l examples
+    ++ (folder_places l tests ++ (folder_places l benches ++ root_places asks))) (λ p e. from_examples l asks p e))
 
-source_apart : (l : ListingMap) (asks : Bool) → AllApart source (folder_places l bins ++ (folder_places l examples ++ (folder_places l tests ++ (folder_places l benches ++ root_places asks))))
-source_apart l asks = apart_append source (folder_places l bins) _ (refl, all_apart source bins (names_of (at l (folder bins))) (λ n. refl)) (from_examples l asks source refl)
+source_apart : (l : ListingMap) (asks : Bool) → AllApart source (folder_places l bins ++ (folder_places l examples
+    ++ (folder_places l tests ++ (folder_places l benches ++ root_places asks))))
+source_apart l asks = apart_append source (folder_places l bins) _ (
+  refl,
+  all_apart source bins
+      (names_of (at l (folder bins))) (λ n. refl),
+) (from_examples l asks source refl)
 
-pub together : (l : ListingMap) (rest : List Place) → folder_places l bins ++ (folder_places l examples ++ (folder_places l tests ++ (folder_places l benches ++ rest))) ≡ target_places l ++ rest
+pub together : (l : ListingMap) (rest : List Place) → folder_places l bins ++ (folder_places l examples
+    ++ (folder_places l tests ++ (folder_places l benches ++ rest))) ≡ target_places l ++ rest
 together l rest =
-    let b = folder_places l bins in let e = folder_places l examples in let t = folder_places l tests in let n = folder_places l benches in
-    sym (append_assoc b (e ++ (t ++ n)) rest ∙ ap (λ (ps : List Place). b ++ ps) (append_assoc e (t ++ n) rest ∙ ap (λ (ps : List Place). e ++ ps) (append_assoc t n rest)))
+    let b = folder_places l bins in let e = folder_places l examples in let t = folder_places l tests in let n =
+    folder_places l benches in
+    sym (append_assoc b (e ++ (t ++ n)) rest ∙ ap (λ (ps : List Place). b ++ ps) (append_assoc e (t ++ n) rest
+    ∙ ap (λ (ps : List Place). e ++ ps) (append_assoc t n rest)))
 
 targets_differ : (t : PackageTargets) (l : ListingMap) → HasNoNameTwice l → Differ (asked_targets t l)
 unfolding IsDistinct
@@ -167,8 +203,10 @@ targets_differ t l h =
     let first : AllApart source ps = subst (AllApart source) (together l (root_places asks)) (source_apart l asks) in
     one (stops_at_source t l.source) (apart_up_to (at l) source ps first) (differ_up_to (at l) ps all)
   where
-    one : (b : Bool) → AllApart source (up_to_memory_fault (at l) (target_places l ++ root_places (asks_root t.build))) → Differ (up_to_memory_fault (at l) (target_places l ++ root_places (asks_root t.build)))
-        → Differ (source ∷ (if b then [] else up_to_memory_fault (at l) (target_places l ++ root_places (asks_root t.build))))
+    one : (b : Bool) → AllApart source (up_to_memory_fault (at l) (target_places l ++ root_places (asks_root t.build)))
+        → Differ (up_to_memory_fault (at l) (target_places l ++ root_places (asks_root t.build)))
+        → Differ (source ∷ (if b then [] else up_to_memory_fault (at l) (target_places l
+        ++ root_places (asks_root t.build))))
     one true a d = (tt, tt)
     one false a d = (a, d)
 

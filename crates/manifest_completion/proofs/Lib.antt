@@ -4,7 +4,7 @@ pub mod UnchangedLaws
 pub mod AskedLaws
 pub mod StoredLaws
 pub mod DecidesLaws
-pub mod FindLemmas
+pub mod DiscoveredLemmas
 pub mod IndexLemmas
 pub mod LibraryLemmas
 pub mod ListingLemmas

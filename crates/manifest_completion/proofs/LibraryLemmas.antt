@@ -24,13 +24,18 @@ underscored_append [] ys = refl
 underscored_append (x ∷ xs) ys = ap (λ (zs : List ℕ). (if nat_eq x 45 then 95 else x) ∷ zs) (underscored_append xs ys)
 
 -- what `replace('-', "_")` gives
-pub underscored_is : (n : ℕ) (s out : List ℕ) → ReplacesMatches FindsChar (λ p q. q ≡ p) (95 ∷ []) n 45 s out → out ≡ underscored s
+pub underscored_is : (n : ℕ) (s out : List ℕ) → ReplacesMatches FindsChar (λ p q. q ≡ p) (95 ∷ []) n 45 s out
+    → out ≡ underscored s
 underscored_is zero s out h = h.1 ∙ sym (unchanged s h.0)
 underscored_is (suc n) s out (a, b, q, rest, found, kept, goes, made) =
     let split : drop a s ≡ 45 ∷ drop b s = drop_at_char 45 s a b found.1 (omega arith) in
-    let whole : s ≡ take a s ++ 45 ∷ drop b s = sym (take-append-drop a s) ∙ ap (λ (xs : List ℕ). take a s ++ xs) split in
+    let whole : s ≡ take a s ++ 45 ∷ drop b s = sym (take-append-drop a s) ∙ ap (λ (xs : List ℕ). take a s ++ xs)
+    split in
     let front : underscored (take a s) ≡ take a s = unchanged (take a s) found.0 in
     let apart : b ≡ a + 1 = found.1.ends in
-    let back : rest ≡ underscored (drop b s) = ⊎_elim (λ g. underscored_is n (drop b s) rest (rw kept at g.1)) (λ g. absurd (omega (arith, g.0, apart))) goes in
-    let spread : underscored s ≡ take a s ++ 95 ∷ underscored (drop b s) = ap underscored whole ∙ underscored_append (take a s) (45 ∷ drop b s) ∙ ap (λ (xs : List ℕ). xs ++ 95 ∷ underscored (drop b s)) front in
+    let back : rest ≡ underscored (drop b s) = ⊎_elim (λ g. underscored_is n (drop b s) rest (rw kept at g.1))
+    (λ g. absurd (omega (arith, g.0, apart))) goes in
+    let spread : underscored s ≡ take a s ++ 95 ∷ underscored (drop b s) = ap underscored whole
+    ∙ underscored_append (take a s) (45 ∷ drop b s) ∙ ap (λ (xs : List ℕ). xs ++ 95 ∷ underscored (drop b s))
+    front in
     made ∙ ap (λ (xs : List ℕ). take a s ++ 95 ∷ xs) back ∙ sym spread

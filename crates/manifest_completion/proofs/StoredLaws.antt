@@ -20,13 +20,15 @@ memory_fault (names ns) e = cc
 memory_fault (fault k) e = ap fault (memory_kind k e)
 
 -- memory ran out for the folder of the manifest, which was asked
-root_lost : (b : Option StringOrBool) (l : ListingMap) → has_memory_fault (at l) (root_places (asks_root b)) ≡ true → root_fault b l.root ≡ Some OutOfMemory
+root_lost : (b : Option StringOrBool) (l : ListingMap) → has_memory_fault (at l) (root_places (asks_root b)) ≡ true
+    → root_fault b l.root ≡ Some OutOfMemory
 root_lost b l h = asked_root b h
   where
     lost : (is_memory_fault l.root || false) ≡ true → l.root ≡ fault OutOfMemory
     lost e = memory_fault l.root (sym (or-false (is_memory_fault l.root)) ∙ e)
 
-    asked_root : (o : Option StringOrBool) → has_memory_fault (at l) (root_places (asks_root o)) ≡ true → root_fault o l.root ≡ Some OutOfMemory
+    asked_root : (o : Option StringOrBool) → has_memory_fault (at l) (root_places (asks_root o)) ≡ true
+        → root_fault o l.root ≡ Some OutOfMemory
     asked_root None e = rw (lost e) refl
     asked_root (Some (a_text s)) e = cc
     asked_root (Some (a_flag true)) e = rw (lost e) refl
@@ -62,10 +64,14 @@ module _ (stored : Text → Answer) where
   listed_folder tests = refl
   listed_folder benches = refl
 
-  listed_entries : (d : TargetFolder) → AllByRecursion IsListed (map (entry d) (names_of (stored (path_text (folder d)))))
-  listed_entries d = over (names_of (stored (path_text (folder d)))) (rw (listed_folder d) (found_all (λ n. stored (path_text (entry d n))) (names_of (stored (path_text (folder d))))))
+  listed_entries : (d : TargetFolder) → AllByRecursion IsListed
+      (map (entry d) (names_of (stored (path_text (folder d)))))
+  listed_entries d = over (names_of (stored (path_text (folder d))))
+      (rw (listed_folder d) (found_all (λ n. stored (path_text (entry d n)))
+      (names_of (stored (path_text (folder d))))))
     where
-      over : (ns : List Text) → AllByRecursion (λ n. IsListed (entry d n)) ns → AllByRecursion IsListed (map (entry d) ns)
+      over : (ns : List Text) → AllByRecursion (λ n. IsListed (entry d n)) ns → AllByRecursion IsListed
+          (map (entry d) ns)
       over [] h = tt
       over (n ∷ ns) h = (h.0, over ns h.1)
 
@@ -77,66 +83,89 @@ module _ (stored : Text → Answer) where
     abbrev pub Settles : List Place → Type 0
     Settles ps = AgreeAt l (stored_map stored) (up_to_memory_fault (at l) ps) ⊎ (has_memory_fault (at l) ps ≡ true)
 
-    settle : (p : Place) (qs : List Place) → at l p ≡ at (stored_map stored) p → (is_memory_fault (at l p) ≡ false → Settles qs) → Settles (p ∷ qs)
+    settle : (p : Place) (qs : List Place) → at l p ≡ at (stored_map stored) p → (is_memory_fault (at l p) ≡ false
+        → Settles qs) → Settles (p ∷ qs)
     settle p qs same rest = one (is_memory_fault (at l p)) rest
       where
-        one : (b : Bool) → (b ≡ false → Settles qs) → AgreeAt l (stored_map stored) (p ∷ (if b then [] else up_to_memory_fault (at l) qs)) ⊎ ((b || has_memory_fault (at l) qs) ≡ true)
+        one : (b : Bool) → (b ≡ false → Settles qs) → AgreeAt l (stored_map stored)
+            (p ∷ (if b then [] else up_to_memory_fault (at l) qs)) ⊎ ((b || has_memory_fault (at l) qs) ≡ true)
         one true k = inr refl
         one false k = ⊎_elim (λ agree. inl (same, agree)) (λ lost. inr lost) (k refl)
 
-    walk : (ps xs : List Place) → AllByRecursion IsListed ps → (AllByRecursion IsAllowed (up_to_memory_fault (at l) xs) → Settles xs)
+    walk : (ps xs : List Place) → AllByRecursion IsListed ps → (AllByRecursion IsAllowed (up_to_memory_fault (at l) xs)
+        → Settles xs)
         → AllByRecursion IsAllowed (up_to_memory_fault (at l) (ps ++ xs)) → Settles (ps ++ xs)
     walk [] xs listed rest h = rest h
     walk (p ∷ ps) xs listed rest h =
         ⊎_elim
-        (λ same. settle p (ps ++ xs) (same ∙ sym listed.0) (λ e. walk ps xs listed.1 rest (goes_on IsAllowed (is_memory_fault (at l p)) (up_to_memory_fault (at l) (ps ++ xs)) h.1 e)))
+        (λ same. settle p (ps ++ xs) (same ∙ sym listed.0) (λ e. walk ps xs listed.1 rest
+        (goes_on IsAllowed (is_memory_fault (at l p)) (up_to_memory_fault (at l) (ps ++ xs)) h.1 e)))
         (λ lost. inr (rw lost refl))
         h.0
 
-    folder_walk : (d : TargetFolder) (xs : List Place) → (AllByRecursion IsAllowed (up_to_memory_fault (at l) xs) → Settles xs)
-        → AllByRecursion IsAllowed (up_to_memory_fault (at l) (folder_places l d ++ xs)) → Settles (folder_places l d ++ xs)
+    folder_walk : (d : TargetFolder) (xs : List Place) → (AllByRecursion IsAllowed (up_to_memory_fault (at l) xs)
+        → Settles xs)
+        → AllByRecursion IsAllowed (up_to_memory_fault (at l) (folder_places l d ++ xs)) → Settles (folder_places l d
+        ++ xs)
     folder_walk d xs rest h =
         ⊎_elim
         (λ same.
-        let entries : AllByRecursion IsListed (map (entry d) (names_of (at l (folder d)))) = rw same (listed_entries d) in
+        let entries : AllByRecursion IsListed (map (entry d) (names_of (at l (folder d)))) =
+        rw same (listed_entries d) in
         walk (folder_places l d) xs (ap (λ (f : FolderListing). f.own) (listed_folder d), entries) rest h)
         (λ lost. inr (rw lost refl))
         h.0
 
-    root_walk : (asks : Bool) → AllByRecursion IsAllowed (up_to_memory_fault (at l) (root_places asks)) → Settles (root_places asks)
+    root_walk : (asks : Bool) → AllByRecursion IsAllowed (up_to_memory_fault (at l) (root_places asks))
+        → Settles (root_places asks)
     root_walk true h = ⊎_elim (λ same. settle root [] same (λ e. inl tt)) (λ lost. inr (rw lost refl)) h.0
     root_walk false h = inl tt
 
-    pub targets_walk : (asks : Bool) → AllByRecursion IsAllowed (up_to_memory_fault (at l) (target_places l ++ root_places asks)) → Settles (target_places l ++ root_places asks)
+    pub targets_walk : (asks : Bool) → AllByRecursion IsAllowed (up_to_memory_fault (at l) (target_places l
+        ++ root_places asks)) → Settles (target_places l ++ root_places asks)
     targets_walk asks h =
         let r = root_places asks in
-        let n = folder_places l benches ++ r in let t = folder_places l tests ++ n in let e = folder_places l examples ++ t in
-        let all : AllByRecursion IsAllowed (up_to_memory_fault (at l) (folder_places l bins ++ e)) → Settles (folder_places l bins ++ e) =
-        λ h1. folder_walk bins e (λ h2. folder_walk examples t (λ h3. folder_walk tests n (λ h4. folder_walk benches r (root_walk asks) h4) h3) h2) h1 in
-        subst Settles (together l r) (all (subst (λ (ps : List Place). AllByRecursion IsAllowed (up_to_memory_fault (at l) ps)) (sym (together l r)) h))
+        let n = folder_places l benches ++ r in let t = folder_places l tests ++ n in let e = folder_places l examples
+        ++ t in
+        let all : AllByRecursion IsAllowed (up_to_memory_fault (at l) (folder_places l bins ++ e))
+        → Settles (folder_places l bins ++ e) =
+        λ h1. folder_walk bins e (λ h2. folder_walk examples t (λ h3. folder_walk tests n (λ h4. folder_walk benches r
+        (root_walk asks) h4) h3) h2) h1 in
+        subst Settles (together l r)
+        (all (subst (λ (ps : List Place). AllByRecursion IsAllowed (up_to_memory_fault (at l) ps))
+        (sym (together l r)) h))
 
     -- WHAT THE TARGETS BECOME
     module _ (t : PackageTargets) where
       abbrev IsSettled : Type 0
-      IsSettled = (completed_targets t l ≡ completed_targets t (stored_map stored)) ⊎ (completed_targets t l ≡ refused OutOfMemory)
+      IsSettled = (completed_targets t l ≡ completed_targets t (stored_map stored))
+          ⊎ (completed_targets t l ≡ refused OutOfMemory)
 
       agreed : AgreeAt l (stored_map stored) (asked_targets t l) → IsSettled
       agreed h = inl (targets_decide t l (stored_map stored) h).1
 
-      lost_memory : (lib : Option Product) → source_fault l.source ≡ None → library t l.source ≡ known lib → has_memory_fault (at l) (target_places l ++ root_places (asks_root t.build)) ≡ true → completed_targets t l ≡ refused OutOfMemory
+      lost_memory : (lib : Option Product) → source_fault l.source ≡ None → library t l.source ≡ known lib
+          → has_memory_fault (at l) (target_places l ++ root_places (asks_root t.build)) ≡ true
+          → completed_targets t l ≡ refused OutOfMemory
       lost_memory lib none got h =
           with_library t l lib none got
-          ∙ one (has_memory_fault (at l) (target_places l)) refl (sym (list_any-append (λ p. is_memory_fault (at l p)) (target_places l) (root_places (asks_root t.build))) ∙ h)
+          ∙ one (has_memory_fault (at l) (target_places l)) refl (sym (list_any-append (λ p. is_memory_fault (at l p))
+          (target_places l) (root_places (asks_root t.build))) ∙ h)
         where
-          one : (b : Bool) → has_memory_fault (at l) (target_places l) ≡ b → (has_memory_fault (at l) (target_places l) || has_memory_fault (at l) (root_places (asks_root t.build))) ≡ true
-              → (if b then refused OutOfMemory else after_root t lib l (root_fault t.build l.root)) ≡ refused OutOfMemory
+          one : (b : Bool) → has_memory_fault (at l) (target_places l) ≡ b
+              → (has_memory_fault (at l) (target_places l) || has_memory_fault (at l) (root_places (asks_root t.build)))
+              ≡ true
+              → (if b then refused OutOfMemory else after_root t lib l (root_fault t.build l.root)) ≡ refused
+              OutOfMemory
           one true e f = refl
           one false e f = ap (after_root t lib l) (root_lost t.build l (rw e at f))
 
       pub targets_settled : AllAllowed (AnswersAsStored stored) l (asked_targets t l) → IsSettled
-      targets_settled h = ⊎_elim (λ same. by_source same (source_fault l.source) (library t l.source) refl refl) (λ lost. inr (rw lost refl)) h.0
+      targets_settled h = ⊎_elim (λ same. by_source same (source_fault l.source) (library t l.source) refl refl)
+          (λ lost. inr (rw lost refl)) h.0
         where
-          by_source : l.source ≡ stored (path_text source) → (s : Option ErrorKind) (c : Library) → source_fault l.source ≡ s → library t l.source ≡ c → IsSettled
+          by_source : l.source ≡ stored (path_text source) → (s : Option ErrorKind) (c : Library)
+              → source_fault l.source ≡ s → library t l.source ≡ c → IsSettled
           by_source same (Some r) c e1 e2 = agreed (rw e1 (same, tt))
           by_source same None no_file e1 e2 = agreed (rw (e1, e2) (same, tt))
           by_source same None (known lib) e1 e2 =
@@ -146,26 +175,33 @@ module _ (stored : Text → Answer) where
               (targets_walk (asks_root t.build) (rw (e1, e2) at h).1)
 
     -- WHAT A MANIFEST BECOMES
-    pub manifest_settled : (m : Manifest) → AllAllowed (AnswersAsStored stored) l (asked m l) → (completed m l ≡ completed m (stored_map stored)) ⊎ (completed m l ≡ refused OutOfMemory)
+    pub manifest_settled : (m : Manifest) → AllAllowed (AnswersAsStored stored) l (asked m l)
+        → (completed m l ≡ completed m (stored_map stored)) ⊎ (completed m l ≡ refused OutOfMemory)
     manifest_settled m h = one m.«package» h
       where
-        one : (o : Option Package) → AllAllowed (AnswersAsStored stored) l (asked_by o m l) → (completed_by o m l ≡ completed_by o m (stored_map stored)) ⊎ (completed_by o m l ≡ refused OutOfMemory)
+        one : (o : Option Package) → AllAllowed (AnswersAsStored stored) l (asked_by o m l)
+            → (completed_by o m l ≡ completed_by o m (stored_map stored)) ⊎ (completed_by o m l ≡ refused OutOfMemory)
         one None g = inl refl
-        one (Some p) g = ⊎_elim (λ same. inl (ap (completion_with p m) same)) (λ lost. inr (ap (completion_with p m) lost)) (targets_settled (targets_of p m) g)
+        one (Some p) g = ⊎_elim (λ same. inl (ap (completion_with p m) same))
+            (λ lost. inr (ap (completion_with p m) lost)) (targets_settled (targets_of p m) g)
 
 -- what came of a map that explains the answers, or memory ran out for a listing
-pub by_stored : {A : Type 0} (c d e : Completion A) → (c ≡ d) ⊎ (c ≡ refused OutOfMemory) → c ≡ e → (d ≡ e) ⊎ (e ≡ refused OutOfMemory)
+pub by_stored : {A : Type 0} (c d e : Completion A) → (c ≡ d) ⊎ (c ≡ refused OutOfMemory) → c ≡ e → (d ≡ e)
+    ⊎ (e ≡ refused OutOfMemory)
 by_stored c d e h f = ⊎_elim (λ same. inl (sym same ∙ f)) (λ lost. inr (sym f ∙ lost)) h
 
 pub stored_decides : StoredDecidesTargets
 stored_decides stored t (Ok c) h =
     ⊎_elim (λ same. same) (λ lost. cc)
-    (by_stored (completed_targets t h.0) (completed_targets t (stored_map stored)) (completed_to (completed_content t c)) (targets_settled stored h.0 t h.1.allowed) h.2)
+    (by_stored (completed_targets t h.0) (completed_targets t (stored_map stored))
+    (completed_to (completed_content t c)) (targets_settled stored h.0 t h.1.allowed) h.2)
 stored_decides stored t (Err (Io e)) h =
     ⊎_elim (λ same. inl same) (λ lost. inr cc)
-    (by_stored (completed_targets t h.0) (completed_targets t (stored_map stored)) (refused (error_kind e)) (targets_settled stored h.0 t h.1.allowed) h.2)
+    (by_stored (completed_targets t h.0) (completed_targets t (stored_map stored)) (refused (error_kind e))
+    (targets_settled stored h.0 t h.1.allowed) h.2)
 stored_decides stored t (Err (Other s)) h =
     ⊎_elim (λ same. (same, h.1)) (λ lost. cc)
-    (by_stored (completed_targets t h.0.0) (completed_targets t (stored_map stored)) no_library (targets_settled stored h.0.0 t h.0.1.allowed) h.0.2)
+    (by_stored (completed_targets t h.0.0) (completed_targets t (stored_map stored)) no_library
+    (targets_settled stored h.0.0 t h.0.1.allowed) h.0.2)
 stored_decides stored t (Err (Memory e)) h = tt
 stored_decides stored t (Err _) h = absurd h

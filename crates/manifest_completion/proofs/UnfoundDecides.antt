@@ -10,11 +10,12 @@ use Rattle.manifest_completion.specs.Completed.{PackageTargets, AllAllowed, ByOn
 use Rattle.manifest_completion.specs.Stored.{AnswersAsStored, stored_map}
 use Rattle.manifest_completion.specs.Laws.{AgreeAt}
 use Rattle.manifest_completion.specs.Unfound.{unfound, unfound_targets, asked_unfound, unfound_by, asked_unfound_by, manifest_unfound, manifest_asked_unfound, IsAnswer, IsOutcome, AskedDecidesUnfound, StoredDecidesUnfound}
-use Rattle.manifest_completion.proofs.DecidesLaws.{memory_seen, memory_agrees, targets_alone, all_asked, same_finds, agree_front, AgreeUpTo}
+use Rattle.manifest_completion.proofs.DecidesLaws.{memory_seen, memory_agrees, targets_alone, all_asked, same_discovered, agree_front, AgreeUpTo}
 use Rattle.manifest_completion.proofs.StoredLaws.{IsAllowed, Settles, targets_walk}
 
 -- where `src` has no fault that refuses
-by_memory : (t : PackageTargets) (l : ListingMap) → source_fault l.source ≡ None → unfound_targets t l ≡ (if has_memory_fault (at l) (target_places l) then Err OutOfMemory else Ok (unfound t l))
+by_memory : (t : PackageTargets) (l : ListingMap) → source_fault l.source ≡ None
+    → unfound_targets t l ≡ (if has_memory_fault (at l) (target_places l) then Err OutOfMemory else Ok (unfound t l))
 by_memory t l none = rw none refl
 
 -- TWO MAPS
@@ -25,10 +26,17 @@ module _ (l k : ListingMap) (t : PackageTargets) (e : l.source ≡ k.source) whe
   same_unfound : AgreeAt l k (target_places l) → unfound t l ≡ unfound t k
   unfolding unfound
   same_unfound h =
-      let b = agree_front l k (folder_places l bins) (folder_places l examples ++ (folder_places l tests ++ folder_places l benches)) h in
+      let b = agree_front l k (folder_places l bins) (folder_places l examples
+      ++ (folder_places l tests ++ folder_places l benches)) h in
       let x = agree_front l k (folder_places l examples) (folder_places l tests ++ folder_places l benches) b.1 in
       let n = agree_front l k (folder_places l tests) (folder_places l benches) x.1 in
-      rw (e, same_finds l k bins b.0, same_finds l k examples x.0, same_finds l k tests n.0, same_finds l k benches n.1) refl
+      rw (
+        e,
+        same_discovered l k bins b.0,
+        same_discovered l k examples x.0,
+        same_discovered l k tests n.0,
+        same_discovered l k benches n.1,
+      ) refl
 
   after_none : source_fault l.source ≡ None → AgreeUpTo l k (target_places l) → IsSame
   after_none none h = (asked, outcome)
@@ -43,9 +51,11 @@ module _ (l k : ListingMap) (t : PackageTargets) (e : l.source ≡ k.source) whe
           ∙ ap (has_memory_fault (at k)) (targets_alone l k h)
           ∙ memory_seen (at k) (target_places k)
 
-      calm_same : (b : Bool) → has_memory_fault (at l) (target_places l) ≡ b → (if b then Err OutOfMemory else Ok (unfound t l)) ≡ (if b then Err OutOfMemory else Ok (unfound t k))
+      calm_same : (b : Bool) → has_memory_fault (at l) (target_places l) ≡ b
+          → (if b then Err OutOfMemory else Ok (unfound t l)) ≡ (if b then Err OutOfMemory else Ok (unfound t k))
       calm_same true lost = refl
-      calm_same false calm = ap Ok (same_unfound (all_asked l k (target_places l) [] calm (subst (AgreeUpTo l k) (sym (append-nil (target_places l))) h)).0)
+      calm_same false calm = ap Ok (same_unfound (all_asked l k (target_places l) [] calm
+          (subst (AgreeUpTo l k) (sym (append-nil (target_places l))) h)).0)
 
       outcome : unfound_targets t l ≡ unfound_targets t k
       outcome =
@@ -61,49 +71,66 @@ module _ (l k : ListingMap) (t : PackageTargets) (e : l.source ≡ k.source) whe
       by_source (Some r) f = (rw (f, sym e, f) refl, rw (f, sym e, f) refl)
       by_source None f = after_none f ((rw f at h).1)
 
-targets_decide : (t : PackageTargets) (l k : ListingMap) → AgreeAt l k (asked_unfound t l) → (asked_unfound t l ≡ asked_unfound t k) × (unfound_targets t l ≡ unfound_targets t k)
+targets_decide : (t : PackageTargets) (l k : ListingMap) → AgreeAt l k (asked_unfound t l)
+    → (asked_unfound t l ≡ asked_unfound t k) × (unfound_targets t l ≡ unfound_targets t k)
 targets_decide t l k h = same_targets l k t h.0 h
 
 pub asked_decides : AskedDecidesUnfound
 asked_decides m l k h = one m.«package» h
   where
-    one : (o : Option Package) → AgreeAt l k (asked_unfound_by o m l) → (asked_unfound_by o m l ≡ asked_unfound_by o m k) × (unfound_by o m l ≡ unfound_by o m k)
+    one : (o : Option Package) → AgreeAt l k (asked_unfound_by o m l) → (asked_unfound_by o m l ≡ asked_unfound_by o m
+        k) × (unfound_by o m l ≡ unfound_by o m k)
     one None g = (refl, refl)
     one (Some p) g = targets_decide (targets_of p m) l k g
 
 -- WHAT IS STORED
 module _ (stored : Text → Answer) where
-  targets_settled : (t : PackageTargets) (l : ListingMap) → AllAllowed (AnswersAsStored stored) l (asked_unfound t l) → (unfound_targets t l ≡ unfound_targets t (stored_map stored)) ⊎ (unfound_targets t l ≡ Err OutOfMemory)
+  targets_settled : (t : PackageTargets) (l : ListingMap) → AllAllowed (AnswersAsStored stored) l (asked_unfound t l)
+      → (unfound_targets t l ≡ unfound_targets t (stored_map stored)) ⊎ (unfound_targets t l ≡ Err OutOfMemory)
   targets_settled t l h = ⊎_elim (λ same. by_source same (source_fault l.source) refl) (λ lost. inr (rw lost refl)) h.0
     where
-      agreed : AgreeAt l (stored_map stored) (asked_unfound t l) → (unfound_targets t l ≡ unfound_targets t (stored_map stored)) ⊎ (unfound_targets t l ≡ Err OutOfMemory)
+      agreed : AgreeAt l (stored_map stored) (asked_unfound t l)
+          → (unfound_targets t l ≡ unfound_targets t (stored_map stored)) ⊎ (unfound_targets t l ≡ Err OutOfMemory)
       agreed g = inl (targets_decide t l (stored_map stored) g).1
 
-      walked : AllByRecursion (IsAllowed stored l) (up_to_memory_fault (at l) (target_places l)) → Settles stored l (target_places l)
+      walked : AllByRecursion (IsAllowed stored l) (up_to_memory_fault (at l) (target_places l))
+          → Settles stored l (target_places l)
       walked g =
           let nil = append-nil (target_places l) in
-          subst (Settles stored l) nil (targets_walk stored l false (subst (λ (ps : List Place). AllByRecursion (IsAllowed stored l) (up_to_memory_fault (at l) ps)) (sym nil) g))
+          subst (Settles stored l) nil (targets_walk stored l false
+          (subst (λ (ps : List Place). AllByRecursion (IsAllowed stored l) (up_to_memory_fault (at l) ps)) (sym nil)
+          g))
 
-      by_source : l.source ≡ stored (path_text source) → (s : Option ErrorKind) → source_fault l.source ≡ s → (unfound_targets t l ≡ unfound_targets t (stored_map stored)) ⊎ (unfound_targets t l ≡ Err OutOfMemory)
+      by_source : l.source ≡ stored (path_text source) → (s : Option ErrorKind) → source_fault l.source ≡ s
+          → (unfound_targets t l ≡ unfound_targets t (stored_map stored)) ⊎ (unfound_targets t l ≡ Err OutOfMemory)
       by_source same (Some r) f = agreed (rw f (same, tt))
-      by_source same None f = ⊎_elim (λ agree. agreed (rw f (same, agree))) (λ lost. inr (by_memory t l f ∙ ap (λ (b : Bool). if b then Err OutOfMemory else Ok (unfound t l)) lost)) (walked (rw f at h).1)
+      by_source same None f = ⊎_elim (λ agree. agreed (rw f (same, agree)))
+          (λ lost. inr (by_memory t l f ∙ ap (λ (b : Bool). if b then Err OutOfMemory else Ok (unfound t l)) lost))
+          (walked (rw f at h).1)
 
-  pub manifest_settled : (m : Manifest) (l : ListingMap) → AllAllowed (AnswersAsStored stored) l (manifest_asked_unfound m l) → (manifest_unfound m l ≡ manifest_unfound m (stored_map stored)) ⊎ (manifest_unfound m l ≡ Err OutOfMemory)
+  pub manifest_settled : (m : Manifest) (l : ListingMap) → AllAllowed (AnswersAsStored stored) l
+      (manifest_asked_unfound m l) → (manifest_unfound m l ≡ manifest_unfound m (stored_map stored))
+      ⊎ (manifest_unfound m l ≡ Err OutOfMemory)
   manifest_settled m l h = one m.«package» h
     where
-      one : (o : Option Package) → AllAllowed (AnswersAsStored stored) l (asked_unfound_by o m l) → (unfound_by o m l ≡ unfound_by o m (stored_map stored)) ⊎ (unfound_by o m l ≡ Err OutOfMemory)
+      one : (o : Option Package) → AllAllowed (AnswersAsStored stored) l (asked_unfound_by o m l)
+          → (unfound_by o m l ≡ unfound_by o m (stored_map stored)) ⊎ (unfound_by o m l ≡ Err OutOfMemory)
       one None g = inl refl
       one (Some p) g = targets_settled (targets_of p m) l g
 
   -- an answer by a map whose outcome is that of what is stored, or that memory ran out
   module _ (asked : ListingMap → List Place) (outcome : ListingMap → Result (List Path) ErrorKind)
-      (settled : (l : ListingMap) → AllAllowed (AnswersAsStored stored) l (asked l) → (outcome l ≡ outcome (stored_map stored)) ⊎ (outcome l ≡ Err OutOfMemory)) where
-    by_map : (l : ListingMap) (o : Result (List Path) ErrorKind) → AllAllowed (AnswersAsStored stored) l (asked l) → outcome l ≡ o → (outcome (stored_map stored) ≡ o) ⊎ (o ≡ Err OutOfMemory)
+      (settled : (l : ListingMap) → AllAllowed (AnswersAsStored stored) l (asked l)
+      → (outcome l ≡ outcome (stored_map stored)) ⊎ (outcome l ≡ Err OutOfMemory)) where
+    by_map : (l : ListingMap) (o : Result (List Path) ErrorKind) → AllAllowed (AnswersAsStored stored) l (asked l)
+        → outcome l ≡ o → (outcome (stored_map stored) ≡ o) ⊎ (o ≡ Err OutOfMemory)
     by_map l o h f = ⊎_elim (λ same. inl (sym same ∙ f)) (λ lost. inr (sym f ∙ lost)) (settled l h)
 
-    pub is_outcome : (r : Result (Vec KeyPath Global) Error) → IsAnswer (ByOneMap (AnswersAsStored stored) asked outcome) r → IsOutcome (outcome (stored_map stored)) r
+    pub is_outcome : (r : Result (Vec KeyPath Global) Error) → IsAnswer (ByOneMap (AnswersAsStored stored) asked
+        outcome) r → IsOutcome (outcome (stored_map stored)) r
     is_outcome (Ok v) h = ⊎_elim (λ same. same) (λ lost. cc) (by_map h.0 (Ok (map path_of v.items)) h.1.allowed h.2)
-    is_outcome (Err (Io e)) h = ⊎_elim (λ same. inl same) (λ lost. inr cc) (by_map h.0 (Err (error_kind e)) h.1.allowed h.2)
+    is_outcome (Err (Io e)) h = ⊎_elim (λ same. inl same) (λ lost. inr cc) (by_map h.0 (Err (error_kind e)) h.1.allowed
+        h.2)
     is_outcome (Err (Memory e)) h = tt
     is_outcome (Err _) h = absurd h
 

@@ -16,7 +16,9 @@ use Rattle.manifest_completion.proofs.AskLemmas.{none_ascend}
 use Rattle.manifest_completion.proofs.CompleteLemmas.{only_source, only_ascends, folder_paired_is, any_fault}
 
 -- `src` is a fault
-pub source_error : (allows : Text → Answer → Type 0) (t : PackageTargets) (src : Answer) (e : Error) (r : Result (Vec KeyPath Global) Error) → IsAllowedAnswer allows (path_text source) src → IsFault (source_fault src) e → IsErrAnd r (λ x. x ≡ e) → AreUnfound allows t r
+pub source_error : (allows : Text → Answer → Type 0) (t : PackageTargets) (src : Answer) (e : Error)
+    (r : Result (Vec KeyPath Global) Error) → IsAllowedAnswer allows (path_text source) src → IsFault (source_fault src)
+    e → IsErrAnd r (λ x. x ≡ e) → AreUnfound allows t r
 source_error allows t src e (Ok v) ok h is = absurd is
 source_error allows t src e (Err x) ok h is = subst (λ (y : Error). AreUnfound allows t (Err y)) (sym is) (one e h)
   where
@@ -25,11 +27,13 @@ source_error allows t src e (Err x) ok h is = subst (λ (y : Error). AreUnfound 
     one _ k = absurd k
 
 -- all was answered
-module _ (allows : Text → Answer → Type 0) (t : PackageTargets) (a : Answers) (given : AllIsAnswered allows false a) (none : source_fault (answer_of a.source) ≡ None) where
+module _ (allows : Text → Answer → Type 0) (t : PackageTargets) (a : Answers) (given : AllIsAnswered allows false a)
+    (none : source_fault (answer_of a.source) ≡ None) where
   explains : Explains allows (listing_map a) (asked_unfound t (listing_map a))
   explains =
       let l = listing_map a in
-      rw none (subst (λ (ps : List Place). Explains allows l (source ∷ up_to_memory_fault (at l) ps)) (append-nil (target_places l)) given.explained)
+      rw none (subst (λ (ps : List Place). Explains allows l (source ∷ up_to_memory_fault (at l) ps))
+      (append-nil (target_places l)) given.explained)
 
   unfound_is : some_ran_out_of_memory a ≡ false → unfound t (listing_map a) ≡ unfound_by_answers t a
   unfolding unfound
@@ -38,14 +42,18 @@ module _ (allows : Text → Answer → Type 0) (t : PackageTargets) (a : Answers
       let (q1, r1) = or_parts (ran_out_of_memory a.bins) _ e in
       let (q2, r2) = or_parts (ran_out_of_memory a.examples) _ r1 in
       let (q3, q4) = or_parts (ran_out_of_memory a.tests) (ran_out_of_memory a.benches) r2 in
-      let fb = folder_paired_is l bins a.bins refl given.bins q1 in let fe = folder_paired_is l examples a.examples refl given.examples q2 in
-      let ft = folder_paired_is l tests a.tests refl given.tests q3 in let fn = folder_paired_is l benches a.benches refl given.benches q4 in
+      let fb = folder_paired_is l bins a.bins refl given.bins q1 in let fe = folder_paired_is l examples a.examples refl
+      given.examples q2 in
+      let ft = folder_paired_is l tests a.tests refl given.tests q3 in let fn = folder_paired_is l benches a.benches
+      refl given.benches q4 in
       rw (fb, fe, ft, fn) refl
 
-  outcome : unfound_targets t (listing_map a) ≡ (if some_ran_out_of_memory a then Err OutOfMemory else Ok (unfound_by_answers t a))
+  outcome : unfound_targets t (listing_map a) ≡ (if some_ran_out_of_memory a then Err OutOfMemory else Ok
+      (unfound_by_answers t a))
   outcome = rw (none, any_fault allows false a given) (one (some_ran_out_of_memory a) refl)
     where
-      one : (b : Bool) → some_ran_out_of_memory a ≡ b → (if b then Err OutOfMemory else Ok (unfound t (listing_map a))) ≡ (if b then Err OutOfMemory else Ok (unfound_by_answers t a))
+      one : (b : Bool) → some_ran_out_of_memory a ≡ b → (if b then Err OutOfMemory else Ok (unfound t (listing_map a)))
+          ≡ (if b then Err OutOfMemory else Ok (unfound_by_answers t a))
       one true e = refl
       one false e = ap Ok (unfound_is e)
 
@@ -56,5 +64,10 @@ module _ (allows : Text → Answer → Type 0) (t : PackageTargets) (a : Answers
   by_answers (Err _) h = absurd h
 
 -- WITHOUT A PACKAGE nothing is asked, and any map explains it
-pub without_package : (allows : Text → Answer → Type 0) (m : Manifest) (given : List Path) → m.«package» ≡ None → given ≡ [] → ByOneMap allows (manifest_asked_unfound m) (manifest_unfound m) (Ok given)
-without_package allows m given e none = (only_source (fault NotFound), record { ascending = only_ascends (fault NotFound) none_ascend; allowed = rw e tt }, rw (e, none) refl)
+pub without_package : (allows : Text → Answer → Type 0) (m : Manifest) (given : List Path) → m.«package» ≡ None
+    → given ≡ [] → ByOneMap allows (manifest_asked_unfound m) (manifest_unfound m) (Ok given)
+without_package allows m given e none = (
+  only_source (fault NotFound),
+  record { ascending = only_ascends (fault NotFound) none_ascend; allowed = rw e tt },
+  rw (e, none) refl,
+)

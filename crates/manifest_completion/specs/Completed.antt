@@ -2,7 +2,7 @@
 use Rattle.manifest_schema.specs.Prelude.{option_or, list_any, AllByRecursion, ErrorKind, NotFound, OutOfMemory, Text, underscored, Inheritable, inherited, local, Edition, e2015, StringOrBool, a_text, a_flag, Product, Package, Manifest, is_empty}
 use Rattle.std.specs.Prelude.{◌≡◌, List, [], ◌∷◌, ◌++◌, map, codes, if◌then◌else◌, Option, Some, None, Bool, true, false, is_some, unwrap_or, ◌&&◌, ◌||◌, not}
 use Rattle.manifest_completion.specs.Listings.{Answer, names, fault, lists, is_memory_fault, TargetFolder, bins, examples, tests, benches, Place, source, folder, entry, root, names_of, path_text, ListingMap, at, NamesAscend}
-use Rattle.manifest_completion.specs.Finds.{finds, bin_finds}
+use Rattle.manifest_completion.specs.Finds.{discovered, discovered_bins}
 use Rattle.manifest_completion.specs.Targets.{found, targets, Defaults}
 
 -- THE TARGETS OF A PACKAGE: what completion reads of a manifest. It fills in `build`, the library and the four lists.
@@ -132,16 +132,16 @@ filled t lib l = record t {
   lib = lib;
   bin =
       targets (bin_defaults t l.source) (discovers t.autobins (is_legacy t.edition) t.bin)
-      (bin_finds l t.name) t.bin;
+      (discovered_bins l t.name) t.bin;
   example =
       targets (example_defaults t) (discovers t.autoexamples (is_legacy t.edition) t.example)
-      (finds l examples) t.example;
+      (discovered l examples) t.example;
   test =
-      targets (test_defaults t) (discovers t.autotests (is_legacy t.edition) t.test) (finds l tests)
+      targets (test_defaults t) (discovers t.autotests (is_legacy t.edition) t.test) (discovered l tests)
       t.test;
   bench =
       targets (test_defaults t) (discovers t.autobenches (is_legacy t.edition) t.bench)
-      (finds l benches) t.bench;
+      (discovered l benches) t.bench;
 }
 
 -- THE OUTCOME OF COMPLETION: what it makes, a refusal for a listing's fault of this kind, or for a missing library file
@@ -177,7 +177,8 @@ root_fault_if asks (fault k) = if asks then Some k else None
 abbrev pub root_fault : Option StringOrBool → Answer → Option ErrorKind
 root_fault b a = root_fault_if (asks_root b) a
 
--- refused for the first of these: a fault of `src`, a library without a file, memory that ran out for a folder of targets,
+-- refused for the first of these: a fault of `src`, a library without a file, memory that ran out for a folder of
+-- targets,
 -- a fault of the manifest's folder; else the targets, filled in
 abbrev pub after_root :
     PackageTargets → Option Product → ListingMap → Option ErrorKind → Completion PackageTargets

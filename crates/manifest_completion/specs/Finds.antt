@@ -4,7 +4,7 @@ use Rattle.std.specs.Prelude.{◌-◌, List, [], ◌∷◌, ◌++◌, codes, if�
 use Rattle.manifest_completion.specs.Listings.{Answer, TargetFolder, bins, folder, entry, folder_text, joined, ListingMap, at, names_of, lists}
 
 -- a target that was found
-pub record Find : Type 0 where
+pub record Discovered : Type 0 where
   pub name : Text
   pub path : Text
 
@@ -13,35 +13,35 @@ abbrev pub stem : Text → Option Text
 stem n = if ends_with nat_eq n (codes ".rs") then Some (take (length n - 3) n) else None
 
 -- the entry n of the folder d, where it is a file of Rust
-abbrev pub file_find_of : Text → Text → Option Text → List Find
-file_find_of d n None = []
-file_find_of d n (Some s) = record { name = s; path = joined d n } ∷ []
+abbrev pub discovered_file_of : Text → Text → Option Text → List Discovered
+discovered_file_of d n None = []
+discovered_file_of d n (Some s) = record { name = s; path = joined d n } ∷ []
 
-abbrev pub file_find : Text → Text → List Find
-file_find d n = file_find_of d n (stem n)
+abbrev pub discovered_file : Text → Text → List Discovered
+discovered_file d n = discovered_file_of d n (stem n)
 
 -- the entry n of the folder d, where its own listing has `main.rs`
-abbrev pub folder_find : Text → Text → Answer → List Find
-folder_find d n a =
+abbrev pub discovered_folder : Text → Text → Answer → List Discovered
+discovered_folder d n a =
     if lists a (codes "main.rs")
     then record { name = n; path = joined (joined d n) (codes "main.rs") } ∷ []
     else []
 
-abbrev pub entry_finds : Text → Text → Answer → List Find
-entry_finds d n a = file_find d n ++ folder_find d n a
+abbrev pub discovered_in_entry : Text → Text → Answer → List Discovered
+discovered_in_entry d n a = discovered_file d n ++ discovered_folder d n a
 
 -- THE FINDS of a folder of targets: those of its names, in the order of bytes
-abbrev pub finds : ListingMap → TargetFolder → List Find
-finds l d =
-    flat_map (λ n. entry_finds (folder_text d) n (at l (entry d n))) (names_of (at l (folder d)))
+abbrev pub discovered : ListingMap → TargetFolder → List Discovered
+discovered l d =
+    flat_map (λ n. discovered_in_entry (folder_text d) n (at l (entry d n))) (names_of (at l (folder d)))
 
 -- `src/main.rs`, which has the name of the package
-abbrev pub main_find : Text → Answer → List Find
-main_find own src =
+abbrev pub discovered_main : Text → Answer → List Discovered
+discovered_main own src =
     if lists src (codes "main.rs")
     then record { name = own; path = codes "src/main.rs" } ∷ []
     else []
 
 -- THE FINDS OF THE BINARIES: those of `src/bin`, then `src/main.rs`
-abbrev pub bin_finds : ListingMap → Text → List Find
-bin_finds l own = finds l bins ++ main_find own l.source
+abbrev pub discovered_bins : ListingMap → Text → List Discovered
+discovered_bins l own = discovered l bins ++ discovered_main own l.source

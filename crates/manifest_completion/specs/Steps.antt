@@ -9,11 +9,11 @@ use Rattle.manifest_value.specs.declared.fault.KeyPath.{KeyPath}
 use Rattle.manifest_completion.specs.declared.completion.CompletedTargets.{CompletedTargets}
 use Rattle.manifest_completion.specs.declared.completion.CompletedLists.{CompletedLists}
 use Rattle.manifest_completion.specs.declared.ask.Answers.{Answers}
-use Rattle.manifest_completion.specs.declared.finds.FoundTarget.{FoundTarget}
+use Rattle.manifest_completion.specs.declared.discovered.FoundTarget.{FoundTarget}
 use Rattle.manifest_completion.specs.declared.targets.TargetDefaults.{TargetDefaults}
 use Rattle.manifest_completion.specs.declared.ask.FolderAnswers.{FolderAnswers}
 use Rattle.manifest_completion.specs.Listings.{Answer, folder_text, bins, examples, tests, benches, names_of}
-use Rattle.manifest_completion.specs.Finds.{Find, entry_finds, main_find}
+use Rattle.manifest_completion.specs.Finds.{Discovered, discovered_in_entry, discovered_main}
 use Rattle.manifest_completion.specs.Targets.{Defaults, targets}
 use Rattle.manifest_completion.specs.Completed.{PackageTargets, is_legacy, discovers, bin_defaults, example_defaults, test_defaults, Library, no_file, library, root_fault, build_of}
 use Rattle.manifest_completion.specs.Answered.{answer_of, answers_of}
@@ -22,11 +22,11 @@ use Rattle.manifest_completion.specs.Outcome.{library_text}
 use Rattle.manifest_completion.specs.Unfound.{as_completed, without_path, unfound_library, IsAnswer}
 
 -- CONTENTS
-abbrev pub find_content : FoundTarget → Find
-find_content f = record { name = string_bytes f.name; path = string_bytes f.path }
+abbrev pub discovered_content : FoundTarget → Discovered
+discovered_content f = record { name = string_bytes f.name; path = string_bytes f.path }
 
-abbrev pub finds_content : List FoundTarget → List Find
-finds_content fs = map find_content fs
+abbrev pub all_discovered_content : List FoundTarget → List Discovered
+all_discovered_content fs = map discovered_content fs
 
 abbrev pub defaults_content : TargetDefaults → Defaults
 defaults_content d = record {
@@ -51,13 +51,13 @@ RefusesLibrary lib (Memory e) = Unit {0}
 RefusesLibrary lib _ = ⊥
 
 -- THE FINDS of a folder's names, with the answers for its entries
-abbrev pub paired_finds : Text → List Text → List Answer → List Find
-paired_finds d [] given = []
-paired_finds d (n ∷ ns) [] = []
-paired_finds d (n ∷ ns) (a ∷ given) = entry_finds d n a ++ paired_finds d ns given
+abbrev pub paired_discovered : Text → List Text → List Answer → List Discovered
+paired_discovered d [] given = []
+paired_discovered d (n ∷ ns) [] = []
+paired_discovered d (n ∷ ns) (a ∷ given) = discovered_in_entry d n a ++ paired_discovered d ns given
 
-abbrev pub folder_paired : Text → FolderAnswers → List Find
-folder_paired d a = paired_finds d (names_of (answer_of a.own)) (answers_of a.entries)
+abbrev pub folder_paired : Text → FolderAnswers → List Discovered
+folder_paired d a = paired_discovered d (names_of (answer_of a.own)) (answers_of a.entries)
 
 -- the four lists are completed, by what was answered
 pub record ListsCompleted (t : PackageTargets) (a : Answers) (lists : CompletedLists) : Type 0 where
@@ -65,7 +65,7 @@ pub record ListsCompleted (t : PackageTargets) (a : Answers) (lists : CompletedL
       map product_content lists.bin.items
       ≡ targets (bin_defaults t (answer_of a.source))
       (discovers t.autobins (is_legacy t.edition) t.bin)
-      (folder_paired (folder_text bins) a.bins ++ main_find t.name (answer_of a.source)) t.bin
+      (folder_paired (folder_text bins) a.bins ++ discovered_main t.name (answer_of a.source)) t.bin
   pub example :
       map product_content lists.example.items
       ≡ targets (example_defaults t) (discovers t.autoexamples (is_legacy t.edition) t.example)
@@ -111,7 +111,7 @@ unfound_by_answers t a =
     unfound_library (library t src)
     ++ without_path (codes "bin") 0
     (as_completed (bin_defaults t src)
-    (folder_paired (folder_text bins) a.bins ++ main_find t.name src) t.bin)
+    (folder_paired (folder_text bins) a.bins ++ discovered_main t.name src) t.bin)
     ++ without_path (codes "example") 0
     (as_completed (example_defaults t) (folder_paired (folder_text examples) a.examples) t.example)
     ++ without_path (codes "test") 0

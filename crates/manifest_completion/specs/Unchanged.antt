@@ -63,7 +63,8 @@ abbrev pub target_entries : ListingMap → TargetFolder → List (Text × Bool)
 target_entries l d =
     map (λ n. (n, lists (at l (entry d n)) (codes "main.rs"))) (target_names l d)
 
--- two maps have the same, but for what else there is: entries that are no targets, and what is answered for them; and what
+-- two maps have the same, but for what else there is: entries that are no targets, and what is answered for them; and
+-- what
 -- else stands in a folder with `main.rs`
 pub record HaveSameTargets (l k : ListingMap) : Type 0 where
   pub source : l.source ≡ k.source

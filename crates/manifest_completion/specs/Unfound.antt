@@ -7,14 +7,14 @@ use Rattle.manifest_value.specs.declared.fault.KeyPath.{KeyPath}
 use Rattle.manifest_value.specs.Faults.{path_of}
 use Rattle.std.specs.declared.alloc.Global.{Global}
 use Rattle.manifest_completion.specs.Listings.{Answer, examples, tests, benches, Place, source, ListingMap, at}
-use Rattle.manifest_completion.specs.Finds.{Find, finds, bin_finds}
+use Rattle.manifest_completion.specs.Finds.{Discovered, discovered, discovered_bins}
 use Rattle.manifest_completion.specs.Targets.{pathed, Defaults, with_defaults}
 use Rattle.manifest_completion.specs.Completed.{PackageTargets, Library, no_file, known, library, bin_defaults, example_defaults, test_defaults, completed_to, no_library, completed, target_places, has_memory_fault, source_fault, up_to_memory_fault, targets_of, ByOneMap}
 use Rattle.manifest_completion.specs.Stored.{AnswersAsStored, stored_map}
 use Rattle.manifest_completion.specs.Laws.{AgreeAt}
 
 -- the declared targets of a list as they stand in the completed list: filled in, and with their defaults
-abbrev pub as_completed : Defaults → List Find → List Product → List Product
+abbrev pub as_completed : Defaults → List Discovered → List Product → List Product
 as_completed d fs ps = map (with_defaults d) (map (pathed fs) ps)
 
 -- where a target of a list stands, as `bin[1]`
@@ -40,11 +40,11 @@ unfoldable pub unfound : PackageTargets → ListingMap → List Path
 unfound t l =
     unfound_library (library t l.source)
     ++ without_path (codes "bin") 0
-    (as_completed (bin_defaults t l.source) (bin_finds l t.name) t.bin)
+    (as_completed (bin_defaults t l.source) (discovered_bins l t.name) t.bin)
     ++ without_path (codes "example") 0
-    (as_completed (example_defaults t) (finds l examples) t.example)
-    ++ without_path (codes "test") 0 (as_completed (test_defaults t) (finds l tests) t.test)
-    ++ without_path (codes "bench") 0 (as_completed (test_defaults t) (finds l benches) t.bench)
+    (as_completed (example_defaults t) (discovered l examples) t.example)
+    ++ without_path (codes "test") 0 (as_completed (test_defaults t) (discovered l tests) t.test)
+    ++ without_path (codes "bench") 0 (as_completed (test_defaults t) (discovered l benches) t.bench)
 
 -- THE OUTCOME: refused for a fault of `src`, or for memory that ran out for a folder of targets; else where they stand
 abbrev pub unfound_after :
@@ -104,7 +104,8 @@ all_without_path m =
 abbrev pub HavePaths : List Product → Type 0
 HavePaths ps = AllByRecursion (λ p. is_some p.path ≡ true) ps
 
--- the unfound targets of the manifest m are those that the completed manifest n has without a path, all of them declared
+-- the unfound targets of the manifest m are those that the completed manifest n has without a path, all of them
+-- declared
 pub record AreLeftWithoutPath (m n : Manifest) (l : ListingMap) : Type 0 where
   pub unfound : manifest_unfound m l ≡ Ok (all_without_path n)
   pub bin : HavePaths (drop (length m.bin) n.bin)

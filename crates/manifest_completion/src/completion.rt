@@ -6,7 +6,7 @@ ghost use Rattle.manifest_parts.specs.Records.{product_content};
 ghost use Rattle.manifest_completion.specs.Listings.{examples, tests, benches};
 ghost use Rattle.manifest_completion.specs.Answered.{answer_of};
 ghost use Rattle.manifest_completion.specs.Asking.{some_ran_out_of_memory};
-ghost use Rattle.manifest_completion.specs.Finds.{main_find};
+ghost use Rattle.manifest_completion.specs.Finds.{discovered_main};
 ghost use Rattle.manifest_completion.specs.Targets.{targets};
 ghost use Rattle.manifest_completion.specs.Completed.{is_legacy, own_edition, discovers, asks_root, build_of, bin_defaults, example_defaults, test_defaults, source_fault, root_fault_if};
 ghost use Rattle.manifest_completion.specs.Outcome.{declared_content, TargetsCompleted};
@@ -14,8 +14,8 @@ ghost use Rattle.manifest_completion.specs.Steps.{defaults_content, folder_paire
 
 use crate::ask::{Answers, FolderAnswers, ask, ask_folders};
 use crate::copies::copy_optional_text;
+use crate::discovered::{discovered_in_folder, lists, push_discovered_main};
 use crate::filesystem::AbstractFilesystem;
-use crate::finds::{folder_finds, lists, push_main_find};
 use crate::library::completed_library;
 use crate::targets::{TargetDefaults, completed_list};
 use manifest_parts::{Edition, MaybeInherited, Product, StringOrBool};
@@ -267,8 +267,8 @@ fn completed_folder(
         ≡ targets (defaults_content defaults) discovers (folder_paired folder.now answers.now)
         (map product_content list.now)) }
 {
-    let finds = folder_finds(alloc, folder, answers)?;
-    completed_list(alloc, list, finds.as_slice(), discovers, defaults)
+    let discovered = discovered_in_folder(alloc, folder, answers)?;
+    completed_list(alloc, list, discovered.as_slice(), discovers, defaults)
 }
 
 /// The completed list of binaries: the declared ones, and where binaries are discovered those that `src/bin` and
@@ -285,15 +285,15 @@ fn completed_bins(
         (discovers (declared_content declared.now).autobins
         (is_legacy (declared_content declared.now).edition) (declared_content declared.now).bin)
         (folder_paired (codes "src/bin") answers.now
-        ++ main_find declared.now.name.now (answer_of source.now))
+        ++ discovered_main declared.now.name.now (answer_of source.now))
         (declared_content declared.now).bin) }
 {
-    let mut finds = folder_finds(alloc, "src/bin", answers)?;
-    push_main_find(&mut finds, alloc, declared.name, source)?;
+    let mut discovered = discovered_in_folder(alloc, "src/bin", answers)?;
+    push_discovered_main(&mut discovered, alloc, declared.name, source)?;
     completed_list(
         alloc,
         declared.bin,
-        finds.as_slice(),
+        discovered.as_slice(),
         discovers(declared.autobins, is_legacy(declared.edition), declared.bin),
         bin_defaults(declared, source),
     )

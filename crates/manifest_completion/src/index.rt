@@ -3,42 +3,45 @@
 ghost use Rattle.std.specs.Prelude.{◌≡◌, List, ◌++◌, ◌∷◌, [], IfOk, OnOk, not};
 ghost use Rattle.std.specs.Bool.{OnFalse};
 ghost use Rattle.std.specs.Option.{option_copied};
-ghost use Rattle.manifest_completion.specs.Finds.{Find};
+ghost use Rattle.manifest_completion.specs.Finds.{Discovered};
 ghost use Rattle.manifest_completion.specs.Targets.{first_path, has_path};
-ghost use Rattle.manifest_completion.specs.Steps.{finds_content};
+ghost use Rattle.manifest_completion.specs.Steps.{all_discovered_content};
 ghost use Rattle.manifest_completion.specs.Index.{Indexes, paths_in, SamePaths};
 
-use crate::finds::FoundTarget;
+use crate::discovered::FoundTarget;
 use std::alloc::{AllocError, Global};
 use std::collections::{BTreeMap, BTreeSet};
 use std::marker::Model;
 
 /// Some finds, with the path of the first find of each name.
 #[derive(Drop)]
-pub struct IndexedFinds<'a> {
-    finds: &'a [FoundTarget],
+pub struct IndexedTargets<'a> {
+    discovered: &'a [FoundTarget],
     paths: BTreeMap<&'a str, &'a str>,
 }
 
 /// A contract sees the finds; it is kept that `paths` has the path of the first find of each name.
-impl<'a> Model for IndexedFinds<'a> {
-    ghost Value = { List Find };
+impl<'a> Model for IndexedTargets<'a> {
+    ghost Value = { List Discovered };
 
-    ghost view = { λ it. finds_content it.finds.now };
+    ghost view = { λ it. all_discovered_content it.discovered.now };
 
-    ghost invariant = { λ it. Indexes it.paths (finds_content it.finds.now) };
+    ghost invariant = { λ it. Indexes it.paths (all_discovered_content it.discovered.now) };
 }
 
-impl<'a> IndexedFinds<'a> {
+impl<'a> IndexedTargets<'a> {
     /// Makes the index. It goes from the last find to the first, so that the first of a name is what stays.
-    pub fn new(alloc: Global, finds: &'a [FoundTarget]) -> Result<IndexedFinds<'a>, AllocError>
-        ensures { IfOk result (λ it. it ≡ finds_content finds.now) }
+    pub fn new(
+        alloc: Global,
+        discovered: &'a [FoundTarget],
+    ) -> Result<IndexedTargets<'a>, AllocError>
+        ensures { IfOk result (λ it. it ≡ all_discovered_content discovered.now) }
     {
         let mut paths = BTreeMap::new(alloc);
-        for find in finds.iter().rev() {
-            paths.insert(find.name.as_str(), find.path.as_str())?;
+        for target_found in discovered.iter().rev() {
+            paths.insert(target_found.name.as_str(), target_found.path.as_str())?;
         }
-        Ok(IndexedFinds { finds, paths })
+        Ok(IndexedTargets { discovered, paths })
     }
 
     /// The path of the first find of a name; `None` where no find has the name.

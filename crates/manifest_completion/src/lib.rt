@@ -6,8 +6,8 @@
 mod ask;
 pub mod completion;
 mod copies;
+mod discovered;
 pub mod filesystem;
-mod finds;
 pub mod folders;
 pub mod index;
 pub mod laws;

@@ -11,7 +11,7 @@ ghost use Rattle.manifest_completion.specs.Steps.{RefusesLibrary};
 use crate::ask::join;
 use crate::completion::{DeclaredTargets, is_legacy, own_edition};
 use crate::copies::one_text;
-use crate::finds::lists;
+use crate::discovered::lists;
 use crate::targets::crate_type_of;
 use manifest_parts::Product;
 use manifest_value::Error;

@@ -5,11 +5,11 @@ ghost use Rattle.std.specs.Option.{option_copied, option_or, is_some};
 ghost use Rattle.manifest_parts.specs.Records.{product_content};
 ghost use Rattle.manifest_completion.specs.Targets.{paths_of, pathed, found, added, with_defaults, targets};
 ghost use Rattle.manifest_completion.specs.Index.{paths_in, SamePaths};
-ghost use Rattle.manifest_completion.specs.Steps.{find_content, finds_content, defaults_content};
+ghost use Rattle.manifest_completion.specs.Steps.{discovered_content, all_discovered_content, defaults_content};
 
 use crate::copies::{copy_optional_text, one_text};
-use crate::finds::FoundTarget;
-use crate::index::{IndexedFinds, add_text};
+use crate::discovered::FoundTarget;
+use crate::index::{IndexedTargets, add_text};
 use manifest_parts::{Edition, Product};
 use manifest_value::copy_of;
 use std::alloc::{AllocError, Global};
@@ -25,13 +25,13 @@ pub struct TargetDefaults {
 
 /// A target's own path; where it has none, that of the first find of its name; `None` where there is no such find, or
 /// the target has no name.
-fn path_of<'a>(target: &'a Product, finds: &IndexedFinds<'a>) -> Option<&'a str>
-    ensures { option_copied result ≡ (pathed finds.now (product_content target.now)).path }
+fn path_of<'a>(target: &'a Product, discovered: &IndexedTargets<'a>) -> Option<&'a str>
+    ensures { option_copied result ≡ (pathed discovered.now (product_content target.now)).path }
 {
     match &target.path {
         Some(path) => Some(path.as_str()),
         None => match &target.name {
-            Some(name) => finds.first_path(name.as_str()),
+            Some(name) => discovered.first_path(name.as_str()),
             None => None,
         },
     }
@@ -41,14 +41,14 @@ fn path_of<'a>(target: &'a Product, finds: &IndexedFinds<'a>) -> Option<&'a str>
 fn taken_paths<'a>(
     alloc: Global,
     targets: &'a [Product],
-    finds: &IndexedFinds<'a>,
+    discovered: &IndexedTargets<'a>,
 ) -> Result<BTreeSet<&'a str>, AllocError>
-    ensures { let filled = map (pathed finds.now) (map product_content targets.now) in
+    ensures { let filled = map (pathed discovered.now) (map product_content targets.now) in
         IfOk result (λ s. SamePaths (paths_in s) (paths_of filled)) }
 {
     let mut taken = BTreeSet::new(alloc);
     for target in targets {
-        if let Some(path) = path_of(target, finds) {
+        if let Some(path) = path_of(target, discovered) {
             add_text(&mut taken, path)?;
         }
     }
@@ -80,13 +80,13 @@ pub fn crate_type_of(
 fn filled_target<'a>(
     alloc: Global,
     target: &'a Product,
-    finds: &IndexedFinds<'a>,
+    discovered: &IndexedTargets<'a>,
     defaults: TargetDefaults,
 ) -> Result<Product, AllocError>
-    ensures { let filled = pathed finds.now (product_content target.now) in
+    ensures { let filled = pathed discovered.now (product_content target.now) in
         IfOk result (λ p. product_content p ≡ with_defaults (defaults_content defaults) filled) }
 {
-    let path = copy_optional_text(alloc, path_of(target, finds).or(defaults.path))?;
+    let path = copy_optional_text(alloc, path_of(target, discovered).or(defaults.path))?;
     let name = copy_of(&target.name)?;
     let required_features = copy_of(&target.required_features)?;
     let crate_type = crate_type_of(alloc, &target.crate_type, defaults.crate_type)?;
@@ -111,15 +111,15 @@ fn filled_target<'a>(
 #[tactic(auto, unfolding(manifest_schema::specs::PartForms::product_rows))]
 fn found_target(
     alloc: Global,
-    find: &FoundTarget,
+    target_found: &FoundTarget,
     defaults: TargetDefaults,
 ) -> Result<Product, AllocError>
     ensures { IfOk result
         (λ p. product_content p
-        ≡ with_defaults (defaults_content defaults) (found (find_content find.now))) }
+        ≡ with_defaults (defaults_content defaults) (found (discovered_content target_found.now))) }
 {
-    let path = String::from_str(alloc, find.path.as_str())?;
-    let name = String::from_str(alloc, find.name.as_str())?;
+    let path = String::from_str(alloc, target_found.path.as_str())?;
+    let name = String::from_str(alloc, target_found.name.as_str())?;
     let crate_type = crate_type_of(alloc, &None, defaults.crate_type)?;
     Ok(Product {
         path: Some(path),
@@ -135,17 +135,17 @@ fn push_found<'a>(
     list: &mut Vec<Product>,
     alloc: Global,
     mut taken: BTreeSet<&'a str>,
-    finds: &'a [FoundTarget],
+    discovered: &'a [FoundTarget],
     defaults: TargetDefaults,
 ) -> Result<(), AllocError>
     ensures { let give = with_defaults (defaults_content defaults) in
-        let more = map give (added (paths_in taken.entry) (finds_content finds.now)) in
+        let more = map give (added (paths_in taken.entry) (all_discovered_content discovered.now)) in
         let before = map product_content list.old.items in
         OnOk result (map product_content list.new.items ≡ before ++ more) }
 {
-    for find in finds {
-        if add_text(&mut taken, find.path.as_str())? {
-            list.push(found_target(alloc, find, defaults)?)?;
+    for target_found in discovered {
+        if add_text(&mut taken, target_found.path.as_str())? {
+            list.push(found_target(alloc, target_found, defaults)?)?;
         }
     }
     Ok(())
@@ -155,16 +155,16 @@ fn push_found<'a>(
 fn filled_targets<'a>(
     alloc: Global,
     declared: &'a [Product],
-    finds: &IndexedFinds<'a>,
+    discovered: &IndexedTargets<'a>,
     defaults: TargetDefaults,
 ) -> Result<Vec<Product>, AllocError>
     ensures { let give = with_defaults (defaults_content defaults) in
-        let filled = map give (map (pathed finds.now) (map product_content declared.now)) in
+        let filled = map give (map (pathed discovered.now) (map product_content declared.now)) in
         IfOk result (λ v. map product_content v.items ≡ filled) }
 {
     let mut list = Vec::new(alloc);
     for target in declared {
-        list.push(filled_target(alloc, target, finds, defaults)?)?;
+        list.push(filled_target(alloc, target, discovered, defaults)?)?;
     }
     Ok(list)
 }
@@ -174,29 +174,33 @@ fn filled_targets<'a>(
 pub fn completed_list(
     alloc: Global,
     declared: &[Product],
-    finds: &[FoundTarget],
+    discovered: &[FoundTarget],
     discovers: bool,
     defaults: TargetDefaults,
 ) -> Result<Vec<Product>, AllocError>
     ensures { IfOk result
         (λ v. map product_content v.items
-        ≡ targets (defaults_content defaults) discovers (finds_content finds.now)
+        ≡ targets (defaults_content defaults) discovers (all_discovered_content discovered.now)
         (map product_content declared.now)) }
 {
-    let indexed = IndexedFinds::new(alloc, finds)?;
+    let indexed = IndexedTargets::new(alloc, discovered)?;
     let mut list = filled_targets(alloc, declared, &indexed, defaults)?;
     if discovers {
         let taken = taken_paths(alloc, declared, &indexed)?;
-        push_found(&mut list, alloc, taken, finds, defaults)?;
+        push_found(&mut list, alloc, taken, discovered, defaults)?;
     }
     Ok(list)
 }
 
 /// Whether a declared target has a path in the completed list: its own, that of the first find of its name, or the
 /// default.
-pub fn has_path<'a>(target: &'a Product, finds: &IndexedFinds<'a>, defaults: TargetDefaults) -> bool
-    ensures { let filled = pathed finds.now (product_content target.now) in
+pub fn has_path<'a>(
+    target: &'a Product,
+    discovered: &IndexedTargets<'a>,
+    defaults: TargetDefaults,
+) -> bool
+    ensures { let filled = pathed discovered.now (product_content target.now) in
         result ≡ is_some (with_defaults (defaults_content defaults) filled).path }
 {
-    path_of(target, finds).or(defaults.path).is_some()
+    path_of(target, discovered).or(defaults.path).is_some()
 }

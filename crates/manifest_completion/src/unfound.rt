@@ -5,7 +5,7 @@ ghost use Rattle.manifest_parts.specs.Records.{product_content};
 ghost use Rattle.manifest_schema.specs.Paths.{key};
 ghost use Rattle.manifest_value.specs.Faults.{path_of};
 ghost use Rattle.manifest_completion.specs.Answered.{answer_of};
-ghost use Rattle.manifest_completion.specs.Finds.{main_find};
+ghost use Rattle.manifest_completion.specs.Finds.{discovered_main};
 ghost use Rattle.manifest_completion.specs.Completed.{bin_defaults, library};
 ghost use Rattle.manifest_completion.specs.Outcome.{declared_content};
 ghost use Rattle.manifest_completion.specs.Steps.{defaults_content, folder_paired, AnswersUnfound};
@@ -15,9 +15,9 @@ use crate::ask::{Answers, FolderAnswers, ask, ask_folders};
 use crate::completion::{
     DeclaredTargets, bin_defaults, check_memory, check_source, example_defaults, test_defaults,
 };
+use crate::discovered::{discovered_in_folder, push_discovered_main};
 use crate::filesystem::AbstractFilesystem;
-use crate::finds::{folder_finds, push_main_find};
-use crate::index::IndexedFinds;
+use crate::index::IndexedTargets;
 use crate::library::has_no_file;
 use crate::targets::{TargetDefaults, has_path};
 use manifest_parts::Product;
@@ -60,16 +60,16 @@ fn push_without_path<'a>(
     alloc: Global,
     list: &str,
     declared: &'a [Product],
-    finds: &IndexedFinds<'a>,
+    discovered: &IndexedTargets<'a>,
     defaults: TargetDefaults,
 ) -> Result<(), AllocError>
     ensures { let targets = map product_content declared.now in
-        let filled = as_completed (defaults_content defaults) finds.now targets in
+        let filled = as_completed (defaults_content defaults) discovered.now targets in
         OnOk result (map path_of out.new.items
         ≡ map path_of out.old.items ++ without_path list.now 0 filled) }
 {
     for (i, target) in declared.iter().enumerate() {
-        if !has_path(target, finds, defaults) {
+        if !has_path(target, discovered, defaults) {
             push_place(out, alloc, list, i)?;
         }
     }
@@ -103,14 +103,14 @@ fn push_unfound_bins(
     ensures { let targets = (declared_content declared.now).bin in
         let source = answer_of answers.now.source in
         let found = folder_paired (codes "src/bin") answers.now.bins
-        ++ main_find declared.now.name.now source in
+        ++ discovered_main declared.now.name.now source in
         let defaults = bin_defaults (declared_content declared.now) source in
         OnOk result (map path_of out.new.items ≡ map path_of out.old.items
         ++ without_path (codes "bin") 0 (as_completed defaults found targets)) }
 {
-    let mut finds = folder_finds(alloc, "src/bin", &answers.bins)?;
-    push_main_find(&mut finds, alloc, declared.name, &answers.source)?;
-    let indexed = IndexedFinds::new(alloc, finds.as_slice())?;
+    let mut discovered = discovered_in_folder(alloc, "src/bin", &answers.bins)?;
+    push_discovered_main(&mut discovered, alloc, declared.name, &answers.source)?;
+    let indexed = IndexedTargets::new(alloc, discovered.as_slice())?;
     let defaults = bin_defaults(declared, &answers.source);
     push_without_path(out, alloc, "bin", declared.bin, &indexed, defaults)
 }
@@ -131,8 +131,8 @@ fn push_unfound_in(
         OnOk result (map path_of out.new.items
         ≡ map path_of out.old.items ++ without_path list.now 0 filled) }
 {
-    let finds = folder_finds(alloc, folder, answers)?;
-    let indexed = IndexedFinds::new(alloc, finds.as_slice())?;
+    let discovered = discovered_in_folder(alloc, folder, answers)?;
+    let indexed = IndexedTargets::new(alloc, discovered.as_slice())?;
     push_without_path(out, alloc, list, declared, &indexed, defaults)
 }
 

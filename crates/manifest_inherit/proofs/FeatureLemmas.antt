@@ -21,14 +21,17 @@ same_new hs ks (f ∷ fs) same =
     rw (any_same hs f, any_same ks f, same f, had, added) refl
 
 -- a feature that is there adds nothing
-pub feature_had : (had fs : List Text) (f : Text) → has_path had f ≡ true → new_features had (f ∷ fs) ≡ new_features had fs
+pub feature_had : (had fs : List Text) (f : Text) → has_path had f ≡ true → new_features had (f ∷ fs) ≡ new_features had
+    fs
 feature_had had fs f h = rw (any_same had f, h) refl
 
 -- any other one is new, and is there then
-pub feature_new : (had now fs : List Text) (f : Text) → has_path had f ≡ false → SamePaths now (had ++ f ∷ []) → new_features had (f ∷ fs) ≡ f ∷ new_features now fs
+pub feature_new : (had now fs : List Text) (f : Text) → has_path had f ≡ false → SamePaths now (had ++ f ∷ [])
+    → new_features had (f ∷ fs) ≡ f ∷ new_features now fs
 feature_new had now fs f h same = rw (any_same had f, h, same_new now (had ++ f ∷ []) fs same) refl
 
 -- one more borrowed text
-pub borrowed_push : (xs : List (Bor Text)) (x : Bor Text) (rest : List Text) → borrowed_texts (xs ++ x ∷ []) ++ rest ≡ borrowed_texts xs ++ (x.now ∷ rest)
+pub borrowed_push : (xs : List (Bor Text)) (x : Bor Text) (rest : List Text) → borrowed_texts (xs ++ x ∷ [])
+    ++ rest ≡ borrowed_texts xs ++ (x.now ∷ rest)
 borrowed_push [] x rest = refl
 borrowed_push (y ∷ xs) x rest = ap (λ ts. y.now ∷ ts) (borrowed_push xs x rest)

@@ -9,28 +9,30 @@ use Rattle.manifest_inherit.specs.ForProofs.{how_many, refusals_at, refusals_fro
 use Rattle.manifest_inherit.proofs.FirstLemmas.{none_in_both}
 
 -- A FIELD
-field_own : {A : Type 0} (key : Text) (own : Option (Inheritable A)) (lent : Option A)
-    → field_refusals key own lent ≡ [] → IsOwn (resolved_field own lent)
-field_own key None lent h = tt
-field_own key (Some (local x)) lent h = tt
+field_own : {A : Type 0} (key : Text) (own : Option (Inheritable A)) (shared : Option A)
+    → field_refusals key own shared ≡ [] → IsOwn (resolved_field own shared)
+field_own key None shared h = tt
+field_own key (Some (local x)) shared h = tt
 field_own key (Some inherited) (Some x) h = tt
 field_own key (Some inherited) None h = cc
 
-field_same : {A : Type 0} (own : Option (Inheritable A)) (lent : Option A) → IsOwn own → resolved_field own lent ≡ own
-field_same None lent h = refl
-field_same (Some (local x)) lent h = refl
-field_same (Some inherited) lent h = absurd h
+field_same : {A : Type 0} (own : Option (Inheritable A)) (shared : Option A) → IsOwn own
+    → resolved_field own shared ≡ own
+field_same None shared h = refl
+field_same (Some (local x)) shared h = refl
+field_same (Some inherited) shared h = absurd h
 
-field_accepted : {A : Type 0} (key : Text) (own : Option (Inheritable A)) (lent : Option A)
-    → IsOwn own → field_refusals key own lent ≡ []
-field_accepted key None lent h = refl
-field_accepted key (Some (local y)) lent h = refl
-field_accepted key (Some inherited) lent h = absurd h
+field_accepted : {A : Type 0} (key : Text) (own : Option (Inheritable A)) (shared : Option A)
+    → IsOwn own → field_refusals key own shared ≡ []
+field_accepted key None shared h = refl
+field_accepted key (Some (local y)) shared h = refl
+field_accepted key (Some inherited) shared h = absurd h
 
 -- THE TABLE: each of its fields is resolved in the package; a package with its own content of a field is that package
 abbrev AreResolved : Fields → Type 0
 AreResolved no_more = Unit {0}
-AreResolved (f ⨾ fs) = ((w : Option WorkspacePackage) (p : Package) → f.own (resolved_package w p) ≡ resolved_field (f.own p) (f.lent w)) × AreResolved fs
+AreResolved (f ⨾ fs) = ((w : Option WorkspacePackage) (p : Package) → f.own (resolved_package w p) ≡ resolved_field
+    (f.own p) (f.shared w)) × AreResolved fs
 
 all_resolved : AreResolved lendable
 unfolding lendable resolved_package
@@ -49,16 +51,17 @@ fields_own : (fs : Fields) → AreResolved fs → (w : Option WorkspacePackage) 
     → fields_refusals fs w p ≡ [] → AreOwn fs (resolved_package w p)
 fields_own no_more k w p h = tt
 fields_own (f ⨾ fs) k w p h =
-    let (here, more) = none_in_both (field_refusals f.key (f.own p) (f.lent w)) (fields_refusals fs w p) h in
-    (subst IsOwn (sym (k.0 w p)) (field_own f.key (f.own p) (f.lent w) here), fields_own fs k.1 w p more)
+    let (here, more) = none_in_both (field_refusals f.key (f.own p) (f.shared w)) (fields_refusals fs w p) h in
+    (subst IsOwn (sym (k.0 w p)) (field_own f.key (f.own p) (f.shared w) here), fields_own fs k.1 w p more)
 
-fields_same : (fs : Fields) → AreKept fs → (w : Option WorkspacePackage) (p : Package) → AreOwn fs p → resolved_fields fs w p ≡ p
+fields_same : (fs : Fields) → AreKept fs → (w : Option WorkspacePackage) (p : Package) → AreOwn fs p
+    → resolved_fields fs w p ≡ p
 fields_same no_more k w p h = refl
-fields_same (f ⨾ fs) k w p h = rw (fields_same fs k.1 w p h.1, field_same (f.own p) (f.lent w) h.0) (k.0 p)
+fields_same (f ⨾ fs) k w p h = rw (fields_same fs k.1 w p h.1, field_same (f.own p) (f.shared w) h.0) (k.0 p)
 
 fields_accepted : (fs : Fields) (w : Option WorkspacePackage) (p : Package) → AreOwn fs p → fields_refusals fs w p ≡ []
 fields_accepted no_more w p h = refl
-fields_accepted (f ⨾ fs) w p h = rw (field_accepted f.key (f.own p) (f.lent w) h.0) (fields_accepted fs w p h.1)
+fields_accepted (f ⨾ fs) w p h = rw (field_accepted f.key (f.own p) (f.shared w) h.0) (fields_accepted fs w p h.1)
 
 -- A PACKAGE
 pub package_own : (w : Option WorkspacePackage) (p : Package)
@@ -75,7 +78,8 @@ package_accepted = fields_accepted lendable
 
 -- ALL REFUSALS, field by field
 -- one more field
-pub one_refused : (fs : Fields) (i : ℕ) (w : Option WorkspacePackage) (p : Package) → i < how_many fs → refusals_from i fs w p ≡ refusals_at i fs w p ++ refusals_from (suc i) fs w p
+pub one_refused : (fs : Fields) (i : ℕ) (w : Option WorkspacePackage) (p : Package) → i < how_many fs
+    → refusals_from i fs w p ≡ refusals_at i fs w p ++ refusals_from (suc i) fs w p
 one_refused no_more i w p h = absurd (omega (arith, h))
 one_refused (f ⨾ fs) zero w p h = refl
 one_refused (f ⨾ fs) (suc i) w p h = one_refused fs i w p (omega (arith, h))
@@ -88,13 +92,15 @@ none_left (f ⨾ fs) w p = none_left fs w p
 -- TWO WORKSPACES WITH THE SAME FIELDS
 abbrev LendSame : Fields → Option WorkspacePackage → Option WorkspacePackage → Type 0
 LendSame no_more v w = Unit {0}
-LendSame (f ⨾ fs) v w = (f.lent v ≡ f.lent w) × LendSame fs v w
+LendSame (f ⨾ fs) v w = (f.shared v ≡ f.shared w) × LendSame fs v w
 
-same_resolved : (fs : Fields) (v w : Option WorkspacePackage) (p : Package) → LendSame fs v w → resolved_fields fs v p ≡ resolved_fields fs w p
+same_resolved : (fs : Fields) (v w : Option WorkspacePackage) (p : Package) → LendSame fs v w → resolved_fields fs v
+    p ≡ resolved_fields fs w p
 same_resolved no_more v w p h = refl
 same_resolved (f ⨾ fs) v w p h = rw (same_resolved fs v w p h.1, h.0) refl
 
-same_refusals : (fs : Fields) (v w : Option WorkspacePackage) (p : Package) → LendSame fs v w → fields_refusals fs v p ≡ fields_refusals fs w p
+same_refusals : (fs : Fields) (v w : Option WorkspacePackage) (p : Package) → LendSame fs v w → fields_refusals fs v
+    p ≡ fields_refusals fs w p
 same_refusals no_more v w p h = refl
 same_refusals (f ⨾ fs) v w p h = rw (same_refusals fs v w p h.1, h.0) refl
 
@@ -107,7 +113,8 @@ absent_none : {B : Type 0} (o : Option B) → IsAbsent o → o ≡ None
 absent_none None h = refl
 absent_none (Some x) h = absurd h
 
-lends_nothing : (w : WorkspacePackage) → (form workspace_package_rows).reads (table no_members) w → LendSame lendable (Some w) None
+lends_nothing : (w : WorkspacePackage) → (form workspace_package_rows).reads (table no_members) w
+    → LendSame lendable (Some w) None
 unfolding lendable workspace_package_rows
 lends_nothing w h = search (absent_none)
 

@@ -2,7 +2,7 @@
 use Rattle.manifest_schema.specs.Prelude.{Text, Entries, Dependency, Manifest, Workspace}
 use Rattle.std.proofs.Common.{◌≡◌, Option, List, [], ◌∷◌, ◌++◌, refl, codes}
 use Rattle.manifest_inherit.specs.Fields.{lendable}
-use Rattle.manifest_inherit.specs.Resolved.{lent_dependencies}
+use Rattle.manifest_inherit.specs.Resolved.{shared_dependencies}
 use Rattle.manifest_inherit.specs.Refused.{Refusal, PlacedRefusals, first_refusal, refused_under, fields_refusals, dependencies_refusals, platforms_refusals, lints_refusals, some_refusals, all_refusals}
 
 -- THE FIRST REFUSAL of a list
@@ -10,7 +10,8 @@ pub first-append : (fs gs : PlacedRefusals) (r : Refusal) → first_refusal fs r
 first-append [] gs r h = absurd h
 first-append (f ∷ fs) gs r h = h
 
-pub first-under : (name : Text) (fs : PlacedRefusals) (r : Refusal) → first_refusal fs r → first_refusal (refused_under name fs) r
+pub first-under : (name : Text) (fs : PlacedRefusals) (r : Refusal) → first_refusal fs r
+    → first_refusal (refused_under name fs) r
 first-under name [] r h = h
 first-under name (f ∷ fs) r h = h
 
@@ -28,10 +29,10 @@ module _ (m : Manifest) (w : Workspace) where
   of_package = some_refusals (fields_refusals lendable w.«package») m.«package»
 
   abbrev pub of_map : Option (Entries Dependency) → PlacedRefusals
-  of_map = some_refusals (dependencies_refusals (lent_dependencies w))
+  of_map = some_refusals (dependencies_refusals (shared_dependencies w))
 
   abbrev pub of_platforms : PlacedRefusals
-  of_platforms = some_refusals (platforms_refusals (lent_dependencies w)) m.target
+  of_platforms = some_refusals (platforms_refusals (shared_dependencies w)) m.target
 
   abbrev pub of_lints : PlacedRefusals
   of_lints = some_refusals (lints_refusals w.lints) m.lints

@@ -6,8 +6,8 @@ use Rattle.std.proofs.lemmas.List.Elements.{Contains-append_left, Contains-appen
 use Rattle.std.specs.List.{IsDistinct, AllPairs}
 use Rattle.manifest_schema.proofs.TableLaws.{same_key-self, same_key-true}
 use Rattle.manifest_inherit.specs.Fields.{Fields, no_more, ◌⨾◌, lendable}
-use Rattle.manifest_inherit.specs.Resolved.{workspace_dependency, lent_dependencies}
-use Rattle.manifest_inherit.specs.Refused.{Refusal, PlacedRefusals, not_in_workspace, inherited_in_workspace, mixed_lints, tool_named_workspace, refused_here, refused_under, field_refusals, fields_refusals, lender_refusals, dependency_refusals, entries_refusals, dependencies_refusals, platform_refusals, platforms_refusals, tools_refusals, lent_lints_refusals, lints_refusals_by, lints_refusals, some_refusals, all_refusals}
+use Rattle.manifest_inherit.specs.Resolved.{workspace_dependency, shared_dependencies}
+use Rattle.manifest_inherit.specs.Refused.{Refusal, PlacedRefusals, not_in_workspace, inherited_in_workspace, mixed_lints, tool_named_workspace, refused_here, refused_under, field_refusals, fields_refusals, lender_refusals, dependency_refusals, entries_refusals, dependencies_refusals, platform_refusals, platforms_refusals, tools_refusals, shared_lints_refusals, lints_refusals_by, lints_refusals, some_refusals, all_refusals}
 use Rattle.manifest_inherit.specs.Pins.{some_field, field_refused, package_refused, maps_of, platform_maps, name_unfit, dependency_refused, lints_unfit, lints_refused, refused_at, HasDistinctKeys, KeysDiffer}
 use Rattle.manifest_inherit.specs.Laws.{ListsEachRefusal, EmptyIfNoneHolds, ListsEachOnce}
 use Rattle.manifest_inherit.proofs.FirstLemmas.{of_package, of_map, of_platforms, of_lints}
@@ -163,15 +163,15 @@ some listed R (Some x) h =
 abbrev package_path : Path → Path
 package_path q = key (codes "package") ∷ q
 
-field : {H A : Type 0} (name : Text) (own : Option (Inheritable A)) (lent : Option A)
-    → Lists H (field_refusals name own lent)
-    (λ q r. (own ≡ Some inherited) × (lent ≡ None) × (package_path q ≡ package_path (key name ∷ []))
+field : {H A : Type 0} (name : Text) (own : Option (Inheritable A)) (shared : Option A)
+    → Lists H (field_refusals name own shared)
+    (λ q r. (own ≡ Some inherited) × (shared ≡ None) × (package_path q ≡ package_path (key name ∷ []))
     × (r ≡ not_in_workspace name))
 field name (Some inherited) None = said_as (under name (here (not_in_workspace name)))
     (λ q r (q', s, (t, e)). (refl, refl, cc, e)) (λ q r (a, b, s, e). ([], cc, (refl, e)))
 field name (Some inherited) (Some x) = nothing (λ q r (a, b, s, e). cc)
-field name (Some (local y)) lent = nothing (λ q r (a, b, s, e). cc)
-field name None lent = nothing (λ q r (a, b, s, e). cc)
+field name (Some (local y)) shared = nothing (λ q r (a, b, s, e). cc)
+field name None shared = nothing (λ q r (a, b, s, e). cc)
 
 abbrev field_keys : Fields → List Text
 field_keys no_more = []
@@ -194,7 +194,7 @@ module _ (w : Option WorkspacePackage) (member : Package) where
       → Lists H (fields_refusals fs w member) (λ q r. some_field (field_refused member w (package_path q) r) fs)
   unfolding IsDistinct
   fields no_more d = nothing (λ q r x. x)
-  fields (f ⨾ fs) d = and_then (field f.key (f.own member) (f.lent w)) (fields fs d.1)
+  fields (f ⨾ fs) d = and_then (field f.key (f.own member) (f.shared w)) (fields fs d.1)
       (λ h q r (a, b, s, e) x. let (k, t, apart) = by_key fs (package_path q) r x in apart f.key d.0 cc)
 
 -- THE DEPENDENCIES
@@ -207,12 +207,12 @@ lender name (Some (by_workspace d)) = said_as (here (inherited_in_workspace name
 lender name (Some (simple v)) = nothing (λ q r (s, x). elim x [ inl (a, e) ↦ cc | inr (d, a, e) ↦ cc ])
 lender name (Some (detailed v)) = nothing (λ q r (s, x). elim x [ inl (a, e) ↦ cc | inr (d, a, e) ↦ cc ])
 
-module _ (lent : Entries Dependency) where
-  dependency : {H : Type 0} (name : Text) (d : Dependency) → Lists H (dependency_refusals lent name d)
+module _ (shared : Entries Dependency) where
+  dependency : {H : Type 0} (name : Text) (d : Dependency) → Lists H (dependency_refusals shared name d)
       (λ q r. (own : InheritedDependencyDetail) × (d ≡ by_workspace own) × (q ≡ [])
-      × name_unfit name (workspace_dependency lent name) r)
+      × name_unfit name (workspace_dependency shared name) r)
   dependency name (by_workspace own) =
-      said_as (lender name (workspace_dependency lent name))
+      said_as (lender name (workspace_dependency shared name))
       (λ q r (s, x). (own, refl, s, x)) (λ q r (o, e, s, x). (s, x))
   dependency name (simple v) = nothing (λ q r (o, e, s, x). cc)
   dependency name (detailed v) = nothing (λ q r (o, e, s, x). cc)
@@ -220,11 +220,11 @@ module _ (lent : Entries Dependency) where
   abbrev InMap : Entries Dependency → Reasons
   InMap es q r =
       (name : Text) × (own : InheritedDependencyDetail) × Contains es (name, by_workspace own) × (q ≡ key name ∷ [])
-      × name_unfit name (workspace_dependency lent name) r
+      × name_unfit name (workspace_dependency shared name) r
 
   dependencies : {H : Type 0} (es : Entries Dependency) → (H → HasDistinctKeys es)
-      → Lists H (dependencies_refusals lent es) (InMap es)
-  dependencies es keys = said_as (entries (dependency_refusals lent) _ es keys (λ k d i. dependency k d))
+      → Lists H (dependencies_refusals shared es) (InMap es)
+  dependencies es keys = said_as (entries (dependency_refusals shared) _ es keys (λ k d i. dependency k d))
       (λ p r (name, d, q, i, s, (own, e, t, x)). (name, own, subst (λ d. Contains es (name, d)) e i, cc, x))
       (λ p r (name, own, i, s, x). (name, by_workspace own, [], i, s, (own, refl, refl, x)))
 
@@ -234,7 +234,7 @@ module _ (lent : Entries Dependency) where
       × InMap es q r
 
   platform_parts : (t : Target)
-      → entries_refusals (λ k. dependencies_refusals lent) (platform_maps t) ≡ platform_refusals lent t
+      → entries_refusals (λ k. dependencies_refusals shared) (platform_maps t) ≡ platform_refusals shared t
   platform_parts t = simp (append_assoc, append-nil)
 
   platform_keys : (t : Target) → HasDistinctKeys (platform_maps t)
@@ -243,10 +243,10 @@ module _ (lent : Entries Dependency) where
 
   platform : {H : Type 0} (t : Target)
       → (H → (k : Text) (es : Entries Dependency) → Contains (platform_maps t) (k, es) → HasDistinctKeys es)
-      → Lists H (platform_refusals lent t) (InPlatform t)
+      → Lists H (platform_refusals shared t) (InPlatform t)
   platform {H = H} t keys =
       subst (λ fs. Lists H fs (InPlatform t)) (platform_parts t)
-      (entries (λ k. dependencies_refusals lent) (λ k. InMap) (platform_maps t) (λ h. platform_keys t)
+      (entries (λ k. dependencies_refusals shared) (λ k. InMap) (platform_maps t) (λ h. platform_keys t)
       (λ k es i. dependencies es (λ h. keys h k es i)))
 
 -- THE LINTS
@@ -270,11 +270,11 @@ tools : {H : Type 0} (own : Entries (Entries Lint)) → Lists H (tools_refusals 
 tools [] = nothing (λ q r (s, (t, i, e)). in_none t i)
 tools (t ∷ ts) = said_as (here mixed_lints) (λ q r (s, e). (s, (t, first_in t ts, e))) (λ q r (s, (u, i, e)). (s, e))
 
-lent_lints : {H : Type 0} (lent : Option (Entries (Entries Lint)))
-    → Lists H (lent_lints_refusals lent) (λ q r. (q ≡ []) × lints_unfit lent r)
-lent_lints None = said_as (here (not_in_workspace (codes "lints"))) (λ q r (s, e). (s, inl (refl, e)))
+shared_lints : {H : Type 0} (shared : Option (Entries (Entries Lint)))
+    → Lists H (shared_lints_refusals shared) (λ q r. (q ≡ []) × lints_unfit shared r)
+shared_lints None = said_as (here (not_in_workspace (codes "lints"))) (λ q r (s, e). (s, inl (refl, e)))
     (λ q r (s, x). (s, elim x [ inl (a, e) ↦ e | inr (ts, t, a, i, e) ↦ cc ]))
-lent_lints {H = H} (Some ts) = by_names (none_named (codes "workspace" ∷ []) ts) refl
+shared_lints {H = H} (Some ts) = by_names (none_named (codes "workspace" ∷ []) ts) refl
   where
     by_names : (b : Bool) → none_named (codes "workspace" ∷ []) ts ≡ b
         → Lists H (if b then [] else refused_here tool_named_workspace) (λ q r. (q ≡ []) × lints_unfit (Some ts) r)
@@ -290,22 +290,23 @@ lent_lints {H = H} (Some ts) = by_names (none_named (codes "workspace" ∷ []) t
         (λ q r (s, x). (s, elim x [ inl (a, e) ↦ cc | inr (us, t, a, i, e) ↦ e ]))
 
 abbrev InLints : Option (Unit {0}) → Option (Entries (Entries Lint)) → Entries (Entries Lint) → Reasons
-InLints mark lent own q r =
+InLints mark shared own q r =
     (mark ≡ Some tt) × (q ≡ [])
-    × (((tool : Text × Entries Lint) × Contains own tool × (r ≡ mixed_lints)) ⊎ lints_unfit lent r)
+    × (((tool : Text × Entries Lint) × Contains own tool × (r ≡ mixed_lints)) ⊎ lints_unfit shared r)
 
-lints : {H : Type 0} (mark : Option (Unit {0})) (lent : Option (Entries (Entries Lint))) (own : MaybeInheritedLintsSet)
-    → Lists H (lints_refusals_by mark lent own) (InLints mark lent own.lints)
-lints None lent own = nothing (λ q r (u, s, x). cc)
-lints (Some u) lent own = said_as (and_then (tools own.lints) (lent_lints lent)
+lints : {H : Type 0} (mark : Option (Unit {0})) (shared : Option (Entries (Entries Lint)))
+    (own : MaybeInheritedLintsSet)
+    → Lists H (lints_refusals_by mark shared own) (InLints mark shared own.lints)
+lints None shared own = nothing (λ q r (u, s, x). cc)
+lints (Some u) shared own = said_as (and_then (tools own.lints) (shared_lints shared)
     (λ h q r (s, (t, i, e)) (s', x). elim x [ inl (a, e') ↦ cc | inr (ts, y, a, j, e') ↦ cc ]))
     (λ q r x. elim x [ inl (s, y) ↦ (refl, s, inl y) | inr (s, y) ↦ (refl, s, inr y) ])
     (λ q r (a, s, x). elim x [ inl y ↦ inl (s, y) | inr y ↦ inr (s, y) ])
 
 -- THE LIST OF ALL REFUSALS
 module _ (m : Manifest) (w : Workspace) where
-  abbrev lent : Entries Dependency
-  lent = lent_dependencies w
+  abbrev shared : Entries Dependency
+  shared = shared_dependencies w
 
   in_package : Lists (KeysDiffer m) (refused_under (codes "package") (of_package m w)) (package_refused m w)
   in_package = said_as (under (codes "package") (some (fields_refusals lendable w.«package») _ m.«package»
@@ -320,17 +321,17 @@ module _ (m : Manifest) (w : Workspace) where
 
   maps : Lists (KeysDiffer m) (entries_refusals (λ k. of_map m w) (maps_of m))
       (λ p r. (k : Text) × (o : Option (Entries Dependency)) × (q : Path) × Contains (maps_of m) (k, o)
-      × (p ≡ key k ∷ q) × ((es : Entries Dependency) × (o ≡ Some es) × InMap lent es q r))
+      × (p ≡ key k ∷ q) × ((es : Entries Dependency) × (o ≡ Some es) × InMap shared es q r))
   maps = entries (λ k. of_map m w) _ (maps_of m) (λ h. map_keys) (λ k o i.
-      some (dependencies_refusals lent) _ o (λ es e. dependencies lent es (λ h.
+      some (dependencies_refusals shared) _ o (λ es e. dependencies shared es (λ h.
       h.maps (key k ∷ []) es (inl (k, subst (λ o. Contains (maps_of m) (k, o)) e i, refl)))))
 
   platforms : Lists (KeysDiffer m) (of_platforms m w)
       (λ p r. (ts : Entries Target) × (m.target ≡ Some ts)
-      × ((n : Text) × (t : Target) × (q : Path) × Contains ts (n, t) × (p ≡ key n ∷ q) × InPlatform lent t q r))
-  platforms = some (platforms_refusals lent) _ m.target (λ ts e.
-      entries (λ n. platform_refusals lent) _ ts (λ h. subst (λ o. IfSome o HasDistinctKeys) e h.platforms) (λ n t i.
-      platform lent t (λ h k es j.
+      × ((n : Text) × (t : Target) × (q : Path) × Contains ts (n, t) × (p ≡ key n ∷ q) × InPlatform shared t q r))
+  platforms = some (platforms_refusals shared) _ m.target (λ ts e.
+      entries (λ n. platform_refusals shared) _ ts (λ h. subst (λ o. IfSome o HasDistinctKeys) e h.platforms) (λ n t i.
+      platform shared t (λ h k es j.
       h.maps (key (codes "target") ∷ key n ∷ key k ∷ []) es (inr (ts, n, t, k, e, i, j, refl)))))
 
   in_maps : Lists (KeysDiffer m)
@@ -348,7 +349,7 @@ module _ (m : Manifest) (w : Workspace) where
         | inl (k, i, e) ↦ inl (k, Some es, key name ∷ [], i, cc, (es, refl, (name, own, a, refl, v)))
         | inr (ts, n, x, k, t, i, j, e) ↦
             let q' : Path = key k ∷ key name ∷ [] in
-            let inside : InPlatform lent x q' r = (k, es, key name ∷ [], j, refl, (name, own, a, refl, v)) in
+            let inside : InPlatform shared x q' r = (k, es, key name ∷ [], j, refl, (name, own, a, refl, v)) in
             inr (key n ∷ q', cc, (ts, t, (n, x, q', i, refl, inside)))
       ])
 

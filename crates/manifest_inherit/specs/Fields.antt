@@ -8,7 +8,7 @@ pub record Field : Type 1 where
   pub content : Type 0
   pub key : Text
   pub own : Package → Option (Inheritable content)
-  pub lent : Option WorkspacePackage → Option content
+  pub shared : Option WorkspacePackage → Option content
   pub with_content : Package → Option (Inheritable content) → Package
 
 infixr 40 ◌⨾◌
@@ -18,11 +18,11 @@ pub data Fields : Type 1 where
 
 abbrev pub field : {A : Type 0} → Text → (Package → Option (Inheritable A))
     → (WorkspacePackage → Option A) → (Package → Option (Inheritable A) → Package) → Field
-field {A = A} key own lent with_content = record {
+field {A = A} key own shared with_content = record {
   content = A;
   key = key;
   own = own;
-  lent = option_and_then lent;
+  shared = option_and_then shared;
   with_content = with_content;
 }
 

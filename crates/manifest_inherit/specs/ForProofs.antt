@@ -16,8 +16,8 @@ abbrev pub Accepted : {A : Type 0} → PlacedRefusals → A → A → Type 0
 Accepted refusals becomes made = (refusals ≡ []) × (made ≡ becomes)
 
 -- the workspace's dependencies that can be inherited, where there is a map of them
-abbrev pub lent_by_map : Option (BTreeMap (String Global) DependencyOfCode) → Entries Dependency
-lent_by_map lent = unwrap_or (option_map dependencies_content lent) []
+abbrev pub shared_by_map : Option (BTreeMap (String Global) DependencyOfCode) → Entries Dependency
+shared_by_map shared = unwrap_or (option_map dependencies_content shared) []
 
 -- borrowed texts
 abbrev pub borrowed_texts : List (Bor Text) → List Text
@@ -35,7 +35,7 @@ how_many (f ⨾ fs) = suc (how_many fs)
 
 -- the refusals of the field at this place
 abbrev pub refusals_at : ℕ → Fields → Option WorkspacePackage → Package → PlacedRefusals
-refusals_at zero (f ⨾ fs) w p = field_refusals f.key (f.own p) (f.lent w)
+refusals_at zero (f ⨾ fs) w p = field_refusals f.key (f.own p) (f.shared w)
 refusals_at (suc i) (f ⨾ fs) w p = refusals_at i fs w p
 refusals_at _ _ w p = []
 

@@ -3,7 +3,7 @@ use Rattle.manifest_schema.specs.Prelude.{Contains, IfSome, keys_of, bytes_eq, T
 use Rattle.std.specs.Prelude.{◌≡◌, ◌⊎◌, [], ◌∷◌, ◌++◌, codes, Option, Some, None}
 use Rattle.std.specs.List.{IsDistinct}
 use Rattle.manifest_inherit.specs.Fields.{Field, Fields, no_more, ◌⨾◌, lendable}
-use Rattle.manifest_inherit.specs.Resolved.{workspace_dependency, lent_dependencies}
+use Rattle.manifest_inherit.specs.Resolved.{workspace_dependency, shared_dependencies}
 use Rattle.manifest_inherit.specs.Refused.{Refusal, not_in_workspace, inherited_in_workspace, mixed_lints, tool_named_workspace}
 
 -- one of the fields is such
@@ -15,7 +15,7 @@ some_field P (f ⨾ fs) = P f ⊎ some_field P fs
 abbrev pub field_refused :
     Package → Option WorkspacePackage → Path → Refusal → Field → Type 0
 field_refused member w p r f =
-    (f.own member ≡ Some inherited) × (f.lent w ≡ None)
+    (f.own member ≡ Some inherited) × (f.shared w ≡ None)
     × (p ≡ key (codes "package") ∷ key f.key ∷ []) × (r ≡ not_in_workspace f.key)
 
 abbrev pub package_refused : Manifest → Workspace → Path → Refusal → Type 0
@@ -48,9 +48,9 @@ has_map_at m p es =
 
 -- A DEPENDENCY of this name: the workspace has none, or inherits its own
 abbrev pub name_unfit : Text → Option Dependency → Refusal → Type 0
-name_unfit name lent r =
-    ((lent ≡ None) × (r ≡ not_in_workspace name))
-    ⊎ ((theirs : InheritedDependencyDetail) × (lent ≡ Some (by_workspace theirs))
+name_unfit name shared r =
+    ((shared ≡ None) × (r ≡ not_in_workspace name))
+    ⊎ ((theirs : InheritedDependencyDetail) × (shared ≡ Some (by_workspace theirs))
     × (r ≡ inherited_in_workspace name))
 
 -- a dependency that is inherited, of one of the maps
@@ -58,13 +58,13 @@ abbrev pub dependency_refused : Manifest → Workspace → Path → Refusal → 
 dependency_refused m w p r =
     (es : Entries Dependency) × (q : Path) × (name : Text) × (own : InheritedDependencyDetail)
     × has_map_at m q es × Contains es (name, by_workspace own) × (p ≡ q ++ key name ∷ [])
-    × name_unfit name (workspace_dependency (lent_dependencies w) name) r
+    × name_unfit name (workspace_dependency (shared_dependencies w) name) r
 
 -- LINTS: they are inherited, and have a tool as well; or the workspace has none, or has a tool `workspace`
 abbrev pub lints_unfit : Option (Entries (Entries Lint)) → Refusal → Type 0
-lints_unfit lent r =
-    ((lent ≡ None) × (r ≡ not_in_workspace (codes "lints")))
-    ⊎ ((tools : Entries (Entries Lint)) × (x : Entries Lint) × (lent ≡ Some tools)
+lints_unfit shared r =
+    ((shared ≡ None) × (r ≡ not_in_workspace (codes "lints")))
+    ⊎ ((tools : Entries (Entries Lint)) × (x : Entries Lint) × (shared ≡ Some tools)
     × Contains tools (codes "workspace", x) × (r ≡ tool_named_workspace))
 
 abbrev pub lints_refused : Manifest → Workspace → Path → Refusal → Type 0

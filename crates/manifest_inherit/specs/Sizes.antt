@@ -1,7 +1,8 @@
--- HOW MUCH A MANIFEST INHERITS of a workspace's dependencies: the bytes of their texts, at each place that inherits one.
+-- HOW MUCH A MANIFEST INHERITS of a workspace's dependencies: the bytes of their texts, at each place that inherits
+-- one.
 use Rattle.manifest_schema.specs.Prelude.{Text, Entries, DependencyDetail, Dependency, simple, by_workspace, detailed, Target, Workspace, Manifest}
 use Rattle.std.specs.Prelude.{◌≡◌, ℕ, ◌+◌, ◌<◌, nat_le, Bool, List, [], ◌∷◌, length, Option, Some, None}
-use Rattle.manifest_inherit.specs.Resolved.{workspace_dependency, lent_dependencies}
+use Rattle.manifest_inherit.specs.Resolved.{workspace_dependency, shared_dependencies}
 
 -- a text, with the two bytes that stand around it at least, in whatever form it is written
 abbrev pub text_size : Text → ℕ
@@ -34,8 +35,8 @@ given_size _ = 0
 
 -- WHAT IS INHERITED by a dependency of this name
 abbrev pub dependency_size : Entries Dependency → Text → Dependency → ℕ
-dependency_size lent name (by_workspace own) = given_size (workspace_dependency lent name)
-dependency_size lent name d = 0
+dependency_size shared name (by_workspace own) = given_size (workspace_dependency shared name)
+dependency_size shared name d = 0
 
 -- by each value of a map, under its name
 abbrev pub entries_size : {A : Type 0} → (Text → A → ℕ) → Entries A → ℕ
@@ -48,21 +49,21 @@ optional_entries_size size (Some es) = entries_size size es
 
 -- by the three maps of a platform
 abbrev pub platform_size : Entries Dependency → Target → ℕ
-platform_size lent p =
-    entries_size (dependency_size lent) p.dependencies
-    + (entries_size (dependency_size lent) p.dev_dependencies
-    + entries_size (dependency_size lent) p.build_dependencies)
+platform_size shared p =
+    entries_size (dependency_size shared) p.dependencies
+    + (entries_size (dependency_size shared) p.dev_dependencies
+    + entries_size (dependency_size shared) p.build_dependencies)
 
 -- BY A MANIFEST
 abbrev pub inherited_size_of : Entries Dependency → Manifest → ℕ
-inherited_size_of lent m =
-    optional_entries_size (dependency_size lent) m.dependencies
-    + (optional_entries_size (dependency_size lent) m.dev_dependencies
-    + (optional_entries_size (dependency_size lent) m.build_dependencies
-    + optional_entries_size (λ name. platform_size lent) m.target))
+inherited_size_of shared m =
+    optional_entries_size (dependency_size shared) m.dependencies
+    + (optional_entries_size (dependency_size shared) m.dev_dependencies
+    + (optional_entries_size (dependency_size shared) m.build_dependencies
+    + optional_entries_size (λ name. platform_size shared) m.target))
 
 unfoldable pub inherited_size : Manifest → Workspace → ℕ
-inherited_size m w = inherited_size_of (lent_dependencies w) m
+inherited_size m w = inherited_size_of (shared_dependencies w) m
 
 abbrev pub inherits_at_most : Manifest → Workspace → ℕ → Bool
 inherits_at_most m w most = nat_le (inherited_size m w) most

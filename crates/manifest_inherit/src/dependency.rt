@@ -7,7 +7,7 @@ ghost use Rattle.manifest_parts.specs.Queries.{simplify};
 ghost use Rattle.manifest_inherit.specs.Resolved.{workspace_dependency, version_alone, joined, resolved_dependency};
 ghost use Rattle.manifest_inherit.specs.Refused.{dependency_refusals};
 ghost use Rattle.manifest_inherit.specs.Answers.{fault_of, RefusesFirst};
-ghost use Rattle.manifest_inherit.specs.ForProofs.{Accepted, lent_by_map};
+ghost use Rattle.manifest_inherit.specs.ForProofs.{Accepted, shared_by_map};
 
 use crate::error::{ResolveError, inherited_in_workspace, not_in_workspace};
 use crate::faults::{Faults, refused_here};
@@ -18,14 +18,14 @@ use std::alloc::{AllocError, Global};
 
 /// The workspace's dependency of this name; `None` where the workspace does not have it, or no dependencies at all.
 pub(crate) fn workspace_dependency<'a>(
-    lent: &'a Option<DepsSet>,
+    shared: &'a Option<DepsSet>,
     name: &str,
 ) -> Option<&'a Dependency>
     ensures { option_map (λ d. dependency_content d.now) result
-        ≡ workspace_dependency (lent_by_map lent.now) name.now }
+        ≡ workspace_dependency (shared_by_map shared.now) name.now }
 {
-    match lent {
-        Some(lent) => lent.get(name),
+    match shared {
+        Some(shared) => shared.get(name),
         None => None,
     }
 }
@@ -40,28 +40,28 @@ fn version_alone(version: &String) -> Result<DependencyDetail, AllocError>
     Ok(detail)
 }
 
-/// What the member says (`own`); where that is `None`, what the workspace says (`lent`).
-fn own_or_workspace(own: Option<bool>, lent: Option<bool>) -> Option<bool>
+/// What the member says (`own`); where that is `None`, what the workspace says (`shared`).
+fn own_or_workspace(own: Option<bool>, shared: Option<bool>) -> Option<bool>
     ensures { option_map (λ b. b) result
-        ≡ option_or (option_map (λ b. b) own) (option_map (λ b. b) lent) }
+        ≡ option_or (option_map (λ b. b) own) (option_map (λ b. b) shared) }
 {
     match own {
         Some(flag) => Some(flag),
-        None => lent,
+        None => shared,
     }
 }
 
-/// What an inherited dependency becomes: the workspace's (`lent`), with the features of both, `optional` of the member
+/// What an inherited dependency becomes: the workspace's (`shared`), with the features of both, `optional` of the member
 /// (`own`), and the default features as the member says or else the workspace; simplified.
 fn join_dependency(
     alloc: Global,
     own: &InheritedDependencyDetail,
-    lent: DependencyDetail,
+    shared: DependencyDetail,
 ) -> Result<Dependency, AllocError>
     ensures { IfOk result (λ d. dependency_content d
-        ≡ simplify (detailed (joined (inherited_content own.now) (detail_content lent)))) }
+        ≡ simplify (detailed (joined (inherited_content own.now) (detail_content shared)))) }
 {
-    let mut detail = lent;
+    let mut detail = shared;
     join_features(alloc, &mut detail.features, &own.features)?;
     detail.optional = own.optional;
     detail.default_features = own_or_workspace(own.default_features, detail.default_features);
@@ -72,20 +72,20 @@ fn join_dependency(
 /// the member says; any other one a copy of itself.
 pub(crate) fn resolved_dependency(
     alloc: Global,
-    lent: &Option<DepsSet>,
+    shared: &Option<DepsSet>,
     name: &str,
     own: &Dependency,
 ) -> Result<Dependency, ResolveError>
-    ensures ok { let all = lent_by_map lent.now in let d = dependency_content own.now in
+    ensures ok { let all = shared_by_map shared.now in let d = dependency_content own.now in
         IfOk result (λ x. Accepted (dependency_refusals all name.now d)
         (resolved_dependency all name.now d) (dependency_content x)) }
-    ensures refused { let all = lent_by_map lent.now in let d = dependency_content own.now in
+    ensures refused { let all = shared_by_map shared.now in let d = dependency_content own.now in
         IfErr result (RefusesFirst (dependency_refusals all name.now d)) }
 {
     match own {
         Dependency::Simple(version) => Ok(Dependency::Simple(copy_of(version)?)),
         Dependency::Detailed(detail) => Ok(Dependency::Detailed(copy_of(detail)?)),
-        Dependency::Inherited(own) => match workspace_dependency(lent, name) {
+        Dependency::Inherited(own) => match workspace_dependency(shared, name) {
             None => Err(ResolveError::Refused(not_in_workspace(alloc, name)?)),
             Some(Dependency::Inherited(_)) => {
                 Err(ResolveError::Refused(inherited_in_workspace(alloc, name)?))
@@ -104,17 +104,17 @@ pub(crate) fn resolved_dependency(
 /// itself inherits it.
 pub(crate) fn dependency_refusals(
     alloc: Global,
-    lent: &Option<DepsSet>,
+    shared: &Option<DepsSet>,
     name: &str,
     own: &Dependency,
 ) -> Faults
     ensures { let d = dependency_content own.now in IfOk result
-        (λ v. map fault_of v.items ≡ dependency_refusals (lent_by_map lent.now) name.now d) }
+        (λ v. map fault_of v.items ≡ dependency_refusals (shared_by_map shared.now) name.now d) }
 {
     match own {
         Dependency::Simple(_) => Ok(Vec::new(alloc)),
         Dependency::Detailed(_) => Ok(Vec::new(alloc)),
-        Dependency::Inherited(_) => match workspace_dependency(lent, name) {
+        Dependency::Inherited(_) => match workspace_dependency(shared, name) {
             None => refused_here(alloc, not_in_workspace(alloc, name)?),
             Some(Dependency::Inherited(_)) => {
                 refused_here(alloc, inherited_in_workspace(alloc, name)?)

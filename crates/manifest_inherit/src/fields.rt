@@ -17,18 +17,18 @@ use manifest_value::{Metadata, Schema, at_place};
 use std::alloc::Global;
 
 /// Why a field is not resolved, under its key: the package inherits it (`own`), and the workspace does not have it
-/// (`lent`).
+/// (`shared`).
 fn field_refusals<T: Schema>(
     alloc: Global,
     key: &str,
     own: &Option<MaybeInherited<T>>,
-    lent: &Option<T>,
+    shared: &Option<T>,
 ) -> Faults
     ensures { let o = option_map (inh_content T.content) own.now in
-        let l = option_map T.content lent.now in
+        let l = option_map T.content shared.now in
         IfOk result (λ v. map fault_of v.items ≡ field_refusals key.now o l) }
 {
-    match (own, lent) {
+    match (own, shared) {
         (Some(MaybeInherited::Inherited { .. }), None) => {
             let here = refused_here(alloc, not_in_workspace(alloc, key)?)?;
             refused_under(alloc, key, here)
@@ -38,7 +38,7 @@ fn field_refusals<T: Schema>(
 }
 
 /// The fields that may be inherited from a workspace, each with its key, in the order of the definitions.
-/// `lendable!(put_of(own, lent))` calls `put_of!` with these arguments and then the fields.
+/// `lendable!(put_of(own, shared))` calls `put_of!` with these arguments and then the fields.
 macro_rules! lendable {
     ($make:ident $given:tt) => {
         $make! { $given
@@ -69,16 +69,16 @@ macro_rules! keys_of {
 
 /// The body of `refusals_at` by the list, a `match` on `i`.
 macro_rules! refusals_of {
-    (($alloc:ident, $own:ident, $lent:ident, $i:ident) $($field:ident: $key:literal;)*) => {
+    (($alloc:ident, $own:ident, $shared:ident, $i:ident) $($field:ident: $key:literal;)*) => {
         at_place!($i; Ok(Vec::new($alloc));
-            $({ field_refusals($alloc, $key, &$own.$field, &$lent.$field) })*)
+            $({ field_refusals($alloc, $key, &$own.$field, &$shared.$field) })*)
     };
 }
 
 /// The body of `put_fields` by the list.
 macro_rules! put_of {
-    (($own:ident, $lent:ident) $($field:ident: $key:literal;)*) => {{
-        let WorkspacePackage { $($field),* } = $lent;
+    (($own:ident, $shared:ident) $($field:ident: $key:literal;)*) => {{
+        let WorkspacePackage { $($field),* } = $shared;
         $(put_field(&mut $own.$field, $field);)*
     }};
 }
@@ -100,43 +100,47 @@ fn keys() -> &'static [&'static str]
 fn refusals_at<M: Metadata>(
     alloc: Global,
     own: &Package<M>,
-    lent: &WorkspacePackage,
+    shared: &WorkspacePackage,
     i: usize,
 ) -> Faults
     requires { i < how_many lendable }
     ensures { let p = package_of M.kind M.content own.now in
-        let w = Some (workspace_package_content lent.now) in
+        let w = Some (workspace_package_content shared.now) in
         IfOk result (λ v. map fault_of v.items ≡ refusals_at i lendable w p) }
 {
-    lendable!(refusals_of(alloc, own, lent, i))
+    lendable!(refusals_of(alloc, own, shared, i))
 }
 
-/// All refusals of the fields of a package (`own`): each that it inherits and the workspace (`lent`) does not have,
+/// All refusals of the fields of a package (`own`): each that it inherits and the workspace (`shared`) does not have,
 /// under its key.
-fn fields_refusals<M: Metadata>(alloc: Global, own: &Package<M>, lent: &WorkspacePackage) -> Faults
+fn fields_refusals<M: Metadata>(
+    alloc: Global,
+    own: &Package<M>,
+    shared: &WorkspacePackage,
+) -> Faults
     ensures { let p = package_of M.kind M.content own.now in
-        let w = Some (workspace_package_content lent.now) in
+        let w = Some (workspace_package_content shared.now) in
         IfOk result (λ v. map fault_of v.items ≡ fields_refusals lendable w p) }
 {
     let mut list = Vec::new(alloc);
     for i in 0..keys().len() {
-        list = and(list, refusals_at(alloc, own, lent, i)?)?;
+        list = and(list, refusals_at(alloc, own, shared, i)?)?;
     }
     Ok(list)
 }
 
-/// The same over the workspace's fields where it may have none (`lent`): then each field that is inherited is refused.
+/// The same over the workspace's fields where it may have none (`shared`): then each field that is inherited is refused.
 pub(crate) fn package_refusals<M: Metadata>(
     alloc: Global,
     own: &Package<M>,
-    lent: &Option<WorkspacePackage>,
+    shared: &Option<WorkspacePackage>,
 ) -> Faults
-    ensures { let w = option_map workspace_package_content lent.now in
+    ensures { let w = option_map workspace_package_content shared.now in
         let p = package_of M.kind M.content own.now in
         IfOk result (λ v. map fault_of v.items ≡ fields_refusals lendable w p) }
 {
-    match lent {
-        Some(lent) => fields_refusals(alloc, own, lent),
+    match shared {
+        Some(shared) => fields_refusals(alloc, own, shared),
         None => {
             let nothing = WorkspacePackage::default();
             let answer = fields_refusals(alloc, own, &nothing);
@@ -150,28 +154,28 @@ pub(crate) fn package_refusals<M: Metadata>(
 pub(crate) fn optional_package_refusals<M: Metadata>(
     alloc: Global,
     own: &Option<Package<M>>,
-    lent: &Option<WorkspacePackage>,
+    shared: &Option<WorkspacePackage>,
 ) -> Faults
-    ensures { let w = option_map workspace_package_content lent.now in
+    ensures { let w = option_map workspace_package_content shared.now in
         let o = option_map (package_of M.kind M.content) own.now in
         IfOk result (λ v. map fault_of v.items ≡ some_refusals (fields_refusals lendable w) o) }
 {
     match own {
-        Some(own) => package_refusals(alloc, own, lent),
+        Some(own) => package_refusals(alloc, own, shared),
         None => Ok(Vec::new(alloc)),
     }
 }
 
 /// Sets `place`, a field of the package, to the workspace's value, if the field is inherited and the workspace has one
-/// (`lent`); else the field stays as it is.
-fn put_field<T: Schema>(place: &mut Option<MaybeInherited<T>>, lent: Option<T>)
+/// (`shared`); else the field stays as it is.
+fn put_field<T: Schema>(place: &mut Option<MaybeInherited<T>>, shared: Option<T>)
     ensures { option_map (inh_content T.content) place.new
         ≡ resolved_field (option_map (inh_content T.content) place.old)
-        (option_map T.content lent) }
+        (option_map T.content shared) }
 {
     match place {
         Some(MaybeInherited::Inherited { .. }) => {
-            if let Some(x) = lent {
+            if let Some(x) = shared {
                 *place = Some(MaybeInherited::Local(x));
             }
         }
@@ -183,10 +187,10 @@ fn put_field<T: Schema>(place: &mut Option<MaybeInherited<T>>, lent: Option<T>)
 /// Sets each field that the package inherits to that of the workspace, as [`put_field`] does; all else of the package
 /// stays as it is. The macro makes one call of `put_field` for each field.
 #[tactic(auto, unfolding(crate::specs::Resolved::resolved_package, crate::specs::Fields::lendable))]
-pub(crate) fn put_fields<M: Metadata>(own: &mut Package<M>, lent: WorkspacePackage)
+pub(crate) fn put_fields<M: Metadata>(own: &mut Package<M>, shared: WorkspacePackage)
     ensures { package_of M.kind M.content own.new
-        ≡ resolved_package (Some (workspace_package_content lent))
+        ≡ resolved_package (Some (workspace_package_content shared))
         (package_of M.kind M.content own.old) }
 {
-    lendable!(put_of(own, lent))
+    lendable!(put_of(own, shared))
 }

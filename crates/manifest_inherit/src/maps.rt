@@ -9,7 +9,7 @@ ghost use Rattle.manifest_parts.specs.Records.{dependency_content, platform_cont
 ghost use Rattle.manifest_inherit.specs.Resolved.{resolved_entries, resolved_dependency, resolved_platform};
 ghost use Rattle.manifest_inherit.specs.Refused.{Refusal, refused_under, dependency_refusals, entries_refusals, platform_refusals, some_refusals};
 ghost use Rattle.manifest_inherit.specs.Answers.{fault_of, RefusesFirst};
-ghost use Rattle.manifest_inherit.specs.ForProofs.{Accepted, lent_by_map};
+ghost use Rattle.manifest_inherit.specs.ForProofs.{Accepted, shared_by_map};
 ghost use Rattle.manifest_inherit.specs.Sizes.{dependency_size, platform_size, Leaves};
 
 use crate::dependency::{dependency_refusals, resolved_dependency};
@@ -23,7 +23,7 @@ use std::collections::BTreeMap;
 
 /// A value of a map in a manifest which inherits from the workspace: a dependency, by its name, or a platform's table,
 /// by the dependencies in it.
-pub(crate) trait Heir: Sized + Drop {
+pub(crate) trait Resolvable: Sized + Drop {
     ghost Content: { Type 0 };
 
     ghost content: { Self → Content };
@@ -36,34 +36,34 @@ pub(crate) trait Heir: Sized + Drop {
     ghost size: { Entries Contents.Dependency → List ℕ → Content → ℕ };
 
     /// A copy of the value, which stands under the key `name`, with what it inherits from the workspace's dependencies
-    /// (`lent`). Refuses where the workspace does not have what is inherited, or itself inherits it.
+    /// (`shared`). Refuses where the workspace does not have what is inherited, or itself inherits it.
     fn resolve_under_name(
         &self,
         alloc: Global,
-        lent: &Option<DepsSet>,
+        shared: &Option<DepsSet>,
         name: &str,
     ) -> Result<Self, ResolveError>
-        ensures ok { let all = lent_by_map lent.now in let x = content self.now in
+        ensures ok { let all = shared_by_map shared.now in let x = content self.now in
             IfOk result (λ y. Accepted (refusals all name.now x)
             (resolved all name.now x) (content y)) }
-        ensures refused { let all = lent_by_map lent.now in
+        ensures refused { let all = shared_by_map shared.now in
             IfErr result (RefusesFirst (refusals all name.now (content self.now))) };
 
-    /// All refusals of the value, which stands under the key `name`: each of what the workspace's dependencies (`lent`)
+    /// All refusals of the value, which stands under the key `name`: each of what the workspace's dependencies (`shared`)
     /// do not have, or themselves inherit.
-    fn refusals_under_name(&self, alloc: Global, lent: &Option<DepsSet>, name: &str) -> Faults
-        ensures { let told = refusals (lent_by_map lent.now) name.now (content self.now) in
-            IfOk result (λ v. map fault_of v.items ≡ told) };
+    fn refusals_under_name(&self, alloc: Global, shared: &Option<DepsSet>, name: &str) -> Faults
+        ensures { let reported = refusals (shared_by_map shared.now) name.now (content self.now) in
+            IfOk result (λ v. map fault_of v.items ≡ reported) };
 
     /// What is left of `most` after what the value inherits, which stands under the key `name`: the texts of the
-    /// workspace's dependencies (`lent`). `None` where these take more.
-    fn less_inherited(&self, most: usize, lent: &Option<DepsSet>, name: &str) -> Option<usize>
-        ensures { let n = size (lent_by_map lent.now) name.now (content self.now) in
+    /// workspace's dependencies (`shared`). `None` where these take more.
+    fn less_inherited(&self, most: usize, shared: &Option<DepsSet>, name: &str) -> Option<usize>
+        ensures { let n = size (shared_by_map shared.now) name.now (content self.now) in
             Leaves most n result };
 }
 
 /// A dependency becomes what [`resolved_dependency`] makes of it under its name.
-impl Heir for Dependency {
+impl Resolvable for Dependency {
     ghost Content = { Contents.Dependency };
 
     ghost content = { dependency_content };
@@ -77,42 +77,42 @@ impl Heir for Dependency {
     fn resolve_under_name(
         &self,
         alloc: Global,
-        lent: &Option<DepsSet>,
+        shared: &Option<DepsSet>,
         name: &str,
     ) -> Result<Dependency, ResolveError> {
-        resolved_dependency(alloc, lent, name, self)
+        resolved_dependency(alloc, shared, name, self)
     }
 
-    fn refusals_under_name(&self, alloc: Global, lent: &Option<DepsSet>, name: &str) -> Faults {
-        dependency_refusals(alloc, lent, name, self)
+    fn refusals_under_name(&self, alloc: Global, shared: &Option<DepsSet>, name: &str) -> Faults {
+        dependency_refusals(alloc, shared, name, self)
     }
 
-    fn less_inherited(&self, most: usize, lent: &Option<DepsSet>, name: &str) -> Option<usize> {
-        less_dependency(most, lent, name, self)
+    fn less_inherited(&self, most: usize, shared: &Option<DepsSet>, name: &str) -> Option<usize> {
+        less_dependency(most, shared, name, self)
     }
 }
 
 /// A platform's table becomes one whose three maps of dependencies are resolved; its own name plays no part.
-impl Heir for Target {
+impl Resolvable for Target {
     ghost Content = { Contents.Target };
 
     ghost content = { platform_content };
 
-    ghost resolved = { λ lent name. resolved_platform lent };
+    ghost resolved = { λ shared name. resolved_platform shared };
 
-    ghost refusals = { λ lent name. platform_refusals lent };
+    ghost refusals = { λ shared name. platform_refusals shared };
 
-    ghost size = { λ lent name. platform_size lent };
+    ghost size = { λ shared name. platform_size shared };
 
     fn resolve_under_name(
         &self,
         alloc: Global,
-        lent: &Option<DepsSet>,
+        shared: &Option<DepsSet>,
         _name: &str,
     ) -> Result<Target, ResolveError> {
-        let dependencies = resolved_map(alloc, lent, &self.dependencies)?;
-        let dev_dependencies = resolved_map(alloc, lent, &self.dev_dependencies)?;
-        let build_dependencies = resolved_map(alloc, lent, &self.build_dependencies)?;
+        let dependencies = resolved_map(alloc, shared, &self.dependencies)?;
+        let dev_dependencies = resolved_map(alloc, shared, &self.dev_dependencies)?;
+        let build_dependencies = resolved_map(alloc, shared, &self.build_dependencies)?;
         Ok(Target {
             dependencies,
             dev_dependencies,
@@ -120,50 +120,50 @@ impl Heir for Target {
         })
     }
 
-    fn refusals_under_name(&self, alloc: Global, lent: &Option<DepsSet>, _name: &str) -> Faults {
+    fn refusals_under_name(&self, alloc: Global, shared: &Option<DepsSet>, _name: &str) -> Faults {
         let list = Vec::new(alloc);
-        let list = and_map(alloc, list, "dependencies", lent, &self.dependencies)?;
+        let list = and_map(alloc, list, "dependencies", shared, &self.dependencies)?;
         let list = and_map(
             alloc,
             list,
             "dev-dependencies",
-            lent,
+            shared,
             &self.dev_dependencies,
         )?;
         and_map(
             alloc,
             list,
             "build-dependencies",
-            lent,
+            shared,
             &self.build_dependencies,
         )
     }
 
-    fn less_inherited(&self, most: usize, lent: &Option<DepsSet>, _name: &str) -> Option<usize> {
-        let left = less_map(most, lent, &self.dependencies)?;
-        let left = less_map(left, lent, &self.dev_dependencies)?;
-        less_map(left, lent, &self.build_dependencies)
+    fn less_inherited(&self, most: usize, shared: &Option<DepsSet>, _name: &str) -> Option<usize> {
+        let left = less_map(most, shared, &self.dependencies)?;
+        let left = less_map(left, shared, &self.dev_dependencies)?;
+        less_map(left, shared, &self.build_dependencies)
     }
 }
 
-/// Copies of the entries of a map (`own`), in their order, each value as [`Heir::resolve_under_name`] makes it by the
-/// workspace's dependencies (`lent`). The first refusal is returned.
-fn resolved_list<T: Heir>(
+/// Copies of the entries of a map (`own`), in their order, each value as [`Resolvable::resolve_under_name`] makes it by the
+/// workspace's dependencies (`shared`). The first refusal is returned.
+fn resolved_list<T: Resolvable>(
     alloc: Global,
-    lent: &Option<DepsSet>,
+    shared: &Option<DepsSet>,
     own: &BTreeMap<String, T>,
 ) -> Result<Vec<(String, T)>, ResolveError>
-    ensures ok { let all = lent_by_map lent.now in
+    ensures ok { let all = shared_by_map shared.now in
         let es = entries_content T.content own.now.entries in
         IfOk result (λ v. Accepted (entries_refusals (T.refusals all) es)
         (resolved_entries (T.resolved all) es) (entries_content T.content v.items)) }
-    ensures refused { let all = lent_by_map lent.now in
+    ensures refused { let all = shared_by_map shared.now in
         let es = entries_content T.content own.now.entries in
         IfErr result (RefusesFirst (entries_refusals (T.refusals all) es)) }
 {
     let mut list = Vec::new(alloc);
     for (key, x) in own.iter() {
-        let made = match x.resolve_under_name(alloc, lent, key.as_str()) {
+        let made = match x.resolve_under_name(alloc, shared, key.as_str()) {
             Ok(made) => made,
             Err(refusal) => return Err(refusal),
         };
@@ -172,46 +172,46 @@ fn resolved_list<T: Heir>(
     Ok(list)
 }
 
-/// A new map with the keys of `own`, each value as [`Heir::resolve_under_name`] makes it by the workspace's
-/// dependencies (`lent`). The first refusal is returned.
-fn resolved_map<T: Heir>(
+/// A new map with the keys of `own`, each value as [`Resolvable::resolve_under_name`] makes it by the workspace's
+/// dependencies (`shared`). The first refusal is returned.
+fn resolved_map<T: Resolvable>(
     alloc: Global,
-    lent: &Option<DepsSet>,
+    shared: &Option<DepsSet>,
     own: &BTreeMap<String, T>,
 ) -> Result<BTreeMap<String, T>, ResolveError>
-    ensures ok { let all = lent_by_map lent.now in
+    ensures ok { let all = shared_by_map shared.now in
         let es = entries_content T.content own.now.entries in
         IfOk result (λ m. Accepted (entries_refusals (T.refusals all) es)
         (resolved_entries (T.resolved all) es) (entries_content T.content m.entries)) }
-    ensures refused { let all = lent_by_map lent.now in
+    ensures refused { let all = shared_by_map shared.now in
         let es = entries_content T.content own.now.entries in
         IfErr result (RefusesFirst (entries_refusals (T.refusals all) es)) }
 {
     // (the keys of the map ascend)
     let _in_order = own.len();
-    let list = resolved_list(alloc, lent, own)?;
+    let list = resolved_list(alloc, shared, own)?;
     Ok(map_of_list(alloc, list)?)
 }
 
 /// Sets `place` to what [`resolved_map`] makes of the map `own`, or to `None` where there is no map.
-pub(crate) fn make_map<T: Heir>(
+pub(crate) fn make_map<T: Resolvable>(
     alloc: Global,
-    lent: &Option<DepsSet>,
+    shared: &Option<DepsSet>,
     own: &Option<BTreeMap<String, T>>,
     place: &mut Option<BTreeMap<String, T>>,
 ) -> Result<(), ResolveError>
-    ensures ok { let all = lent_by_map lent.now in
+    ensures ok { let all = shared_by_map shared.now in
         let o = option_map (λ m. entries_content T.content m.entries) own.now in
         OnOk result (Accepted (some_refusals (entries_refusals (T.refusals all)) o)
         (option_map (resolved_entries (T.resolved all)) o)
         (option_map (λ m. entries_content T.content m.entries) place.new)) }
-    ensures refused { let all = lent_by_map lent.now in
+    ensures refused { let all = shared_by_map shared.now in
         let o = option_map (λ m. entries_content T.content m.entries) own.now in
         IfErr result (RefusesFirst (some_refusals (entries_refusals (T.refusals all)) o)) }
 {
     match own {
         Some(own) => {
-            *place = Some(resolved_map(alloc, lent, own)?);
+            *place = Some(resolved_map(alloc, shared, own)?);
             Ok(())
         }
         None => {
@@ -221,67 +221,71 @@ pub(crate) fn make_map<T: Heir>(
     }
 }
 
-/// All refusals of the values of a map (`own`), as [`Heir::refusals_under_name`] has them by the workspace's
-/// dependencies (`lent`), each with the key of its value before the path.
-fn map_refusals<T: Heir>(alloc: Global, lent: &Option<DepsSet>, own: &BTreeMap<String, T>) -> Faults
-    ensures { let told = T.refusals (lent_by_map lent.now) in
+/// All refusals of the values of a map (`own`), as [`Resolvable::refusals_under_name`] has them by the workspace's
+/// dependencies (`shared`), each with the key of its value before the path.
+fn map_refusals<T: Resolvable>(
+    alloc: Global,
+    shared: &Option<DepsSet>,
+    own: &BTreeMap<String, T>,
+) -> Faults
+    ensures { let reported = T.refusals (shared_by_map shared.now) in
         let es = entries_content T.content own.now.entries in
-        IfOk result (λ v. map fault_of v.items ≡ entries_refusals told es) }
+        IfOk result (λ v. map fault_of v.items ≡ entries_refusals reported es) }
 {
     let mut list = Vec::new(alloc);
     for (key, x) in own.iter() {
-        let inside = x.refusals_under_name(alloc, lent, key.as_str())?;
+        let inside = x.refusals_under_name(alloc, shared, key.as_str())?;
         list = and_under(alloc, list, key.as_str(), inside)?;
     }
     Ok(list)
 }
 
 /// The list, and then all refusals of the map that stands under this key, as [`map_refusals`] has them.
-fn and_map<T: Heir>(
+fn and_map<T: Resolvable>(
     alloc: Global,
     list: Vec<ResolveFault>,
     word: &str,
-    lent: &Option<DepsSet>,
+    shared: &Option<DepsSet>,
     own: &BTreeMap<String, T>,
 ) -> Faults
-    ensures { let told = T.refusals (lent_by_map lent.now) in
+    ensures { let reported = T.refusals (shared_by_map shared.now) in
         let es = entries_content T.content own.now.entries in
         IfOk result (λ v. map fault_of v.items
-        ≡ map fault_of list.items ++ refused_under word.now (entries_refusals told es)) }
+        ≡ map fault_of list.items ++ refused_under word.now (entries_refusals reported es)) }
 {
-    let inside = map_refusals(alloc, lent, own)?;
+    let inside = map_refusals(alloc, shared, own)?;
     and_under(alloc, list, word, inside)
 }
 
 /// All refusals of a map that may be absent, as [`map_refusals`] has them.
-fn optional_map_refusals<T: Heir>(
+fn optional_map_refusals<T: Resolvable>(
     alloc: Global,
-    lent: &Option<DepsSet>,
+    shared: &Option<DepsSet>,
     own: &Option<BTreeMap<String, T>>,
 ) -> Faults
-    ensures { let told = entries_refusals (T.refusals (lent_by_map lent.now)) in
+    ensures { let reported = entries_refusals (T.refusals (shared_by_map shared.now)) in
         let o = option_map (λ m. entries_content T.content m.entries) own.now in
-        IfOk result (λ v. map fault_of v.items ≡ some_refusals told o) }
+        IfOk result (λ v. map fault_of v.items ≡ some_refusals reported o) }
 {
     match own {
-        Some(own) => map_refusals(alloc, lent, own),
+        Some(own) => map_refusals(alloc, shared, own),
         None => Ok(Vec::new(alloc)),
     }
 }
 
 /// The list, and then all refusals of the map that stands under this key, where there is one.
-pub(crate) fn and_optional_map<T: Heir>(
+pub(crate) fn and_optional_map<T: Resolvable>(
     alloc: Global,
     list: Vec<ResolveFault>,
     word: &str,
-    lent: &Option<DepsSet>,
+    shared: &Option<DepsSet>,
     own: &Option<BTreeMap<String, T>>,
 ) -> Faults
-    ensures { let told = entries_refusals (T.refusals (lent_by_map lent.now)) in
+    ensures { let reported = entries_refusals (T.refusals (shared_by_map shared.now)) in
         let o = option_map (λ m. entries_content T.content m.entries) own.now in
         IfOk result (λ v. map fault_of v.items
-        ≡ map fault_of list.items ++ refused_under word.now (some_refusals told o)) }
+        ≡ map fault_of list.items ++ refused_under word.now (some_refusals reported o)) }
 {
-    let inside = optional_map_refusals(alloc, lent, own)?;
+    let inside = optional_map_refusals(alloc, shared, own)?;
     and_under(alloc, list, word, inside)
 }

@@ -48,45 +48,45 @@ impl Made {
     }
 }
 
-/// Sets `made` to a copy of the workspace's fields (`lent`), or to one without fields where the workspace has none.
+/// Sets `made` to a copy of the workspace's fields (`shared`), or to one without fields where the workspace has none.
 #[tactic(auto, using(crate::proofs::FieldLaws::nothing_resolved))]
 fn copy_fields(
-    lent: &Option<WorkspacePackage>,
+    shared: &Option<WorkspacePackage>,
     made: &mut WorkspacePackage,
 ) -> Result<(), AllocError>
-    ensures { let w = option_map workspace_package_content lent.now in
+    ensures { let w = option_map workspace_package_content shared.now in
         (p : Contents.Package) → OnOk result
         (resolved_package (Some (workspace_package_content made.new)) p ≡ resolved_package w p) }
 {
-    let fields = match lent {
-        Some(lent) => copy_of(lent)?,
+    let fields = match shared {
+        Some(shared) => copy_of(shared)?,
         None => WorkspacePackage::default(),
     };
     drop(mem::replace(made, fields));
     Ok(())
 }
 
-/// Sets `made` to a copy of the workspace's fields (`lent`), of which [`put_fields`] takes those that the package `own`
+/// Sets `made` to a copy of the workspace's fields (`shared`), of which [`put_fields`] takes those that the package `own`
 /// inherits. Without a package `made` stays as it is. Refuses with the first refusal of the package's fields.
 fn make_package<M: Metadata>(
     alloc: Global,
     own: &Option<Package<M>>,
-    lent: &Option<WorkspacePackage>,
+    shared: &Option<WorkspacePackage>,
     made: &mut WorkspacePackage,
 ) -> Result<(), ResolveError>
-    ensures ok { let w = option_map workspace_package_content lent.now in
+    ensures ok { let w = option_map workspace_package_content shared.now in
         let o = option_map (package_of M.kind M.content) own.now in
         OnOk result (Accepted (some_refusals (fields_refusals lendable w) o)
         (option_map (resolved_package w) o)
         (option_map (resolved_package (Some (workspace_package_content made.new))) o)) }
-    ensures refused { let w = option_map workspace_package_content lent.now in
+    ensures refused { let w = option_map workspace_package_content shared.now in
         let o = option_map (package_of M.kind M.content) own.now in
         IfErr result (RefusesFirst (some_refusals (fields_refusals lendable w) o)) }
 {
     match own {
         Some(own) => {
-            refuse_first(package_refusals(alloc, own, lent)?)?;
-            copy_fields(lent, made)?;
+            refuse_first(package_refusals(alloc, own, shared)?)?;
+            copy_fields(shared, made)?;
             Ok(())
         }
         None => Ok(()),
@@ -108,27 +108,32 @@ fn make_all<P: Metadata, W: Metadata, V: Metadata>(
         let w = workspace_of V.kind V.content workspace.now in
         IfErr result (RefusesFirst (all_refusals m w)) }
 {
-    let lent = &workspace.dependencies;
+    let shared = &workspace.dependencies;
     make_package(
         alloc,
         &manifest.package,
         &workspace.package,
         &mut made.fields,
     )?;
-    make_map(alloc, lent, &manifest.dependencies, &mut made.dependencies)?;
     make_map(
         alloc,
-        lent,
+        shared,
+        &manifest.dependencies,
+        &mut made.dependencies,
+    )?;
+    make_map(
+        alloc,
+        shared,
         &manifest.dev_dependencies,
         &mut made.dev_dependencies,
     )?;
     make_map(
         alloc,
-        lent,
+        shared,
         &manifest.build_dependencies,
         &mut made.build_dependencies,
     )?;
-    make_map(alloc, lent, &manifest.target, &mut made.target)?;
+    make_map(alloc, shared, &manifest.target, &mut made.target)?;
     make_lints(alloc, &manifest.lints, &workspace.lints, &mut made.lints)?;
     Ok(())
 }

@@ -5,11 +5,11 @@ ghost use Rattle.manifest_parts.specs.Records.{dependency_content, detail_conten
 ghost use Rattle.cargo_manifest.specs.Tables.{workspace_of};
 ghost use Rattle.cargo_manifest.specs.Whole.{manifest_of};
 ghost use Rattle.manifest_value.specs.Entries.{entries_content};
-ghost use Rattle.manifest_inherit.specs.ForProofs.{lent_by_map};
+ghost use Rattle.manifest_inherit.specs.ForProofs.{shared_by_map};
 ghost use Rattle.manifest_inherit.specs.Sizes.{text_size, optional_size, texts_size, optional_texts_size, detail_size, given_size, dependency_size, entries_size, optional_entries_size, inherited_size_of, inherits_at_most, Leaves};
 
 use crate::dependency::workspace_dependency;
-use crate::maps::Heir;
+use crate::maps::Resolvable;
 use cargo_manifest::{Manifest, Metadata, Workspace};
 use manifest_parts::{Dependency, DependencyDetail, DepsSet};
 use std::collections::BTreeMap;
@@ -69,20 +69,20 @@ fn less_detail(most: usize, detail: &DependencyDetail) -> Option<usize>
     less_optional(left, &detail.package)
 }
 
-/// What is left of `most` after what a dependency of this name inherits of the workspace's dependencies (`lent`).
+/// What is left of `most` after what a dependency of this name inherits of the workspace's dependencies (`shared`).
 pub(crate) fn less_dependency(
     most: usize,
-    lent: &Option<DepsSet>,
+    shared: &Option<DepsSet>,
     name: &str,
     own: &Dependency,
 ) -> Option<usize>
     ensures { let d = dependency_content own.now in
-        Leaves most (dependency_size (lent_by_map lent.now) name.now d) result }
+        Leaves most (dependency_size (shared_by_map shared.now) name.now d) result }
 {
     match own {
         Dependency::Simple(_) => Some(most),
         Dependency::Detailed(_) => Some(most),
-        Dependency::Inherited(_) => match workspace_dependency(lent, name) {
+        Dependency::Inherited(_) => match workspace_dependency(shared, name) {
             None => Some(most),
             Some(Dependency::Inherited(_)) => Some(most),
             Some(Dependency::Simple(version)) => less_text(most, version.as_str()),
@@ -92,50 +92,50 @@ pub(crate) fn less_dependency(
 }
 
 /// What is left of `most` after what each value of a map inherits, under its name.
-pub(crate) fn less_map<T: Heir>(
+pub(crate) fn less_map<T: Resolvable>(
     most: usize,
-    lent: &Option<DepsSet>,
+    shared: &Option<DepsSet>,
     own: &BTreeMap<String, T>,
 ) -> Option<usize>
-    ensures { let size = T.size (lent_by_map lent.now) in
+    ensures { let size = T.size (shared_by_map shared.now) in
         Leaves most (entries_size size (entries_content T.content own.now.entries)) result }
 {
     let mut left = most;
     for (key, x) in own.iter() {
-        left = x.less_inherited(left, lent, key.as_str())?;
+        left = x.less_inherited(left, shared, key.as_str())?;
     }
     Some(left)
 }
 
 /// What is left of `most` after what a map inherits that may be absent.
-fn less_optional_map<T: Heir>(
+fn less_optional_map<T: Resolvable>(
     most: usize,
-    lent: &Option<DepsSet>,
+    shared: &Option<DepsSet>,
     own: &Option<BTreeMap<String, T>>,
 ) -> Option<usize>
-    ensures { let size = T.size (lent_by_map lent.now) in
+    ensures { let size = T.size (shared_by_map shared.now) in
         let o = option_map (λ m. entries_content T.content m.entries) own.now in
         Leaves most (optional_entries_size size o) result }
 {
     match own {
-        Some(own) => less_map(most, lent, own),
+        Some(own) => less_map(most, shared, own),
         None => Some(most),
     }
 }
 
-/// What is left of `most` after all that a manifest inherits of the workspace's dependencies (`lent`).
+/// What is left of `most` after all that a manifest inherits of the workspace's dependencies (`shared`).
 fn less_inherited<P: Metadata, W: Metadata>(
     most: usize,
-    lent: &Option<DepsSet>,
+    shared: &Option<DepsSet>,
     manifest: &Manifest<P, W>,
 ) -> Option<usize>
     ensures { let m = manifest_of P.kind W.kind P.content W.content manifest.now in
-        Leaves most (inherited_size_of (lent_by_map lent.now) m) result }
+        Leaves most (inherited_size_of (shared_by_map shared.now) m) result }
 {
-    let left = less_optional_map(most, lent, &manifest.dependencies)?;
-    let left = less_optional_map(left, lent, &manifest.dev_dependencies)?;
-    let left = less_optional_map(left, lent, &manifest.build_dependencies)?;
-    less_optional_map(left, lent, &manifest.target)
+    let left = less_optional_map(most, shared, &manifest.dependencies)?;
+    let left = less_optional_map(left, shared, &manifest.dev_dependencies)?;
+    let left = less_optional_map(left, shared, &manifest.build_dependencies)?;
+    less_optional_map(left, shared, &manifest.target)
 }
 
 /// Whether what a manifest inherits of a workspace's dependencies takes at most `most` bytes: the texts of each

@@ -37,19 +37,25 @@ pub fn refusals<P: Metadata, W: Metadata, V: Metadata>(
         let w = workspace_of V.kind V.content workspace.now in
         IfOk result (λ v. map fault_of v.items ≡ all_refusals m w) }
 {
-    let (own, lent) = (manifest, &workspace.dependencies);
+    let (own, shared) = (manifest, &workspace.dependencies);
     let inside = optional_package_refusals(alloc, &own.package, &workspace.package)?;
     let list = refused_under(alloc, "package", inside)?;
-    let list = and_optional_map(alloc, list, "dependencies", lent, &own.dependencies)?;
-    let list = and_optional_map(alloc, list, "dev-dependencies", lent, &own.dev_dependencies)?;
+    let list = and_optional_map(alloc, list, "dependencies", shared, &own.dependencies)?;
+    let list = and_optional_map(
+        alloc,
+        list,
+        "dev-dependencies",
+        shared,
+        &own.dev_dependencies,
+    )?;
     let list = and_optional_map(
         alloc,
         list,
         "build-dependencies",
-        lent,
+        shared,
         &own.build_dependencies,
     )?;
-    let list = and_optional_map(alloc, list, "target", lent, &own.target)?;
+    let list = and_optional_map(alloc, list, "target", shared, &own.target)?;
     let inside = optional_lints_refusals(alloc, &own.lints, &workspace.lints)?;
     let list = and_under(alloc, list, "lints", inside)?;
     Ok(list)

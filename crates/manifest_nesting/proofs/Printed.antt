@@ -49,8 +49,10 @@ fits_both d m n o fits = ((omega arith, omega (arith, length-append o (d ∷ [])
 
 -- VALUES, items and members on the right of `=`
 mutual
-  value_fine : {a : Bool} (x : Data) (text rest : List ℕ) (d i : ℕ) (o : List ℕ) → plain x ≡ true → IsValueText false x text
-      → Fits d o (depth x) → NotDelim rest → ((j : ℕ) → Fine (at a Line d j o) rest) → Fine (at a Line d i o) (text ++ rest)
+  value_fine : {a : Bool} (x : Data) (text rest : List ℕ) (d i : ℕ) (o : List ℕ) → plain x ≡ true
+      → IsValueText false x text
+      → Fits d o (depth x) → NotDelim rest → ((j : ℕ) → Fine (at a Line d j o) rest) → Fine (at a Line d i o) (text
+      ++ rest)
   value_fine (string s) text rest d i o p e fits stop h = rw e (value_string_fine d i o s rest stop (h i))
   value_fine (integer z) text rest d i o p e fits stop h =
       rw e.0 (word_fine _ rest d i o (IsWord-integer z e.1).all h)
@@ -68,36 +70,39 @@ mutual
       rw whole (open_fine false d i o (more ++ rest) (omega arith) (omega arith)
       (members_fine true ms more rest d 0 o p e (omega arith, omega arith) (h 0)))
 
-  items_fine : {a : Bool} (is_first : Bool) (ds : Items) (text rest : List ℕ) (d i : ℕ) (o : List ℕ) → plain_items ds ≡ true
+  items_fine : {a : Bool} (is_first : Bool) (ds : Items) (text rest : List ℕ) (d i : ℕ) (o : List ℕ)
+      → plain_items ds ≡ true
       → IsItemsText false false is_first ds text → Fits d o (suc (items_depth ds)) → Fine (at a Line d 0 o) rest
       → Fine (at a Line (d + 1) i (o ++ d ∷ [])) (text ++ rest)
   items_fine is_first no_items text rest d i o p e fits h = rw e (close_fine true d (d + 1) i o rest h)
-  items_fine is_first (item x ds) text rest d i o p (this, more, whole, e, behind) fits h =
+  items_fine is_first (item x ds) text rest d i o p (this, more, whole, e, under) fits h =
       let parts = and_parts (plain x) (plain_items ds) p in
       let room = fits_both d (depth x) (items_depth ds) o fits in
       let same : text ++ rest ≡ before_item false is_first ++ (this ++ (more ++ rest)) = rw whole (simp append_assoc) in
-      let stop = items_end ds more rest behind in
+      let stop = items_end ds more rest under in
       rw same (before_item_fine is_first (d + 1) i (o ++ d ∷ []) (this ++ (more ++ rest))
       (λ j. value_fine x this (more ++ rest) (d + 1) j (o ++ d ∷ []) parts.0 e room.0 stop
-      (λ l. items_fine false ds more rest d l o parts.1 behind room.1 h)))
+      (λ l. items_fine false ds more rest d l o parts.1 under room.1 h)))
 
-  members_fine : {a : Bool} (is_first : Bool) (ms : Members) (text rest : List ℕ) (d i : ℕ) (o : List ℕ) → plain_members ms ≡ true
+  members_fine : {a : Bool} (is_first : Bool) (ms : Members) (text rest : List ℕ) (d i : ℕ) (o : List ℕ)
+      → plain_members ms ≡ true
       → IsMembersText false is_first ms text → Fits d o (suc (members_depth ms)) → Fine (at a Line d 0 o) rest
       → Fine (at a Line (d + 1) (if is_first then 0 else i) (o ++ d ∷ [])) (text ++ rest)
   members_fine true no_members text rest d i o p e fits h = rw e (close_fine false d (d + 1) 0 o rest h)
-  members_fine false no_members text rest d i o p e fits h = rw e (fine_turn refl (close_fine false d (d + 1) i o rest h))
-  members_fine is_first (member k x ms) text rest d i o p (this, more, whole, e, behind, order) fits h =
+  members_fine false no_members text rest d i o p e fits h =
+      rw e (fine_turn refl (close_fine false d (d + 1) i o rest h))
+  members_fine is_first (member k x ms) text rest d i o p (this, more, whole, e, under, order) fits h =
       let parts = and_parts (plain x) (plain_members ms) p in
       let room = fits_both d (depth x) (members_depth ms) o fits in
       let value_at = this ++ (more ++ rest) in
       let equals = 32 ∷ 61 ∷ 32 ∷ value_at in
       let same : text ++ rest ≡ before_member is_first ++ (key_text k ++ equals) = rw whole (simp append_assoc) in
-      let stop = members_end ms more rest behind in
+      let stop = members_end ms more rest under in
       rw same (before_member_fine is_first (d + 1) i (o ++ d ∷ []) (key_text k ++ equals)
       (key_fine Line (d + 1) 0 (o ++ d ∷ []) k equals ((refl, refl), refl)
       (equals_fine (d + 1) (o ++ d ∷ []) value_at
       (value_fine x this (more ++ rest) (d + 1) 0 (o ++ d ∷ []) parts.0 e room.0 stop
-      (λ l. members_fine false ms more rest d l o parts.1 behind room.1 h)))))
+      (λ l. members_fine false ms more rest d l o parts.1 under room.1 h)))))
 
 -- LINES: their text leads no deeper, after a header that leads to a depth d
 abbrev FineAt : ℕ → List Expression → Type 0
@@ -119,7 +124,8 @@ pair_fine k x d fs p low h started a text (this, rest, whole, (v, line, e), more
 
 -- HEADERS: each part of the path is one table deeper
 path_fine : {a : Bool} (path : List (List ℕ)) (k rest : List ℕ) (d : ℕ) → d + length path ≤ 128 → EndsKey rest
-    → Fine (at a Header (d + length path) 0 []) rest → Fine (at a Header d 0 []) (path_text path ++ (key_text k ++ rest))
+    → Fine (at a Header (d + length path) 0 []) rest → Fine (at a Header d 0 []) (path_text path
+    ++ (key_text k ++ rest))
 path_fine [] k rest d low stop h = key_fine Header d 0 [] k rest stop (rw add-zero at h)
 path_fine (l ∷ path) k rest d low stop h =
     let more = path_text path ++ (key_text k ++ rest) in
@@ -195,7 +201,8 @@ mutual
   section_fine (table ms) path k fs p low h =
       let below = sections_fine ms (path ++ k ∷ []) fs p (omega (arith, length-append path (k ∷ []))) h in
       elim (cases_Bool (needs_header ms)) [
-        | inl needed ↦ rw needed (header_fine false path k _ (omega arith) (table_fine ms path k fs p (omega arith) below))
+        | inl needed ↦ rw needed (header_fine false path k _ (omega arith) (table_fine ms path k fs p (omega arith)
+            below))
         | inr none ↦ rw (none, no_pairs ms none) below
       ]
   section_fine (array ds) path k fs p low h =

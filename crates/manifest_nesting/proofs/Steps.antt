@@ -70,7 +70,8 @@ word_fine (c ∷ cs) rest d i o all h =
     ]
 
 -- KEYS AND STRINGS: nothing of them is counted
-string_fine : {a : Bool} (p : Place) (d i : ℕ) (o text rest : List ℕ) → starts_string text ≡ true → after_string text ≡ rest
+string_fine : {a : Bool} (p : Place) (d i : ℕ) (o text rest : List ℕ) → starts_string text ≡ true
+    → after_string text ≡ rest
     → Fine (at a (begun_at p) d i o) rest → Fine (at a p d i o) text
 string_fine p d i o [] rest starts e h = absurd (false≢true starts)
 string_fine p d i o (c ∷ cs) rest starts e h = fine_turn (rw (starts, e) refl) h

@@ -12,7 +12,8 @@ has_last_three q text =
     ((slice_index text 0 == q && slice_index text 1 == q) && slice_index text 2 == q)
     && not (slice_index text 3 == q)
 
--- AFTER THE CONTENT of a string: after the quote that ends it, or the last three. Between `"` a backslash escapes a byte
+-- AFTER THE CONTENT of a string: after the quote that ends it, or the last three. Between `"` a backslash escapes a
+-- byte
 unfoldable pub after_content : Bool → ℕ → Bool → List ℕ → List ℕ
 after_content several q escaped [] = []
 after_content several q escaped (c ∷ cs) =

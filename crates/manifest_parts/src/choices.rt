@@ -90,7 +90,7 @@ impl Schema for Edition {
 
     #[tactic(auto, using(manifest_value::proofs::FoundLemmas::one_fault_read, manifest_value::proofs::FoundLemmas::one_fault_refused, manifest_schema::proofs::OneFaultLaws::choice_one_fault))]
     fn findings(alloc: Global, value: &Value) -> Found {
-        match Edition::read(alloc, Source::Lent(value)) {
+        match Edition::read(alloc, Source::Borrowed(value)) {
             Ok(_) => Ok(Findings::none(alloc)),
             Err(refused) => Findings::of_refusal(alloc, refused, EDITIONS),
         }
@@ -170,7 +170,7 @@ impl Schema for Resolver {
 
     #[tactic(auto, using(manifest_value::proofs::FoundLemmas::one_fault_read, manifest_value::proofs::FoundLemmas::one_fault_refused, manifest_schema::proofs::OneFaultLaws::choice_one_fault))]
     fn findings(alloc: Global, value: &Value) -> Found {
-        match Resolver::read(alloc, Source::Lent(value)) {
+        match Resolver::read(alloc, Source::Borrowed(value)) {
             Ok(_) => Ok(Findings::none(alloc)),
             Err(refused) => Findings::of_refusal(alloc, refused, RESOLVERS),
         }
@@ -254,7 +254,7 @@ impl Schema for LintLevel {
 
     #[tactic(auto, using(manifest_value::proofs::FoundLemmas::one_fault_read, manifest_value::proofs::FoundLemmas::one_fault_refused, manifest_schema::proofs::OneFaultLaws::choice_one_fault))]
     fn findings(alloc: Global, value: &Value) -> Found {
-        match LintLevel::read(alloc, Source::Lent(value)) {
+        match LintLevel::read(alloc, Source::Borrowed(value)) {
             Ok(_) => Ok(Findings::none(alloc)),
             Err(refused) => Findings::of_refusal(alloc, refused, LEVELS),
         }
@@ -347,7 +347,7 @@ impl Schema for MaintenanceStatus {
 
     #[tactic(auto, using(manifest_value::proofs::FoundLemmas::one_fault_read, manifest_value::proofs::FoundLemmas::one_fault_refused, manifest_schema::proofs::OneFaultLaws::choice_one_fault))]
     fn findings(alloc: Global, value: &Value) -> Found {
-        match MaintenanceStatus::read(alloc, Source::Lent(value)) {
+        match MaintenanceStatus::read(alloc, Source::Borrowed(value)) {
             Ok(_) => Ok(Findings::none(alloc)),
             Err(refused) => Findings::of_refusal(alloc, refused, STATUSES),
         }

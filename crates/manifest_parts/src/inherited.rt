@@ -109,7 +109,7 @@ fn findings_beside_workspace<T: Plain>(alloc: Global, table: &Table) -> Found
     ensures { IfOk result (λ f. found f ≡ (inh T.kind).findings (data_of table.now)) }
 {
     if has_workspace(table) {
-        let walk = walk(alloc, TableSource::Lent(table), &spelled!["workspace"])?;
+        let walk = walk(alloc, TableSource::Borrowed(table), &spelled!["workspace"])?;
         Findings::none(alloc).and_unused(alloc, walk.rest)
     } else {
         Findings::here(alloc, Cause::WrongKind)

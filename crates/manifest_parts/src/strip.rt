@@ -96,7 +96,7 @@ impl Schema for StripSetting {
 
     #[tactic(auto, using(manifest_value::proofs::FoundLemmas::one_fault_read, manifest_value::proofs::FoundLemmas::one_fault_refused, manifest_schema::proofs::OneFaultLaws::choice_one_fault))]
     fn findings(alloc: Global, value: &Value) -> Found {
-        match StripSetting::read(alloc, Source::Lent(value)) {
+        match StripSetting::read(alloc, Source::Borrowed(value)) {
             Ok(_) => Ok(Findings::none(alloc)),
             Err(refused) => Findings::of_refusal(alloc, refused, SETTINGS),
         }

@@ -1,21 +1,21 @@
 -- Where faults stand: of a list, a map, a kept value, what may be inherited, a field, and a table by its rows.
-use Rattle.manifest_schema.specs.Prelude.{none-some, same_Some, Data, float, string, integer, boolean, datetime, array, table, Items, no_items, item, get_item, Members, no_members, member, has_entry, Text, Path, Cause, Step, Faults, key, index, behind, holds_float, Kind, faulty, item_findings, entry_findings, float_findings, item_floats, entry_floats, found_behind, faults_of, among, float_at, float_in, faulty_entry, faulty_free, unfit_beside, FaultyByItems, FaultyByEntries, FaultyByFloats, FaultyBySlot, FaultyIfRequired, FaultyUnlessInherited, NeverFaulty, FaultyByRows, Spellings, first, Slot, absent, one, clash, at, without, itself, wrong_kind, two_spellings, missing, found_here, free_findings, unused_keys, inherits, required, optional, default, lenient_optional, lenient_default, Rows, no_more, others, ◌⨾◌, spelled, findings_beside, row_findings, left_over}
+use Rattle.manifest_schema.specs.Prelude.{none-some, same_Some, Data, float, string, integer, boolean, datetime, array, table, Items, no_items, item, get_item, Members, no_members, member, has_entry, Text, Path, Cause, Step, Faults, key, index, under, holds_float, Kind, faulty, item_findings, entry_findings, float_findings, item_floats, entry_floats, found_under, faults_of, among, float_at, float_in, faulty_entry, faulty_free, unfit_beside, FaultyByItems, FaultyByEntries, FaultyByFloats, FaultyBySlot, FaultyIfRequired, FaultyUnlessInherited, NeverFaulty, FaultyByRows, Spellings, first, Slot, absent, one, clash, at, without, at_value, wrong_kind, two_spellings, missing, found_here, free_findings, unused_keys, inherits, required, optional, default, lenient_optional, lenient_default, Rows, no_more, others, ◌⨾◌, spelled, findings_beside, row_findings, left_over}
 use Rattle.std.proofs.Common.{◌≡◌, ◌↔◌, ℕ, zero, suc, ◌+◌, Bool, true, false, ◌⊎◌, inl, inr, List, [], ◌∷◌, Some, if◌then◌else◌, IsFalse, codes, refl, ap, ◌∙◌, true≢false, arith}
 use Rattle.manifest_schema.proofs.Faultless.{no_nil, keys_none, lenient_none}
-use Rattle.manifest_schema.proofs.FoundLaws.{behind_to, append_to, keys_to}
+use Rattle.manifest_schema.proofs.FoundLaws.{under_to, append_to, keys_to}
 use Rattle.manifest_schema.proofs.KindLaws.{same}
 
 -- of a list: the faults of its items, each with its index before the path
 abbrev pub ItemFrom : ℕ → (Data → Faults) → Items → Faults
 ItemFrom i F no_items p c = ⊥
-ItemFrom i F (item d ds) p c = behind (index i) (F d) p c ⊎ ItemFrom (suc i) F ds p c
+ItemFrom i F (item d ds) p c = under (index i) (F d) p c ⊎ ItemFrom (suc i) F ds p c
 
 pub items_to : {A : Type 0} (K : Kind A) (i : ℕ) (ds : Items) (p : Path) (c : Cause)
     → among (faults_of (item_findings K.findings i ds)) p c ↔ ItemFrom i (faulty K) ds p c
 items_to K i no_items p c = (λ h. h, λ h. h)
 items_to K i (item d ds) p c =
-    let (a, b) = append_to (found_behind (index i) (K.findings d)) (item_findings K.findings (suc i) ds) p c in
-    let (e, f) = behind_to (index i) (K.findings d) p c in
+    let (a, b) = append_to (found_under (index i) (K.findings d)) (item_findings K.findings (suc i) ds) p c in
+    let (e, f) = under_to (index i) (K.findings d) p c in
     let (g, h) = items_to K (suc i) ds p c in
     (λ x. elim (a x) [ inl y ↦ inl (e y) | inr y ↦ inr (g y) ], elim [ inl y ↦ b (inl (f y)) | inr y ↦ b (inr (h y)) ])
 
@@ -24,8 +24,8 @@ pub entries_to : {A : Type 0} (K : Kind A) (ms : Members) (p : Path) (c : Cause)
     → among (faults_of (entry_findings K.findings ms)) p c ↔ faulty_entry K ms p c
 entries_to K no_members p c = (λ h. absurd h, λ f. absurd f.2)
 entries_to K (member k d ms) p c =
-    let (a, b) = append_to (found_behind (key k) (K.findings d)) (entry_findings K.findings ms) p c in
-    let (e, f) = behind_to (key k) (K.findings d) p c in
+    let (a, b) = append_to (found_under (key k) (K.findings d)) (entry_findings K.findings ms) p c in
+    let (e, f) = under_to (key k) (K.findings d) p c in
     let (g, h) = entries_to K ms p c in (
       λ x. elim
           (a x) [ inl y ↦ (k, d, inl (refl, refl), e y) | inr y ↦ let (l, u, there, z) = g y in (l, u, inr there, z) ],
@@ -40,11 +40,11 @@ no_item zero x g = none-some x g
 no_item (suc j) x g = none-some x g
 
 abbrev ItemAt : ℕ → (Data → Faults) → Items → Faults
-ItemAt i F ds p c = (j : ℕ) × (d : Data) × (get_item j ds ≡ Some d) × behind (index (i + j)) (F d) p c
+ItemAt i F ds p c = (j : ℕ) × (d : Data) × (get_item j ds ≡ Some d) × under (index (i + j)) (F d) p c
 
 item_cases : (i : ℕ) (F : Data → Faults) (d : Data) (ds : Items) (p : Path) (c : Cause)
     → (ItemAt (suc i) F ds p c → ItemFrom (suc i) F ds p c) → (j : ℕ) (x : Data) → get_item j (item d ds) ≡ Some x
-    → behind (index (i + j)) (F x) p c → ItemFrom i F (item d ds) p c
+    → under (index (i + j)) (F x) p c → ItemFrom i F (item d ds) p c
 item_cases i F d ds p c more zero x g b = let e : i + 0 ≡ i = omega arith in inl (rw (same_Some d x g, ← e) b)
 item_cases i F d ds p c more (suc j) x g b =
     let e : i + suc j ≡ suc i + j = omega arith in inr (more (j, x, g, rw (← e) b))
@@ -61,7 +61,7 @@ items_at i F (item d ds) p c =
     )
 
 from_zero : (F : Data → Faults) (ds : Items) (p : Path) (c : Cause)
-    → ItemFrom 0 F ds p c ↔ ((j : ℕ) × (d : Data) × (get_item j ds ≡ Some d) × behind (index j) (F d) p c)
+    → ItemFrom 0 F ds p c ↔ ((j : ℕ) × (d : Data) × (get_item j ds ≡ Some d) × under (index j) (F d) p c)
 from_zero F ds p c =
     let (a, b) = items_at 0 F ds p c in (
       λ h. let f = a h in let e : 0 + f.0 ≡ f.0 = omega arith in (f.0, f.1, f.2, rw (← e) f.3),
@@ -80,21 +80,21 @@ faulty_by_entries K ms p c = entries_to K ms p c
 -- of a kept value
 
 array_at : (ds : Items) (p : Path) (c : Cause)
-    → ((j : ℕ) × (d : Data) × (get_item j ds ≡ Some d) × behind (index j) (float_in d) p c) ↔ float_in (array ds) p c
+    → ((j : ℕ) × (d : Data) × (get_item j ds ≡ Some d) × under (index j) (float_in d) p c) ↔ float_in (array ds) p c
 array_at ds p c = (λ f. rw f.3.1 ((f.1, f.2, f.3.2.0), f.3.2.1), back p)
   where
     back : (p : Path) → float_in (array ds) p c
-        → (j : ℕ) × (d : Data) × (get_item j ds ≡ Some d) × behind (index j) (float_in d) p c
+        → (j : ℕ) × (d : Data) × (get_item j ds ≡ Some d) × under (index j) (float_in d) p c
     back [] h = absurd h.0
     back (index i ∷ q) h = (i, h.0.0, h.0.1, (q, refl, (h.0.2, h.1)))
     back (key k ∷ q) h = absurd h.0
 
 table_at : (ms : Members) (p : Path) (c : Cause)
-    → ((k : Text) × (d : Data) × has_entry k d ms × behind (key k) (float_in d) p c) ↔ float_in (table ms) p c
+    → ((k : Text) × (d : Data) × has_entry k d ms × under (key k) (float_in d) p c) ↔ float_in (table ms) p c
 table_at ms p c = (λ f. rw f.3.1 ((f.1, f.2, f.3.2.0), f.3.2.1), back p)
   where
     back : (p : Path) → float_in (table ms) p c
-        → (k : Text) × (d : Data) × has_entry k d ms × behind (key k) (float_in d) p c
+        → (k : Text) × (d : Data) × has_entry k d ms × under (key k) (float_in d) p c
     back [] h = absurd h.0
     back (index i ∷ q) h = absurd h.0
     back (key k ∷ q) h = (k, h.0.0, h.0.1, (q, refl, (h.0.2, h.1)))
@@ -103,7 +103,7 @@ none_at : (d : Data) (p : Path) → ((q : Path) → float_at q d → ⊥) → (c
 none_at d p none c = (λ h. absurd h, λ h. none p h.0)
 
 not_there : (s : Step) (F G : Faults) (p : Path) (c : Cause) → ((q : Path) → F q c ↔ G q c)
-    → behind s F p c ↔ behind s G p c
+    → under s F p c ↔ under s G p c
 not_there s F G p c same = (λ h. (h.0, h.1, (same h.0).0 h.2), λ h. (h.0, h.1, (same h.0).1 h.2))
 
 here_at : (x : _) (p : Path) (c : Cause) → among (([], holds_float) ∷ []) p c ↔ float_in (float x) p c
@@ -133,8 +133,8 @@ mutual
       → among (faults_of (item_floats i ds)) p c ↔ ItemFrom i float_in ds p c
   item_floats_to i no_items p c = (λ h. h, λ h. h)
   item_floats_to i (item d ds) p c =
-      let (a, b) = append_to (found_behind (index i) (float_findings d)) (item_floats (suc i) ds) p c in
-      let (e, f) = behind_to (index i) (float_findings d) p c in
+      let (a, b) = append_to (found_under (index i) (float_findings d)) (item_floats (suc i) ds) p c in
+      let (e, f) = under_to (index i) (float_findings d) p c in
       let (m, n) = not_there (index i) (among (faults_of (float_findings d))) (float_in d) p c (λ q. floats_to d q c) in
       let (g, h) = item_floats_to (suc i) ds p c in (
         λ x. elim (a x) [ inl y ↦ inl (m (e y)) | inr y ↦ inr (g y) ],
@@ -143,11 +143,11 @@ mutual
 
   entry_floats_to : (ms : Members) (p : Path) (c : Cause)
       → among (faults_of (entry_floats ms)) p c
-      ↔ ((k : Text) × (d : Data) × has_entry k d ms × behind (key k) (float_in d) p c)
+      ↔ ((k : Text) × (d : Data) × has_entry k d ms × under (key k) (float_in d) p c)
   entry_floats_to no_members p c = (λ h. absurd h, λ f. absurd f.2)
   entry_floats_to (member k d ms) p c =
-      let (a, b) = append_to (found_behind (key k) (float_findings d)) (entry_floats ms) p c in
-      let (e, f) = behind_to (key k) (float_findings d) p c in
+      let (a, b) = append_to (found_under (key k) (float_findings d)) (entry_floats ms) p c in
+      let (e, f) = under_to (key k) (float_findings d) p c in
       let (m, n) = not_there (key k) (among (faults_of (float_findings d))) (float_in d) p c (λ q. floats_to d q c) in
       let (g, h) = entry_floats_to ms p c in (
         λ x. elim
@@ -166,7 +166,7 @@ faulty_by_floats d p c = floats_to d p c
 
 -- of a field
 here_only : (s : Step) (e : Cause) (p : Path) (c : Cause)
-    → among (faults_of (found_behind s (found_here e))) p c ↔ behind s (itself e) p c
+    → among (faults_of (found_under s (found_here e))) p c ↔ under s (at_value e) p c
 here_only s e p c =
     (elim [ inl h ↦ ([], h.0, (refl, h.1)) | inr h ↦ absurd h ], λ h. inl (h.1 ∙ ap (λ q. s ∷ q) h.2.0, h.2.1))
 
@@ -175,7 +175,7 @@ module _ {B : Type 0} (K : Kind B) where
       → among (faults_of (free_findings names K.findings s)) p c ↔ faulty_free names K s p c
   free_faults names absent p c = same
   free_faults names clash p c = here_only (key (first names)) two_spellings p c
-  free_faults names (one k d) p c = behind_to (key k) (K.findings d) p c
+  free_faults names (one k d) p c = under_to (key k) (K.findings d) p c
 
   pub optional_faulty : FaultyBySlot K (optional K)
   optional_faulty = free_faults
@@ -186,7 +186,7 @@ module _ {B : Type 0} (K : Kind B) where
   pub required_faulty : FaultyIfRequired K (required K)
   required_faulty names absent p c = here_only (key (first names)) missing p c
   required_faulty names clash p c = here_only (key (first names)) two_spellings p c
-  required_faulty names (one k d) p c = behind_to (key k) (K.findings d) p c
+  required_faulty names (one k d) p c = under_to (key k) (K.findings d) p c
 
   pub lenient_optional_never : NeverFaulty (lenient_optional K)
   lenient_optional_never names s = lenient_none (free_findings names K.findings s)
@@ -196,7 +196,8 @@ module _ {B : Type 0} (K : Kind B) where
 
 -- of what may be inherited
 inherited_to : (b : Bool) (ms : Members) (p : Path) (c : Cause)
-    → among (faults_of (if b then unused_keys ms else found_here wrong_kind)) p c ↔ (IsFalse b × itself wrong_kind p c)
+    → among (faults_of (if b then unused_keys ms else found_here wrong_kind)) p c
+    ↔ (IsFalse b × at_value wrong_kind p c)
 inherited_to true ms p c = (λ h. absurd (rw (keys_none ms) at h), λ f. absurd (true≢false f.0))
 inherited_to false ms p c = (elim [ inl h ↦ (refl, h) | inr h ↦ absurd h ], λ f. inl f.1)
 

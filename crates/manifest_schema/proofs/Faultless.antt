@@ -1,6 +1,6 @@
 -- Lists of findings: whether a fault is among them, and what they are without the unused keys.
 use Rattle.std.proofs.Common.{◌≡◌, ◌⊎◌, inl, inr, List, [], ◌∷◌, ◌++◌, ◌↔◌, refl, sym, ap, ◌∙◌, subst}
-use Rattle.manifest_schema.specs.Prelude.{append-nil, Members, no_members, member, Path, Cause, Step, Finding, fault, ignored, unused, found_behind, unused_keys, leniently, faults_of, among, unused_of, IsFaultless, but_unused, Decided, ReadOrFaulty}
+use Rattle.manifest_schema.specs.Prelude.{append-nil, Members, no_members, member, Path, Cause, Step, Finding, fault, ignored, unused, found_under, unused_keys, leniently, faults_of, among, unused_of, IsFaultless, but_unused, Decided, ReadOrFaulty}
 
 -- a list with an element is not the empty one
 abbrev IsNil : {A : Type 0} → List A → Type 0
@@ -17,11 +17,11 @@ both_none (fault p c ws ∷ fs) gs = (λ e. absurd (no_nil e), λ h. absurd (no_
 both_none (ignored p c ws ∷ fs) gs = both_none fs gs
 both_none (unused p ∷ fs) gs = both_none fs gs
 
-pub behind_none : (s : Step) (fs : List Finding) → IsFaultless (found_behind s fs) ↔ IsFaultless fs
-behind_none s [] = (λ e. e, λ e. e)
-behind_none s (fault p c ws ∷ fs) = (λ e. absurd (no_nil e), λ e. absurd (no_nil e))
-behind_none s (ignored p c ws ∷ fs) = behind_none s fs
-behind_none s (unused p ∷ fs) = behind_none s fs
+pub under_none : (s : Step) (fs : List Finding) → IsFaultless (found_under s fs) ↔ IsFaultless fs
+under_none s [] = (λ e. e, λ e. e)
+under_none s (fault p c ws ∷ fs) = (λ e. absurd (no_nil e), λ e. absurd (no_nil e))
+under_none s (ignored p c ws ∷ fs) = under_none s fs
+under_none s (unused p ∷ fs) = under_none s fs
 
 pub keys_none : (ms : Members) → IsFaultless (unused_keys ms)
 keys_none no_members = refl
@@ -57,11 +57,11 @@ but-append (fault p c ws ∷ fs) gs = ap (λ t. fault p c ws ∷ t) (but-append 
 but-append (ignored p c ws ∷ fs) gs = ap (λ t. ignored p c ws ∷ t) (but-append fs gs)
 but-append (unused p ∷ fs) gs = but-append fs gs
 
-pub but-behind : (s : Step) (fs : List Finding) → but_unused (found_behind s fs) ≡ found_behind s (but_unused fs)
-but-behind s [] = refl
-but-behind s (fault p c ws ∷ fs) = ap (λ t. fault (s ∷ p) c ws ∷ t) (but-behind s fs)
-but-behind s (ignored p c ws ∷ fs) = ap (λ t. ignored (s ∷ p) c ws ∷ t) (but-behind s fs)
-but-behind s (unused p ∷ fs) = but-behind s fs
+pub but-under : (s : Step) (fs : List Finding) → but_unused (found_under s fs) ≡ found_under s (but_unused fs)
+but-under s [] = refl
+but-under s (fault p c ws ∷ fs) = ap (λ t. fault (s ∷ p) c ws ∷ t) (but-under s fs)
+but-under s (ignored p c ws ∷ fs) = ap (λ t. ignored (s ∷ p) c ws ∷ t) (but-under s fs)
+but-under s (unused p ∷ fs) = but-under s fs
 
 pub but-lenient : (fs : List Finding) → but_unused (leniently fs) ≡ leniently (but_unused fs)
 but-lenient [] = refl

@@ -6,7 +6,7 @@ use Rattle.manifest_schema.specs.Forms
 use Rattle.manifest_schema.specs.Forms.{reads_form}
 use Rattle.manifest_schema.proofs.TableLaws.{same_key-self, same_key-true, same_key-false}
 use Rattle.manifest_schema.proofs.RowsWritten.{among_here, among_there, later_among, entries_none_named, writes_each_row}
-use Rattle.manifest_schema.proofs.LeftOutLaws.{unused_at, at-behind, at-other, at_first, at_second, Inner, inner_append, inner_behind, inner_keys, Stays, stays_append, stays_behind, named_not_found, key_found, left_value, get-left, without-left, all_gone, entry_found, entry_beside, kept_beside, InOrder, in_order, order_beside, value_sorted}
+use Rattle.manifest_schema.proofs.LeftOutLaws.{unused_at, at-under, at-other, at_first, at_second, Inner, inner_append, inner_under, inner_keys, Stays, stays_append, stays_under, named_not_found, key_found, left_value, get-left, without-left, all_gone, entry_found, entry_beside, kept_beside, InOrder, in_order, order_beside, value_sorted}
 use Rattle.manifest_schema.proofs.Faultless.{no_nil, both_none, keys_none, but-append, but-keys, but-bare}
 use Rattle.manifest_schema.proofs.Diverging.{DivergingBy, none_diverging, weaker_diverging, both_diverging, begin_weaker, KeyOf, key_weaker, key_apart, entries_diverging, keys_diverging}
 use Rattle.manifest_schema.proofs.KindLaws.{same, none_beside, entries_single, entries_decided, entries_well, entries_back, entries_tidy, entries_inner}
@@ -22,21 +22,35 @@ HasSpelling (both l m) k = (l ≡ k) ⊎ (m ≡ k)
 pub spelling_among : (names : Spellings) (ks : List Text) (k : Text) → HasSpelling names k
     → is_among (spell names ks) k ≡ true
 spelling_among (only l) ks k h = rw (← h) (among_here l ks)
-spelling_among (both l m) ks k h = elim h [ inl e ↦ rw (← e) (among_here l (m ∷ ks)) | inr e ↦ rw (← e) (among_there l (m ∷ ks) m (among_here m ks)) ]
+spelling_among (both l m) ks k h = elim h [
+  | inl e ↦ rw (← e) (among_here l (m ∷ ks))
+  | inr e ↦ rw (← e)
+      (among_there l (m ∷ ks) m (among_here m ks))
+]
 
 among_cases : (l : Text) (ks : List Text) (k : Text) → is_among (l ∷ ks) k ≡ true → (l ≡ k) ⊎ (is_among ks k ≡ true)
 among_cases l ks k h = elim (cases_Bool (same_key l k)) [ inl e ↦ inl (same_key-true l k e) | inr e ↦ inr (rw e at h) ]
 
-spelling_cases : (names : Spellings) (ks : List Text) (k : Text) → is_among (spell names ks) k ≡ true → HasSpelling names k ⊎ (is_among ks k ≡ true)
+spelling_cases : (names : Spellings) (ks : List Text) (k : Text) → is_among (spell names ks) k ≡ true
+    → HasSpelling names k ⊎ (is_among ks k ≡ true)
 spelling_cases (only l) ks k h = among_cases l ks k h
-spelling_cases (both l m) ks k h = elim (among_cases l (m ∷ ks) k h) [ inl e ↦ inl (inl e) | inr h ↦ elim (among_cases m ks k h) [ inl e ↦ inl (inr e) | inr h ↦ inr h ] ]
+spelling_cases (both l m) ks k h = elim (among_cases l (m ∷ ks) k h) [
+  | inl e ↦ inl (inl e)
+  | inr h ↦ elim
+      (among_cases m ks k h) [ inl e ↦ inl (inr e) | inr h ↦ inr h ]
+]
 
 -- the keys that the spellings of a row differ from have none of them
-differ_from : (names : Spellings) (ks : List Text) (k : Text) → differ names ks ≡ true → HasSpelling names k → is_among ks k ≡ true → ⊥
+differ_from : (names : Spellings) (ks : List Text) (k : Text) → differ names ks ≡ true → HasSpelling names k
+    → is_among ks k ≡ true → ⊥
 differ_from (only l) ks k d e h = true≢false (sym h ∙ rw (← e) (not-true _ d))
 differ_from (both l m) ks k d e h =
     let (a, b) = and_parts (not (is_among (m ∷ ks) l)) (not (is_among ks m)) d in
-    elim e [ inl e ↦ true≢false (sym (among_there m ks k h) ∙ rw (← e) (not-true _ a)) | inr e ↦ true≢false (sym h ∙ rw (← e) (not-true _ b)) ]
+    elim e [
+      | inl e ↦ true≢false (sym (among_there m ks k h) ∙ rw (← e) (not-true _ a))
+      | inr e ↦ true≢false (sym h
+          ∙ rw (← e) (not-true _ b))
+    ]
 
 -- SLOTS
 abbrev pub OfOne : (Text → Data → Type 0) → Slot → Type 0
@@ -52,7 +66,8 @@ slot_of (only k) ms = by_one (get_member k ms) refl
     by_one (Some d) e = (refl, entry_found k d ms e)
 slot_of (both k l) ms = by_two (get_member k ms) (get_member l ms) refl refl
   where
-    by_two : (o u : Option Data) → get_member k ms ≡ o → get_member l ms ≡ u → OfOne (λ j d. ((k ≡ j) ⊎ (l ≡ j)) × has_entry j d ms) (slot_of_two k l o u)
+    by_two : (o u : Option Data) → get_member k ms ≡ o → get_member l ms ≡ u → OfOne (λ j d. ((k ≡ j) ⊎ (l ≡ j))
+        × has_entry j d ms) (slot_of_two k l o u)
     by_two (Some d) (Some e) f g = tt
     by_two (Some d) None f g = (inl refl, entry_found k d ms f)
     by_two None None f g = tt
@@ -63,7 +78,8 @@ slot_left ps (one k d) = one k (left_out (from_step (key k) ps) d)
 slot_left ps s = s
 
 -- where no path ends at a spelling, the slot keeps its value, without what the paths leave out of it
-at-left : (names : Spellings) (ps : List Path) (ms : Members) → ((k : Text) → HasSpelling names k → ends_here (from_step (key k) ps) ≡ false) → at names (left_out_members ps ms) ≡ slot_left ps (at names ms)
+at-left : (names : Spellings) (ps : List Path) (ms : Members) → ((k : Text) → HasSpelling names k
+    → ends_here (from_step (key k) ps) ≡ false) → at names (left_out_members ps ms) ≡ slot_left ps (at names ms)
 at-left (only k) ps ms h = rw (get-left ps k ms) (by_one (get_member k ms))
   where
     by_one : (o : Option Data) → slot k (left_value (from_step (key k) ps) o) ≡ slot_left ps (slot k o)
@@ -71,7 +87,8 @@ at-left (only k) ps ms h = rw (get-left ps k ms) (by_one (get_member k ms))
     by_one (Some d) = rw (h k refl)
 at-left (both k l) ps ms h = rw (get-left ps k ms, get-left ps l ms) (by_two (get_member k ms) (get_member l ms))
   where
-    by_two : (o u : Option Data) → slot_of_two k l (left_value (from_step (key k) ps) o) (left_value (from_step (key l) ps) u) ≡ slot_left ps (slot_of_two k l o u)
+    by_two : (o u : Option Data) → slot_of_two k l (left_value (from_step (key k) ps) o)
+        (left_value (from_step (key l) ps) u) ≡ slot_left ps (slot_of_two k l o u)
     by_two (Some d) (Some e) = rw (h k (inl refl), h l (inr refl))
     by_two (Some d) None = rw (h k (inl refl))
     by_two None None = refl
@@ -79,10 +96,14 @@ at-left (both k l) ps ms h = rw (get-left ps k ms, get-left ps l ms) (by_two (ge
 
 module _ {C : Type 0} (n : Needs.Need C) (T : FindsSoundly n) (names : Spellings) where
   slot_inner : (s : Slot) → Inner (n.findings names s) × ((k : Text) → Stays (key k) (n.findings names s))
-  slot_inner s = let (a, b) = by_slot s in (ap ends_here (T.found names s) ∙ a, λ k. ap (λ ps. ends_here (from_step (key k) ps)) (T.found names s) ∙ b k)
+  slot_inner s = let (a, b) = by_slot s in (
+    ap ends_here (T.found names s)
+        ∙ a,
+    λ k. ap (λ ps. ends_here (from_step (key k) ps)) (T.found names s) ∙ b k,
+  )
     where
       by_slot : (s : Slot) → Inner (slot_findings T.value s) × ((k : Text) → Stays (key k) (slot_findings T.value s))
-      by_slot (one j d) = (inner_behind (key j) (T.value d), λ k. stays_behind (key k) (key j) (T.value d) (T.inside d))
+      by_slot (one j d) = (inner_under (key j) (T.value d), λ k. stays_under (key k) (key j) (T.value d) (T.inside d))
       by_slot _ = (refl, λ k. refl)
 
   unmoved : (s : Slot) → unused_of (slot_findings T.value s) ≡ []
@@ -93,11 +114,14 @@ module _ {C : Type 0} (n : Needs.Need C) (T : FindsSoundly n) (names : Spellings
     abbrev InTable : Slot → Type 0
     InTable = OfOne (λ k d. HasSpelling names k × has_entry k d ms)
 
-    slot_vanish : (s : Slot) (k : Text) → InTable s → ((d : Data) → has_entry k d ms → HasSpelling names k → ⊥) → unused_at (key k) (n.findings names s) ≡ []
+    slot_vanish : (s : Slot) (k : Text) → InTable s → ((d : Data) → has_entry k d ms → HasSpelling names k → ⊥)
+        → unused_at (key k) (n.findings names s) ≡ []
     slot_vanish s k h none = ap (from_step (key k)) (T.found names s) ∙ by_slot s h
       where
         by_slot : (s : Slot) → InTable s → unused_at (key k) (slot_findings T.value s) ≡ []
-        by_slot (one j d) h = at-other (key k) (key j) (T.value d) (same_key-false k j (λ e. none d (subst (λ l. has_entry l d ms) (sym e) h.1) (subst (HasSpelling names) (sym e) h.0)))
+        by_slot (one j d) h = at-other (key k) (key j) (T.value d)
+            (same_key-false k j (λ e. none d (subst (λ l. has_entry l d ms) (sym e) h.1) (subst (HasSpelling names)
+            (sym e) h.0)))
         by_slot _ h = refl
 
     slot_tidy : (ps : List Path) (s : Slot) → InTable s → InOrder ms
@@ -107,7 +131,7 @@ module _ {C : Type 0} (n : Needs.Need C) (T : FindsSoundly n) (names : Spellings
     slot_tidy ps clash h s g = unmoved clash refl
     slot_tidy ps (one k d) h s g =
         rw (g k h.0 ∙ ap (from_step (key k)) (T.found names (one k d))
-        ∙ at-behind (key k) (key k) (T.value d) (same_key-self k)) (T.tidy names k d (value_sorted k d ms s h.1))
+        ∙ at-under (key k) (key k) (T.value d) (same_key-self k)) (T.tidy names k d (value_sorted k d ms s h.1))
 
 -- THE ROWS
 module _ {A : Type 0} (named : List Text) where
@@ -123,17 +147,24 @@ module _ {A : Type 0} (named : List Text) where
   pub within_later : (r : Forms.Row A) (rs : Rows A) → Within (r ⨾ rs) → Within rs
   within_later r rs w k h = w k (later_among r.spellings (spelled rs) k h)
 
-  owned_cases : (rows : Rows A) (k : Text) → Owns rows k → (is_among (spelled rows) k ≡ true) ⊎ ((is_among named k ≡ false) × (is_closed rows ≡ false))
+  owned_cases : (rows : Rows A) (k : Text) → Owns rows k → (is_among (spelled rows) k ≡ true)
+      ⊎ ((is_among named k ≡ false) × (is_closed rows ≡ false))
   owned_cases no_more k o = absurd o
   owned_cases (others get K) k o = inr (o, refl)
   owned_cases (r ⨾ rs) k (inl e) = inl (spelling_among r.spellings (spelled rs) k e)
-  owned_cases (r ⨾ rs) k (inr o) = elim (owned_cases rs k o) [ inl h ↦ inl (later_among r.spellings (spelled rs) k h) | inr h ↦ inr h ]
+  owned_cases (r ⨾ rs) k (inr o) = elim (owned_cases rs k o) [
+    | inl h ↦ inl (later_among r.spellings (spelled rs) k
+        h)
+    | inr h ↦ inr h
+  ]
 
-  pub owned_spelled : (rows : Rows A) (k : Text) → is_closed rows ≡ true → Owns rows k → is_among (spelled rows) k ≡ true
+  pub owned_spelled : (rows : Rows A) (k : Text) → is_closed rows ≡ true → Owns rows k → is_among (spelled rows)
+      k ≡ true
   owned_spelled rows k c o = elim (owned_cases rows k o) [ inl h ↦ h | inr h ↦ absurd (true≢false (sym c ∙ h.1)) ]
 
   -- no key of the later rows is a spelling of the first
-  pub owned_once : (r : Forms.Row A) (rs : Rows A) (k : Text) → differ r.spellings (spelled rs) ≡ true → Within (r ⨾ rs) → Owns rs k → HasSpelling r.spellings k → ⊥
+  pub owned_once : (r : Forms.Row A) (rs : Rows A) (k : Text) → differ r.spellings (spelled rs) ≡ true → Within (r ⨾ rs)
+      → Owns rs k → HasSpelling r.spellings k → ⊥
   owned_once r rs k d w o e = elim (owned_cases rs k o) [
     | inl h ↦ differ_from r.spellings (spelled rs) k d e h
     | inr h ↦ true≢false (sym (w k (spelling_among r.spellings (spelled rs) k e)) ∙ h.0)
@@ -155,8 +186,10 @@ module _ {A : Type 0} (named : List Text) where
     pub rows_vanish : (rows : Rows A) (k : Text) → AreSound rows → ((d : Data) → has_entry k d ms → Owns rows k → ⊥)
         → unused_at (key k) (all rows) ≡ []
     rows_vanish no_more k t none = refl
-    rows_vanish (others get K) k t none = none_beside K k (without named ms) (λ d h. let (a, b) = entry_beside named k d ms h in none d a b)
-    rows_vanish (r ⨾ rs) k t none = at_second (key k) (own r) (all rs) (row_vanish r k t.0 (λ d h e. none d h (inl e))) ∙ rows_vanish rs k t.1 (λ d h o. none d h (inr o))
+    rows_vanish (others get K) k t none = none_beside K k (without named ms) (λ d h. let (a, b) = entry_beside named k d
+        ms h in none d a b)
+    rows_vanish (r ⨾ rs) k t none = at_second (key k) (own r) (all rs) (row_vanish r k t.0 (λ d h e. none d h (inl e)))
+        ∙ rows_vanish rs k t.1 (λ d h o. none d h (inr o))
 
     pub rows_inner : (rows : Rows A) → AreSound rows → Inner (all rows) × ((k : Text) → Stays (key k) (all rows))
     rows_inner no_more t = (refl, λ k. refl)
@@ -182,8 +215,10 @@ module _ {A : Type 0} (named : List Text) where
     rows_tidy (r ⨾ rs) ps t d w s g =
         let (new, more) = and_parts (differ r.spellings (spelled rs)) (distinct rs) d in
         let first : (k : Text) → HasSpelling r.spellings k → from_step (key k) ps ≡ unused_at (key k) (own r) =
-        λ k e. g k (inl e) ∙ at_first (key k) (own r) (all rs) (rows_vanish rs k t.1 (λ d h o. owned_once r rs k new w o e)) in
-        let rest : Agrees rs ps = λ k o. g k (inr o) ∙ at_second (key k) (own r) (all rs) (row_vanish r k t.0 (λ d h e. owned_once r rs k new w o e)) in
+        λ k e. g k (inl e) ∙ at_first (key k) (own r) (all rs) (rows_vanish rs k t.1 (λ d h o. owned_once r rs k new w o
+        e)) in
+        let rest : Agrees rs ps = λ k o. g k (inr o) ∙ at_second (key k) (own r) (all rs)
+        (row_vanish r k t.0 (λ d h e. owned_once r rs k new w o e)) in
         let left =
         at-left r.spellings ps ms
         (λ k e. ap ends_here (first k e) ∙ (slot_inner r.need t.0.finds r.spellings (at r.spellings ms)).1 k) in
@@ -218,12 +253,14 @@ module _ {A : Type 0} (named : List Text) where
     left_unowned (r ⨾ rs) k d w h (inr o) = left_unowned rs k d (within_later r rs w) h o
 
     -- none of the keys that are left over is one that the rows read
-    pub left_vanish : (rows : Rows A) (k : Text) → Within rows → (is_among named k ≡ true) ⊎ Owns rows k → unused_at (key k) (unused_keys (left_beside named rows ms)) ≡ []
+    pub left_vanish : (rows : Rows A) (k : Text) → Within rows → (is_among named k ≡ true) ⊎ Owns rows k
+        → unused_at (key k) (unused_keys (left_beside named rows ms)) ≡ []
     left_vanish no_more k w (inl h) = named_not_found named k ms h
     left_vanish no_more k w (inr o) = absurd o
     left_vanish (others get K) k w h = refl
     left_vanish (r ⨾ rs) k w (inl h) = left_vanish rs k (within_later r rs w) (inl h)
-    left_vanish (r ⨾ rs) k w (inr (inl e)) = left_vanish rs k (within_later r rs w) (inl (w k (spelling_among r.spellings (spelled rs) k e)))
+    left_vanish (r ⨾ rs) k w (inr (inl e)) = left_vanish rs k (within_later r rs w)
+        (inl (w k (spelling_among r.spellings (spelled rs) k e)))
     left_vanish (r ⨾ rs) k w (inr (inr o)) = left_vanish rs k (within_later r rs w) (inr o)
 
     pub left-closed : (rows : Rows A) → is_closed rows ≡ true → left_beside named rows ms ≡ without named ms
@@ -239,7 +276,8 @@ module _ (ms : Members) (s : InOrder ms) where
   slot_place : (names : Spellings) → HasSpelling names (slot_key names (at names ms)) × IsSlotSorted (at names ms)
   slot_place names = by_slot (at names ms) (slot_of names ms)
     where
-      by_slot : (t : Slot) → OfOne (λ k d. HasSpelling names k × has_entry k d ms) t → HasSpelling names (slot_key names t) × IsSlotSorted t
+      by_slot : (t : Slot) → OfOne (λ k d. HasSpelling names k × has_entry k d ms) t
+          → HasSpelling names (slot_key names t) × IsSlotSorted t
       by_slot (one k d) h = (h.0, value_sorted k d ms s h.1)
       by_slot _ h = (first_spelled names, tt)
 
@@ -264,10 +302,14 @@ module _ (ms : Members) (s : InOrder ms) where
         (entries_diverging K.findings t.once (without named ms) (order_beside named ms s))
     rows_diverging (r ⨾ rs) t d w =
         let (new, more) = and_parts (differ r.spellings (spelled rs)) (distinct rs) d in
-        both_diverging (row_diverging r.need r.spellings t.0) (rows_diverging rs t.1 more (within_later named r rs w)) (key_weaker (λ k e. inl e)) (key_weaker (λ k o. inr o)) (key_apart (λ k e o. owned_once named r rs k new w o e))
+        both_diverging (row_diverging r.need r.spellings t.0) (rows_diverging rs t.1 more (within_later named r rs w))
+        (key_weaker (λ k e. inl e)) (key_weaker (λ k o. inr o))
+        (key_apart (λ k e o. owned_once named r rs k new w o e))
 
-    pub left_diverging : (rows : Rows A) → DivergingBy (KeyOf (λ k. (is_among named k ≡ false) × (is_closed rows ≡ true))) (unused_keys (left_beside named rows ms))
-    left_diverging no_more = weaker_diverging (key_weaker (λ k h. ((entry_beside named k h.0 ms h.1).1, refl))) (keys_diverging (without named ms) (order_beside named ms s))
+    pub left_diverging : (rows : Rows A) → DivergingBy (KeyOf (λ k. (is_among named k ≡ false)
+        × (is_closed rows ≡ true))) (unused_keys (left_beside named rows ms))
+    left_diverging no_more = weaker_diverging (key_weaker (λ k h. ((entry_beside named k h.0 ms h.1).1, refl)))
+        (keys_diverging (without named ms) (order_beside named ms s))
     left_diverging (others get K) = none_diverging
     left_diverging (r ⨾ rs) = left_diverging rs
 
@@ -277,7 +319,11 @@ module _ {A : Type 0} (named : List Text) where
       → fits_beside named rows ms u → t ≡ u
   rows_single no_more ms t u l a b = refl
   rows_single (others get K) ms t u l a b = entries_single l (without named ms) t u a b
-  rows_single (r ⨾ rs) ms t u l a b = λ i. (l.0.single (at r.spellings ms) t.0 u.0 a.0 b.0 i, rows_single rs ms t.1 u.1 l.1 a.1 b.1 i)
+  rows_single (r ⨾ rs) ms t u l a b = λ i. (
+    l.0.single (at r.spellings ms) t.0 u.0 a.0 b.0 i,
+    rows_single rs ms t.1 u.1
+        l.1 a.1 b.1 i,
+  )
 
   pub rows_decided : (rows : Rows A) (ms : Members) → AreSound rows
       → Decided (findings_beside named rows ms) (fits_beside named rows ms)
@@ -315,20 +361,25 @@ module _ {A : Type 0} (rows : Rows A) (T : AreSound rows) where
   left ms = unused_keys (left_over rows ms)
 
   -- a key that a row has stays
-  pub key_stays : (ms : Members) (k : Text) → is_among (spelled rows) k ≡ true → Stays (key k) (form_findings rows (table ms))
-  key_stays ms k h = ap ends_here (at_first (key k) (row_findings rows ms) (left ms) (left_vanish (spelled rows) ms rows k (λ k h. h) (inl h))) ∙ (rows_inner (spelled rows) ms rows T).1 k
+  pub key_stays : (ms : Members) (k : Text) → is_among (spelled rows) k ≡ true
+      → Stays (key k) (form_findings rows (table ms))
+  key_stays ms k h = ap ends_here (at_first (key k) (row_findings rows ms) (left ms) (left_vanish (spelled rows) ms rows
+      k (λ k h. h) (inl h))) ∙ (rows_inner (spelled rows) ms rows T).1 k
 
   pub unused_if_no_row : UnusedIfNoRow rows
   unused_if_no_row c ms k d h = elim (cases_Bool (is_among (spelled rows) k)) [
     | inl e ↦ key_stays ms k e ∙ ap not (sym e)
     | inr e ↦
-        ap ends_here (at_second (key k) (row_findings rows ms) (left ms) (rows_vanish (spelled rows) ms rows k T (λ d h o. true≢false (sym (owned_spelled (spelled rows) rows k c o) ∙ e))))
-        ∙ rw (left-closed (spelled rows) ms rows c) (key_found k d (without (spelled rows) ms) (kept_beside (spelled rows) k d ms h e)) ∙ ap not (sym e)
+        ap ends_here (at_second (key k) (row_findings rows ms) (left ms) (rows_vanish (spelled rows) ms rows k T
+        (λ d h o. true≢false (sym (owned_spelled (spelled rows) rows k c o) ∙ e))))
+        ∙ rw (left-closed (spelled rows) ms rows c) (key_found k d (without (spelled rows) ms)
+        (kept_beside (spelled rows) k d ms h e)) ∙ ap not (sym e)
   ]
 
 module _ {A : Type 0} (rows : Rows A) (L : AreSound rows) (B : IsBuilt rows) (D : IsTrue (distinct rows)) where
   form_single : (d : Data) (x y : A) → reads_form rows d x → reads_form rows d y → x ≡ y
-  form_single (table ms) x y a b = sym (B.all x) ∙ ap B.build (rows_single (spelled rows) rows ms (gets rows x) (gets rows y) L a b) ∙ B.all y
+  form_single (table ms) x y a b = sym (B.all x) ∙ ap B.build (rows_single (spelled rows) rows ms (gets rows x)
+      (gets rows y) L a b) ∙ B.all y
   form_single _ x y a b = absurd a
 
   form_decided : (d : Data) → Decided (form_findings rows d) (reads_form rows d)

@@ -1,7 +1,7 @@
 -- What is found in a whole table: each of its faults, and none exactly where it means a manifest.
-use Rattle.manifest_schema.specs.Prelude.{Data, table, Members, get_member, Path, Cause, Step, key, behind, Kind, Rows, form, faulty, package_rows, manifest_rows, Package, Manifest, has_header, old_package, faulty_old, means_by, unmeant_by, without, row_findings, left_over, form_findings, Finding, fault, ignored, unused, found_behind, unused_keys, faults_of, among, FindsAll, IsFaultless, old_findings, findings_by, manifest_findings, Decided, IsSound, FindsEveryFault, FaultlessIfMeant, FaultyMeansNothing, AcceptedOrFaulty}
+use Rattle.manifest_schema.specs.Prelude.{Data, table, Members, get_member, Path, Cause, Step, key, under, Kind, Rows, form, faulty, package_rows, manifest_rows, Package, Manifest, has_header, old_package, faulty_old, means_by, manifest_faulty_by, without, row_findings, left_over, form_findings, Finding, fault, ignored, unused, found_under, unused_keys, faults_of, among, FindsAll, IsFaultless, old_findings, findings_by, manifest_findings, Decided, IsSound, FindsEveryFault, FaultlessIfMeant, FaultyMeansNothing, AcceptedOrFaulty}
 use Rattle.std.proofs.Common.{◌≡◌, ◌↔◌, Bool, true, false, ◌⊎◌, inl, inr, List, [], ◌∷◌, ◌++◌, Option, Some, None, codes, refl, ap, ◌∙◌}
-use Rattle.manifest_schema.proofs.Faultless.{both_none, behind_none, keys_none, decided_apart, decided_total}
+use Rattle.manifest_schema.proofs.Faultless.{both_none, under_none, keys_none, decided_apart, decided_total}
 use Rattle.manifest_schema.proofs.ManifestLaws.{package_sound, manifest_sound}
 
 -- NO FAULT exactly where it means a manifest
@@ -36,9 +36,9 @@ module _ {K W : Kind Data} (k : IsSound K) (w : IsSound W) where
 
   old_decided : (ms : Members) (o : Option Data) → Decided (old_findings K W ms o) (MeansOld ms o)
   old_decided ms (Some d) =
-      old_by ms (Some d) (found_behind (key (codes "project")) ((form (package_rows K)).findings d))
+      old_by ms (Some d) (found_under (key (codes "project")) ((form (package_rows K)).findings d))
       (without (codes "project" ∷ []) (left_over (manifest_rows K W) ms))
-      (behind_none (key (codes "project")) ((form (package_rows K)).findings d))
+      (under_none (key (codes "project")) ((form (package_rows K)).findings d))
   old_decided ms None =
       old_by ms None (row_findings (package_rows K) ms) (left_over (package_rows K) (left_over (manifest_rows K W) ms))
       (rows_form (package_rows K) ms)
@@ -57,16 +57,16 @@ module _ {K W : Kind Data} (k : IsSound K) (w : IsSound W) where
   accepted_or_faulty ms = decided_total (manifest_findings K W ms) (decided_by (has_header ms) ms)
 
 -- WHERE THE FAULTS STAND
-pub behind_to : (s : Step) (fs : List Finding) (p : Path) (c : Cause)
-    → among (faults_of (found_behind s fs)) p c ↔ behind s (among (faults_of fs)) p c
-behind_to s [] p c = (λ h. absurd h, λ h. absurd h.2)
-behind_to s (fault q e ws ∷ fs) p c =
-    let (a, b) = behind_to s fs p c in (
+pub under_to : (s : Step) (fs : List Finding) (p : Path) (c : Cause)
+    → among (faults_of (found_under s fs)) p c ↔ under s (among (faults_of fs)) p c
+under_to s [] p c = (λ h. absurd h, λ h. absurd h.2)
+under_to s (fault q e ws ∷ fs) p c =
+    let (a, b) = under_to s fs p c in (
       elim [ inl here ↦ (q, here.0, inl (refl, here.1)) | inr there ↦ let (r, e, h) = a there in (r, e, inr h) ],
       λ h. elim h.2 [ inl here ↦ inl (h.1 ∙ ap (λ r. s ∷ r) here.0, here.1) | inr there ↦ inr (b (h.0, h.1, there)) ],
     )
-behind_to s (ignored q e ws ∷ fs) p c = behind_to s fs p c
-behind_to s (unused q ∷ fs) p c = behind_to s fs p c
+under_to s (ignored q e ws ∷ fs) p c = under_to s fs p c
+under_to s (unused q ∷ fs) p c = under_to s fs p c
 
 pub append_to : (fs gs : List Finding) (p : Path) (c : Cause)
     → among (faults_of (fs ++ gs)) p c ↔ (among (faults_of fs) p c ⊎ among (faults_of gs) p c)
@@ -108,13 +108,13 @@ module _ (K W : Kind Data) where
       → among (faults_of (old_findings K W ms o)) p c
       ↔ (faulty (form (manifest_rows K W)) (table ms) p c ⊎ faulty_old K ms o p c)
   old_to ms (Some d) p c =
-      three_to ms _ (Some d) (found_behind (key (codes "project")) ((form (package_rows K)).findings d)) p c
-      (behind_to (key (codes "project")) ((form (package_rows K)).findings d) p c)
+      three_to ms _ (Some d) (found_under (key (codes "project")) ((form (package_rows K)).findings d)) p c
+      (under_to (key (codes "project")) ((form (package_rows K)).findings d) p c)
   old_to ms None p c =
       let (a, b) = keys_to (row_findings (package_rows K) ms) (left_over (package_rows K) ms) p c in
       three_to ms _ None (row_findings (package_rows K) ms) p c (b, a)
 
-  every_by : (h : Bool) (ms : Members) → FindsAll (findings_by K W h ms) (unmeant_by K W h ms)
+  every_by : (h : Bool) (ms : Members) → FindsAll (findings_by K W h ms) (manifest_faulty_by K W h ms)
   every_by true ms p c = (λ h. h, λ h. h)
   every_by false ms p c = old_to ms (get_member (codes "project") ms) p c
 

@@ -6,7 +6,7 @@ use Rattle.manifest_schema.specs.Findings.{Finding, unused_keys}
 use Rattle.manifest_schema.proofs.TableLaws.{same_key-self, same_key-true}
 use Rattle.manifest_schema.proofs.LeftOutLaws.{InOrder, in_order, order_beside, entry_beside, entry_found, value_sorted}
 use Rattle.manifest_schema.proofs.FormLaws.{HasSpelling, owned_spelled, left-closed, row_diverging, rows_diverging}
-use Rattle.manifest_schema.proofs.Diverging.{DivergingBy, weaker_diverging, both_diverging, behind_diverging, begin_weaker, begin_with, begin_both, KeyOf, key_weaker, key_apart, keys_diverging}
+use Rattle.manifest_schema.proofs.Diverging.{DivergingBy, weaker_diverging, both_diverging, under_diverging, begin_weaker, begin_with, begin_both, KeyOf, key_weaker, key_apart, keys_diverging}
 use Rattle.manifest_schema.proofs.ManifestLaws.{package_distinct, package_sound, package_rows_sound, manifest_distinct, manifest_sound, manifest_rows_sound}
 use Rattle.manifest_schema.proofs.UnusedLaws.{shared_is, known, closed, none_of}
 
@@ -37,7 +37,8 @@ differs k w h e = true≢false (sym (same_key-self w) ∙ subst (λ j. same_key 
 module _ (ms : Members) (s : InOrder ms) (w : Text) (none : get_member w ms ≡ None) where
   row_without : {C : Type 0} (n : Needs.Need C) (names : Spellings) → IsSoundNeed n → (HasSpelling names w → ⊥)
       → AllBegin (Not w) (found_paths (n.findings names (at names ms)))
-  row_without n names T other = begin_weaker (found_paths (n.findings names (at names ms))) (λ t h e. other (subst (KeyOf (HasSpelling names)) e h)) (row_diverging ms s n names T).begin
+  row_without n names T other = begin_weaker (found_paths (n.findings names (at names ms)))
+      (λ t h e. other (subst (KeyOf (HasSpelling names)) e h)) (row_diverging ms s n names T).begin
 
   row_quiet : {C : Type 0} (n : Needs.Need C) (names : Spellings) → IsSoundNeed n
       → is_quiet w names (n.findings names absent) ≡ true
@@ -45,9 +46,11 @@ module _ (ms : Members) (s : InOrder ms) (w : Text) (none : get_member w ms ≡ 
   row_quiet n (only k) T q = elim (or_cases (not (same_key k w)) (is_empty (n.findings (only k) absent)) q) [
     | inl h ↦ row_without n (only k) T (differs k w h)
     | inr h ↦ elim (cases_Bool (same_key k w)) [
-      | inl e ↦ let gone : get_member k ms ≡ None = subst (λ j. get_member j ms ≡ None) (sym (same_key-true k w e)) none in
+      | inl e ↦ let gone : get_member k ms ≡ None = subst (λ j. get_member j ms ≡ None) (sym (same_key-true k w e))
+          none in
           rw gone (empty_begin (Not w) (n.findings (only k) absent) h)
-      | inr e ↦ row_without n (only k) T (λ tie. true≢false (sym (same_key-self w) ∙ subst (λ j. same_key j w ≡ false) tie e))
+      | inr e ↦ row_without n (only k) T (λ tie. true≢false (sym (same_key-self w) ∙ subst (λ j. same_key j w ≡ false)
+          tie e))
     ]
   ]
   row_quiet n (both k l) T q =
@@ -60,7 +63,8 @@ module _ (ms : Members) (s : InOrder ms) (w : Text) (none : get_member w ms ≡ 
   rows_quiet named (others get K) t q = absurd (false≢true q)
   rows_quiet named (r ⨾ rs) t q =
       let (a, b) = and_parts (is_quiet w r.spellings (r.need.findings r.spellings absent)) (are_quiet w rs) q in
-      begin_both (Not w) (r.need.findings r.spellings (at r.spellings ms)) (findings_beside named rs ms) (row_quiet r.need r.spellings t.0 a) (rows_quiet named rs t.1 b)
+      begin_both (Not w) (r.need.findings r.spellings (at r.spellings ms)) (findings_beside named rs ms)
+      (row_quiet r.need r.spellings t.0 a) (rows_quiet named rs t.1 b)
 
 -- A TABLE WITHOUT A HEADER, by the value under `project`
 module _ {K W : Kind Data} (k : IsSound K) (w : IsSound W) (ms : Members) (s : InOrder ms)
@@ -84,19 +88,22 @@ module _ {K W : Kind Data} (k : IsSound K) (w : IsSound W) (ms : Members) (s : I
   left_keys names = rw left (weaker_diverging (key_weaker (λ j h.
       let (there, a) = entry_beside names j h.0 (without (spelled rows) ms) h.1 in
       (a, (entry_beside (spelled rows) j h.0 ms there).1)))
-      (keys_diverging (without names (without (spelled rows) ms)) (order_beside names (without (spelled rows) ms) (order_beside (spelled rows) ms s))))
+      (keys_diverging (without names (without (spelled rows) ms)) (order_beside names (without (spelled rows) ms)
+      (order_beside (spelled rows) ms s))))
 
   first : DivergingBy (KeyOf (λ j. is_among (spelled rows) j ≡ true)) (row_findings rows ms)
   first = weaker_diverging (key_weaker (λ j o. owned_spelled (spelled rows) rows j (closed K W).1 o))
       (rows_diverging ms s (spelled rows) rows (manifest_rows_sound K W k w) (manifest_distinct K W) (λ j h. h))
 
-  second : DivergingBy (λ t. KeyOf (λ j. is_among (spelled own_rows) j ≡ true) t × Not (codes "workspace") t) (row_findings own_rows ms)
+  second : DivergingBy (λ t. KeyOf (λ j. is_among (spelled own_rows) j ≡ true) t × Not (codes "workspace") t)
+      (row_findings own_rows ms)
   second =
       let p = rows_diverging ms s (spelled own_rows) own_rows (package_rows_sound K k) (package_distinct K)
       (λ j h. h) in
       let ps = found_paths (row_findings own_rows ms) in
       record {
-        begin = begin_with _ _ ps (begin_weaker ps (key_weaker (λ j o. owned_spelled (spelled own_rows) own_rows j (closed K W).0 o)) p.begin)
+        begin = begin_with _ _ ps (begin_weaker ps (key_weaker (λ j o. owned_spelled (spelled own_rows) own_rows j
+            (closed K W).0 o)) p.begin)
             (rows_quiet ms s (codes "workspace") none (spelled own_rows) own_rows (package_rows_sound K k)
             (quiet_package K));
         diverge = p.diverge;
@@ -105,10 +112,11 @@ module _ {K W : Kind Data} (k : IsSound K) (w : IsSound W) (ms : Members) (s : I
   old_diverging : (o : Option Data) → get_member project ms ≡ o → AllDiverge (found_paths (old_findings K W ms o))
   old_diverging (Some d) e =
       let own =
-      behind_diverging (key project) ((form own_rows).findings d)
+      under_diverging (key project) ((form own_rows).findings d)
       ((package_sound K k).once d (value_sorted project d ms s (entry_found project d ms e))) in
       (both_diverging {R = λ t. Unit {0}} first
-      (both_diverging {R = KeyOf (λ j. is_among (spelled rows) j ≡ false)} own (left_keys (project ∷ [])) (λ t e. rw e (known K W).no_project) (key_weaker (λ j h. h.1))
+      (both_diverging {R = KeyOf (λ j. is_among (spelled rows) j ≡ false)} own (left_keys (project ∷ []))
+      (λ t e. rw e (known K W).no_project) (key_weaker (λ j h. h.1))
       (λ t e h. true≢false (subst (KeyOf (Left (project ∷ []))) e h).0))
       (λ t h. tt) (λ t h. tt) (key_apart (λ j a b. true≢false (sym a ∙ b)))).diverge
   old_diverging None e =
@@ -122,9 +130,12 @@ module _ {K W : Kind Data} (k : IsSound K) (w : IsSound W) (ms : Members) (s : I
       (λ t h. tt) (λ t h. tt) (key_apart {Q = λ j. is_among (spelled rows) j ≡ true → ⊥} (λ j a b. b a))).diverge
 
 module _ {K W : Kind Data} (k : IsSound K) (w : IsSound W) where
-  diverging_by : (h : Bool) (ms : Members) → members_are_sorted ms ≡ true → has_header ms ≡ h → AllDiverge (found_paths (findings_by K W h ms))
+  diverging_by : (h : Bool) (ms : Members) → members_are_sorted ms ≡ true → has_header ms ≡ h
+      → AllDiverge (found_paths (findings_by K W h ms))
   diverging_by true ms s e = (manifest_sound K W k w).once (table ms) s
-  diverging_by false ms s e = old_diverging k w ms (in_order ms s) (none_of (get_member (codes "workspace") ms) (or_parts (is_some (get_member (codes "package") ms)) (is_some (get_member (codes "workspace") ms)) e).1) (get_member (codes "project") ms) refl
+  diverging_by false ms s e = old_diverging k w ms (in_order ms s) (none_of (get_member (codes "workspace") ms)
+      (or_parts (is_some (get_member (codes "package") ms)) (is_some (get_member (codes "workspace") ms)) e).1)
+      (get_member (codes "project") ms) refl
 
   pub finds_each_once : FindsEachOnce K W
   finds_each_once ms s = diverging_by (has_header ms) ms s refl

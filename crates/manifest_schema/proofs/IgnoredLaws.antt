@@ -1,9 +1,9 @@
 -- Nothing is ignored but badges that do not fit.
-use Rattle.manifest_schema.specs.Prelude.{append-nil, none-some, same_Some, Data, string, integer, float, boolean, array, table, Items, no_items, item, Members, no_members, member, get_member, Text, Path, Cause, Step, wrong_kind, out_of_range, key, behind, Spellings, only, Slot, absent, one, clash, slot, at, without, Kind, text, flag, truth, whole, choice, kept, list_of, map_of, inh, inherits, split, tree_of, Need, required, optional, default, Rows, no_more, others, ◌⨾◌, findings_beside, row_findings, left_over, spelled, form, Finding, fault, ignored, unused, found_here, found_behind, free_findings, unused_keys, ignored_of, among, item_findings, entry_findings, has_header, old_findings, findings_by, dependency, lint, inherited_rows, detailed_rows, lint_rows, product_rows, badge_rows, maintenance_rows, badges_rows, profile_rows, profiles_rows, lints_rows, platform_rows, package_rows, workspace_package_rows, workspace_rows, manifest_rows}
+use Rattle.manifest_schema.specs.Prelude.{append-nil, none-some, same_Some, Data, string, integer, float, boolean, array, table, Items, no_items, item, Members, no_members, member, get_member, Text, Path, Cause, Step, wrong_kind, out_of_range, key, under, Spellings, only, Slot, absent, one, clash, slot, at, without, Kind, text, flag, truth, whole, choice, raw, list_of, map_of, inh, inherits, split, tree_of, Need, required, optional, default, Rows, no_more, others, ◌⨾◌, findings_beside, row_findings, left_over, spelled, form, Finding, fault, ignored, unused, found_here, found_under, free_findings, unused_keys, ignored_of, among, item_findings, entry_findings, has_header, old_findings, findings_by, dependency, lint, inherited_rows, detailed_rows, lint_rows, product_rows, badge_rows, maintenance_rows, badges_rows, profile_rows, profiles_rows, lints_rows, platform_rows, package_rows, workspace_package_rows, workspace_rows, manifest_rows}
 use Rattle.std.proofs.Common.{◌≡◌, ◌⊎◌, ◌↔◌, ℕ, ℤ, zero, suc, Bool, true, false, inl, inr, List, [], ◌∷◌, ◌++◌, Option, Some, None, is_some, if◌then◌else◌, codes, refl, sym, ap, ◌∙◌, subst}
 use Rattle.manifest_schema.specs.Kinds.{within, float_findings, item_floats, entry_floats, no_word_findings, split_findings}
 use Rattle.manifest_schema.specs.Pins.{IgnoresNothing, badge_keys, unfit_badge, IgnoresBadgesAlone}
-use Rattle.manifest_schema.proofs.Pinned.{strict_behind, lenient_optional_ignores, lenient_default_ignores}
+use Rattle.manifest_schema.proofs.Pinned.{strict_under, lenient_optional_ignores, lenient_default_ignores}
 
 -- LISTS
 ignored-append : (fs gs : List Finding) → ignored_of (fs ++ gs) ≡ ignored_of fs ++ ignored_of gs
@@ -65,28 +65,28 @@ mutual
   item_floats_strict : (i : ℕ) (ds : Items) → ignored_of (item_floats i ds) ≡ []
   item_floats_strict i no_items = refl
   item_floats_strict i (item d ds) =
-      search (both_strict, strict_behind, floats_strict d, item_floats_strict (suc i) ds)
+      search (both_strict, strict_under, floats_strict d, item_floats_strict (suc i) ds)
 
   entry_floats_strict : (ms : Members) → ignored_of (entry_floats ms) ≡ []
   entry_floats_strict no_members = refl
   entry_floats_strict (member k d ms) =
-      search (both_strict, strict_behind, floats_strict d, entry_floats_strict ms)
+      search (both_strict, strict_under, floats_strict d, entry_floats_strict ms)
 
-kept_strict : IsStrict kept
-kept_strict = record { strict = floats_strict }
+raw_strict : IsStrict raw
+raw_strict = record { strict = floats_strict }
 
 module _ {A : Type 0} {K : Kind A} (k : IsStrict K) where
   items_strict : (i : ℕ) (ds : Items) → ignored_of (item_findings K.findings i ds) ≡ []
   items_strict i no_items = refl
   items_strict i (item d ds) =
-      search (both_strict, strict_behind, k.strict d, items_strict (suc i) ds)
+      search (both_strict, strict_under, k.strict d, items_strict (suc i) ds)
 
   list_strict : IsStrict (list_of K)
   list_strict = record { strict = elim [ array ds ↦ items_strict 0 ds | _ ↦ refl ] }
 
   entries_strict : (ms : Members) → ignored_of (entry_findings K.findings ms) ≡ []
   entries_strict no_members = refl
-  entries_strict (member l d ms) = search (both_strict, strict_behind, k.strict d, entries_strict ms)
+  entries_strict (member l d ms) = search (both_strict, strict_under, k.strict d, entries_strict ms)
 
   map_strict : IsStrict (map_of K)
   map_strict = record { strict = elim [ table ms ↦ entries_strict ms | _ ↦ refl ] }
@@ -118,7 +118,7 @@ module _ {A : Type 0} {K : Kind A} (k : IsStrict K) where
   slot_strict : (names : Spellings) (s : Slot) → ignored_of (free_findings names K.findings s) ≡ []
   slot_strict names absent = refl
   slot_strict names clash = refl
-  slot_strict names (one l d) = strict_behind (key l) (K.findings d) (k.strict d)
+  slot_strict names (one l d) = strict_under (key l) (K.findings d) (k.strict d)
 
   required_strict : IsStrictNeed (required K)
   required_strict = record { strict = λ names. elim [ absent ↦ refl | s ↦ slot_strict names s ] }
@@ -151,7 +151,21 @@ form_strict rows s = record {
 }
 
 -- THE FORMS of a manifest but its badges
-ruleset strict_laws = (text_strict, flag_strict, truth_strict, whole_strict, choice_strict, kept_strict, list_strict, map_strict, inh_strict, split_strict, required_strict, optional_strict, default_strict)
+ruleset strict_laws = (
+  text_strict,
+  flag_strict,
+  truth_strict,
+  whole_strict,
+  choice_strict,
+  raw_strict,
+  list_strict,
+  map_strict,
+  inh_strict,
+  split_strict,
+  required_strict,
+  optional_strict,
+  default_strict,
+)
 
 inherited_strict : IsStrict (form inherited_rows)
 unfolding inherited_rows
@@ -204,7 +218,8 @@ unfolding maintenance_rows
 maintenance_strict = form_strict maintenance_rows (search strict_laws)
 
 -- THE BADGES
-among-append : (fs gs : List (Path × Cause)) (p : Path) (c : Cause) → among (fs ++ gs) p c ↔ (among fs p c ⊎ among gs p c)
+among-append : (fs gs : List (Path × Cause)) (p : Path) (c : Cause) → among (fs ++ gs) p c
+    ↔ (among fs p c ⊎ among gs p c)
 among-append [] gs p c = (inr, elim [ inl h ↦ absurd h | inr h ↦ h ])
 among-append (f ∷ fs) gs p c =
     let (there, back) = among-append fs gs p c in (
@@ -239,39 +254,46 @@ module _ (p : Path) (c : Cause) where
       let maintenance = lenient_default_ignores (form maintenance_rows) maintenance_strict.strict in
       search (one_more, none_more, badge, maintenance) depth 20
 
-  badges_ignore : (bs : Members) → among (ignored_of ((form badges_rows).findings (table bs))) p c ↔ unfit_badge badge_keys bs p c
+  badges_ignore : (bs : Members) → among (ignored_of ((form badges_rows).findings (table bs))) p c
+      ↔ unfit_badge badge_keys bs p c
   badges_ignore bs =
       none_more (row_findings badges_rows bs) (unused_keys (left_over badges_rows bs))
       (badge_rows_ignore (spelled badges_rows) bs) (ignored-keys (left_over badges_rows bs))
 
-ignored_behind : (s : Step) (fs : List Finding) (p : Path) (c : Cause)
-    → among (ignored_of (found_behind s fs)) p c ↔ behind s (among (ignored_of fs)) p c
-ignored_behind s [] p c = (λ h. absurd h, λ h. absurd h.2)
-ignored_behind s (ignored q e ws ∷ fs) p c =
-    let (a, b) = ignored_behind s fs p c in (
+ignored_under : (s : Step) (fs : List Finding) (p : Path) (c : Cause)
+    → among (ignored_of (found_under s fs)) p c ↔ under s (among (ignored_of fs)) p c
+ignored_under s [] p c = (λ h. absurd h, λ h. absurd h.2)
+ignored_under s (ignored q e ws ∷ fs) p c =
+    let (a, b) = ignored_under s fs p c in (
       elim [ inl here ↦ (q, here.0, inl (refl, here.1)) | inr there ↦ let (r, e, h) = a there in (r, e, inr h) ],
       λ h. elim h.2 [ inl here ↦ inl (h.1 ∙ ap (λ r. s ∷ r) here.0, here.1) | inr there ↦ inr (b (h.0, h.1, there)) ],
     )
-ignored_behind s (fault q e ws ∷ fs) p c = ignored_behind s fs p c
-ignored_behind s (unused q ∷ fs) p c = ignored_behind s fs p c
+ignored_under s (fault q e ws ∷ fs) p c = ignored_under s fs p c
+ignored_under s (unused q ∷ fs) p c = ignored_under s fs p c
 
 -- THE MANIFEST
 abbrev BadgesIn : Option Data → Path → Cause → Type 0
-BadgesIn o p c = (bs : Members) × (o ≡ Some (table bs)) × behind (key (codes "badges")) (unfit_badge badge_keys bs) p c
+BadgesIn o p c = (bs : Members) × (o ≡ Some (table bs)) × under (key (codes "badges")) (unfit_badge badge_keys bs) p c
 
 abbrev IsTable : Option Data → Type 0
 IsTable (Some (table ms)) = Unit {0}
 IsTable _ = ⊥
 
 badges_in : (o : Option Data) (p : Path) (c : Cause)
-    → among (ignored_of (free_findings (only (codes "badges")) (form badges_rows).findings (slot (codes "badges") o))) p c
+    → among (ignored_of (free_findings (only (codes "badges")) (form badges_rows).findings (slot (codes "badges") o))) p
+    c
     ↔ BadgesIn o p c
 badges_in None p c = (λ h. absurd h, λ h. absurd (none-some _ h.1))
 badges_in (Some (table bs)) p c =
-    let (there, back) = ignored_behind (key (codes "badges")) ((form badges_rows).findings (table bs)) p c in (
+    let (there, back) = ignored_under (key (codes "badges")) ((form badges_rows).findings (table bs)) p c in (
       λ h. let (q, e, g) = there h in (bs, refl, (q, e, (badges_ignore q c bs).0 g)),
       λ h. let same : h.0 ≡ bs = ap members_of (sym (same_Some _ _ h.1)) in
-          back (h.2.0, h.2.1, (badges_ignore h.2.0 c bs).1 (subst (λ ms. unfit_badge badge_keys ms h.2.0 c) same h.2.2)),
+          back (
+            h.2.0,
+            h.2.1,
+            (badges_ignore h.2.0 c bs).1 (subst (λ ms. unfit_badge badge_keys ms h.2.0 c) same
+                h.2.2),
+          ),
     )
   where
     members_of : Data → Members
@@ -290,7 +312,13 @@ workspace_strict : (K : Kind Data) → IsStrict K → IsStrict (form (workspace_
 unfolding workspace_rows
 workspace_strict K k =
     let metadata : IsStrictNeed (optional K) = optional_strict k in
-    form_strict (workspace_rows K) (search (strict_laws, metadata, dependency_strict, lint_strict, workspace_package_strict))
+    form_strict (workspace_rows K) (search (
+      strict_laws,
+      metadata,
+      dependency_strict,
+      lint_strict,
+      workspace_package_strict,
+    ))
 
 -- all rows ignore nothing but the one at this place
 abbrev AreStrictBut : {A : Type 0} → ℕ → Rows A → Type 0
@@ -319,7 +347,16 @@ module _ (K W : Kind Data) (k : IsStrict K) (w : IsStrict W) where
   manifest_strict_but =
       let own : IsStrictNeed (optional (form (package_rows K))) = optional_strict (package_strict K k) in
       let workspace : IsStrictNeed (optional (form (workspace_rows W))) = optional_strict (workspace_strict W w) in
-      search (strict_laws, own, workspace, dependency_strict, platform_strict, product_strict, profiles_strict, lints_strict)
+      search (
+        strict_laws,
+        own,
+        workspace,
+        dependency_strict,
+        platform_strict,
+        product_strict,
+        profiles_strict,
+        lints_strict,
+      )
 
   manifest_rows_ignore : (ms : Members) (p : Path) (c : Cause)
       → among (ignored_of (row_findings (manifest_rows K W) ms)) p c ↔ BadgesIn (get_member (codes "badges") ms) p c
@@ -332,7 +369,7 @@ module _ (K W : Kind Data) (k : IsStrict K) (w : IsStrict W) where
       → among (ignored_of (old_findings K W ms o)) p c ↔ BadgesIn (get_member (codes "badges") ms) p c
   old_ignores ms (Some d) p c =
       none_more p c (row_findings (manifest_rows K W) ms) _ (manifest_rows_ignore ms p c)
-      (search (both_strict, strict_behind, (package_strict K k).strict, ignored-keys))
+      (search (both_strict, strict_under, (package_strict K k).strict, ignored-keys))
   old_ignores ms None p c =
       none_more p c (row_findings (manifest_rows K W) ms) _ (manifest_rows_ignore ms p c)
       (search (both_strict, rows_strict, package_rows_strict K k, ignored-keys))
@@ -345,7 +382,8 @@ module _ (K W : Kind Data) (k : IsStrict K) (w : IsStrict W) where
   ignores_by false ms p c = old_ignores ms (get_member (codes "project") ms) p c
 
 pub ignores_badges_alone : (K W : Kind Data) → IgnoresBadgesAlone K W
-ignores_badges_alone K W k w ms p c = ignores_by K W (record { strict = k }) (record { strict = w }) (has_header ms) ms p c
+ignores_badges_alone K W k w ms p c = ignores_by K W (record { strict = k }) (record { strict = w }) (has_header ms) ms
+    p c
 
-pub kept_ignores_nothing : IgnoresNothing (tree_of kept)
-kept_ignores_nothing = floats_strict
+pub raw_ignores_nothing : IgnoresNothing (tree_of raw)
+raw_ignores_nothing = floats_strict

@@ -1,19 +1,19 @@
 -- Each kind satisfies the laws, where the kinds that it is made of do.
-use Rattle.manifest_schema.specs.Prelude.{and_parts, cases_Bool, false≢true, none-some, same_Some, Data, float, string, integer, boolean, array, table, Items, no_items, item, Members, no_members, member, is_sorted, items_are_sorted, Text, Path, Cause, Step, index, key, wrong_kind, out_of_range, not_true, not_a_choice, has_entry, without, text, flag, within, whole, truth, choice, kept, plain, plain_items, plain_members, float_findings, item_floats, entry_floats, reads_items, written_items, good_items, list_of, item_findings, Entries, reads_entries, written_entries, good_entries, map_of, entry_findings, Inheritable, inherited, local, inherits, reads_inh, good_inh, inh, reads_split, written_split, good_split, split, tree_of, from_step, ends_here, left_out, left_out_items, left_out_members, unused_in, Finding, fault, found_here, found_behind, unused_keys, faults_of, unused_of, found_paths, AllDiverge, IsFaultless, but_unused, Decided, AlikeBut, IsSound, IsPlain}
+use Rattle.manifest_schema.specs.Prelude.{and_parts, cases_Bool, false≢true, none-some, same_Some, Data, float, string, integer, boolean, array, table, Items, no_items, item, Members, no_members, member, is_sorted, items_are_sorted, Text, Path, Cause, Step, index, key, wrong_kind, out_of_range, not_true, not_a_choice, has_entry, without, text, flag, within, whole, truth, choice, raw, plain, plain_items, plain_members, float_findings, item_floats, entry_floats, reads_items, written_items, good_items, list_of, item_findings, Entries, reads_entries, written_entries, good_entries, map_of, entry_findings, Inheritable, inherited, local, inherits, reads_inh, good_inh, inh, reads_split, written_split, good_split, split, tree_of, from_step, ends_here, left_out, left_out_items, left_out_members, unused_in, Finding, fault, found_here, found_under, unused_keys, faults_of, unused_of, found_paths, AllDiverge, IsFaultless, but_unused, Decided, AlikeBut, IsSound, IsPlain}
 use Rattle.std.proofs.Common.{◌≡◌, ◌↔◌, ℕ, suc, ◌<◌, ◌≤◌, ℤ, Bool, true, false, ◌⊎◌, inl, inr, List, [], ◌∷◌, ◌++◌, Option, Some, None, IsTrue, if◌then◌else◌, codes, refl, sym, ap, ap₂, ◌∙◌, subst, true≢false, arith}
 use Rattle.manifest_schema.specs.Kinds
 use Rattle.manifest_schema.specs.Kinds.{is_truth, reads_text, reads_flag, reads_whole, reads_truth, reads_list, list_findings, reads_map, map_findings, written_inh, inh_findings, split_findings}
 use Rattle.manifest_schema.proofs.TableLaws.{same_key-self, same_key-false}
-use Rattle.manifest_schema.proofs.LeftOutLaws.{unused_at, at-behind, at-other, at_first, at_second, bare_behind, Inner, inner_append, inner_behind, inner_keys, Stays, stays_append, stays_behind, named_not_found, left-nothing, test-left, without-left, key_found, all_gone, InOrder, in_order, order_beside}
-use Rattle.manifest_schema.proofs.Faultless.{no_nil, both_none, behind_none, keys_none, but-append, but-behind, but-keys, but-bare}
+use Rattle.manifest_schema.proofs.LeftOutLaws.{unused_at, at-under, at-other, at_first, at_second, bare_under, Inner, inner_append, inner_under, inner_keys, Stays, stays_append, stays_under, named_not_found, left-nothing, test-left, without-left, key_found, all_gone, InOrder, in_order, order_beside}
+use Rattle.manifest_schema.proofs.Faultless.{no_nil, both_none, under_none, keys_none, but-append, but-under, but-keys, but-bare}
 use Rattle.manifest_schema.proofs.Diverging.{DivergingBy, none_diverging, IndexFrom, item_diverging, KeyOf, HasKey, entry_diverging, entries_diverging, keys_diverging}
 
 pub same : {P : Type 0} → P ↔ P
 same = (λ a. a, λ a. a)
 
 -- nothing in either list
-pub nothing_behind : (s : Step) {fs gs : List Finding} → fs ≡ [] → gs ≡ [] → found_behind s fs ++ gs ≡ []
-nothing_behind s {fs} {gs} e h = rw e h
+pub nothing_under : (s : Step) {fs gs : List Finding} → fs ≡ [] → gs ≡ [] → found_under s fs ++ gs ≡ []
+nothing_under s {fs} {gs} e h = rw e h
 
 -- THE SAME WITHOUT THE UNUSED KEYS
 abbrev pub TidyAt : {A : Type 0} → Kinds.Kind A → Data → Type 0
@@ -135,8 +135,8 @@ module _ {A : Type 0} {K : Kinds.Kind A} (S : IsSound K) where
   items_read : (i : ℕ) (ds : Items) → IsFaultless (item_findings K.findings i ds) → (xs : List A) × reads_items K ds xs
   items_read i no_items e = ([], tt)
   items_read i (item d ds) e =
-      let (own, more) = (both_none (found_behind (index i) (K.findings d)) (item_findings K.findings (suc i) ds)).0 e in
-      let (x, r) = (S.decided d).0 ((behind_none (index i) (K.findings d)).0 own) in
+      let (own, more) = (both_none (found_under (index i) (K.findings d)) (item_findings K.findings (suc i) ds)).0 e in
+      let (x, r) = (S.decided d).0 ((under_none (index i) (K.findings d)).0 own) in
       let (xs, rs) = items_read (suc i) ds more in
       (x ∷ xs, (r, rs))
 
@@ -144,8 +144,8 @@ module _ {A : Type 0} {K : Kinds.Kind A} (S : IsSound K) where
   items_fit i no_items xs a = refl
   items_fit i (item d ds) [] a = absurd a
   items_fit i (item d ds) (x ∷ xs) a =
-      (both_none (found_behind (index i) (K.findings d)) (item_findings K.findings (suc i) ds)).1
-      ((behind_none (index i) (K.findings d)).1 ((S.decided d).1 (x, a.0)), items_fit (suc i) ds xs a.1)
+      (both_none (found_under (index i) (K.findings d)) (item_findings K.findings (suc i) ds)).1
+      ((under_none (index i) (K.findings d)).1 ((S.decided d).1 (x, a.0)), items_fit (suc i) ds xs a.1)
 
   items_well : (ds : Items) (xs : List A) → reads_items K ds xs → good_items K xs
   items_well no_items [] a = tt
@@ -159,12 +159,13 @@ module _ {A : Type 0} {K : Kinds.Kind A} (S : IsSound K) where
   items_back i (x ∷ xs) g =
       let (r, e) = S.back x g.0 in
       let (rs, es) = items_back (suc i) xs g.1 in
-      ((r, rs), nothing_behind (index i) e es)
+      ((r, rs), nothing_under (index i) e es)
 
   pub none_before : (i j : ℕ) (ds : Items) → i < j → unused_at (index i) (item_findings K.findings j ds) ≡ []
   none_before i j no_items h = refl
   none_before i j (item d ds) h =
-      at_second (index i) (found_behind (index j) (K.findings d)) (item_findings K.findings (suc j) ds) (at-other (index i) (index j) (K.findings d) (grind (arith, h))) ∙ none_before i (suc j) ds (omega (arith, h))
+      at_second (index i) (found_under (index j) (K.findings d)) (item_findings K.findings (suc j) ds)
+      (at-other (index i) (index j) (K.findings d) (grind (arith, h))) ∙ none_before i (suc j) ds (omega (arith, h))
 
   -- by paths that go by the indices from i on as those of these items do
   items_tidy : (ps : List Path) (i : ℕ) (ds : Items)
@@ -175,9 +176,10 @@ module _ {A : Type 0} {K : Kinds.Kind A} (S : IsSound K) where
   items_tidy ps i no_items g s = (λ x. same, refl)
   items_tidy ps i (item d ds) g s =
       let (own, more) = and_parts (is_sorted d) (items_are_sorted ds) s in
-      let first = found_behind (index i) (K.findings d) in
+      let first = found_under (index i) (K.findings d) in
       let rest = item_findings K.findings (suc i) ds in
-      let here : from_step (index i) ps ≡ unused_in K d = g i (omega arith) ∙ at_first (index i) first rest (none_before i (suc i) ds (omega arith)) ∙ at-behind (index i) (index i) (K.findings d) (grind (arith)) in
+      let here : from_step (index i) ps ≡ unused_in K d = g i (omega arith) ∙ at_first (index i) first rest
+      (none_before i (suc i) ds (omega arith)) ∙ at-under (index i) (index i) (K.findings d) (grind (arith)) in
       let (a, b) =
       items_tidy ps (suc i) ds
       (λ j h. g j (omega (arith, h))
@@ -185,13 +187,14 @@ module _ {A : Type 0} {K : Kinds.Kind A} (S : IsSound K) where
       let e = left_out (from_step (index i) ps) d in
       let t : AlikeBut (K.reads e) (K.findings e) (K.reads d) (K.findings d) = rw here (S.tidy d own) in (
         elim [ [] ↦ same | x ∷ xs ↦ (λ h. ((t.0 x).0 h.0, (a xs).0 h.1), λ h. ((t.0 x).1 h.0, (a xs).1 h.1)) ],
-        ap₂ (λ fs gs. found_behind (index i) fs ++ gs) t.1 b
-            ∙ sym (but-append first rest ∙ ap (λ fs. fs ++ but_unused rest) (but-behind (index i) (K.findings d))),
+        ap₂ (λ fs gs. found_under (index i) fs ++ gs) t.1 b
+            ∙ sym (but-append first rest ∙ ap (λ fs. fs ++ but_unused rest) (but-under (index i) (K.findings d))),
       )
 
   items_inner : (i : ℕ) (ds : Items) → Inner (item_findings K.findings i ds)
   items_inner i no_items = refl
-  items_inner i (item d ds) = inner_append (found_behind (index i) (K.findings d)) (item_findings K.findings (suc i) ds) (inner_behind (index i) (K.findings d)) (items_inner (suc i) ds)
+  items_inner i (item d ds) = inner_append (found_under (index i) (K.findings d)) (item_findings K.findings (suc i) ds)
+      (inner_under (index i) (K.findings d)) (items_inner (suc i) ds)
 
   items_once : (i : ℕ) (ds : Items) → items_are_sorted ds ≡ true
       → DivergingBy (IndexFrom i) (item_findings K.findings i ds)
@@ -227,10 +230,12 @@ module _ {A : Type 0} {K : Kinds.Kind A} (S : IsSound K) where
   }
 
 -- A MAP
-pub none_beside : {A : Type 0} (K : Kinds.Kind A) (k : Text) (ms : Members) → ((d : Data) → has_entry k d ms → ⊥) → unused_at (key k) (entry_findings K.findings ms) ≡ []
+pub none_beside : {A : Type 0} (K : Kinds.Kind A) (k : Text) (ms : Members) → ((d : Data) → has_entry k d ms → ⊥)
+    → unused_at (key k) (entry_findings K.findings ms) ≡ []
 none_beside K k no_members none = refl
 none_beside K k (member l d ms) none =
-    at_second (key k) (found_behind (key l) (K.findings d)) (entry_findings K.findings ms) (at-other (key k) (key l) (K.findings d) (same_key-false k l (λ e. none d (inl (e, refl)))))
+    at_second (key k) (found_under (key l) (K.findings d)) (entry_findings K.findings ms)
+    (at-other (key k) (key l) (K.findings d) (same_key-false k l (λ e. none d (inl (e, refl)))))
     ∙ none_beside K k ms (λ e there. none e (inr there))
 
 module _ {A : Type 0} {K : Kinds.Kind A} (S : IsSound K) where
@@ -246,8 +251,8 @@ module _ {A : Type 0} {K : Kinds.Kind A} (S : IsSound K) where
   entries_read : (ms : Members) → IsFaultless (entry_findings K.findings ms) → (xs : Entries A) × reads_entries K ms xs
   entries_read no_members e = ([], tt)
   entries_read (member k d ms) e =
-      let (own, more) = (both_none (found_behind (key k) (K.findings d)) (entry_findings K.findings ms)).0 e in
-      let (x, r) = (S.decided d).0 ((behind_none (key k) (K.findings d)).0 own) in
+      let (own, more) = (both_none (found_under (key k) (K.findings d)) (entry_findings K.findings ms)).0 e in
+      let (x, r) = (S.decided d).0 ((under_none (key k) (K.findings d)).0 own) in
       let (xs, rs) = entries_read ms more in
       ((k, x) ∷ xs, (refl, r, rs))
 
@@ -255,8 +260,8 @@ module _ {A : Type 0} {K : Kinds.Kind A} (S : IsSound K) where
   entries_fit no_members xs a = refl
   entries_fit (member k d ms) [] a = absurd a
   entries_fit (member k d ms) (x ∷ xs) a =
-      (both_none (found_behind (key k) (K.findings d)) (entry_findings K.findings ms)).1
-      ((behind_none (key k) (K.findings d)).1 ((S.decided d).1 (x.1, a.1)), entries_fit ms xs a.2)
+      (both_none (found_under (key k) (K.findings d)) (entry_findings K.findings ms)).1
+      ((under_none (key k) (K.findings d)).1 ((S.decided d).1 (x.1, a.1)), entries_fit ms xs a.2)
 
   pub entries_decided : (ms : Members) → Decided (entry_findings K.findings ms) (reads_entries K ms)
   entries_decided ms = (entries_read ms, λ a. entries_fit ms a.0 a.1)
@@ -273,7 +278,7 @@ module _ {A : Type 0} {K : Kinds.Kind A} (S : IsSound K) where
   entries_back (x ∷ xs) g =
       let (r, e) = S.back x.1 g.0 in
       let (rs, es) = entries_back xs g.1 in
-      ((refl, r, rs), nothing_behind (key x.0) e es)
+      ((refl, r, rs), nothing_under (key x.0) e es)
 
   -- by paths that go by the keys as those of these entries do
   pub entries_tidy : (ps : List Path) (ms : Members)
@@ -284,10 +289,12 @@ module _ {A : Type 0} {K : Kinds.Kind A} (S : IsSound K) where
       (entry_findings K.findings ms)
   entries_tidy ps no_members g s = (λ x. same, refl)
   entries_tidy ps (member k d ms) g s =
-      let first = found_behind (key k) (K.findings d) in
+      let first = found_under (key k) (K.findings d) in
       let rest = entry_findings K.findings ms in
-      let here : from_step (key k) ps ≡ unused_in K d = g k d (inl (refl, refl)) ∙ at_first (key k) first rest (none_beside K k ms s.0) ∙ at-behind (key k) (key k) (K.findings d) (same_key-self k) in
-      let other : (l : Text) (e : Data) → has_entry l e ms → l ≡ k → ⊥ = λ l e h tie. s.0 e (subst (λ j. has_entry j e ms) tie h) in
+      let here : from_step (key k) ps ≡ unused_in K d = g k d (inl (refl, refl)) ∙ at_first (key k) first rest
+      (none_beside K k ms s.0) ∙ at-under (key k) (key k) (K.findings d) (same_key-self k) in
+      let other : (l : Text) (e : Data) → has_entry l e ms → l ≡ k → ⊥ = λ l e h tie. s.0 e
+      (subst (λ j. has_entry j e ms) tie h) in
       let (a, b) =
       entries_tidy ps ms
       (λ l e h. g l e (inr h)
@@ -299,18 +306,19 @@ module _ {A : Type 0} {K : Kinds.Kind A} (S : IsSound K) where
           | [] ↦ same
           | x ∷ xs ↦ (λ h. (h.0, (c x.1).0 h.1, (a xs).0 h.2), λ h. (h.0, (c x.1).1 h.1, (a xs).1 h.2))
         ],
-        ap₂ (λ fs gs. found_behind (key k) fs ++ gs) e b
-            ∙ sym (but-append first rest ∙ ap (λ fs. fs ++ but_unused rest) (but-behind (key k) (K.findings d))),
+        ap₂ (λ fs gs. found_under (key k) fs ++ gs) e b
+            ∙ sym (but-append first rest ∙ ap (λ fs. fs ++ but_unused rest) (but-under (key k) (K.findings d))),
       )
 
-  pub entries_inner : (ms : Members) → Inner (entry_findings K.findings ms) × ((k : Text) → Stays (key k) (entry_findings K.findings ms))
+  pub entries_inner : (ms : Members) → Inner (entry_findings K.findings ms)
+      × ((k : Text) → Stays (key k) (entry_findings K.findings ms))
   entries_inner no_members = (refl, λ k. refl)
   entries_inner (member l d ms) =
-      let first = found_behind (key l) (K.findings d) in
+      let first = found_under (key l) (K.findings d) in
       let (a, b) = entries_inner ms in (
-        inner_append first (entry_findings K.findings ms) (inner_behind (key l) (K.findings d)) a,
+        inner_append first (entry_findings K.findings ms) (inner_under (key l) (K.findings d)) a,
         λ k. stays_append (key k) first (entry_findings K.findings ms)
-            (stays_behind (key k) (key l) (K.findings d) (S.inside d)) (b k),
+            (stays_under (key k) (key l) (K.findings d) (S.inside d)) (b k),
       )
 
   map_single : (d : Data) (xs ys : Entries A) → reads_map K d xs → reads_map K d ys → xs ≡ ys
@@ -362,7 +370,8 @@ plain_from {K = K} S none good = record {
 }
 
 -- WHAT MAY BE INHERITED: a table inherits as before where its `workspace` stays, and where it did not inherit
-pub inherits-left : (ps : List Path) (ms : Members) → (ends_here (from_step (key (codes "workspace")) ps) ≡ false) ⊎ (inherits (table ms) ≡ false) → inherits (table (left_out_members ps ms)) ≡ inherits (table ms)
+pub inherits-left : (ps : List Path) (ms : Members) → (ends_here (from_step (key (codes "workspace")) ps) ≡ false)
+    ⊎ (inherits (table ms) ≡ false) → inherits (table (left_out_members ps ms)) ≡ inherits (table ms)
 inherits-left ps ms h = test-left is_truth refl (λ ps. elim [ boolean b ↦ refl | _ ↦ refl ]) ps (codes "workspace") ms h
 
 -- what is found next to `workspace`, by whether the table inherits
@@ -419,7 +428,11 @@ module _ {A : Type 0} {K : Kinds.Kind A} (S : IsSound K) (N : IsPlain K) where
   inh_back (local x) g = let (r, e) = S.back x g in (r, own_clean (K.written x) (λ ms. N.writes_no_table ms x) e)
 
   beside_inner : (b : Bool) (ms : Members) → Inner (beside b ms) × Stays (key (codes "workspace")) (beside b ms)
-  beside_inner true ms = (inner_keys (without (codes "workspace" ∷ []) ms), ap ends_here (named_not_found (codes "workspace" ∷ []) (codes "workspace") ms refl))
+  beside_inner true ms = (
+    inner_keys (without (codes "workspace" ∷ []) ms),
+    ap ends_here
+        (named_not_found (codes "workspace" ∷ []) (codes "workspace") ms refl),
+  )
   beside_inner false ms = (refl, refl)
 
   -- without the other keys nothing is found next to `workspace`
@@ -457,7 +470,8 @@ module _ {A : Type 0} {K : Kinds.Kind A} (S : IsSound K) (N : IsPlain K) where
   }
 
 -- ONE OF TWO KINDS: a content is one of the two, and they are distinguished by what is written of them
-pub record IsSplit {A B C : Type 0} (test : Data → Bool) (K : Kinds.Kind A) (M : Kinds.Kind B) (side : C → A ⊎ B) : Type 0 where
+pub record IsSplit {A B C : Type 0} (test : Data → Bool) (K : Kinds.Kind A) (M : Kinds.Kind B) (side : C → A ⊎ B) :
+    Type 0 where
   pub from : A ⊎ B → C
   pub there : (y : A ⊎ B) → side (from y) ≡ y
   pub back : (x : C) → from (side x) ≡ x
@@ -530,7 +544,7 @@ module _ {A B : Type 0} {K : Kinds.Kind A} {M : Kinds.Kind B} (k : IsSound K) (m
 
 -- KEPT
 mutual
-  kept_bare : (d : Data) → unused_in kept d ≡ []
+  kept_bare : (d : Data) → unused_in raw d ≡ []
   kept_bare (array ds) = kept_items_bare 0 ds
   kept_bare (table ms) = kept_entries_bare ms
   kept_bare _ = refl
@@ -538,12 +552,12 @@ mutual
   kept_items_bare : (i : ℕ) (ds : Items) → unused_of (item_floats i ds) ≡ []
   kept_items_bare i no_items = refl
   kept_items_bare i (item d ds) =
-      bare_behind (index i) (float_findings d) (item_floats (suc i) ds) (kept_bare d) (kept_items_bare (suc i) ds)
+      bare_under (index i) (float_findings d) (item_floats (suc i) ds) (kept_bare d) (kept_items_bare (suc i) ds)
 
   kept_entries_bare : (ms : Members) → unused_of (entry_floats ms) ≡ []
   kept_entries_bare no_members = refl
   kept_entries_bare (member k d ms) =
-      bare_behind (key k) (float_findings d) (entry_floats ms) (kept_bare d) (kept_entries_bare ms)
+      bare_under (key k) (float_findings d) (entry_floats ms) (kept_bare d) (kept_entries_bare ms)
 
 mutual
   kept_clean : (d : Data) → plain d ≡ true → float_findings d ≡ []
@@ -556,13 +570,13 @@ mutual
   kept_items_clean i no_items g = refl
   kept_items_clean i (item d ds) g =
       let (first, more) = and_parts (plain d) (plain_items ds) g in
-      nothing_behind (index i) (kept_clean d first) (kept_items_clean (suc i) ds more)
+      nothing_under (index i) (kept_clean d first) (kept_items_clean (suc i) ds more)
 
   kept_entries_clean : (ms : Members) → plain_members ms ≡ true → entry_floats ms ≡ []
   kept_entries_clean no_members g = refl
   kept_entries_clean (member k d ms) g =
       let (first, more) = and_parts (plain d) (plain_members ms) g in
-      nothing_behind (key k) (kept_clean d first) (kept_entries_clean ms more)
+      nothing_under (key k) (kept_clean d first) (kept_entries_clean ms more)
 
 mutual
   kept_plain : (d : Data) → IsFaultless (float_findings d) → plain d ≡ true
@@ -574,14 +588,14 @@ mutual
   kept_items_plain : (i : ℕ) (ds : Items) → IsFaultless (item_floats i ds) → plain_items ds ≡ true
   kept_items_plain i no_items e = refl
   kept_items_plain i (item d ds) e =
-      let (own, more) = (both_none (found_behind (index i) (float_findings d)) (item_floats (suc i) ds)).0 e in
-      rw (kept_plain d ((behind_none (index i) (float_findings d)).0 own)) (kept_items_plain (suc i) ds more)
+      let (own, more) = (both_none (found_under (index i) (float_findings d)) (item_floats (suc i) ds)).0 e in
+      rw (kept_plain d ((under_none (index i) (float_findings d)).0 own)) (kept_items_plain (suc i) ds more)
 
   kept_entries_plain : (ms : Members) → IsFaultless (entry_floats ms) → plain_members ms ≡ true
   kept_entries_plain no_members e = refl
   kept_entries_plain (member k d ms) e =
-      let (own, more) = (both_none (found_behind (key k) (float_findings d)) (entry_floats ms)).0 e in
-      rw (kept_plain d ((behind_none (key k) (float_findings d)).0 own)) (kept_entries_plain ms more)
+      let (own, more) = (both_none (found_under (key k) (float_findings d)) (entry_floats ms)).0 e in
+      rw (kept_plain d ((under_none (key k) (float_findings d)).0 own)) (kept_entries_plain ms more)
 
 mutual
   kept_once : (d : Data) → is_sorted d ≡ true → AllDiverge (found_paths (float_findings d))
@@ -601,13 +615,13 @@ mutual
   kept_entries_once (member k d ms) s =
       entry_diverging k d ms (float_findings d) s.0 (kept_once d s.1) (kept_entries_once ms s.2)
 
-pub kept_sound : IsSound kept
-kept_sound = record {
+pub raw_sound : IsSound raw
+raw_sound = record {
   single = λ d x y a b. sym a.0 ∙ b.0;
   decided = λ d. (λ e. (d, (refl, kept_plain d e)), λ a. ap faults_of (kept_clean d a.1.1));
   well = λ d x a. rw (← a.0) a.1;
   back = λ x g. ((refl, g), kept_clean x g);
-  tidy = λ d s. bare_tidy kept d (kept_bare d);
+  tidy = λ d s. bare_tidy raw d (kept_bare d);
   inside = λ d. ap ends_here (kept_bare d);
   once = kept_once;
 }

@@ -1,7 +1,7 @@
 -- The paths of the keys that nothing reads, by their first step; and what a table is without these keys.
 use Rattle.manifest_schema.specs.Prelude.{and_parts, append-nil, cases_Bool, is_eq, is_lt, nat_list_cmp_total, slice_cmp, none-some, Data, array, table, Items, no_items, item, Members, no_members, member, get_member, same_key, is_before, is_sorted, members_are_sorted, Text, Path, Step, key, is_among, without, has_entry, same_step, from_step, ends_here, left_out, left_out_items, left_out_members}
 use Rattle.std.proofs.Common.{◌≡◌, ℕ, suc, Bool, true, false, ◌&&◌, ◌⊎◌, if◌then◌else◌, List, [], ◌∷◌, ◌++◌, Option, Some, None, Ordering, Less, Equal, Greater, nat_cmp, inl, inr, refl, sym, ap, ap₂, ◌∙◌, subst, true≢false}
-use Rattle.manifest_schema.specs.Findings.{Finding, fault, ignored, unused, found_behind, unused_keys, leniently, unused_of}
+use Rattle.manifest_schema.specs.Findings.{Finding, fault, ignored, unused, found_under, unused_keys, leniently, unused_of}
 use Rattle.manifest_schema.proofs.TableLaws.{same_key-self, same_key-true, same_key-false, get-member_other, get-member_same}
 
 -- THE PATHS AFTER A STEP, of the keys that nothing reads
@@ -17,7 +17,8 @@ unused-append (unused p ∷ fs) gs = ap (λ ps. p ∷ ps) (unused-append fs gs)
 from-append : (s : Step) (ps qs : List Path) → from_step s (ps ++ qs) ≡ from_step s ps ++ from_step s qs
 from-append s [] qs = refl
 from-append s ([] ∷ ps) qs = from-append s ps qs
-from-append s ((t ∷ p) ∷ ps) qs = elim (cases_Bool (same_step s t)) [ inl e ↦ rw e (ap (λ r. p ∷ r) (from-append s ps qs)) | inr e ↦ rw e (from-append s ps qs) ]
+from-append s ((t ∷ p) ∷ ps) qs = elim (cases_Bool (same_step s t))
+    [ inl e ↦ rw e (ap (λ r. p ∷ r) (from-append s ps qs)) | inr e ↦ rw e (from-append s ps qs) ]
 
 pub at-append : (s : Step) (fs gs : List Finding) → unused_at s (fs ++ gs) ≡ unused_at s fs ++ unused_at s gs
 at-append s fs gs = ap (from_step s) (unused-append fs gs) ∙ from-append s (unused_of fs) (unused_of gs)
@@ -29,13 +30,13 @@ at_first s fs gs e = at-append s fs gs ∙ ap (λ ps. unused_at s fs ++ ps) e �
 pub at_second : (s : Step) (fs gs : List Finding) → unused_at s fs ≡ [] → unused_at s (fs ++ gs) ≡ unused_at s gs
 at_second s fs gs e = at-append s fs gs ∙ ap (λ ps. ps ++ unused_at s gs) e
 
-pub at-behind : (s t : Step) (fs : List Finding) → same_step s t ≡ true → unused_at s (found_behind t fs) ≡ unused_of fs
-at-behind s t [] e = refl
-at-behind s t (fault p c ws ∷ fs) e = at-behind s t fs e
-at-behind s t (ignored p c ws ∷ fs) e = at-behind s t fs e
-at-behind s t (unused p ∷ fs) e = rw e (ap (λ ps. p ∷ ps) (at-behind s t fs e))
+pub at-under : (s t : Step) (fs : List Finding) → same_step s t ≡ true → unused_at s (found_under t fs) ≡ unused_of fs
+at-under s t [] e = refl
+at-under s t (fault p c ws ∷ fs) e = at-under s t fs e
+at-under s t (ignored p c ws ∷ fs) e = at-under s t fs e
+at-under s t (unused p ∷ fs) e = rw e (ap (λ ps. p ∷ ps) (at-under s t fs e))
 
-pub at-other : (s t : Step) (fs : List Finding) → same_step s t ≡ false → unused_at s (found_behind t fs) ≡ []
+pub at-other : (s t : Step) (fs : List Finding) → same_step s t ≡ false → unused_at s (found_under t fs) ≡ []
 at-other s t [] e = refl
 at-other s t (fault p c ws ∷ fs) e = at-other s t fs e
 at-other s t (ignored p c ws ∷ fs) e = at-other s t fs e
@@ -48,11 +49,12 @@ unused-lenient (ignored p c ws ∷ fs) = unused-lenient fs
 unused-lenient (unused p ∷ fs) = ap (λ ps. p ∷ ps) (unused-lenient fs)
 
 -- NO KEY among some findings, and so none with a step before their paths
-pub bare_behind : (s : Step) (fs gs : List Finding) → unused_of fs ≡ [] → unused_of gs ≡ [] → unused_of (found_behind s fs ++ gs) ≡ []
-bare_behind s [] gs e h = h
-bare_behind s (fault p c ws ∷ fs) gs e h = bare_behind s fs gs e h
-bare_behind s (ignored p c ws ∷ fs) gs e h = bare_behind s fs gs e h
-bare_behind s (unused p ∷ fs) gs e h = cc
+pub bare_under : (s : Step) (fs gs : List Finding) → unused_of fs ≡ [] → unused_of gs ≡ [] → unused_of (found_under s fs
+    ++ gs) ≡ []
+bare_under s [] gs e h = h
+bare_under s (fault p c ws ∷ fs) gs e h = bare_under s fs gs e h
+bare_under s (ignored p c ws ∷ fs) gs e h = bare_under s fs gs e h
+bare_under s (unused p ∷ fs) gs e h = cc
 
 -- NO PATH ENDS at the value itself, or at what a step leads to
 none_end : (ps qs : List Path) → ends_here ps ≡ false → ends_here qs ≡ false → ends_here (ps ++ qs) ≡ false
@@ -66,11 +68,11 @@ Inner fs = ends_here (unused_of fs) ≡ false
 pub inner_append : (fs gs : List Finding) → Inner fs → Inner gs → Inner (fs ++ gs)
 inner_append fs gs h k = ap ends_here (unused-append fs gs) ∙ none_end (unused_of fs) (unused_of gs) h k
 
-pub inner_behind : (s : Step) (fs : List Finding) → Inner (found_behind s fs)
-inner_behind s [] = refl
-inner_behind s (fault p c ws ∷ fs) = inner_behind s fs
-inner_behind s (ignored p c ws ∷ fs) = inner_behind s fs
-inner_behind s (unused p ∷ fs) = inner_behind s fs
+pub inner_under : (s : Step) (fs : List Finding) → Inner (found_under s fs)
+inner_under s [] = refl
+inner_under s (fault p c ws ∷ fs) = inner_under s fs
+inner_under s (ignored p c ws ∷ fs) = inner_under s fs
+inner_under s (unused p ∷ fs) = inner_under s fs
 
 pub inner_keys : (ms : Members) → Inner (unused_keys ms)
 inner_keys no_members = refl
@@ -82,8 +84,12 @@ Stays s fs = ends_here (unused_at s fs) ≡ false
 pub stays_append : (s : Step) (fs gs : List Finding) → Stays s fs → Stays s gs → Stays s (fs ++ gs)
 stays_append s fs gs h k = ap ends_here (at-append s fs gs) ∙ none_end (unused_at s fs) (unused_at s gs) h k
 
-pub stays_behind : (s t : Step) (fs : List Finding) → Inner fs → Stays s (found_behind t fs)
-stays_behind s t fs h = elim (cases_Bool (same_step s t)) [ inl e ↦ ap ends_here (at-behind s t fs e) ∙ h | inr e ↦ ap ends_here (at-other s t fs e) ]
+pub stays_under : (s t : Step) (fs : List Finding) → Inner fs → Stays s (found_under t fs)
+stays_under s t fs h = elim (cases_Bool (same_step s t)) [
+  | inl e ↦ ap ends_here (at-under s t fs e)
+      ∙ h
+  | inr e ↦ ap ends_here (at-other s t fs e)
+]
 
 -- WITHOUT NO ENTRIES a value is itself
 mutual
@@ -109,34 +115,48 @@ left_value-ended : (ps : List Path) (o : Option Data) → ends_here ps ≡ true 
 left_value-ended ps None e = refl
 left_value-ended ps (Some d) e = rw e
 
-pub get-left : (ps : List Path) (k : Text) (ms : Members) → get_member k (left_out_members ps ms) ≡ left_value (from_step (key k) ps) (get_member k ms)
+pub get-left : (ps : List Path) (k : Text) (ms : Members) → get_member k (left_out_members ps ms) ≡ left_value
+    (from_step (key k) ps) (get_member k ms)
 get-left ps k no_members = refl
 get-left ps k (member l d ms) = elim (cases_Bool (same_key k l)) [
-  | inl same ↦ rw (← same_key-true k l same, get-member_same k d ms) (elim (cases_Bool (ends_here (from_step (key k) ps))) [
-    | inl e ↦ rw e (get-left ps k ms ∙ left_value-ended (from_step (key k) ps) (get_member k ms) e)
-    | inr e ↦ rw e (get-member_same k (left_out (from_step (key k) ps) d) (left_out_members ps ms))
-  ])
+  | inl same ↦ rw (← same_key-true k l same, get-member_same k d ms)
+      (elim (cases_Bool (ends_here (from_step (key k) ps))) [
+        | inl e ↦ rw e (get-left ps k ms ∙ left_value-ended (from_step (key k) ps) (get_member k ms) e)
+        | inr e ↦ rw e (get-member_same k (left_out (from_step (key k) ps) d) (left_out_members ps ms))
+      ])
   | inr other ↦ rw (get-member_other k l d ms other) (elim (cases_Bool (ends_here (from_step (key l) ps))) [
     | inl e ↦ rw e (get-left ps k ms)
-    | inr e ↦ rw e (get-member_other k l (left_out (from_step (key l) ps) d) (left_out_members ps ms) other ∙ get-left ps k ms)
+    | inr e ↦ rw e (get-member_other k l (left_out (from_step (key l) ps) d) (left_out_members ps ms) other
+        ∙ get-left ps k ms)
   ])
 ]
 
 -- a test of what is found under a key tells the same where the key stays, and where it failed
-pub test-left : (f : Option Data → Bool) → f None ≡ false → ((ps : List Path) (d : Data) → f (Some (left_out ps d)) ≡ f (Some d)) → (ps : List Path) (k : Text) (ms : Members)
-    → (ends_here (from_step (key k) ps) ≡ false) ⊎ (f (get_member k ms) ≡ false) → f (get_member k (left_out_members ps ms)) ≡ f (get_member k ms)
+pub test-left : (f : Option Data → Bool) → f None ≡ false → ((ps : List Path) (d : Data) → f (Some (left_out ps d)) ≡ f
+    (Some d)) → (ps : List Path) (k : Text) (ms : Members)
+    → (ends_here (from_step (key k) ps) ≡ false) ⊎ (f (get_member k ms) ≡ false)
+    → f (get_member k (left_out_members ps ms)) ≡ f (get_member k ms)
 test-left f none keeps ps k ms h = ap f (get-left ps k ms) ∙ tested (from_step (key k) ps) (get_member k ms) h
   where
     tested : (ps : List Path) (o : Option Data) → (ends_here ps ≡ false) ⊎ (f o ≡ false) → f (left_value ps o) ≡ f o
     tested ps None h = refl
     tested ps (Some d) (inl e) = rw e (keeps ps d)
-    tested ps (Some d) (inr e) = elim (cases_Bool (ends_here ps)) [ inl t ↦ rw t (none ∙ sym e) | inr t ↦ rw t (keeps ps d) ]
+    tested ps (Some d) (inr e) = elim (cases_Bool (ends_here ps)) [
+      | inl t ↦ rw t (none ∙ sym e)
+      | inr t ↦ rw t
+          (keeps ps d)
+    ]
 
 -- the entries under other keys, taken before or after
-pub without-left : (ps : List Path) (named : List Text) (ms : Members) → without named (left_out_members ps ms) ≡ left_out_members ps (without named ms)
+pub without-left : (ps : List Path) (named : List Text) (ms : Members)
+    → without named (left_out_members ps ms) ≡ left_out_members ps (without named ms)
 without-left ps named no_members = refl
 without-left ps named (member k d ms) = elim (cases_Bool (is_among named k)) [
-  | inl n ↦ elim (cases_Bool (ends_here (from_step (key k) ps))) [ inl e ↦ rw (e, n) (without-left ps named ms) | inr e ↦ rw (e, n) (without-left ps named ms) ]
+  | inl n ↦ elim (cases_Bool (ends_here (from_step (key k) ps))) [
+    | inl e ↦ rw (e, n) (without-left ps named ms)
+    | inr
+        e ↦ rw (e, n) (without-left ps named ms)
+  ]
   | inr n ↦ elim (cases_Bool (ends_here (from_step (key k) ps))) [
     | inl e ↦ rw (n, e) (without-left ps named ms)
     | inr e ↦ rw (n, e, n) (ap (member k (left_out (from_step (key k) ps) d)) (without-left ps named ms))
@@ -165,33 +185,52 @@ entry_there k d (member l e ms) h g = elim (cases_Bool (same_key k l)) [
 ]
 
 -- an entry under another key than the named ones is one of the table, and its key is not named
-pub entry_beside : (named : List Text) (k : Text) (d : Data) (ms : Members) → has_entry k d (without named ms) → has_entry k d ms × (is_among named k ≡ false)
+pub entry_beside : (named : List Text) (k : Text) (d : Data) (ms : Members) → has_entry k d (without named ms)
+    → has_entry k d ms × (is_among named k ≡ false)
 entry_beside named k d no_members h = absurd h
 entry_beside named k d (member l e ms) h = elim (cases_Bool (is_among named l)) [
   | inl n ↦ let (a, b) = entry_beside named k d ms (rw n at h) in (inr a, b)
-  | inr n ↦ elim (rw n at h) [ inl here ↦ (inl here, rw here.0 n) | inr there ↦ let (a, b) = entry_beside named k d ms there in (inr a, b) ]
+  | inr n ↦ elim (rw n at h) [
+    | inl here ↦ (inl here, rw here.0 n)
+    | inr there ↦ let (a, b) = entry_beside named k d ms
+        there in (inr a, b)
+  ]
 ]
 
-pub kept_beside : (named : List Text) (k : Text) (d : Data) (ms : Members) → has_entry k d ms → is_among named k ≡ false → has_entry k d (without named ms)
+pub kept_beside : (named : List Text) (k : Text) (d : Data) (ms : Members) → has_entry k d ms → is_among named k ≡ false
+    → has_entry k d (without named ms)
 kept_beside named k d no_members h n = h
 kept_beside named k d (member l e ms) h n = elim (cases_Bool (is_among named l)) [
-  | inl m ↦ rw m (elim h [ inl here ↦ absurd (true≢false (sym m ∙ rw here.0 at n)) | inr there ↦ kept_beside named k d ms there n ])
+  | inl m ↦ rw m (elim h [
+    | inl here ↦ absurd (true≢false (sym m ∙ rw here.0 at n))
+    | inr there ↦ kept_beside named k d
+        ms there n
+  ])
   | inr m ↦ rw m (elim h [ inl here ↦ inl here | inr there ↦ inr (kept_beside named k d ms there n) ])
 ]
 
 -- the entries that nothing reads are found at their keys, and under no other
-pub no_key_found : (k : Text) (ms : Members) → ((d : Data) → has_entry k d ms → ⊥) → unused_at (key k) (unused_keys ms) ≡ []
+pub no_key_found : (k : Text) (ms : Members) → ((d : Data) → has_entry k d ms → ⊥)
+    → unused_at (key k) (unused_keys ms) ≡ []
 no_key_found k no_members none = refl
-no_key_found k (member l d ms) none = rw (same_key-false k l (λ e. none d (inl (e, refl)))) (no_key_found k ms (λ e there. none e (inr there)))
+no_key_found k (member l d ms) none = rw (same_key-false k l (λ e. none d (inl (e, refl))))
+    (no_key_found k ms (λ e there. none e (inr there)))
 
-pub named_not_found : (named : List Text) (k : Text) (ms : Members) → is_among named k ≡ true → unused_at (key k) (unused_keys (without named ms)) ≡ []
-named_not_found named k ms h = no_key_found k (without named ms) (λ d there. true≢false (sym h ∙ (entry_beside named k d ms there).1))
+pub named_not_found : (named : List Text) (k : Text) (ms : Members) → is_among named k ≡ true
+    → unused_at (key k) (unused_keys (without named ms)) ≡ []
+named_not_found named k ms h = no_key_found k (without named ms)
+    (λ d there. true≢false (sym h ∙ (entry_beside named k d ms there).1))
 
-pub key_found : (k : Text) (d : Data) (ms : Members) → has_entry k d ms → ends_here (unused_at (key k) (unused_keys ms)) ≡ true
+pub key_found : (k : Text) (d : Data) (ms : Members) → has_entry k d ms
+    → ends_here (unused_at (key k) (unused_keys ms)) ≡ true
 key_found k d no_members h = absurd h
 key_found k d (member l e ms) h = elim (cases_Bool (same_key k l)) [
   | inl same ↦ rw same
-  | inr other ↦ rw other (elim h [ inl here ↦ absurd (true≢false (sym (same_key-self l) ∙ rw here.0 at other)) | inr there ↦ key_found k d ms there ])
+  | inr other ↦ rw other (elim h [
+    | inl here ↦ absurd (true≢false (sym (same_key-self l) ∙ rw here.0 at other))
+    | inr
+        there ↦ key_found k d ms there
+  ])
 ]
 
 -- where each key is the end of a path, no entry is left
@@ -223,16 +262,25 @@ less Equal h = absurd (true≢false (sym h))
 less Greater h = absurd (true≢false (sym h))
 
 -- keys that ascend come one after the other
-all_after : (l k : Text) (d : Data) (ms : Members) → is_before l ms ≡ true → members_are_sorted ms ≡ true → has_entry k d ms → slice_cmp nat_cmp l k ≡ Less
+all_after : (l k : Text) (d : Data) (ms : Members) → is_before l ms ≡ true → members_are_sorted ms ≡ true
+    → has_entry k d ms → slice_cmp nat_cmp l k ≡ Less
 all_after l k d no_members b s h = absurd h
 all_after l k d (member m e ms) b s h =
     let (first, more) = and_parts (is_before m ms && is_sorted e) (members_are_sorted ms) s in
     let next : slice_cmp nat_cmp l m ≡ Less = less (slice_cmp nat_cmp l m) b in
-    elim h [ inl here ↦ rw here.0 next | inr there ↦ nat_list_cmp_total.trans l m k next (all_after m k d ms (and_parts (is_before m ms) (is_sorted e) first).0 more there) ]
+    elim h [
+      | inl here ↦ rw here.0 next
+      | inr there ↦ nat_list_cmp_total.trans l m k next
+          (all_after m k d ms (and_parts (is_before m ms) (is_sorted e) first).0 more there)
+    ]
 
 pub in_order : (ms : Members) → members_are_sorted ms ≡ true → InOrder ms
 in_order no_members s = tt
 in_order (member k d ms) s =
     let (first, more) = and_parts (is_before k ms && is_sorted d) (members_are_sorted ms) s in
-    let (next, own) = and_parts (is_before k ms) (is_sorted d) first in
-    (λ e there. true≢false (sym (same_key-self k) ∙ ap is_eq (all_after k k e ms next more there)), own, in_order ms more)
+    let (next, own) = and_parts (is_before k ms) (is_sorted d) first in (
+      λ e there. true≢false (sym (same_key-self k) ∙ ap is_eq (all_after k k e ms next more there)),
+      own,
+      in_order ms
+          more,
+    )

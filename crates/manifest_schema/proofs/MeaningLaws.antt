@@ -29,25 +29,33 @@ module _ {K W : Kind Data} (k : IsSound K) (w : IsSound W) where
       ((package_sound K k).well (old_value ms) a.1 a.3, g.1))
 
 -- HEADERS: a table has a header exactly where its manifest has a package or a workspace
-present : {B : Type 0} (N : Kind B) (k : Text) (o : Option Data) (x : Option B) → meets_optional N (slot k o) x → is_some o ≡ is_some x
+present : {B : Type 0} (N : Kind B) (k : Text) (o : Option Data) (x : Option B) → meets_optional N (slot k o) x
+    → is_some o ≡ is_some x
 present N k None None a = refl
 present N k None (Some x) a = absurd a
 present N k (Some d) None a = absurd a
 present N k (Some d) (Some x) a = refl
 
-pub headers : (K W : Kind Data) (ms : Members) (m : Manifest) → fits (manifest_rows K W) ms m → has_header ms ≡ is_headed m
+pub headers : (K W : Kind Data) (ms : Members) (m : Manifest) → fits (manifest_rows K W) ms m
+    → has_header ms ≡ is_headed m
 unfolding manifest_rows
 headers K W ms m a =
-    ap₂ (λ a b. a || b) (present (form (package_rows K)) (codes "package") (get_member (codes "package") ms) m.package assumption)
+    ap₂ (λ a b. a || b) (present (form (package_rows K)) (codes "package") (get_member (codes "package") ms) m.package
+    assumption)
     (present (form (workspace_rows W)) (codes "workspace") (get_member (codes "workspace") ms) m.workspace assumption)
 
-means_by_headed : (K W : Kind Data) (h : Bool) (ms : Members) (m : Manifest) → h ≡ has_header ms → means_by K W h ms m → is_headed m ≡ true
+means_by_headed : (K W : Kind Data) (h : Bool) (ms : Members) (m : Manifest) → h ≡ has_header ms → means_by K W h ms m
+    → is_headed m ≡ true
 means_by_headed K W true ms m e a = sym (headers K W ms m a) ∙ sym e
 means_by_headed K W false ms m e a = rw a.4
 
 module _ {K W : Kind Data} (k : IsSound K) (w : IsSound W) where
   pub accepted_is_well_formed : AcceptedIsWellFormed K W
-  accepted_is_well_formed ms m a = (means_by_well k w (has_header ms) ms m a, means_by_headed K W (has_header ms) ms m refl a)
+  accepted_is_well_formed ms m a = (
+    means_by_well k w (has_header ms) ms m a,
+    means_by_headed K W (has_header ms) ms m
+        refl a,
+  )
 
   pub written_means_the_same : WrittenMeansTheSame K W
   written_means_the_same m good headed =
@@ -69,4 +77,8 @@ module _ {K W : Kind Data} (k : IsSound K) (w : IsSound W) where
       ap (rewritten K W) (means_one k w (rewritten K W m) n m b (rewritten_means_the_same ms m a))
 
   pub same_exactly : SameExactly K W
-  same_exactly ms ns m n a b = (ap (rewritten K W), λ e. means_one k w (rewritten K W m) m n (rewritten_means_the_same ms m a) (rw e (rewritten_means_the_same ns n b)))
+  same_exactly ms ns m n a b = (
+    ap (rewritten K W),
+    λ e. means_one k w (rewritten K W m) m n
+        (rewritten_means_the_same ms m a) (rw e (rewritten_means_the_same ns n b)),
+  )

@@ -1,44 +1,51 @@
 -- Each need satisfies the laws, where its kind does.
-use Rattle.manifest_schema.specs.Prelude.{Data, Text, key, Spellings, Slot, absent, one, clash, slot, is_sorted, meets_default, meets_lenient, meets_optional, written_some, written_unless, good_some, free_findings, required, optional, default, lenient_optional, lenient_default, left_out, unused_in, unused_of, found_behind, leniently, found_paths, AllBegin, AllDiverge, IsFaultless, but_unused, FindsSoundly, IsSound, IsSoundNeed, IsDefault, slot_findings, slot_key, IsSlotSorted}
+use Rattle.manifest_schema.specs.Prelude.{Data, Text, key, Spellings, Slot, absent, one, clash, slot, is_sorted, meets_default, meets_lenient, meets_optional, written_some, written_unless, good_some, free_findings, required, optional, default, lenient_optional, lenient_default, left_out, unused_in, unused_of, found_under, leniently, found_paths, AllBegin, AllDiverge, IsFaultless, but_unused, FindsSoundly, IsSound, IsSoundNeed, IsDefault, slot_findings, slot_key, IsSlotSorted}
 use Rattle.std.proofs.Common.{◌≡◌, ◌↔◌, Bool, true, false, ◌⊎◌, inl, inr, [], Option, Some, None, refl, sym, ap, ◌∙◌}
 use Rattle.manifest_schema.specs.Kinds
 use Rattle.manifest_schema.proofs.LeftOutLaws.{unused-lenient}
-use Rattle.manifest_schema.proofs.Faultless.{no_nil, behind_none, lenient_none, none_or_some, none_among, but-behind, but-lenient}
-use Rattle.manifest_schema.proofs.Diverging.{behind_begin, behind_diverging, paths-lenient}
+use Rattle.manifest_schema.proofs.Faultless.{no_nil, under_none, lenient_none, none_or_some, none_among, but-under, but-lenient}
+use Rattle.manifest_schema.proofs.Diverging.{under_begin, under_diverging, paths-lenient}
 use Rattle.manifest_schema.proofs.KindLaws.{same}
 
 pub either_way : {P Q R T : Type 0} → P ↔ Q → R ↔ T → (P ⊎ R) ↔ (Q ⊎ T)
-either_way a b = (elim [ inl h ↦ inl (a.0 h) | inr h ↦ inr (b.0 h) ], elim [ inl h ↦ inl (a.1 h) | inr h ↦ inr (b.1 h) ])
+either_way a b = (
+  elim [ inl h ↦ inl (a.0 h) | inr h ↦ inr (b.0 h) ],
+  elim [
+    | inl h ↦ inl (a.1 h)
+    | inr h ↦ inr (b.1 h)
+  ],
+)
 
 module _ {B : Type 0} {K : Kinds.Kind B} (S : IsSound K) where
   abbrev left : Data → Data
   left d = left_out (unused_in K d) d
 
   -- WHAT IS FOUND of the value under a key
-  one_read : (k : Text) (d : Data) → IsFaultless (found_behind (key k) (K.findings d)) → (x : B) × K.reads d x
-  one_read k d e = (S.decided d).0 ((behind_none (key k) (K.findings d)).0 e)
+  one_read : (k : Text) (d : Data) → IsFaultless (found_under (key k) (K.findings d)) → (x : B) × K.reads d x
+  one_read k d e = (S.decided d).0 ((under_none (key k) (K.findings d)).0 e)
 
-  one_fits : (k : Text) (d : Data) (x : B) → K.reads d x → IsFaultless (found_behind (key k) (K.findings d))
-  one_fits k d x r = (behind_none (key k) (K.findings d)).1 ((S.decided d).1 (x, r))
+  one_fits : (k : Text) (d : Data) (x : B) → K.reads d x → IsFaultless (found_under (key k) (K.findings d))
+  one_fits k d x r = (under_none (key k) (K.findings d)).1 ((S.decided d).1 (x, r))
 
   one_left : (k : Text) (d : Data) → is_sorted d ≡ true
-      → found_behind (key k) (K.findings (left d)) ≡ but_unused (found_behind (key k) (K.findings d))
-  one_left k d s = ap (found_behind (key k)) (S.tidy d s).1 ∙ sym (but-behind (key k) (K.findings d))
+      → found_under (key k) (K.findings (left d)) ≡ but_unused (found_under (key k) (K.findings d))
+  one_left k d s = ap (found_under (key k)) (S.tidy d s).1 ∙ sym (but-under (key k) (K.findings d))
 
-  found_free : (names : Spellings) (s : Slot) → unused_of (free_findings names K.findings s) ≡ unused_of (slot_findings K.findings s)
+  found_free : (names : Spellings) (s : Slot) → unused_of (free_findings names K.findings s) ≡ unused_of
+      (slot_findings K.findings s)
   found_free names = elim [ absent ↦ refl | clash ↦ refl | one k d ↦ refl ]
 
   free_begins : (names : Spellings) (s : Slot)
       → AllBegin (λ t. t ≡ key (slot_key names s)) (found_paths (free_findings names K.findings s))
   free_begins names absent = tt
   free_begins names clash = (refl, tt)
-  free_begins names (one k d) = behind_begin (key k) (K.findings d)
+  free_begins names (one k d) = under_begin (key k) (K.findings d)
 
   free_once : (names : Spellings) (s : Slot) → IsSlotSorted s
       → AllDiverge (found_paths (free_findings names K.findings s))
   free_once names absent s = tt
   free_once names clash s = (tt, tt)
-  free_once names (one k d) s = (behind_diverging (key k) (K.findings d) (S.once d s)).diverge
+  free_once names (one k d) s = (under_diverging (key k) (K.findings d) (S.once d s)).diverge
 
   -- REQUIRED
   pub required_sound : IsSoundNeed (required K)
@@ -50,17 +57,17 @@ module _ {B : Type 0} {K : Kinds.Kind B} (S : IsSound K) where
             | clash ↦ (λ e. absurd (no_nil e), λ a. absurd a.1)
             | one k d ↦ (one_read k d, λ a. one_fits k d a.0 a.1)
           ];
-      clean = λ names k x g. ap (found_behind (key k)) (S.back x g).1;
+      clean = λ names k x g. ap (found_under (key k)) (S.back x g).1;
       value = K.findings;
       found = λ names. elim [ absent ↦ refl | clash ↦ refl | one k d ↦ refl ];
       tidy = λ names k d s. ((S.tidy d s).0, one_left k d s);
       inside = S.inside;
       begins =
-          λ names. elim [ absent ↦ (refl, tt) | clash ↦ (refl, tt) | one k d ↦ behind_begin (key k) (K.findings d) ];
+          λ names. elim [ absent ↦ (refl, tt) | clash ↦ (refl, tt) | one k d ↦ under_begin (key k) (K.findings d) ];
       once = λ names. elim [
         | absent ↦ λ s. (tt, tt)
         | clash ↦ λ s. (tt, tt)
-        | one k d ↦ λ s. (behind_diverging (key k) (K.findings d) (S.once d s)).diverge
+        | one k d ↦ λ s. (under_diverging (key k) (K.findings d) (S.once d s)).diverge
       ];
     };
     single = elim [ absent ↦ λ x y a b. absurd a | clash ↦ λ x y a b. absurd a | one k d ↦ S.single d ];
@@ -98,9 +105,10 @@ module _ {B : Type 0} {K : Kinds.Kind B} (S : IsSound K) where
   optional_well (one k d) None a = absurd a
   optional_well clash x a = absurd a
 
-  some_clean : (names : Spellings) (k : Text) (x : Option B) → good_some K x → free_findings names K.findings (slot k (written_some K x)) ≡ []
+  some_clean : (names : Spellings) (k : Text) (x : Option B) → good_some K x → free_findings names K.findings
+      (slot k (written_some K x)) ≡ []
   some_clean names k None g = refl
-  some_clean names k (Some x) g = ap (found_behind (key k)) (S.back x g).1
+  some_clean names k (Some x) g = ap (found_under (key k)) (S.back x g).1
 
   optional_back : (k : Text) (x : Option B) → good_some K x → meets_optional K (slot k (written_some K x)) x
   optional_back k None g = tt
@@ -145,7 +153,7 @@ module _ {B : Type 0} {K : Kinds.Kind B} (S : IsSound K) where
     unless_clean : (t : Bool) (names : Spellings) (k : Text) (x : B) → K.good x
         → free_findings names K.findings (slot k (written_unless K t x)) ≡ []
     unless_clean true names k x g = refl
-    unless_clean false names k x g = ap (found_behind (key k)) (S.back x g).1
+    unless_clean false names k x g = ap (found_under (key k)) (S.back x g).1
 
     pub default_finds : FindsSoundly (default K e skipped)
     default_finds = record {
@@ -224,9 +232,9 @@ module _ {B : Type 0} {K : Kinds.Kind B} (S : IsSound K) where
   lenient_found names s = unused-lenient (free_findings names K.findings s) ∙ found_free names s
 
   lenient_less : (k : Text) (d : Data) → is_sorted d ≡ true
-      → leniently (found_behind (key k) (K.findings (left d)))
-      ≡ but_unused (leniently (found_behind (key k) (K.findings d)))
-  lenient_less k d s = ap leniently (one_left k d s) ∙ sym (but-lenient (found_behind (key k) (K.findings d)))
+      → leniently (found_under (key k) (K.findings (left d)))
+      ≡ but_unused (leniently (found_under (key k) (K.findings d)))
+  lenient_less k d s = ap leniently (one_left k d s) ∙ sym (but-lenient (found_under (key k) (K.findings d)))
 
   lenient_begins : (names : Spellings) (s : Slot)
       → AllBegin (λ t. t ≡ key (slot_key names s)) (found_paths (leniently (free_findings names K.findings s)))
@@ -260,7 +268,7 @@ module _ {B : Type 0} {K : Kinds.Kind B} (S : IsSound K) where
   pub lenient_default_finds : (e : B) → FindsSoundly (lenient_default K e)
   lenient_default_finds e = record {
     decided = λ names s. (λ h. lenient_reads (λ b. b) e s, λ a. lenient_none (free_findings names K.findings s));
-    clean = λ names k x g. ap (λ fs. leniently (found_behind (key k) fs)) (S.back x g).1;
+    clean = λ names k x g. ap (λ fs. leniently (found_under (key k) fs)) (S.back x g).1;
     value = K.findings;
     found = lenient_found;
     tidy = λ names k d s. (lenient_left (λ b. b) e k d s, lenient_less k d s);

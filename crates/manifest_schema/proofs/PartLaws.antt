@@ -19,7 +19,12 @@ inherited_rows_sound = search row_laws
 pub inherited_sound : IsSound (form inherited_rows)
 unfolding inherited_rows
 inherited_sound = form_sound inherited_rows inherited_rows_sound (record {
-  build = λ (workspace, (features, («optional», (default_features, end)))). record { features = features; «optional» = «optional»; default_features = default_features };
+  build = λ (workspace, (features, («optional», (default_features, end)))). record {
+    features = features;
+    «optional» =
+        «optional»;
+    default_features = default_features;
+  };
   all = λ x. refl;
   each = λ t. refl;
 }) refl
@@ -35,16 +40,21 @@ detailed_sound =
     form_sound detailed_rows (search row_laws) detailed_built refl
 
 -- DEPENDENCY: an inherited one is written with `workspace = true`, a detailed one without
-workspace_written : (x : InheritedDependencyDetail) → get_member (codes "workspace") (written_rows inherited_rows (gets inherited_rows x)) ≡ Some (boolean true)
+workspace_written : (x : InheritedDependencyDetail) → get_member (codes "workspace") (written_rows inherited_rows
+    (gets inherited_rows x)) ≡ Some (boolean true)
 unfolding inherited_rows put_some
 workspace_written x = search get-put_same
 
-no_workspace_written : (x : DependencyDetail) → good_rows detailed_rows x → get_member (codes "workspace") (written_rows detailed_rows (gets detailed_rows x)) ≡ None
+no_workspace_written : (x : DependencyDetail) → good_rows detailed_rows x → get_member (codes "workspace")
+    (written_rows detailed_rows (gets detailed_rows x)) ≡ None
 unfolding detailed_rows
-no_workspace_written x g = written_none (codes "workspace" ∷ []) detailed_rows (gets detailed_rows x) (codes "workspace") refl refl g
+no_workspace_written x g = written_none (codes "workspace" ∷ []) detailed_rows (gets detailed_rows x)
+    (codes "workspace") refl refl g
 
 -- an inherited dependency keeps its `workspace`, and a detailed one gets none
-table_keeps : (b : Bool) (ms : Members) → inherits (table ms) ≡ b → inherits (left_out (unused_of (split_findings (form inherited_rows).findings (form detailed_rows).findings b (table ms))) (table ms)) ≡ b
+table_keeps : (b : Bool) (ms : Members) → inherits (table ms) ≡ b
+    → inherits (left_out (unused_of (split_findings (form inherited_rows).findings (form detailed_rows).findings b
+    (table ms))) (table ms)) ≡ b
 unfolding inherited_rows
 table_keeps true ms e =
     inherits-left _ ms (inl (key_stays inherited_rows inherited_rows_sound ms (codes "workspace") refl)) ∙ e
@@ -69,7 +79,8 @@ dependency_from (inl s) = simple s
 dependency_from (inr (inl i)) = by_workspace i
 dependency_from (inr (inr d)) = detailed d
 
-side_of_dependency : (y : Text ⊎ (InheritedDependencyDetail ⊎ DependencyDetail)) → dependency_side (dependency_from y) ≡ y
+side_of_dependency : (y : Text ⊎ (InheritedDependencyDetail ⊎ DependencyDetail))
+    → dependency_side (dependency_from y) ≡ y
 side_of_dependency (inl s) = refl
 side_of_dependency (inr (inl i)) = refl
 side_of_dependency (inr (inr d)) = refl

@@ -1,14 +1,14 @@
 -- The lists of findings leave no choice in the words of a choice, in what is ignored, nor in which keys are unused.
-use Rattle.manifest_schema.specs.Prelude.{get_member, ReadsOnly, Rows, no_more, others, ◌⨾◌, Fields, gets, is_closed, fits_beside, findings_beside, row_findings, left_over, spelled, form, at, only, both, cases_Bool, bytes_eq, bytes_eq-Decides, Data, string, table, Items, no_items, item, get_item, none-some, same_Some, index, item_findings, entry_findings, unused_in, UnusedByItems, UnusedByEntries, Members, no_members, member, same_key, Text, Path, Cause, Step, not_a_choice, wrong_kind, key, Spellings, first, Slot, absent, one, clash, is_among, without, has_entry, Kind, choice, inherits, lenient_optional, lenient_default, free_findings, edition, resolver, level, status, strip, strip_meaning, ends_here, Finding, fault, ignored, unused, none_of, found_here, found_behind, unused_keys, leniently, faults_of, ignored_of, among, IsSound, TellsWords, faulty_free, Ignores, InheritedUnused, OldTopUnused}
+use Rattle.manifest_schema.specs.Prelude.{get_member, ReadsOnly, Rows, no_more, others, ◌⨾◌, Fields, gets, is_closed, fits_beside, findings_beside, row_findings, left_over, spelled, form, at, only, both, cases_Bool, bytes_eq, bytes_eq-Decides, Data, string, table, Items, no_items, item, get_item, none-some, same_Some, index, item_findings, entry_findings, unused_in, UnusedByItems, UnusedByEntries, Members, no_members, member, same_key, Text, Path, Cause, Step, not_a_choice, wrong_kind, key, Spellings, first, Slot, absent, one, clash, is_among, without, has_entry, Kind, choice, inherits, lenient_optional, lenient_default, free_findings, edition, resolver, level, status, strip, strip_meaning, ends_here, Finding, fault, ignored, unused, none_of, found_here, found_under, unused_keys, leniently, faults_of, ignored_of, among, IsSound, ListsWords, faulty_free, Ignores, InheritedUnused, OldTopUnused}
 use Rattle.std.proofs.Common.{◌≡◌, ◌++◌, ◌↔◌, ℕ, zero, suc, ◌+◌, arith, Bool, true, false, not, ◌&&◌, ◌||◌, inl, inr, List, [], ◌∷◌, Option, Some, None, is_some, if◌then◌else◌, codes, refl, sym, ap, ◌∙◌, subst, true≢false}
 use Rattle.manifest_schema.specs.Choices.{meaning_of, word_meaning, texts_of, word, edition_words, edition_text, resolver_words, resolver_text, level_words, level_text, status_words, status_text, strip_words, strip_value}
 use Rattle.manifest_schema.proofs.TableLaws.{same_key-self, same_key-true, same_key-false}
-use Rattle.manifest_schema.proofs.LeftOutLaws.{InOrder, in_order, at-behind, unused_at, at_first, at_second, at-other, named_not_found, key_found, kept_beside}
+use Rattle.manifest_schema.proofs.LeftOutLaws.{InOrder, in_order, at-under, unused_at, at_first, at_second, at-other, named_not_found, key_found, kept_beside}
 use Rattle.manifest_schema.proofs.Faultless.{no_nil, faults-keys}
 use Rattle.manifest_schema.proofs.RowsWritten.{later_among}
 use Rattle.manifest_schema.proofs.FormLaws.{HasSpelling, spelling_among, both_ways}
 use Rattle.manifest_schema.proofs.KindLaws.{same, none_before, none_beside}
-use Rattle.manifest_schema.proofs.FoundLaws.{behind_to}
+use Rattle.manifest_schema.proofs.FoundLaws.{under_to}
 use Rattle.manifest_schema.proofs.UnusedLaws.{old_top_unused}
 
 -- WORDS
@@ -39,31 +39,31 @@ words_same : (b : Bool) (us ws : List Text) → (if b then [] else none_of us) �
 words_same true us ws e = absurd (no_nil (sym e))
 words_same false us ws e = cc
 
-pub choice_tells : {A : Type 0} (words : List Text) (meaning : Data → Option A) (written : A → Data)
-    → ((s : Text) → is_some (meaning (string s)) ≡ is_among words s) → TellsWords (choice words meaning written)
-choice_tells words meaning written read s ws e t =
+pub choice_lists : {A : Type 0} (words : List Text) (meaning : Data → Option A) (written : A → Data)
+    → ((s : Text) → is_some (meaning (string s)) ≡ is_among words s) → ListsWords (choice words meaning written)
+choice_lists words meaning written read s ws e t =
     let same : words ≡ ws = words_same (is_some (meaning (string s))) words ws e in (
       λ h. value_of (meaning (string t)) (read t ∙ rw same h),
       λ a. subst (λ us. is_among us t ≡ true) same (sym (read t) ∙ ap is_some a.1),
     )
 
-word_tells : {A : Type 0} (ws : List (Text × A)) (written : A → Text) → TellsWords (word ws written)
-word_tells ws written = choice_tells (texts_of ws) (word_meaning ws) (λ x. string (written x)) (word_read ws)
+word_lists : {A : Type 0} (ws : List (Text × A)) (written : A → Text) → ListsWords (word ws written)
+word_lists ws written = choice_lists (texts_of ws) (word_meaning ws) (λ x. string (written x)) (word_read ws)
 
-pub edition_tells : TellsWords edition
-edition_tells = word_tells edition_words edition_text
+pub edition_lists : ListsWords edition
+edition_lists = word_lists edition_words edition_text
 
-pub resolver_tells : TellsWords resolver
-resolver_tells = word_tells resolver_words resolver_text
+pub resolver_lists : ListsWords resolver
+resolver_lists = word_lists resolver_words resolver_text
 
-pub level_tells : TellsWords level
-level_tells = word_tells level_words level_text
+pub level_lists : ListsWords level
+level_lists = word_lists level_words level_text
 
-pub status_tells : TellsWords status
-status_tells = word_tells status_words status_text
+pub status_lists : ListsWords status
+status_lists = word_lists status_words status_text
 
-pub strip_tells : TellsWords strip
-strip_tells = choice_tells (texts_of strip_words) strip_meaning strip_value (word_read strip_words)
+pub strip_lists : ListsWords strip
+strip_lists = choice_lists (texts_of strip_words) strip_meaning strip_value (word_read strip_words)
 
 -- WHAT IS IGNORED
 pub ignored-lenient : (fs : List Finding) → ignored_of fs ≡ [] → ignored_of (leniently fs) ≡ faults_of fs
@@ -72,11 +72,11 @@ ignored-lenient (fault p c ws ∷ fs) e = ap (λ t. (p, c) ∷ t) (ignored-lenie
 ignored-lenient (ignored p c ws ∷ fs) e = absurd (no_nil e)
 ignored-lenient (unused p ∷ fs) e = ignored-lenient fs e
 
-pub strict_behind : (s : Step) (fs : List Finding) → ignored_of fs ≡ [] → ignored_of (found_behind s fs) ≡ []
-strict_behind s [] e = refl
-strict_behind s (fault p c ws ∷ fs) e = strict_behind s fs e
-strict_behind s (ignored p c ws ∷ fs) e = absurd (no_nil e)
-strict_behind s (unused p ∷ fs) e = strict_behind s fs e
+pub strict_under : (s : Step) (fs : List Finding) → ignored_of fs ≡ [] → ignored_of (found_under s fs) ≡ []
+strict_under s [] e = refl
+strict_under s (fault p c ws ∷ fs) e = strict_under s fs e
+strict_under s (ignored p c ws ∷ fs) e = absurd (no_nil e)
+strict_under s (unused p ∷ fs) e = strict_under s fs e
 
 module _ {B : Type 0} (K : Kind B) (strict : (d : Data) → ignored_of (K.findings d) ≡ []) where
   lenient_ignores : (names : Spellings) (s : Slot) (p : Path) (c : Cause)
@@ -87,8 +87,8 @@ module _ {B : Type 0} (K : Kind B) (strict : (d : Data) → ignored_of (K.findin
     λ h. inl (h.1 ∙ ap (λ q. key (first names) ∷ q) h.2.0, h.2.1),
   )
   lenient_ignores names (one k d) p c =
-      rw (ignored-lenient (found_behind (key k) (K.findings d)) (strict_behind (key k) (K.findings d) (strict d)))
-      (behind_to (key k) (K.findings d) p c)
+      rw (ignored-lenient (found_under (key k) (K.findings d)) (strict_under (key k) (K.findings d) (strict d)))
+      (under_to (key k) (K.findings d) p c)
 
   pub lenient_optional_ignores : Ignores K (lenient_optional K)
   lenient_optional_ignores = lenient_ignores
@@ -105,11 +105,11 @@ module _ {A : Type 0} {K : Kind A} (S : IsSound K) where
   items_step i (item e ds) zero d g =
       let at : i + 0 ≡ i = omega arith in
       rw (at, ← same_Some e d g)
-      (at_first (index i) (found_behind (index i) (K.findings e)) (item_findings K.findings (suc i) ds)
-      (none_before S i (suc i) ds (omega arith)) ∙ at-behind (index i) (index i) (K.findings e) (grind (arith)))
+      (at_first (index i) (found_under (index i) (K.findings e)) (item_findings K.findings (suc i) ds)
+      (none_before S i (suc i) ds (omega arith)) ∙ at-under (index i) (index i) (K.findings e) (grind (arith)))
   items_step i (item e ds) (suc j) d g =
       let at : i + suc j ≡ suc i + j = omega arith in
-      at_second (index (i + suc j)) (found_behind (index i) (K.findings e)) (item_findings K.findings (suc i) ds)
+      at_second (index (i + suc j)) (found_under (index i) (K.findings e)) (item_findings K.findings (suc i) ds)
       (at-other (index (i + suc j)) (index i) (K.findings e) (grind (arith)))
       ∙ rw at (items_step (suc i) ds j d g)
 
@@ -121,10 +121,10 @@ module _ {A : Type 0} {K : Kind A} (S : IsSound K) where
   entries_step no_members s k d h = absurd h
   entries_step (member l e ms) s k d h = elim h [
     | inl here ↦ rw (here.0, here.1)
-        (at_first (key l) (found_behind (key l) (K.findings e)) (entry_findings K.findings ms) (none_beside K l ms s.0)
-        ∙ at-behind (key l) (key l) (K.findings e) (same_key-self l))
+        (at_first (key l) (found_under (key l) (K.findings e)) (entry_findings K.findings ms) (none_beside K l ms s.0)
+        ∙ at-under (key l) (key l) (K.findings e) (same_key-self l))
     | inr there ↦
-        at_second (key k) (found_behind (key l) (K.findings e)) (entry_findings K.findings ms)
+        at_second (key k) (found_under (key l) (K.findings e)) (entry_findings K.findings ms)
         (at-other (key k) (key l) (K.findings e)
         (same_key-false k l (λ tie. s.0 d (subst (λ j. has_entry j d ms) tie there))))
         ∙ entries_step ms s.2 k d there

@@ -5,7 +5,7 @@ use Rattle.manifest_schema.specs.Kinds
 use Rattle.manifest_schema.specs.Kinds.{is_flag}
 use Rattle.manifest_schema.specs.Needs.{if_true, if_false}
 use Rattle.manifest_schema.specs.PartForms.{text_or_flag_side, publish_side}
-use Rattle.manifest_schema.proofs.KindLaws.{text_sound, flag_sound, whole_sound, truth_sound, kept_sound, list_sound, map_sound, inh_sound, IsSplit, split_sound, plain_from}
+use Rattle.manifest_schema.proofs.KindLaws.{text_sound, flag_sound, whole_sound, truth_sound, raw_sound, list_sound, map_sound, inh_sound, IsSplit, split_sound, plain_from}
 use Rattle.manifest_schema.proofs.NeedLaws.{required_sound, optional_sound, default_sound, lenient_optional_sound, lenient_default_sound}
 use Rattle.manifest_schema.proofs.ChoiceLaws.{edition_sound, edition_plain, resolver_sound, level_sound, status_sound, strip_sound}
 
@@ -78,4 +78,34 @@ empty_to (x ∷ xs) h = absurd (false≢true h)
 pub unless_empty : {A : Type 0} (K : Kinds.Kind A) → IsDefault (list_of K) [] is_empty
 unless_empty K = record { well = tt; skips = empty_to }
 
-pub ruleset row_laws = (required_sound, optional_sound, default_sound, lenient_optional_sound, lenient_default_sound, never_skips, unless_true, unless_false, unless_empty, text_sound, flag_sound, truth_sound, whole_sound, list_sound, map_sound, text_or_flag_sound, publish_sound, kept_sound, edition_sound, resolver_sound, level_sound, status_sound, strip_sound, inh_sound, text_plain, texts_plain, text_or_flag_plain, publish_plain, edition_plain)
+pub ruleset row_laws = (
+  required_sound,
+  optional_sound,
+  default_sound,
+  lenient_optional_sound,
+  lenient_default_sound,
+  never_skips,
+  unless_true,
+  unless_false,
+  unless_empty,
+  text_sound,
+  flag_sound,
+  truth_sound,
+  whole_sound,
+  list_sound,
+  map_sound,
+  text_or_flag_sound,
+  publish_sound,
+  raw_sound,
+  edition_sound,
+  resolver_sound,
+  level_sound,
+  status_sound,
+  strip_sound,
+  inh_sound,
+  text_plain,
+  texts_plain,
+  text_or_flag_plain,
+  publish_plain,
+  edition_plain,
+)

@@ -1,10 +1,10 @@
 -- A whole table without the keys that nothing reads means the same and has the same faults, with old headers.
 use Rattle.manifest_schema.specs.Prelude.{or-false, is_unused_key, is_known_old, manifest_findings, and_parts, cases_Bool, not-true, or_cases, or_parts, Data, table, Members, get_member, same_key, members_are_sorted, Text, Path, key, is_among, without, has_entry, Kind, Rows, spelled, is_closed, form, row_findings, left_over, package_rows, manifest_rows, Package, Manifest, has_header, old_package, means_by, findings_by, old_findings, SameWithoutUnused, from_step, ends_here, left_out_members, unused_in, AlikeBut, IsSound, AreSound}
 use Rattle.std.proofs.Common.{◌≡◌, Bool, true, false, not, ◌&&◌, ◌||◌, ◌⊎◌, ◌↔◌, inl, inr, List, [], ◌∷◌, ◌++◌, Option, Some, None, is_some, codes, refl, sym, ap, ap₂, ◌∙◌, subst, true≢false}
-use Rattle.manifest_schema.specs.Findings.{Finding, found_behind, unused_keys, unused_of, faults_of}
+use Rattle.manifest_schema.specs.Findings.{Finding, found_under, unused_keys, unused_of, faults_of}
 use Rattle.manifest_schema.proofs.TableLaws.{same_key-true, same_key-false}
-use Rattle.manifest_schema.proofs.LeftOutLaws.{unused_at, at-append, stays_behind, key_found, kept_beside, at-behind, at-other, at_first, at_second, Stays, no_key_found, named_not_found, left_value, get-left, test-left, entry_found, entry_there, entry_beside, in_order, value_sorted}
-use Rattle.manifest_schema.proofs.Faultless.{faults-append, faults-keys, but-behind, faults-but}
+use Rattle.manifest_schema.proofs.LeftOutLaws.{unused_at, at-append, stays_under, key_found, kept_beside, at-under, at-other, at_first, at_second, Stays, no_key_found, named_not_found, left_value, get-left, test-left, entry_found, entry_there, entry_beside, in_order, value_sorted}
+use Rattle.manifest_schema.proofs.Faultless.{faults-append, faults-keys, but-under, faults-but}
 use Rattle.manifest_schema.proofs.KindLaws.{same}
 use Rattle.manifest_schema.proofs.FormLaws.{Owns, Agrees, owned_spelled, rows_vanish, rows_inner, left-closed, table_tidy, key_stays}
 use Rattle.manifest_schema.proofs.ManifestLaws.{package_built, package_rows_sound, package_distinct, package_sound, manifest_built, manifest_rows_sound, manifest_distinct, manifest_sound}
@@ -15,7 +15,8 @@ abbrev pub apart_but : Text → List Text → List Text → Bool
 apart_but w names [] = true
 apart_but w names (k ∷ ks) = (same_key w k || not (is_among names k)) && apart_but w names ks
 
-pub shared_is : (w : Text) (names ks : List Text) (k : Text) → apart_but w names ks ≡ true → is_among ks k ≡ true → is_among names k ≡ true → w ≡ k
+pub shared_is : (w : Text) (names ks : List Text) (k : Text) → apart_but w names ks ≡ true → is_among ks k ≡ true
+    → is_among names k ≡ true → w ≡ k
 shared_is w names [] k a h n = absurd (true≢false (sym h))
 shared_is w names (l ∷ ks) k a h n =
     let (here, more) = and_parts (same_key w l || not (is_among names l)) (apart_but w names ks) a in
@@ -45,7 +46,8 @@ closed K W = (refl, refl)
 abbrev has_key : Text → Members → Bool
 has_key j ms = is_some (get_member j ms)
 
-has_key-left : (ps : List Path) (j : Text) (ms : Members) → (ends_here (from_step (key j) ps) ≡ false) ⊎ (has_key j ms ≡ false) → has_key j (left_out_members ps ms) ≡ has_key j ms
+has_key-left : (ps : List Path) (j : Text) (ms : Members) → (ends_here (from_step (key j) ps) ≡ false)
+    ⊎ (has_key j ms ≡ false) → has_key j (left_out_members ps ms) ≡ has_key j ms
 has_key-left ps j ms h = test-left is_some refl (λ ps d. refl) ps j ms h
 
 pub none_of : (o : Option Data) → is_some o ≡ false → o ≡ None
@@ -77,21 +79,25 @@ module _ {K W : Kind Data} (k : IsSound K) (w : IsSound W) where
   -- A TABLE WITHOUT A HEADER, by the value under `project`
   module _ (ms : Members) (s : members_are_sorted ms ≡ true) (none : get_member workspace ms ≡ None) where
     -- none of the keys that are left over is named
-    left_none : (names : List Text) (j : Text) → (is_among names j ≡ true) ⊎ (is_among (spelled rows) j ≡ true) → unused_at (key j) (unused_keys (without names (left_over rows ms))) ≡ []
+    left_none : (names : List Text) (j : Text) → (is_among names j ≡ true) ⊎ (is_among (spelled rows) j ≡ true)
+        → unused_at (key j) (unused_keys (without names (left_over rows ms))) ≡ []
     left_none names j (inl h) = named_not_found names j (left_over rows ms) h
     left_none names j (inr h) = no_key_found j (without names (left_over rows ms)) (λ d e.
-        let there : has_entry j d (without (spelled rows) ms) = subst (has_entry j d) (left-closed (spelled rows) ms rows (closed K W).1) (entry_beside names j d (left_over rows ms) e).0 in
+        let there : has_entry j d (without (spelled rows) ms) = subst (has_entry j d) (left-closed (spelled rows) ms
+        rows (closed K W).1) (entry_beside names j d (left_over rows ms) e).0 in
         true≢false (sym h ∙ (entry_beside (spelled rows) j d ms there).1))
 
     -- but for `workspace`, which is absent, no key is of both
-    apart : (j : Text) (d : Data) → has_entry j d ms → is_among (spelled rows) j ≡ true → is_among (spelled own_rows) j ≡ true → ⊥
-    apart j d h a b = entry_there j d ms h (subst (λ l. get_member l ms ≡ None) (shared_is workspace (spelled own_rows) (spelled rows) j (known K W).shared a b) none)
+    apart : (j : Text) (d : Data) → has_entry j d ms → is_among (spelled rows) j ≡ true → is_among (spelled own_rows)
+        j ≡ true → ⊥
+    apart j d h a b = entry_there j d ms h (subst (λ l. get_member l ms ≡ None) (shared_is workspace (spelled own_rows)
+        (spelled rows) j (known K W).shared a b) none)
 
     abbrev first : List Finding
     first = row_findings rows ms
 
     abbrev inside : Data → List Finding
-    inside d = found_behind (key project) ((form own_rows).findings d)
+    inside d = found_under (key project) ((form own_rows).findings d)
 
     abbrev beside : List Finding
     beside = unused_keys (without (project ∷ []) (left_over rows ms))
@@ -102,14 +108,18 @@ module _ {K W : Kind Data} (k : IsSound K) (w : IsSound W) where
     abbrev rest : List Finding
     rest = unused_keys (left_over own_rows (left_over rows ms))
 
-    rest_none : (j : Text) → (is_among (spelled own_rows) j ≡ true) ⊎ (is_among (spelled rows) j ≡ true) → unused_at (key j) rest ≡ []
-    rest_none j h = rw (left-closed (spelled own_rows) (left_over rows ms) own_rows (closed K W).0) (left_none (spelled own_rows) j h)
+    rest_none : (j : Text) → (is_among (spelled own_rows) j ≡ true) ⊎ (is_among (spelled rows) j ≡ true)
+        → unused_at (key j) rest ≡ []
+    rest_none j h = rw (left-closed (spelled own_rows) (left_over rows ms) own_rows (closed K W).0)
+        (left_none (spelled own_rows) j h)
 
     old_agrees : (o : Option Data) → Agrees (spelled rows) ms rows (unused_of (old_findings K W ms o))
     old_agrees (Some d) j o =
         let h = rows_spelled j o in
-        let other = same_key-false j project (λ tie. true≢false (sym h ∙ ap (is_among (spelled rows)) tie ∙ (known K W).no_project)) in
-        at_first (key j) first (inside d ++ beside) (at_second (key j) (inside d) beside (at-other (key j) (key project) ((form own_rows).findings d) other) ∙ left_none (project ∷ []) j (inr h))
+        let other = same_key-false j project (λ tie. true≢false (sym h ∙ ap (is_among (spelled rows)) tie
+        ∙ (known K W).no_project)) in
+        at_first (key j) first (inside d ++ beside) (at_second (key j) (inside d) beside (at-other (key j) (key project)
+        ((form own_rows).findings d) other) ∙ left_none (project ∷ []) j (inr h))
     old_agrees None j o =
         let h = rows_spelled j o in
         at_first (key j) first (second ++ rest)
@@ -119,13 +129,16 @@ module _ {K W : Kind Data} (k : IsSound K) (w : IsSound W) where
 
     project_paths : (d : Data) → unused_at (key project) (old_findings K W ms (Some d)) ≡ unused_in (form own_rows) d
     project_paths d =
-        at_second (key project) first (inside d ++ beside) (rows_vanish (spelled rows) ms rows project rows_tidy (λ d h o. true≢false (sym (rows_spelled project o) ∙ (known K W).no_project)))
-        ∙ at_first (key project) (inside d) beside (left_none (project ∷ []) project (inl refl)) ∙ at-behind (key project) (key project) ((form own_rows).findings d) refl
+        at_second (key project) first (inside d ++ beside) (rows_vanish (spelled rows) ms rows project rows_tidy
+        (λ d h o. true≢false (sym (rows_spelled project o) ∙ (known K W).no_project)))
+        ∙ at_first (key project) (inside d) beside (left_none (project ∷ []) project (inl refl))
+        ∙ at-under (key project) (key project) ((form own_rows).findings d) refl
 
     own_agrees : Agrees (spelled own_rows) ms own_rows (unused_of (old_findings K W ms None))
     own_agrees j o =
         let h = own_spelled j o in
-        at_second (key j) first (second ++ rest) (rows_vanish (spelled rows) ms rows j rows_tidy (λ d e o. apart j d e (rows_spelled j o) h)) ∙ at_first (key j) second rest (rest_none j (inl h))
+        at_second (key j) first (second ++ rest) (rows_vanish (spelled rows) ms rows j rows_tidy
+        (λ d e o. apart j d e (rows_spelled j o) h)) ∙ at_first (key j) second rest (rest_none j (inl h))
 
     abbrev left : Option Data → Members
     left o = left_out_members (unused_of (old_findings K W ms o)) ms
@@ -138,7 +151,7 @@ module _ {K W : Kind Data} (k : IsSound K) (w : IsSound W) where
     Same {A} R fs Q gs = ((x : A) → R x ↔ Q x) × (faults_of fs ≡ faults_of gs)
 
     abbrev own_found : Members → Option Data → List Finding
-    own_found ms (Some d) = found_behind (key project) ((form own_rows).findings d)
+    own_found ms (Some d) = found_under (key project) ((form own_rows).findings d)
     own_found ms None = row_findings own_rows ms
 
     package_same : (o : Option Data) → get_member project ms ≡ o
@@ -149,7 +162,7 @@ module _ {K W : Kind Data} (k : IsSound K) (w : IsSound W) where
         let t = package_sound K k in
         let (a, b) = t.tidy d sorted in
         rw (project_paths d, t.inside d)
-        (a, ap (found_behind (key project)) b ∙ sym (but-behind (key project) ((form own_rows).findings d)))
+        (a, ap (found_under (key project)) b ∙ sym (but-under (key project) ((form own_rows).findings d)))
     package_same None e =
         table_tidy own_rows (package_rows_sound K k) (package_built K) (package_distinct K)
         (unused_of (old_findings K W ms None)) ms (in_order ms s) own_agrees
@@ -192,8 +205,13 @@ module _ {K W : Kind Data} (k : IsSound K) (w : IsSound W) where
       ap₂ (λ a b. a || b) (kept (codes "package") ms a) (kept workspace ms b) ∙ e
     where
       either : (h : Bool) (ms : Members) → has_header ms ≡ h → Kept h ms (codes "package") × Kept h ms workspace
-      either true ms e = (inl (key_stays rows rows_tidy ms (codes "package") (known K W).has_package), inl (key_stays rows rows_tidy ms workspace (known K W).has_workspace))
-      either false ms e = let (a, b) = or_parts (has_key (codes "package") ms) (has_key workspace ms) e in (inr a, inr b)
+      either true ms e = (
+        inl (key_stays rows rows_tidy ms (codes "package") (known K W).has_package),
+        inl
+            (key_stays rows rows_tidy ms workspace (known K W).has_workspace),
+      )
+      either false ms e = let (a, b) = or_parts (has_key (codes "package") ms) (has_key workspace ms) e in
+          (inr a, inr b)
 
   same_by : (h : Bool) (ms : Members) → members_are_sorted ms ≡ true → has_header ms ≡ h
       → ((m : Manifest) → means_by K W h (left_by h ms) m ↔ means_by K W h ms m)
@@ -201,7 +219,8 @@ module _ {K W : Kind Data} (k : IsSound K) (w : IsSound W) where
   same_by true ms s e =
       let (a, b) = (manifest_sound K W k w).tidy (table ms) s in
       (a, ap faults_of b ∙ faults-but (findings_by K W true ms))
-  same_by false ms s e = old_same ms s (none_of (get_member workspace ms) (or_parts (has_key (codes "package") ms) (has_key workspace ms) e).1) (get_member project ms) refl
+  same_by false ms s e = old_same ms s (none_of (get_member workspace ms) (or_parts (has_key (codes "package") ms)
+      (has_key workspace ms) e).1) (get_member project ms) refl
 
   pub same_without_unused : SameWithoutUnused K W
   same_without_unused ms s =
@@ -260,10 +279,10 @@ module _ {K W : Kind Data} (k : IsSound K) (w : IsSound W) (ms : Members) where
       → is_unused_key j (unused_of (old_findings K W ms o)) ≡ not (is_known_old K W o j)
   old_unused (Some e) j d h =
       let first = row_findings (manifest_rows K W) ms in
-      let inside = found_behind (key (codes "project")) ((form (package_rows K)).findings e) in
+      let inside = found_under (key (codes "project")) ((form (package_rows K)).findings e) in
       last_of j first inside (unused_keys (without (codes "project" ∷ []) (left_over (manifest_rows K W) ms))) _
       (known_stays (manifest_rows K W) (manifest_rows_sound K W k w) j)
-      (stays_behind (key j) (key (codes "project")) ((form (package_rows K)).findings e) ((package_sound K k).inside e))
+      (stays_under (key j) (key (codes "project")) ((form (package_rows K)).findings e) ((package_sound K k).inside e))
       (left_keys (codes "project" ∷ []) j d h
       ∙ ap (λ b. not (is_among (spelled (manifest_rows K W)) j || b)) (or-false (same_key (codes "project") j)))
   old_unused None j d h =

@@ -1,8 +1,8 @@
 -- What is found in a whole table, with old headers, and what is promised of it for every kind of metadata.
 use Rattle.std.specs.Prelude.{◌≡◌, ◌↔◌, ◌⊎◌, Bool, true, false, List, [], ◌∷◌, ◌++◌, Option, Some, None, IsTrue, codes}
 use Rattle.toml.specs.Data.{Data, table, Members, get_member, members_are_sorted}
-use Rattle.manifest_schema.specs.Paths.{Path, Cause, Faults, key, behind}
-use Rattle.manifest_schema.specs.Findings.{Finding, found_behind, unused_keys, faults_of, among, ignored_of, unused_of, FindsAll, found_paths, AllDiverge}
+use Rattle.manifest_schema.specs.Paths.{Path, Cause, Faults, key, under}
+use Rattle.manifest_schema.specs.Findings.{Finding, found_under, unused_keys, faults_of, among, ignored_of, unused_of, FindsAll, found_paths, AllDiverge}
 use Rattle.manifest_schema.specs.Slots.{without}
 use Rattle.manifest_schema.specs.LeftOut.{left_out_members}
 use Rattle.manifest_schema.specs.Kinds.{Kind, faulty}
@@ -16,7 +16,7 @@ use Rattle.manifest_schema.specs.Meaning.{well_formed, rewritten, has_header, is
 abbrev pub old_findings : Kind Data → Kind Data → Members → Option Data → List Finding
 old_findings K W ms (Some d) =
     row_findings (manifest_rows K W) ms
-    ++ (found_behind (key (codes "project")) ((form (package_rows K)).findings d)
+    ++ (found_under (key (codes "project")) ((form (package_rows K)).findings d)
     ++ unused_keys (without (codes "project" ∷ []) (left_over (manifest_rows K W) ms)))
 old_findings K W ms None =
     row_findings (manifest_rows K W) ms
@@ -45,18 +45,18 @@ abbrev pub manifest_unused : Kind Data → Kind Data → Members → List Path
 manifest_unused K W ms = unused_of (manifest_findings K W ms)
 
 -- THE TABLE HAS THE FAULT: it is among those that are found
-abbrev pub unmeant : Kind Data → Kind Data → Members → Faults
-unmeant K W ms = among (manifest_faults K W ms)
+abbrev pub manifest_faulty : Kind Data → Kind Data → Members → Faults
+manifest_faulty K W ms = among (manifest_faults K W ms)
 
 -- the faults of an old package: the path begins with `project` where the table has it
 abbrev pub faulty_old : Kind Data → Members → Option Data → Faults
-faulty_old K ms (Some d) = behind (key (codes "project")) (faulty (form (package_rows K)) d)
+faulty_old K ms (Some d) = under (key (codes "project")) (faulty (form (package_rows K)) d)
 faulty_old K ms None = faulty (form (package_rows K)) (table ms)
 
 -- a fault by the form of a manifest, or without a header of the old package too
-abbrev pub unmeant_by : Kind Data → Kind Data → Bool → Members → Faults
-unmeant_by K W true ms p c = faulty (form (manifest_rows K W)) (table ms) p c
-unmeant_by K W false ms p c =
+abbrev pub manifest_faulty_by : Kind Data → Kind Data → Bool → Members → Faults
+manifest_faulty_by K W true ms p c = faulty (form (manifest_rows K W)) (table ms) p c
+manifest_faulty_by K W false ms p c =
     faulty (form (manifest_rows K W)) (table ms) p c
     ⊎ faulty_old K ms (get_member (codes "project") ms) p c
 
@@ -64,16 +64,16 @@ unmeant_by K W false ms p c =
 -- a table with a fault means nothing
 abbrev pub FaultyMeansNothing : Kind Data → Kind Data → Type 0
 FaultyMeansNothing K W =
-    (ms : Members) (p : Path) (c : Cause) (m : Manifest) → unmeant K W ms p c → means K W ms m → ⊥
+    (ms : Members) (p : Path) (c : Cause) (m : Manifest) → manifest_faulty K W ms p c → means K W ms m → ⊥
 
 -- a table means a manifest or has a fault
 abbrev pub AcceptedOrFaulty : Kind Data → Kind Data → Type 0
-AcceptedOrFaulty K W = (ms : Members) → ReadOrFaulty (means K W ms) (unmeant K W ms)
+AcceptedOrFaulty K W = (ms : Members) → ReadOrFaulty (means K W ms) (manifest_faulty K W ms)
 
 -- what is found is each fault by the form of a manifest, and without a header each of the old package, and no other
 abbrev pub FindsEveryFault : Kind Data → Kind Data → Type 0
 FindsEveryFault K W =
-    (ms : Members) → FindsAll (manifest_findings K W ms) (unmeant_by K W (has_header ms) ms)
+    (ms : Members) → FindsAll (manifest_findings K W ms) (manifest_faulty_by K W (has_header ms) ms)
 
 -- no fault is found exactly if the table means a manifest
 abbrev pub FaultlessIfMeant : Kind Data → Kind Data → Type 0
@@ -89,7 +89,7 @@ abbrev pub SameWithoutUnused : Kind Data → Kind Data → Type 0
 SameWithoutUnused K W =
     (ms : Members) → IsTrue (members_are_sorted ms) →
     ((m : Manifest) → means K W (without_unused K W ms) m ↔ means K W ms m)
-    × ((p : Path) (c : Cause) → unmeant K W (without_unused K W ms) p c ↔ unmeant K W ms p c)
+    × ((p : Path) (c : Cause) → manifest_faulty K W (without_unused K W ms) p c ↔ manifest_faulty K W ms p c)
 
 -- where the keys of each table ascend, what is found stands at paths that diverge: each place is reported once
 abbrev pub FindsEachOnce : Kind Data → Kind Data → Type 0

@@ -3,7 +3,7 @@ use Rattle.std.specs.Prelude.{◌≡◌, ℕ, suc, ℤ, Bool, true, false, ◌&&
 use Rattle.std.proofs.Common.{inl, inr}
 use Rattle.toml.specs.Data.{Data, string, integer, float, boolean, array, table, Items, no_items, item, Members, no_members, member, get}
 use Rattle.manifest_schema.specs.Paths.{Text, wrong_kind, out_of_range, not_true, holds_float, metadata_fault, key, index, Faults}
-use Rattle.manifest_schema.specs.Findings.{Finding, faults_of, among, found_here, none_of, found_behind, unused_keys}
+use Rattle.manifest_schema.specs.Findings.{Finding, faults_of, among, found_here, none_of, found_under, unused_keys}
 use Rattle.manifest_schema.specs.Slots.{without}
 
 -- A kind of values that stand for an A.
@@ -138,7 +138,7 @@ good_items K (x ∷ xs) = K.good x × good_items K xs
 abbrev pub item_findings : (Data → List Finding) → ℕ → Items → List Finding
 item_findings find i no_items = []
 item_findings find i (item d ds) =
-    found_behind (index i) (find d) ++ item_findings find (suc i) ds
+    found_under (index i) (find d) ++ item_findings find (suc i) ds
 
 abbrev pub list_findings : (Data → List Finding) → Data → List Finding
 list_findings find (array ds) = item_findings find 0 ds
@@ -181,7 +181,7 @@ good_entries K (e ∷ es) = K.good e.1 × good_entries K es
 -- what is found in the entries, in their order
 abbrev pub entry_findings : (Data → List Finding) → Members → List Finding
 entry_findings find no_members = []
-entry_findings find (member k d ms) = found_behind (key k) (find d) ++ entry_findings find ms
+entry_findings find (member k d ms) = found_under (key k) (find d) ++ entry_findings find ms
 
 abbrev pub map_findings : (Data → List Finding) → Data → List Finding
 map_findings find (table ms) = entry_findings find ms
@@ -211,8 +211,8 @@ abbrev mutual
   plain_members no_members = true
   plain_members (member k d ms) = plain d && plain_members ms
 
-abbrev pub reads_kept : Data → Data → Type 0
-reads_kept d x = (d ≡ x) × IsTrue (plain d)
+abbrev pub reads_raw : Data → Data → Type 0
+reads_raw d x = (d ≡ x) × IsTrue (plain d)
 
 -- each float, at its path
 abbrev mutual
@@ -224,15 +224,15 @@ abbrev mutual
 
   pub item_floats : ℕ → Items → List Finding
   item_floats i no_items = []
-  item_floats i (item d ds) = found_behind (index i) (float_findings d) ++ item_floats (suc i) ds
+  item_floats i (item d ds) = found_under (index i) (float_findings d) ++ item_floats (suc i) ds
 
   pub entry_floats : Members → List Finding
   entry_floats no_members = []
-  entry_floats (member k d ms) = found_behind (key k) (float_findings d) ++ entry_floats ms
+  entry_floats (member k d ms) = found_under (key k) (float_findings d) ++ entry_floats ms
 
-abbrev pub kept : Kind Data
-kept = record {
-  reads = reads_kept;
+abbrev pub raw : Kind Data
+raw = record {
+  reads = reads_raw;
   written = λ x. x;
   good = λ x. IsTrue (plain x);
   findings = float_findings;

@@ -2,7 +2,7 @@
 use Rattle.std.specs.Prelude.{◌≡◌, ◌⊎◌, ◌↔◌, Bool, true, not, List, [], ◌∷◌, IsTrue, IsFalse}
 use Rattle.toml.specs.Data.{Data, Members, table, is_sorted}
 use Rattle.manifest_schema.specs.Paths.{Text, Cause, key, Path, Faults}
-use Rattle.manifest_schema.specs.Findings.{Finding, fault, ignored, unused, IsFaultless, found_behind, unused_of, FindsAll, found_paths, AllDiverge, AllBegin}
+use Rattle.manifest_schema.specs.Findings.{Finding, fault, ignored, unused, IsFaultless, found_under, unused_of, FindsAll, found_paths, AllDiverge, AllBegin}
 use Rattle.manifest_schema.specs.Slots.{Spellings, first, Slot, one, slot, is_among}
 use Rattle.manifest_schema.specs.Kinds.{Kind, has_entry, faulty}
 use Rattle.manifest_schema.specs.Needs.{Need}
@@ -31,7 +31,7 @@ unused_in K d = unused_of (K.findings d)
 
 -- what is found in the value of a slot, with its key before the path
 abbrev pub slot_findings : (Data → List Finding) → Slot → List Finding
-slot_findings value (one k d) = found_behind (key k) (value d)
+slot_findings value (one k d) = found_under (key k) (value d)
 slot_findings value _ = []
 
 -- the key under which something may be found of a slot

@@ -2,11 +2,11 @@
 -- keys are unused.
 use Rattle.std.specs.Prelude.{◌≡◌, ◌↔◌, ℕ, Bool, false, ◌&&◌, ◌||◌, ◌⊎◌, not, List, [], ◌∷◌, Option, Some, None, IsTrue, IsFalse, codes}
 use Rattle.toml.specs.Data.{Data, float, string, array, table, Items, get_item, Members, get_member, same_key, members_are_sorted}
-use Rattle.manifest_schema.specs.Paths.{Text, Cause, wrong_kind, not_a_choice, missing, two_spellings, holds_float, key, index, Path, Faults, itself, behind}
+use Rattle.manifest_schema.specs.Paths.{Text, Cause, wrong_kind, not_a_choice, missing, two_spellings, holds_float, key, index, Path, Faults, at_value, under}
 use Rattle.manifest_schema.specs.Findings.{fault, faults_of, ignored_of, unused_of, among, IsFaultless}
 use Rattle.manifest_schema.specs.LeftOut.{from_step, ends_here}
 use Rattle.manifest_schema.specs.Slots.{Spellings, only, first, Slot, absent, one, clash, at, is_among, without}
-use Rattle.manifest_schema.specs.Kinds.{Kind, faulty, kept, has_entry, list_of, map_of, inherits, inh}
+use Rattle.manifest_schema.specs.Kinds.{Kind, faulty, raw, has_entry, list_of, map_of, inherits, inh}
 use Rattle.manifest_schema.specs.Needs.{Need}
 use Rattle.manifest_schema.specs.Forms.{Rows, no_more, others, ◌⨾◌, spelled, form}
 use Rattle.manifest_schema.specs.Lawful.{unused_in}
@@ -19,7 +19,7 @@ use Rattle.manifest_schema.specs.Found.{manifest_findings, manifest_ignored}
 -- a fault of an item, with its index before the path
 abbrev pub faulty_item : {A : Type 0} → Kind A → Items → Faults
 faulty_item K ds p c =
-    (i : ℕ) × (d : Data) × (get_item i ds ≡ Some d) × behind (index i) (faulty K d) p c
+    (i : ℕ) × (d : Data) × (get_item i ds ≡ Some d) × under (index i) (faulty K d) p c
 
 -- the faults of a list are those of its items
 abbrev pub FaultyByItems : {A : Type 0} → Kind A → Type 0
@@ -30,7 +30,7 @@ FaultyByItems K =
 -- a fault of an entry, with its key before the path
 abbrev pub faulty_entry : {A : Type 0} → Kind A → Members → Faults
 faulty_entry K ms p c =
-    (k : Text) × (d : Data) × has_entry k d ms × behind (key k) (faulty K d) p c
+    (k : Text) × (d : Data) × has_entry k d ms × under (key k) (faulty K d) p c
 
 -- the faults of a map are those of its entries
 abbrev pub FaultyByEntries : {A : Type 0} → Kind A → Type 0
@@ -50,26 +50,26 @@ float_in d p c = float_at p d × (c ≡ holds_float)
 
 -- the faults of a kept value are its floats
 abbrev pub FaultyByFloats : Type 0
-FaultyByFloats = (d : Data) (p : Path) (c : Cause) → faulty kept d p c ↔ float_in d p c
+FaultyByFloats = (d : Data) (p : Path) (c : Cause) → faulty raw d p c ↔ float_in d p c
 
 -- a table that may inherit and does not has one fault: it is a table
 abbrev pub FaultyUnlessInherited : {A : Type 0} → Kind A → Type 0
 FaultyUnlessInherited K =
     (ms : Members) (p : Path) (c : Cause) →
-    faulty (inh K) (table ms) p c ↔ (IsFalse (inherits (table ms)) × itself wrong_kind p c)
+    faulty (inh K) (table ms) p c ↔ (IsFalse (inherits (table ms)) × at_value wrong_kind p c)
 
 -- a clash and an absence stand at the first spelling
 abbrev pub clash_at : Spellings → Faults
-clash_at names = behind (key (first names)) (itself two_spellings)
+clash_at names = under (key (first names)) (at_value two_spellings)
 
 abbrev pub missing_at : Spellings → Faults
-missing_at names = behind (key (first names)) (itself missing)
+missing_at names = under (key (first names)) (at_value missing)
 
 -- a field that may be absent: a clash, or a fault of its value under the spelling that is present
 abbrev pub faulty_free : {B : Type 0} → Spellings → Kind B → Slot → Faults
 faulty_free names K absent p c = ⊥
 faulty_free names K clash p c = clash_at names p c
-faulty_free names K (one k d) p c = behind (key k) (faulty K d) p c
+faulty_free names K (one k d) p c = under (key k) (faulty K d) p c
 
 -- a field that has to be there: also that it is absent
 abbrev pub faulty_required : {B : Type 0} → Spellings → Kind B → Slot → Faults
@@ -106,8 +106,8 @@ FaultyByRows rows =
     faulty (form rows) (table ms) p c ↔ unfit_beside (spelled rows) rows ms p c
 
 -- THE WORDS that stand with the fault of a text that is none of them are exactly the texts that are read
-abbrev pub TellsWords : {A : Type 0} → Kind A → Type 0
-TellsWords {A} K =
+abbrev pub ListsWords : {A : Type 0} → Kind A → Type 0
+ListsWords {A} K =
     (s : Text) (ws : List Text) → K.findings (string s) ≡ fault [] not_a_choice ws ∷ [] →
     (t : Text) → IsTrue (is_among ws t) ↔ ((x : A) × K.reads (string t) x)
 
@@ -142,7 +142,7 @@ IgnoresBadgesAlone K W =
     IgnoresNothing K → IgnoresNothing W → (ms : Members) (p : Path) (c : Cause) →
     among (manifest_ignored K W ms) p c
     ↔ ((bs : Members) × (get_member (codes "badges") ms ≡ Some (table bs))
-    × behind (key (codes "badges")) (unfit_badge badge_keys bs) p c)
+    × under (key (codes "badges")) (unfit_badge badge_keys bs) p c)
 
 -- WHICH KEYS ARE UNUSED: the key is one of these paths, as one that nothing reads
 abbrev pub is_unused_key : Text → List Path → Bool

@@ -46,23 +46,40 @@ pub use Rattle.toml.specs.View.{array_view, items_view, members_view, table_view
 pub use Rattle.toml.specs.declared.value.Value.{Value}
 pub use Rattle.manifest_schema.specs.Choices.{edition, edition_text, level, level_text, resolver, status, strip, strip_meaning}
 pub use Rattle.manifest_schema.specs.Contents.{Dependency, DependencyDetail, Edition, InheritedDependencyDetail, Lint, Manifest, MaybeInheritedLintsSet, Package, Product, StringOrBool, Target, Workspace, WorkspacePackage, a_flag, a_text, allow, by_workspace, deny, detailed, e2015, e2021, forbid, lint_config, lint_level, no_status, publish_flag, registries, simple, strip_debuginfo, strip_none, strip_symbols, warn}
-pub use Rattle.manifest_schema.specs.Dates.{HasValidDates, KeepsValidDates, MeantDatesAreValid, WrittenDatesAreValid, kept_metadata}
+pub use Rattle.manifest_schema.specs.Dates.{HasValidDates, KeepsValidDates, MeantDatesAreValid, WrittenDatesAreValid, raw_metadata}
 pub use Rattle.manifest_schema.specs.Defaults.{empty_manifest, named}
 pub use Rattle.manifest_schema.specs.ForProofs.{first_fit, spellings_of, nothing_sound, unread_sound}
-pub use Rattle.manifest_schema.specs.Findings.{Finding, FindsAll, IsFaultless, among, fault, faults_of, first_found, foremost, found_behind, found_here, ignored, ignored_of, leniently, none_of, unused, unused_keys, unused_of, found_at, found_paths, Diverge, DivergeFrom, AllDiverge, AllBegin}
-pub use Rattle.manifest_schema.specs.Found.{AcceptedOrFaulty, FaultlessIfMeant, FaultyMeansNothing, FindsEveryFault, SameWithoutUnused, faulty_old, findings_by, manifest_faults, manifest_findings, manifest_ignored, manifest_unused, old_findings, unmeant, unmeant_by, without_unused, FindsEachOnce, FindsNothingWritten, FindsNothingRewritten, RewrittenWithoutUnused}
+pub use Rattle.manifest_schema.specs.Findings.{Finding, FindsAll, IsFaultless, among, fault, faults_of, first_found, foremost, found_under, found_here, ignored, ignored_of, leniently, none_of, unused, unused_keys, unused_of, found_at, found_paths, Diverge, DivergeFrom, AllDiverge, AllBegin}
+pub use Rattle.manifest_schema.specs.Found.{AcceptedOrFaulty, FaultlessIfMeant, FaultyMeansNothing, FindsEveryFault, SameWithoutUnused, faulty_old, findings_by, manifest_faults, manifest_findings, manifest_ignored, manifest_unused, old_findings, manifest_faulty, manifest_faulty_by, without_unused, FindsEachOnce, FindsNothingWritten, FindsNothingRewritten, RewrittenWithoutUnused}
 pub use Rattle.manifest_schema.specs.Former.{AllValues, ManifestLeavesDefaults, OldWrittenIsRead, former_written}
 pub use Rattle.manifest_schema.specs.Forms.{Fields, Rows, differ, distinct, findings_beside, form_findings, left_beside, left_over, row_findings, fits, fits_beside, form, gets, good_beside, good_rows, is_closed, no_more, none_named, others, spell, spelled, written_rows, ◌⨾◌, holds_beside, holds}
-pub use Rattle.manifest_schema.specs.Kinds.{Entries, Inheritable, Kind, choice, choice_findings, entry_findings, entry_floats, faulty, flag, float_findings, good_entries, good_inh, good_items, good_split, has_entry, inh, inherited, inherits, is_text, item_findings, item_floats, kept, list_of, local, map_of, nothing, plain, plain_items, plain_members, reads_choice, reads_entries, reads_inh, reads_items, reads_kept, reads_split, split, text, tree_of, truth, unread, whole, within, written_entries, written_items, written_split}
+pub use Rattle.manifest_schema.specs.Kinds.{Entries, Inheritable, Kind, choice, choice_findings, entry_findings, entry_floats, faulty, flag, float_findings, good_entries, good_inh, good_items, good_split, has_entry, inh, inherited, inherits, is_text, item_findings, item_floats, raw, list_of, local, map_of, nothing, plain, plain_items, plain_members, reads_choice, reads_entries, reads_inh, reads_items, reads_raw, reads_split, split, text, tree_of, truth, unread, whole, within, written_entries, written_items, written_split}
 pub use Rattle.manifest_schema.specs.Lawful.{AlikeBut, AreSound, Decided, FindsSoundly, IsBuilt, IsClean, IsDefault, IsDiverging, IsLawful, IsPlain, IsSlotSorted, IsSound, IsSoundNeed, IsTidy, IsTotal, ReadOrFaulty, UnusedIfNoRow, WritesEachRow, but_unused, slot_findings, slot_key, unused_in}
 pub use Rattle.manifest_schema.specs.LeftOut.{ends_here, from_step, left_out, left_out_items, left_out_members, same_step}
-unfoldable pub use Rattle.manifest_schema.specs.ManifestForms.{manifest_rows, package_rows, workspace_package_rows, workspace_rows}
+unfoldable pub use Rattle.manifest_schema.specs.ManifestForms.{
+  manifest_rows,
+  package_rows,
+  workspace_package_rows,
+  workspace_rows,
+}
 pub use Rattle.manifest_schema.specs.Meaning.{AcceptedIsWellFormed, MeansOne, RewrittenMeansTheSame, RewrittenTwiceIsOnce, SameExactly, SameWrittenIsSame, WrittenIsRead, WrittenMeansTheSame, has_header, is_headed, means, means_by, old_package, reads_manifest, rewritten, well_formed, written_manifest}
 pub use Rattle.manifest_schema.specs.Needs.{Need, clash_found, default, free_findings, good_some, is_empty, lenient_default, lenient_findings, lenient_optional, meets_default, meets_lenient, meets_optional, meets_required, missing_found, never, optional, required, required_findings, written_some, written_unless}
 pub use Rattle.manifest_schema.specs.PartForms.{codegen, dependency, dependency_table, lint, publish, text_or_flag, texts}
-unfoldable pub use Rattle.manifest_schema.specs.PartForms.{badge_rows, badges_rows, detailed_rows, inherited_rows, lint_rows, lints_rows, maintenance_rows, platform_rows, product_rows, profile_rows, profiles_rows}
+unfoldable pub use Rattle.manifest_schema.specs.PartForms.{
+  badge_rows,
+  badges_rows,
+  detailed_rows,
+  inherited_rows,
+  lint_rows,
+  lints_rows,
+  maintenance_rows,
+  platform_rows,
+  product_rows,
+  profile_rows,
+  profiles_rows,
+}
 pub use Rattle.manifest_schema.specs.PathTexts.{is_bare, is_bare_key, key_text, next_text, path_text, quoted_byte}
-pub use Rattle.manifest_schema.specs.Paths.{Cause, Faults, Path, Step, Text, behind, holds_float, index, itself, key, metadata_fault, missing, no_fault, not_a_choice, not_true, out_of_range, two_spellings, wrong_kind}
-pub use Rattle.manifest_schema.specs.Pins.{FaultyByEntries, FaultyByFloats, FaultyByItems, FaultyByRows, FaultyBySlot, FaultyIfRequired, FaultyUnlessInherited, Ignores, IgnoresBadgesAlone, IgnoresNothing, InheritedUnused, NeverFaulty, OldTopUnused, ReadsOnly, TellsWords, UnusedByEntries, UnusedByItems, clash_at, faulty_entry, faulty_free, faulty_item, faulty_required, float_at, float_in, is_known_old, is_unused_key, missing_at, unfit_beside}
+pub use Rattle.manifest_schema.specs.Paths.{Cause, Faults, Path, Step, Text, under, holds_float, index, at_value, key, metadata_fault, missing, no_fault, not_a_choice, not_true, out_of_range, two_spellings, wrong_kind}
+pub use Rattle.manifest_schema.specs.Pins.{FaultyByEntries, FaultyByFloats, FaultyByItems, FaultyByRows, FaultyBySlot, FaultyIfRequired, FaultyUnlessInherited, Ignores, IgnoresBadgesAlone, IgnoresNothing, InheritedUnused, NeverFaulty, OldTopUnused, ReadsOnly, ListsWords, UnusedByEntries, UnusedByItems, clash_at, faulty_entry, faulty_free, faulty_item, faulty_required, float_at, float_in, is_known_old, is_unused_key, missing_at, unfit_beside}
 pub use Rattle.manifest_schema.specs.Slots.{Slot, Spellings, absent, at, both, clash, first, is_among, one, only, put, slot, slot_of_two, underscored, without}
 unfoldable pub use Rattle.manifest_schema.specs.Slots.{put_some}

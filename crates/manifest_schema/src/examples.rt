@@ -2,7 +2,7 @@
 //! some of them; whether Cargo says the same, they do not show. The functions do nothing; their contracts are the
 //! examples.
 
-ghost use Rattle.manifest_schema.specs.Prelude.{string, integer, boolean, array, table, no_members, member, two_spellings, missing, not_a_choice, wrong_kind, out_of_range, key, index, kept, inherited, local, form, by_workspace, detailed, simple, e2021, edition, package_rows, texts, codegen, dependency, badges_rows, means, unmeant, written_manifest, rewritten, former_written, ManifestLeavesDefaults, named, empty_manifest, faulty, inh, text, strip, manifest_findings, ignored_of, unused_of};
+ghost use Rattle.manifest_schema.specs.Prelude.{string, integer, boolean, array, table, no_members, member, two_spellings, missing, not_a_choice, wrong_kind, out_of_range, key, index, raw, inherited, local, form, by_workspace, detailed, simple, e2021, edition, package_rows, texts, codegen, dependency, badges_rows, means, manifest_faulty, written_manifest, rewritten, former_written, ManifestLeavesDefaults, named, empty_manifest, faulty, inh, text, strip, manifest_findings, ignored_of, unused_of};
 ghost use Rattle.std.specs.Prelude.{◌≡◌, pos, negsuc, true, false, [], ◌∷◌, Some, None, codes};
 ghost use Rattle.manifest_schema.specs.PartForms.{priority};
 ghost use Rattle.manifest_schema.specs.Findings.{fault};
@@ -12,10 +12,10 @@ ghost use Rattle.manifest_schema.specs.Examples.{one_entry, two_entries, bare, b
 /// A key that no row has is ignored, and is not written.
 #[tactic(auto, unfolding(crate::specs::ManifestForms::package_rows, crate::specs::Slots::put_some))]
 pub fn unused_key()
-    ensures reads { (form (package_rows kept)).reads
+    ensures reads { (form (package_rows raw)).reads
         (table (two_entries (codes "name") (string (codes "p")) (codes "zzz") (integer (pos 1))))
         (named (codes "p")) }
-    ensures written { (form (package_rows kept)).written (named (codes "p"))
+    ensures written { (form (package_rows raw)).written (named (codes "p"))
         ≡ table (one_entry (codes "name") (string (codes "p"))) }
 {}
 
@@ -39,8 +39,8 @@ pub fn chosen_default_features()
 /// Of that choice the former schema wrote nothing, at any place of a manifest.
 #[tactic(auto, unfolding(crate::specs::PartForms::inherited_rows, crate::specs::Slots::put_some, crate::specs::PartForms::platform_rows, crate::specs::ManifestForms::workspace_rows, crate::specs::ManifestForms::manifest_rows))]
 pub fn former_tables()
-    ensures chosen { former_written kept kept (everywhere bare)
-        ≡ written_manifest kept kept (everywhere inherited_alone) }
+    ensures chosen { former_written raw raw (everywhere bare)
+        ≡ written_manifest raw raw (everywhere inherited_alone) }
     ensures left { ManifestLeavesDefaults (everywhere inherited_alone) }
 {}
 
@@ -95,18 +95,18 @@ pub fn other_keys()
 /// Without `package` and `workspace` the package is `project`, or else the whole table.
 #[tactic(auto, unfolding(crate::specs::ManifestForms::package_rows, crate::specs::ManifestForms::manifest_rows))]
 pub fn old_headers()
-    ensures project { means kept kept
+    ensures project { means raw raw
         (one_entry (codes "project") (table (one_entry (codes "name") (string (codes "p")))))
         (only_package (named (codes "p"))) }
-    ensures top { means kept kept (one_entry (codes "name") (string (codes "p")))
+    ensures top { means raw raw (one_entry (codes "name") (string (codes "p")))
         (only_package (named (codes "p"))) }
-    ensures nothing { unmeant kept kept no_members (at_key (codes "name")) missing }
+    ensures nothing { manifest_faulty raw raw no_members (at_key (codes "name")) missing }
 {}
 
 /// With a `workspace` next to it, `project` is a key that no row has.
 #[tactic(auto, unfolding(crate::specs::ManifestForms::workspace_rows, crate::specs::ManifestForms::manifest_rows))]
 pub fn workspace_beside_project()
-    ensures { means kept kept
+    ensures { means raw raw
         (two_entries (codes "project") (table no_members) (codes "workspace") (table no_members))
         (record empty_manifest { workspace = Some empty_workspace }) }
 {}
@@ -114,7 +114,7 @@ pub fn workspace_beside_project()
 /// What is written of a manifest has its keys in order, whatever the order of the rows.
 #[tactic(auto, unfolding(crate::specs::ManifestForms::package_rows, crate::specs::ManifestForms::manifest_rows, crate::specs::Slots::put_some))]
 pub fn written_in_order()
-    ensures { rewritten kept kept (record empty_manifest {
+    ensures { rewritten raw raw (record empty_manifest {
       «package» = Some (record (named (codes "p")) {
         edition = Some (local e2021);
         version = Some inherited;
@@ -157,9 +157,9 @@ pub fn only_one_item()
 /// Without `package` and `workspace` the only fault is that of the package, under `project` where the table has it.
 #[tactic(auto, unfolding(crate::specs::ManifestForms::package_rows, crate::specs::ManifestForms::manifest_rows))]
 pub fn only_an_old_fault()
-    ensures project { OnlyFault (unmeant kept kept (one_entry (codes "project") (table no_members)))
+    ensures project { OnlyFault (manifest_faulty raw raw (one_entry (codes "project") (table no_members)))
         (key (codes "project") ∷ at_key (codes "name")) missing }
-    ensures top { OnlyFault (unmeant kept kept no_members) (at_key (codes "name")) missing }
+    ensures top { OnlyFault (manifest_faulty raw raw no_members) (at_key (codes "name")) missing }
 {}
 
 /// A badge that does not fit is no fault: it counts as absent.
@@ -187,12 +187,12 @@ pub fn what_is_found()
         (table (two_entries (codes "workspace") (boolean true) (codes "zzz") (integer (pos 1)))))
         ≡ at_key (codes "zzz") ∷ [] }
     ensures project { unused_of
-        (manifest_findings kept kept
+        (manifest_findings raw raw
         (two_entries (codes "project") (table (one_entry (codes "name") (string (codes "p"))))
         (codes "zzz") (integer (pos 1))))
         ≡ at_key (codes "zzz") ∷ [] }
     ensures top { unused_of
-        (manifest_findings kept kept
+        (manifest_findings raw raw
         (two_entries (codes "name") (string (codes "p")) (codes "zzz") (integer (pos 1))))
         ≡ at_key (codes "zzz") ∷ [] }
     ensures words { strip.findings (string (codes "x"))

@@ -3,7 +3,7 @@
 //! What is found in a value is a list: its faults, what is ignored where it does not fit, and its unused keys, those that
 //! nothing of the kind reads. The faults of a value are those of this list.
 
-ghost use Rattle.manifest_schema.specs.Prelude.{Data, Kind, text, flag, whole, truth, kept, list_of, map_of, inh, tree_of, nothing, required, optional, default, lenient_optional, lenient_default, Rows, no_more, form, distinct, spelled, is_closed, IsSound, IsSoundNeed, FindsSoundly, AreSound, IsBuilt, UnusedIfNoRow, WritesEachRow, IsDefault, IsPlain, unread, nothing_sound, ignored_of, edition, resolver, level, status, strip, TellsWords, Ignores, UnusedByItems, UnusedByEntries, InheritedUnused, FaultyByItems, FaultyByEntries, FaultyByFloats, FaultyUnlessInherited, FaultyBySlot, FaultyIfRequired, NeverFaulty, FaultyByRows, ReadsOnly, IsLawful, IsTotal, IsTidy, IsClean, IsDiverging};
+ghost use Rattle.manifest_schema.specs.Prelude.{Data, Kind, text, flag, whole, truth, raw, list_of, map_of, inh, tree_of, nothing, required, optional, default, lenient_optional, lenient_default, Rows, no_more, form, distinct, spelled, is_closed, IsSound, IsSoundNeed, FindsSoundly, AreSound, IsBuilt, UnusedIfNoRow, WritesEachRow, IsDefault, IsPlain, unread, nothing_sound, ignored_of, edition, resolver, level, status, strip, ListsWords, Ignores, UnusedByItems, UnusedByEntries, InheritedUnused, FaultyByItems, FaultyByEntries, FaultyByFloats, FaultyUnlessInherited, FaultyBySlot, FaultyIfRequired, NeverFaulty, FaultyByRows, ReadsOnly, IsLawful, IsTotal, IsTidy, IsClean, IsDiverging};
 ghost use Rattle.std.specs.Prelude.{◌≡◌, ℤ, Bool, List, [], IsTrue, refl};
 
 use std::marker::Brand;
@@ -80,12 +80,12 @@ pub fn laws_one_by_one<K: SoundKind>()
 {}
 
 /// Texts, booleans, the boolean true, whole numbers, kept values, and the kind that looks at no value satisfy the laws.
-#[tactic(auto, using(crate::proofs::KindLaws::text_sound, crate::proofs::KindLaws::flag_sound, crate::proofs::KindLaws::truth_sound, crate::proofs::KindLaws::kept_sound, crate::specs::ForProofs::unread_sound))]
+#[tactic(auto, using(crate::proofs::KindLaws::text_sound, crate::proofs::KindLaws::flag_sound, crate::proofs::KindLaws::truth_sound, crate::proofs::KindLaws::raw_sound, crate::specs::ForProofs::unread_sound))]
 pub fn simple_kinds_are_sound()
     ensures text_is { IsSound text }
     ensures flag_is { IsSound flag }
     ensures truth_is { IsSound truth }
-    ensures kept_is { IsSound kept }
+    ensures kept_is { IsSound raw }
     ensures unread_is { IsSound unread }
     ensures whole_is { (low high : ℤ) → IsSound (whole low high) }
 {}
@@ -145,13 +145,13 @@ pub fn form_reads_only_its_keys<F: AnyForm>()
 {}
 
 /// The words that stand with the fault of a text that is none of a choice are exactly the texts that the choice reads.
-#[tactic(auto, using(crate::proofs::Pinned::edition_tells, crate::proofs::Pinned::resolver_tells, crate::proofs::Pinned::level_tells, crate::proofs::Pinned::status_tells, crate::proofs::Pinned::strip_tells))]
+#[tactic(auto, using(crate::proofs::Pinned::edition_lists, crate::proofs::Pinned::resolver_lists, crate::proofs::Pinned::level_lists, crate::proofs::Pinned::status_lists, crate::proofs::Pinned::strip_lists))]
 pub fn choices_tell_their_words()
-    ensures edition_does { TellsWords edition }
-    ensures resolver_does { TellsWords resolver }
-    ensures level_does { TellsWords level }
-    ensures status_does { TellsWords status }
-    ensures strip_does { TellsWords strip }
+    ensures edition_does { ListsWords edition }
+    ensures resolver_does { ListsWords resolver }
+    ensures level_does { ListsWords level }
+    ensures status_does { ListsWords status }
+    ensures strip_does { ListsWords strip }
 {}
 
 /// What a lenient need ignores is exactly each fault of the value, at its path under the key of the value, or that both
@@ -180,7 +180,7 @@ pub fn unused_keys_are_those<K: SoundKind>()
 pub fn faults_stand_inside<K: AnyKind>()
     ensures of_list { FaultyByItems K.kind }
     ensures of_map { FaultyByEntries K.kind }
-    ensures of_kept { FaultyByFloats }
+    ensures of_raw { FaultyByFloats }
     ensures of_inherited { FaultyUnlessInherited K.kind }
 {}
 

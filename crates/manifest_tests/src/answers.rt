@@ -70,7 +70,7 @@ pub fn answer_of<T: Schema>(alloc: Global, read: Result<T, Error>) -> Result<Str
 pub fn expected_answer(alloc: Global, answer: Result<&str, &str>) -> Result<String, Fail> {
     match answer {
         Ok(written) => text_of_value(alloc, value(alloc, written)?),
-        Err(told) => Ok(String::from_str(alloc, told)?),
+        Err(reported) => Ok(String::from_str(alloc, reported)?),
     }
 }
 
@@ -96,14 +96,14 @@ pub fn assert_written<T: Schema>(
 }
 
 /// The answer that a row expects of a document: the table that is written, after the head, or the text of its refusal.
-pub fn expected_behind(
+pub fn expected_under(
     alloc: Global,
     head: &str,
     answer: Result<&str, &str>,
 ) -> Result<String, Fail> {
     match answer {
         Ok(written) => toml_layout(alloc, format!(in alloc; "{head}{written}")?.as_str()),
-        Err(told) => Ok(String::from_str(alloc, told)?),
+        Err(reported) => Ok(String::from_str(alloc, reported)?),
     }
 }
 

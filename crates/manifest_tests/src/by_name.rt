@@ -7,7 +7,7 @@ use cargo_manifest::{
 };
 use manifest_completion::{CompletedTargets, DeclaredTargets, complete};
 use manifest_value::error::refusal;
-use manifest_value::fault::{fault_behind_step, fault_here, fault_under_key};
+use manifest_value::fault::{fault_here, fault_under_key, fault_under_step};
 use manifest_value::maps::{entries_table, map_of_list};
 use manifest_value::metadata::put_tree;
 use manifest_value::rows::{at_key, put_nonempty, put_optional, put_row, put_unless, read_under};
@@ -22,7 +22,7 @@ fn fault_text(alloc: Global, fault: ReadFault) -> Result<String, Fail> {
 }
 
 #[test]
-fn faults_behind_steps(rt: HostRuntime) -> Result<(), Fail> {
+fn faults_under_steps(rt: HostRuntime) -> Result<(), Fail> {
     let alloc = rt.alloc();
     let not_true = || at_key(alloc, "a b", Cause::NotTrue);
     for (fault, expected) in [
@@ -33,7 +33,7 @@ fn faults_behind_steps(rt: HostRuntime) -> Result<(), Fail> {
             "not true at x.\"a b\"",
         ),
         (
-            fault_behind_step(Step::Index(3), not_true()),
+            fault_under_step(Step::Index(3), not_true()),
             "not true at [3].\"a b\"",
         ),
     ] {

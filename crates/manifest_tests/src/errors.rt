@@ -118,15 +118,15 @@ fn list_with_a_fault(alloc: Global, value: &str) -> Result<Vec<String>, Error> {
 
 #[test]
 fn faults_of_readers_are_errors_by_a_question_mark(rt: HostRuntime) -> Result<(), Fail> {
-    let told = match list_with_a_fault(rt.alloc(), "a").err() {
+    let reported = match list_with_a_fault(rt.alloc(), "a").err() {
         Some(error) => error_text(rt.alloc(), &error)?,
         None => return Err(Fail::from("accepted")),
     };
-    assert_is(Ok(told), "wrong kind at (top)", "a list")
+    assert_is(Ok(reported), "wrong kind at (top)", "a list")
 }
 
 #[test]
-fn causes_are_told_in_plain_words(rt: HostRuntime) {
+fn causes_are_reported_in_plain_words(rt: HostRuntime) {
     for (cause, text) in [
         (Cause::WrongKind, "wrong kind"),
         (Cause::Missing, "missing"),

@@ -132,7 +132,7 @@ fn a_complaint(rt: HostRuntime) -> Result<(), Fail> {
     let alloc = rt.alloc();
     let document = "[package]\nname = 'bar'\nauthors = [1]";
     match complaint(alloc, document.as_bytes())? {
-        Some(told) => assert_eq!(rt; told.as_str(), "wrong kind at package.authors[0]"),
+        Some(reported) => assert_eq!(rt; reported.as_str(), "wrong kind at package.authors[0]"),
         None => return Err(Fail::from("no complaint")),
     }
     Ok(())

@@ -119,9 +119,9 @@ fn manifests_of_bytes_are_read_or_refused(rt: HostRuntime) -> Result<(), Fail> {
     let (manifest, refused) = manifests_of_bytes(alloc)?;
     let expected = "{ package = { name = 'a', version = '1.0.0' } }";
     let asserted = assert_written(alloc, Ok(manifest), expected);
-    let told = written(alloc, refused);
+    let reported = written(alloc, refused);
     asserted?;
-    assert_is(Ok(told?), "wrong kind at package.name", "a name")
+    assert_is(Ok(reported?), "wrong kind at package.name", "a name")
 }
 
 #[test]

@@ -98,8 +98,8 @@ fn refusal_text(alloc: Global, value: &Value) -> Result<String, Fail> {
 #[test]
 fn values_are_read_or_refused(rt: HostRuntime) -> Result<(), Fail> {
     assert!(rt; edition_by_its_kind(rt.alloc())? == Edition::E2021);
-    let told = refusal_text(rt.alloc(), &Value::Boolean(true));
-    assert_is(told, "wrong kind at (top)", "a boolean")
+    let reported = refusal_text(rt.alloc(), &Value::Boolean(true));
+    assert_is(reported, "wrong kind at (top)", "a boolean")
 }
 
 fn word(alloc: Global) -> Result<True, Fail> {

@@ -42,8 +42,8 @@ fn profiles(alloc: Global) -> Result<Profiles, Fail> {
 
 fn workspace_package(alloc: Global) -> Result<WorkspacePackage, Fail> {
     let value = Value::from_str(alloc, "{ version = '1.0.0', edition = '2021' }")?;
-    let lent = WorkspacePackage::from_value(alloc, &value)?; // what members may inherit
-    Ok(lent)
+    let shared = WorkspacePackage::from_value(alloc, &value)?; // what members may inherit
+    Ok(shared)
 }
 
 fn workspace_by_default(alloc: Global) -> Workspace<Value> {

@@ -1,5 +1,5 @@
 //! Manifests whose package has metadata of a type.
-use crate::answers::{PACKAGE, Row, assert_is, assert_written, expected_behind, written};
+use crate::answers::{PACKAGE, Row, assert_is, assert_written, expected_under, written};
 use crate::score::{Level, Score};
 use cargo_manifest::{Manifest, Metadata, Schema, Unread};
 use std::alloc::Global;
@@ -17,7 +17,7 @@ fn answer_with<P: Metadata>(alloc: Global, document: &str) -> Result<String, Fai
 fn assert_metadata<P: Metadata>(alloc: Global, rows: &[Row]) -> Result<(), Fail> {
     for (rest, answer) in rows {
         let document = format!(in alloc; "{PACKAGE}{rest}")?;
-        let expected = expected_behind(alloc, PACKAGE, *answer)?;
+        let expected = expected_under(alloc, PACKAGE, *answer)?;
         let got = answer_with::<P>(alloc, document.as_str());
         assert_is(got, expected.as_str(), rest)?;
     }

@@ -15,9 +15,9 @@ fn detail_of(dependency: &Dependency) -> Option<(Option<&str>, Option<bool>)> {
 #[test]
 fn details(rt: HostRuntime) -> Result<(), Fail> {
     let dependency: Dependency = read_as(rt.alloc(), "{ version = '1', optional = true }")?;
-    let is_told = detail_of(&dependency) == Some((Some("1"), Some(true)));
+    let is_reported = detail_of(&dependency) == Some((Some("1"), Some(true)));
     drop(dependency);
-    assert!(rt; is_told);
+    assert!(rt; is_reported);
     Ok(())
 }
 

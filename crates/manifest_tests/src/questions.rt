@@ -1,6 +1,6 @@
 //! Which folders are asked while a manifest is completed, and what comes of a filesystem that refuses one question or
 //! changes.
-use crate::answers::{assert_is, error_text, expected_behind};
+use crate::answers::{assert_is, error_text, expected_under};
 use crate::folders::{Changing, Recorder, listings};
 use cargo_manifest::{AbstractFilesystem, Error, Manifest, Value};
 use std::alloc::Global;
@@ -179,7 +179,7 @@ fn answer_to(alloc: Global, row: &Row) -> Result<String, Fail> {
 }
 
 fn assert_row(alloc: Global, row: &Row) -> Result<(), Fail> {
-    let expected = expected_behind(alloc, "", row.4)?;
+    let expected = expected_under(alloc, "", row.4)?;
     assert_is(answer_to(alloc, row), expected.as_str(), row.3)
 }
 
@@ -248,8 +248,8 @@ fn complete_thrice(
 /// What a row expects of this; the third completion changes nothing.
 fn expected_thrice(alloc: Global, row: &[&str; 4]) -> Result<String, Fail> {
     let head = "[package]\nname = 'p'\nedition = '2021'\n";
-    let first = expected_behind(alloc, head, Ok(row[2]))?;
-    let second = expected_behind(alloc, head, Ok(row[3]))?;
+    let first = expected_under(alloc, head, Ok(row[2]))?;
+    let second = expected_under(alloc, head, Ok(row[3]))?;
     Ok(format!(in alloc; "{first}\n{second}\n{second}")?)
 }
 

@@ -45,7 +45,7 @@ impl Schema for Level {
 
     #[tactic(auto, using(manifest_value::proofs::FoundLemmas::one_fault_read, manifest_value::proofs::FoundLemmas::one_fault_refused, manifest_schema::proofs::OneFaultLaws::whole_one_fault))]
     fn findings(alloc: Global, value: &Value) -> Found {
-        match Level::read(alloc, Source::Lent(value)) {
+        match Level::read(alloc, Source::Borrowed(value)) {
             Ok(_) => Ok(Findings::none(alloc)),
             Err(refused) => Findings::of_refusal(alloc, refused, &[]),
         }

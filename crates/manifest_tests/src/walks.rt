@@ -27,8 +27,8 @@ fn slots_text(alloc: Global, slots: &[RowSlot<'_>]) -> Result<String, Fail> {
             RowSlot::One { spelling, value } => {
                 text.push_str(spelling)?;
                 text.push_str(match value {
-                    Source::Taken(Value::Integer(4)) => " is a taken 4;",
-                    Source::Lent(Value::Integer(4)) => " is a borrowed 4;",
+                    Source::Owned(Value::Integer(4)) => " is a taken 4;",
+                    Source::Borrowed(Value::Integer(4)) => " is a borrowed 4;",
                     _ => " is something else;",
                 })?;
             }
@@ -52,31 +52,34 @@ fn assert_found(rt: &impl Abort, alloc: Global, walk: &Walk<'_>, slots: &str) ->
 fn a_walk_finds_the_rows_and_the_rest(rt: HostRuntime) -> Result<(), Fail> {
     let alloc = rt.alloc();
     let table = toml::table_from_str(alloc, ENTRIES)?;
-    let lent = walk(alloc, TableSource::Lent(&table), &ROWS)?;
-    assert_found(&rt, alloc, &lent, "clash;c is a borrowed 4;absent;")?;
-    drop(lent);
-    let taken = walk(alloc, TableSource::Taken(table), &ROWS)?;
+    let shared = walk(alloc, TableSource::Borrowed(&table), &ROWS)?;
+    assert_found(&rt, alloc, &shared, "clash;c is a borrowed 4;absent;")?;
+    drop(shared);
+    let taken = walk(alloc, TableSource::Owned(table), &ROWS)?;
     assert_found(&rt, alloc, &taken, "clash;c is a taken 4;absent;")
 }
 
 #[test]
-fn a_key_that_is_lent_or_taken(rt: HostRuntime) -> Result<(), Fail> {
+fn a_key_that_is_shared_or_taken(rt: HostRuntime) -> Result<(), Fail> {
     let alloc = rt.alloc();
-    let taken = Key::Taken(String::from_str(alloc, "serde")?);
+    let taken = Key::Owned(String::from_str(alloc, "serde")?);
     assert_eq!(rt; taken.as_str(), "serde");
     assert_eq!(rt; taken.into_string(alloc)?.as_str(), "serde");
-    assert_eq!(rt; Key::Lent("serde").into_string(alloc)?.as_str(), "serde");
+    assert_eq!(rt;
+        Key::Borrowed("serde").into_string(alloc)?.as_str(),
+        "serde"
+    );
     Ok(())
 }
 
 #[test]
-fn sources_that_are_taken_or_lent(rt: HostRuntime) -> Result<(), Fail> {
+fn sources_that_are_taken_or_shared(rt: HostRuntime) -> Result<(), Fail> {
     let alloc = rt.alloc();
     let value = Value::string(alloc, "serde")?;
-    assert!(rt; matches!(Source::Lent(&value).value(), Value::String(_)));
+    assert!(rt; matches!(Source::Borrowed(&value).value(), Value::String(_)));
     for name in [
-        String::read(alloc, Source::Lent(&value)),
-        String::read(alloc, Source::Taken(value.clone()?)),
+        String::read(alloc, Source::Borrowed(&value)),
+        String::read(alloc, Source::Owned(value.clone()?)),
     ] {
         match name {
             Ok(name) => assert_eq!(rt; name.as_str(), "serde"),
@@ -85,24 +88,24 @@ fn sources_that_are_taken_or_lent(rt: HostRuntime) -> Result<(), Fail> {
     }
     assert!(rt;
         matches!(
-            bool::read(alloc, Source::Taken(Value::Boolean(true))),
+            bool::read(alloc, Source::Owned(Value::Boolean(true))),
             Ok(true)
         )
     );
-    let told = match Source::Taken(value).into_table(alloc) {
+    let reported = match Source::Owned(value).into_table(alloc) {
         Ok(_) => String::from_str(alloc, "accepted")?,
         Err(fault) => error_text(alloc, &refusal(fault))?,
     };
-    assert_is(Ok(told), "wrong kind at (top)", "a text")?;
+    assert_is(Ok(reported), "wrong kind at (top)", "a text")?;
     let table = Value::Table(toml::table_from_str(alloc, ENTRIES)?);
-    match Source::Lent(&table).into_table(alloc) {
+    match Source::Borrowed(&table).into_table(alloc) {
         Ok(found) => assert_eq!(rt; found.table().len(), 4),
         Err(_) => assert!(rt; false),
     }
     assert!(rt;
         matches!(
-            Source::Taken(table).into_table(alloc),
-            Ok(TableSource::Taken(_))
+            Source::Owned(table).into_table(alloc),
+            Ok(TableSource::Owned(_))
         )
     );
     Ok(())
@@ -118,7 +121,7 @@ const READ_FROM: &str = "a = true\nb = true\nc = true\nd = 6\ne = 1\nf = 1\nothe
 fn slot_of(value: Value) -> RowSlot<'static> {
     RowSlot::One {
         spelling: "a",
-        value: Source::Taken(value),
+        value: Source::Owned(value),
     }
 }
 
@@ -156,19 +159,19 @@ fn rows_that_do_not_fit_or_are_missing(rt: HostRuntime) -> Result<(), Fail> {
     assert!(rt; read_lenient_default(alloc, &mut unfit, &mut flag, true).is_ok());
     assert!(rt; flag);
     let mut missing = RowSlot::Absent;
-    let told = match read_required(alloc, "a", &mut missing, &mut flag) {
+    let reported = match read_required(alloc, "a", &mut missing, &mut flag) {
         Ok(()) => String::from_str(alloc, "accepted")?,
         Err(fault) => error_text(alloc, &refusal(fault))?,
     };
     assert!(rt; flag);
-    assert_is(Ok(told), "missing at a", "nothing")
+    assert_is(Ok(reported), "missing at a", "nothing")
 }
 
 #[test]
 fn the_rest_of_a_walk_is_read_as_a_map(rt: HostRuntime) -> Result<(), Fail> {
     let alloc = rt.alloc();
     let table = toml::table_from_str(alloc, READ_FROM)?;
-    let walk = walk(alloc, TableSource::Lent(&table), &READ)?;
+    let walk = walk(alloc, TableSource::Borrowed(&table), &READ)?;
     match map_of_entries::<bool>(alloc, walk.rest) {
         Ok(map) => {
             assert_eq!(rt; map.len(), 1);

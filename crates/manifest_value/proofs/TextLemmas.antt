@@ -19,7 +19,11 @@ high_bytes : (bs : List ℕ) → ((k : ℕ) → k < length bs → 128 ≤ get_or
 high_bytes [] h = refl
 high_bytes (b ∷ bs) h =
     let high : 128 ≤ b = h 0 (omega arith) in
-    rw (plain_byte b (omega arith) (omega arith) (omega arith) (omega arith), high_bytes bs (λ k within. h (suc k) (omega arith)))
+    rw (
+      plain_byte b (omega arith) (omega arith) (omega arith) (omega arith),
+      high_bytes bs
+          (λ k within. h (suc k) (omega arith)),
+    )
 
 -- the bytes of a character above ASCII are above ASCII
 encode_high : (c : ℕ) → 128 ≤ c → (k : ℕ) → k < length (encode_utf8 c) → 128 ≤ get_or (encode_utf8 c) k 0

@@ -1,5 +1,5 @@
 -- What a reader or a writer that is passed as a closure gives at each item of a list and each entry of a map.
-use Rattle.manifest_schema.specs.Prelude.{BTreeMap, values, AllZip, Contains, AllocError, Global, array, table, view, items_view, members_view, Value, Path, Cause, key, index, Faults, behind}
+use Rattle.manifest_schema.specs.Prelude.{BTreeMap, values, AllZip, Contains, AllocError, Global, array, table, view, items_view, members_view, Value, Path, Cause, key, index, Faults, under}
 use Rattle.std.specs.Prelude.{◌≡◌, ◌⊎◌, List, ◌∷◌, ◌++◌, length, Result, Ok, Err, String, Vec, string_bytes}
 use Rattle.toml.specs.declared.value.Value.{Array, Table}
 use Rattle.manifest_value.specs.Faults.{path_of, cause_of, no_list, no_table}
@@ -51,7 +51,7 @@ pub record ItemRefused {T : Type 0} (R : ReaderAnswers T) (vs : List Value) (p :
   pub whole : vs ≡ before ++ item ∷ after
   pub answers : List T
   pub given : ItemsGiven R before answers
-  pub refused : behind (index (length before)) (Refused R item) p c
+  pub refused : under (index (length before)) (Refused R item) p c
 
 -- v is no list, or one of its items is refused
 abbrev pub ListRefused : {T : Type 0} → ReaderAnswers T → Value → Faults
@@ -79,7 +79,7 @@ pub record EntryRefused {T : Type 0} (R : ReaderAnswers T) (es : List (String Gl
   pub whole : es ≡ before ++ entry ∷ after
   pub answers : List (String Global × T)
   pub given : EntriesGiven R before answers
-  pub refused : behind (key (string_bytes entry.0)) (Refused R entry.1) p c
+  pub refused : under (key (string_bytes entry.0)) (Refused R entry.1) p c
 
 -- v is no table, or the value of one of its entries is refused
 abbrev pub MapRefused : {T : Type 0} → ReaderAnswers T → Value → Faults

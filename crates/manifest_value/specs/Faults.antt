@@ -1,5 +1,5 @@
 -- Key paths, causes and faults of the code, as the definitions see them.
-use Rattle.manifest_schema.specs.Prelude.{Data, array, table, Path, Step as PathStep, key, index, Cause as SchemaCause, wrong_kind, missing, two_spellings, not_a_choice, out_of_range, not_true, holds_float, metadata_fault, Faults, no_fault, itself}
+use Rattle.manifest_schema.specs.Prelude.{Data, array, table, Path, Step as PathStep, key, index, Cause as SchemaCause, wrong_kind, missing, two_spellings, not_a_choice, out_of_range, not_true, holds_float, metadata_fault, Faults, no_fault, at_value}
 use Rattle.std.specs.Prelude.{◌≡◌, ◌∷◌, map, string_bytes}
 use Rattle.manifest_value.specs.declared.fault.Step.{Step}
 use Rattle.manifest_value.specs.declared.fault.Step.TheVariants.{Key, Index}
@@ -42,16 +42,16 @@ IsSchema (Schema f) = Unit {0}
 IsSchema (Memory e) = ⊥
 
 -- the fault is f with one step before its path, or out of memory
-abbrev pub IsBehind : PathStep → ReadFault → ReadFault → Type 0
-IsBehind s (Memory e) g = FaultIn no_fault g
-IsBehind s (Schema f) g = FaultIn (λ p c. (p ≡ s ∷ path_of f.path) × (c ≡ cause_of f.cause)) g
+abbrev pub IsUnder : PathStep → ReadFault → ReadFault → Type 0
+IsUnder s (Memory e) g = FaultIn no_fault g
+IsUnder s (Schema f) g = FaultIn (λ p c. (p ≡ s ∷ path_of f.path) × (c ≡ cause_of f.cause)) g
 
 -- a value that is no list has the wrong kind
 abbrev pub no_list : Data → Faults
 no_list (array ds) p c = ⊥
-no_list _ p c = itself wrong_kind p c
+no_list _ p c = at_value wrong_kind p c
 
 -- a value that is no table has the wrong kind
 abbrev pub no_table : Data → Faults
 no_table (table ms) p c = ⊥
-no_table _ p c = itself wrong_kind p c
+no_table _ p c = at_value wrong_kind p c

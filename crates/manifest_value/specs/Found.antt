@@ -1,5 +1,5 @@
 -- What the code finds in a value, as the definitions see it, and what is found row by row.
-use Rattle.manifest_schema.specs.Prelude.{Members, Spellings, Slot, at, without, Rows, no_more, others, ◌⨾◌, entry_findings, fault, ignored, unused, found_behind, Text, Path, key, Cause as SchemaCause}
+use Rattle.manifest_schema.specs.Prelude.{Members, Spellings, Slot, at, without, Rows, no_more, others, ◌⨾◌, entry_findings, fault, ignored, unused, found_under, Text, Path, key, Cause as SchemaCause}
 use Rattle.manifest_schema.specs.Findings.{Finding as PathFinding}
 use Rattle.manifest_schema.specs.OneFault.{fault_here}
 use Rattle.std.specs.Prelude.{◌≡◌, ℕ, zero, suc, List, [], ◌∷◌, ◌++◌, map, string_bytes}
@@ -40,7 +40,7 @@ abbrev pub node_step : FindingNode-F (List PathFinding) → List PathFinding
 node_step (FindingNode-F.Fault c words) = fault [] (cause_of c) (choices_of words) ∷ []
 node_step (FindingNode-F.Ignored c words) = ignored [] (cause_of c) (choices_of words) ∷ []
 node_step (FindingNode-F.Unused k) = unused (key (string_bytes k) ∷ []) ∷ []
-node_step (FindingNode-F.Within s inside) = found_behind (step_of s) (joined inside.items)
+node_step (FindingNode-F.Within s inside) = found_under (step_of s) (joined inside.items)
 
 -- what a node says
 abbrev pub found_in : FindingNode → List PathFinding
@@ -57,7 +57,7 @@ found fs = found_among fs.nodes.items
 -- the findings of a value at this path
 abbrev pub found_below : Path → List PathFinding → List PathFinding
 found_below [] fs = fs
-found_below (s ∷ p) fs = found_behind s (found_below p fs)
+found_below (s ∷ p) fs = found_under s (found_below p fs)
 
 -- this list is what was found
 abbrev pub Finds : List PathFinding → Findings → Type 0

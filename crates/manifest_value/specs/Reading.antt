@@ -1,5 +1,5 @@
 -- Words for what the contracts of readers and writers say again and again.
-use Rattle.manifest_schema.specs.Prelude.{BTreeMap, Global, Data, table, Members, table_view, Value, Text, Step, Spellings, first, Kind, Rows, form, first_found, found_behind}
+use Rattle.manifest_schema.specs.Prelude.{BTreeMap, Global, Data, table, Members, table_view, Value, Text, Step, Spellings, first, Kind, Rows, form, first_found, found_under}
 use Rattle.manifest_schema.specs.Findings.{Finding}
 use Rattle.std.specs.Prelude.{◌≡◌, List, String, Result, Ok, Err}
 use Rattle.manifest_value.specs.Faults.{FaultIn}
@@ -34,9 +34,9 @@ abbrev pub Gives : {X A : Type 0} → Kind A → (X → A) → Data → Result X
 Gives K content d = GivesOr (Reads K content d) (K.findings d)
 
 -- the same for data that this step leads to: the step stands before the path of the fault
-abbrev pub GivesBehind :
+abbrev pub GivesUnder :
     {X A : Type 0} → Step → Kind A → (X → A) → Data → Result X ReadFault → Type 0
-GivesBehind s K content d = GivesOr (Reads K content d) (found_behind s (K.findings d))
+GivesUnder s K content d = GivesOr (Reads K content d) (found_under s (K.findings d))
 
 -- P, or the first fault that is found of a row, whose first spelling is this word, or out of memory
 abbrev pub GivesRow :

@@ -11,16 +11,16 @@ use Rattle.manifest_value.specs.declared.source.TableSource.{TableSource}
 
 -- the value that is read
 abbrev pub source_value : Source → Value
-source_value (Source.Lent v) = v.now
-source_value (Source.Taken v) = v
+source_value (Source.Borrowed v) = v.now
+source_value (Source.Owned v) = v
 
 abbrev pub source_view : Source → Data
 source_view s = view (source_value s)
 
 -- the entries of the table that is read
 abbrev pub members_of : TableSource → Members
-members_of (TableSource.Lent t) = table_view t.now
-members_of (TableSource.Taken t) = table_view t
+members_of (TableSource.Borrowed t) = table_view t.now
+members_of (TableSource.Owned t) = table_view t
 
 -- the table that is read, as a value
 abbrev pub table_source : TableSource → Data
@@ -35,8 +35,8 @@ row_view RowSlot.Clash = clash
 -- ENTRIES
 -- the text of a key
 abbrev pub key_view : Key → Text
-key_view (Key.Lent s) = s.now
-key_view (Key.Taken s) = string_bytes s
+key_view (Key.Borrowed s) = s.now
+key_view (Key.Owned s) = string_bytes s
 
 -- entries that are read, in a list
 abbrev pub rest_view : List (Key × Source) → Members
@@ -45,8 +45,8 @@ rest_view (e ∷ es) = member (key_view e.0) (source_view e.1) (rest_view es)
 
 -- the entries that are still to come
 abbrev pub entries_view : Entries → Members
-entries_view (Entries.Lent it) = members_view it
-entries_view (Entries.Taken it) = members_view it
+entries_view (Entries.Borrowed it) = members_view it
+entries_view (Entries.Owned it) = members_view it
 entries_view (Entries.Rest it) = rest_view (into_iter_items it)
 
 -- how many entries there are
@@ -63,5 +63,5 @@ gives_entry s r t =
 -- ITEMS
 -- the items that are still to come
 abbrev pub items_left : Items → List Value
-items_left (Items.Lent it) = iter_rest it
-items_left (Items.Taken it) = into_iter_items it
+items_left (Items.Borrowed it) = iter_rest it
+items_left (Items.Owned it) = into_iter_items it

@@ -1,11 +1,11 @@
 //! Readers of a list and of a table by a given reader of their values.
 
-ghost use Rattle.manifest_schema.specs.Prelude.{values, FnReturnsAt, Contains, behind, index, key};
+ghost use Rattle.manifest_schema.specs.Prelude.{values, FnReturnsAt, Contains, under, index, key};
 ghost use Rattle.std.specs.Prelude.{◌≡◌, IfOk, IfErr, Ok};
 ghost use Rattle.manifest_value.specs.Calls.{ItemsGiven, EntriesGiven, Refused, IsItemOf, ListGiven, ItemRefused, ListRefused, IsValueOf, MapGiven, EntryRefused, MapRefused};
 ghost use Rattle.manifest_value.specs.Faults.{FaultIn};
 
-use crate::fault::{Cause, ReadFault, Step, fault_behind_step, fault_here, fault_under_key};
+use crate::fault::{Cause, ReadFault, Step, fault_here, fault_under_key, fault_under_step};
 use std::alloc::Global;
 use std::collections::BTreeMap;
 use toml::{Table, Value};
@@ -32,7 +32,7 @@ fn read_at<T, F: Fn(&Value) -> Result<T, ReadFault>>(
 }
 
 /// Calls `read` with item `i` of a list: returns its answer, or its fault with the index before the path.
-#[tactic(auto, using(crate::proofs::Behind::fault_behind))]
+#[tactic(auto, using(crate::proofs::Under::fault_under))]
 fn item_at<T: Drop, F: Fn(&Value) -> Result<T, ReadFault>>(
     read: &F,
     item: &Value,
@@ -41,11 +41,11 @@ fn item_at<T: Drop, F: Fn(&Value) -> Result<T, ReadFault>>(
     requires { (b : _) → b.now ≡ item.now → F.pre read.now b }
     ensures ok { IfOk result (λ x. FnReturnsAt F.Fn read.now item.now (Ok x)) }
     ensures fault { IfErr result
-        (FaultIn (behind (index i) (Refused (FnReturnsAt F.Fn read.now) item.now))) }
+        (FaultIn (under (index i) (Refused (FnReturnsAt F.Fn read.now) item.now))) }
 {
     match read_at(read, item) {
         Ok(x) => Ok(x),
-        Err(fault) => Err(fault_behind_step(Step::Index(i), fault)),
+        Err(fault) => Err(fault_under_step(Step::Index(i), fault)),
     }
 }
 
@@ -94,7 +94,7 @@ pub fn list_of<T: Drop, F: Fn(&Value) -> Result<T, ReadFault> + Drop>(
 
 /// Calls `read` with the value of the entry under the key `word`: returns its answer, or its fault with the key before
 /// the path.
-#[tactic(auto, using(crate::proofs::Behind::fault_behind))]
+#[tactic(auto, using(crate::proofs::Under::fault_under))]
 fn entry_at<T: Drop, F: Fn(&Value) -> Result<T, ReadFault>>(
     alloc: Global,
     read: &F,
@@ -104,7 +104,7 @@ fn entry_at<T: Drop, F: Fn(&Value) -> Result<T, ReadFault>>(
     requires { (b : _) → b.now ≡ value.now → F.pre read.now b }
     ensures ok { IfOk result (λ x. FnReturnsAt F.Fn read.now value.now (Ok x)) }
     ensures fault { IfErr result
-        (FaultIn (behind (key word.now) (Refused (FnReturnsAt F.Fn read.now) value.now))) }
+        (FaultIn (under (key word.now) (Refused (FnReturnsAt F.Fn read.now) value.now))) }
 {
     match read_at(read, value) {
         Ok(x) => Ok(x),

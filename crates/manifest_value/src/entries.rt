@@ -14,9 +14,9 @@ use toml::Value;
 #[derive(Drop)]
 pub enum Key<'t> {
     /// The table is borrowed: the key is copied where a text of its own is made of it.
-    Lent(&'t str),
+    Borrowed(&'t str),
     /// The table is owned: the key is moved.
-    Taken(String),
+    Owned(String),
 }
 
 impl Key<'_> {
@@ -26,8 +26,8 @@ impl Key<'_> {
         ensures { result.now ≡ key_view self.now }
     {
         match self {
-            Key::Lent(text) => *text,
-            Key::Taken(text) => text.as_str(),
+            Key::Borrowed(text) => *text,
+            Key::Owned(text) => text.as_str(),
         }
     }
 
@@ -42,8 +42,8 @@ impl Key<'_> {
         ensures { IfOk result (λ s. string_bytes s ≡ key_view self.entry) }
     {
         match self {
-            Key::Lent(text) => String::from_str(alloc, text),
-            Key::Taken(text) => Ok(text),
+            Key::Borrowed(text) => String::from_str(alloc, text),
+            Key::Owned(text) => Ok(text),
         }
     }
 }
@@ -55,9 +55,9 @@ pub type Entry<'t> = (Key<'t>, Source<'t>);
 #[derive(Drop)]
 pub(crate) enum Entries<'t> {
     /// All entries of a table that stays where it is.
-    Lent(Iter<'t, String, Value>),
+    Borrowed(Iter<'t, String, Value>),
     /// All entries of an owned table.
-    Taken(IntoIter<String, Value, Global>),
+    Owned(IntoIter<String, Value, Global>),
     /// Those that a walk left over.
     Rest(vec::IntoIter<Entry<'t>, Global>),
 }
@@ -73,12 +73,12 @@ impl<'t> Iterator for Entries<'t> {
     #[inline(always)]
     fn next(&mut self) -> Option<Entry<'t>> {
         match self {
-            Entries::Lent(entries) => match entries.next() {
-                Some((key, value)) => Some((Key::Lent(key.as_str()), Source::Lent(value))),
+            Entries::Borrowed(entries) => match entries.next() {
+                Some((key, value)) => Some((Key::Borrowed(key.as_str()), Source::Borrowed(value))),
                 None => None,
             },
-            Entries::Taken(entries) => match entries.next() {
-                Some((key, value)) => Some((Key::Taken(key), Source::Taken(value))),
+            Entries::Owned(entries) => match entries.next() {
+                Some((key, value)) => Some((Key::Owned(key), Source::Owned(value))),
                 None => None,
             },
             Entries::Rest(entries) => entries.next(),

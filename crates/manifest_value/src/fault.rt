@@ -1,8 +1,8 @@
 //! Where a value does not fit, and why.
 
 ghost use Rattle.std.specs.Prelude.{◌≡◌, IfOk};
-ghost use Rattle.manifest_schema.specs.Paths.{no_fault, itself, key};
-ghost use Rattle.manifest_value.specs.Faults.{FaultIn, IsSchema, IsBehind, step_of, path_of, cause_of};
+ghost use Rattle.manifest_schema.specs.Paths.{no_fault, at_value, key};
+ghost use Rattle.manifest_value.specs.Faults.{FaultIn, IsSchema, IsUnder, step_of, path_of, cause_of};
 
 use std::alloc::{AllocError, AllocFailed, Global};
 
@@ -121,7 +121,7 @@ impl<T: Drop> From<AllocFailed<T>> for ReadFault {
 /// ```
 #[cold]
 pub fn fault_here(alloc: Global, cause: Cause) -> ReadFault
-    ensures fault { FaultIn (itself (cause_of cause)) result }
+    ensures fault { FaultIn (at_value (cause_of cause)) result }
     ensures schema { IsSchema result }
 {
     ReadFault::Schema(SchemaFault {
@@ -139,8 +139,8 @@ pub fn fault_here(alloc: Global, cause: Cause) -> ReadFault
 /// let fault = fault_behind_step(Step::Index(2), fault_here(alloc, Cause::WrongKind)); // reported as `wrong kind at [2]`
 /// ```
 #[cold]
-pub fn fault_behind_step(step: Step, fault: ReadFault) -> ReadFault
-    ensures { IsBehind (step_of step) fault result }
+pub fn fault_under_step(step: Step, fault: ReadFault) -> ReadFault
+    ensures { IsUnder (step_of step) fault result }
 {
     match fault {
         ReadFault::Memory(refused) => ReadFault::Memory(refused),
@@ -158,12 +158,12 @@ pub fn fault_behind_step(step: Step, fault: ReadFault) -> ReadFault
 /// let fault = fault_under_key(alloc, "name", fault_here(alloc, Cause::WrongKind)); // reported as `wrong kind at name`
 /// ```
 #[cold]
-#[tactic(auto, using(crate::proofs::Behind::memory_behind))]
+#[tactic(auto, using(crate::proofs::Under::memory_under))]
 pub fn fault_under_key(alloc: Global, word: &str, fault: ReadFault) -> ReadFault
-    ensures { IsBehind (key word.now) fault result }
+    ensures { IsUnder (key word.now) fault result }
 {
     match String::from_str(alloc, word) {
-        Ok(word) => fault_behind_step(Step::Key(word), fault),
+        Ok(word) => fault_under_step(Step::Key(word), fault),
         Err(refused) => {
             drop(fault);
             ReadFault::Memory(refused)

@@ -3,7 +3,7 @@
 //! It is kept as a tree, in which each step of a path stands once: so it takes memory in proportion to the value that it
 //! is found in, however many findings stand below one long key.
 
-ghost use Rattle.manifest_schema.specs.Prelude.{found_here, found_behind, unused_keys, leniently, key, index};
+ghost use Rattle.manifest_schema.specs.Prelude.{found_here, found_under, unused_keys, leniently, key, index};
 ghost use Rattle.std.specs.Prelude.{◌≡◌, ◌++◌, [], IfOk};
 ghost use Rattle.manifest_value.specs.Faults.{step_of, cause_of};
 ghost use Rattle.manifest_value.specs.Found.{choices_of, found_in, found_among, found, IsFoundHere};
@@ -132,7 +132,7 @@ impl Findings {
     #[cold]
     pub fn under(alloc: Global, word: &str, cause: Cause) -> Found
         ensures { IfOk result
-            (λ f. found f ≡ found_behind (key word.now) (found_here (cause_of cause))) }
+            (λ f. found f ≡ found_under (key word.now) (found_here (cause_of cause))) }
     {
         Findings::none(alloc).and_under(alloc, word, Findings::here(alloc, cause)?)
     }
@@ -166,7 +166,7 @@ impl Findings {
     /// These findings, and then those of the value that a step leads to.
     fn and_within(self, step: Step, more: Findings) -> Found
         ensures { IfOk result
-            (λ f. found f ≡ found self ++ found_behind (step_of step) (found more)) }
+            (λ f. found f ≡ found self ++ found_under (step_of step) (found more)) }
     {
         let mut nodes = self.nodes;
         nodes.push(FindingNode::Within(step, more.nodes))?;
@@ -181,7 +181,7 @@ impl Findings {
     #[inline(always)]
     pub fn and_under(self, alloc: Global, word: &str, more: Findings) -> Found
         ensures { IfOk result
-            (λ f. found f ≡ found self ++ found_behind (key word.now) (found more)) }
+            (λ f. found f ≡ found self ++ found_under (key word.now) (found more)) }
     {
         if more.nodes.is_empty() {
             return Ok(self);
@@ -195,7 +195,7 @@ impl Findings {
     /// let all = found.and_at(0, first_item)?;
     /// ```
     pub fn and_at(self, i: usize, more: Findings) -> Found
-        ensures { IfOk result (λ f. found f ≡ found self ++ found_behind (index i) (found more)) }
+        ensures { IfOk result (λ f. found f ≡ found self ++ found_under (index i) (found more)) }
     {
         if more.nodes.is_empty() {
             return Ok(self);

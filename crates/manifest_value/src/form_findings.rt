@@ -44,7 +44,7 @@ fn findings_of_entries<T: Schema>(alloc: Global, entries: Entries<'_>) -> Found
 pub(crate) fn findings_of_map<T: Schema>(alloc: Global, table: &Table) -> Found
     ensures { IfOk result (λ f. found f ≡ entry_findings T.kind.findings (table_view table.now)) }
 {
-    findings_of_entries::<T>(alloc, TableSource::Lent(table).entries())
+    findings_of_entries::<T>(alloc, TableSource::Borrowed(table).entries())
 }
 
 /// What is found in the values of the entries that a walk left over, where they are those of a map.
@@ -66,7 +66,7 @@ pub fn findings_of_rows<'t, T: Rowed>(
         × Ascend (rest_view r.1.items)) }
 {
     let names = T::names();
-    let walk = walk(alloc, TableSource::Lent(table), names)?;
+    let walk = walk(alloc, TableSource::Borrowed(table), names)?;
     let types = T::empty(alloc);
     let slots = walk.slots.as_slice();
     let mut out = Findings::none(alloc);

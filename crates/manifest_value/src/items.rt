@@ -3,10 +3,10 @@
 ghost use Rattle.manifest_schema.specs.Prelude.{array, items_view, index, list_of};
 ghost use Rattle.std.specs.Prelude.{map};
 ghost use Rattle.std.specs.Iterator.{YieldsFirstBy, item_count};
-ghost use Rattle.manifest_value.specs.Reading.{Gives, GivesBehind};
+ghost use Rattle.manifest_value.specs.Reading.{Gives, GivesUnder};
 ghost use Rattle.manifest_value.specs.Sources.{source_value, source_view, items_left};
 
-use crate::fault::{ReadFault, Step, fault_behind_step};
+use crate::fault::{ReadFault, Step, fault_under_step};
 use crate::schema::Schema;
 use crate::source::Source;
 use std::alloc::Global;
@@ -17,9 +17,9 @@ use toml::Value;
 #[derive(Drop)]
 pub(crate) enum Items<'t> {
     /// Those of a list that stays where it is.
-    Lent(slice::Iter<'t, Value>),
+    Borrowed(slice::Iter<'t, Value>),
     /// Those of an owned list: each value is gone once it is read.
-    Taken(vec::IntoIter<Value, Global>),
+    Owned(vec::IntoIter<Value, Global>),
 }
 
 /// Gives each item, borrowed or owned as the list is.
@@ -33,12 +33,12 @@ impl<'t> Iterator for Items<'t> {
     #[inline(always)]
     fn next(&mut self) -> Option<Source<'t>> {
         match self {
-            Items::Lent(items) => match items.next() {
-                Some(value) => Some(Source::Lent(value)),
+            Items::Borrowed(items) => match items.next() {
+                Some(value) => Some(Source::Borrowed(value)),
                 None => None,
             },
-            Items::Taken(items) => match items.next() {
-                Some(value) => Some(Source::Taken(value)),
+            Items::Owned(items) => match items.next() {
+                Some(value) => Some(Source::Owned(value)),
                 None => None,
             },
         }
@@ -49,11 +49,11 @@ impl<'t> Iterator for Items<'t> {
 #[inline(always)]
 #[tactic(auto, using(crate::proofs::FirstLemmas::step_laws))]
 fn read_item<T: Schema>(alloc: Global, source: Source<'_>, i: usize) -> Result<T, ReadFault>
-    ensures { GivesBehind (index i) T.kind T.content (source_view source.entry) result }
+    ensures { GivesUnder (index i) T.kind T.content (source_view source.entry) result }
 {
     match T::read(alloc, source) {
         Ok(x) => Ok(x),
-        Err(fault) => Err(fault_behind_step(Step::Index(i), fault)),
+        Err(fault) => Err(fault_under_step(Step::Index(i), fault)),
     }
 }
 

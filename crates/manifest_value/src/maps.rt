@@ -1,5 +1,5 @@
 //! Maps whose keys are strings: made of entries in order, read from a table, and written as one.
-ghost use Rattle.manifest_schema.specs.Prelude.{keys_of, string_cmp, no_members, table as table_data, table_view, key as key_step, Entries as Contents, map_of, written_entries, found_behind, entry_findings};
+ghost use Rattle.manifest_schema.specs.Prelude.{keys_of, string_cmp, no_members, table as table_data, table_view, key as key_step, Entries as Contents, map_of, written_entries, found_under, entry_findings};
 ghost use Rattle.std.specs.Prelude.{◌≡◌, IfOk, string_bytes};
 ghost use Rattle.std.specs.List.Sorted.{IsStrictlySortedBy};
 ghost use Rattle.manifest_value.specs.Entries.{entries_content, reads_first};
@@ -45,7 +45,7 @@ fn read_entry<T: Schema>(
 ) -> Result<(String, T), ReadFault>
     ensures { let k = key_view key.entry in let d = source_view source.entry in
         GivesOr (λ e. (string_bytes e.0 ≡ k) × Reads T.kind T.content d e.1)
-        (found_behind (key_step k) (T.kind.findings d)) result }
+        (found_under (key_step k) (T.kind.findings d)) result }
 {
     let name = key.into_string(alloc)?;
     let x = source_under(alloc, source, name.as_str())?;

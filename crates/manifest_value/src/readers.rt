@@ -88,7 +88,7 @@ pub fn whole(alloc: Global, value: &Value, low: i64, high: i64) -> Result<i64, R
 pub fn texts(alloc: Global, value: &Value) -> Result<Vec<String>, ReadFault>
     ensures { Gives (list_of text) (λ v. map string_bytes v.items) (view value.now) result }
 {
-    <Vec<String> as Schema>::read(alloc, Source::Lent(value))
+    <Vec<String> as Schema>::read(alloc, Source::Borrowed(value))
 }
 
 /// Reads a table: the one that stands in the value, not a copy.

@@ -2,7 +2,7 @@
 //! field is not looked at: it names the type of the value. `key` is the first spelling. They fail only when out of
 //! memory.
 
-ghost use Rattle.manifest_schema.specs.Prelude.{view, key, found_behind, Spellings as Words, first, free_findings, required_findings, lenient_findings};
+ghost use Rattle.manifest_schema.specs.Prelude.{view, key, found_under, Spellings as Words, first, free_findings, required_findings, lenient_findings};
 ghost use Rattle.std.specs.Prelude.{◌≡◌, IfOk};
 ghost use Rattle.manifest_value.specs.Found.{found, Finds};
 ghost use Rattle.manifest_value.specs.Sources.{row_view};
@@ -18,7 +18,7 @@ use toml::Value;
 /// What is found in a value that stands under a key: each finding has the key before its path.
 fn found_under<T: Schema>(alloc: Global, word: &str, value: &Value) -> Found
     ensures { IfOk result
-        (λ f. found f ≡ found_behind (key word.now) (T.kind.findings (view value.now))) }
+        (λ f. found f ≡ found_under (key word.now) (T.kind.findings (view value.now))) }
 {
     Findings::none(alloc).and_under(alloc, word, T::findings(alloc, value)?)
 }

@@ -1,8 +1,8 @@
 //! Reading a value under a key, and writing the rows of a form.
-ghost use Rattle.manifest_schema.specs.Prelude.{view, table_view, list_of, itself, behind, key, put_some, written_some, written_unless, is_empty};
+ghost use Rattle.manifest_schema.specs.Prelude.{view, table_view, list_of, at_value, under, key, put_some, written_some, written_unless, is_empty};
 ghost use Rattle.std.specs.Prelude.{◌≡◌, Some, map, OnOk, option_map};
 ghost use Rattle.manifest_value.specs.Faults.{FaultIn, cause_of};
-ghost use Rattle.manifest_value.specs.Reading.{GivesBehind};
+ghost use Rattle.manifest_value.specs.Reading.{GivesUnder};
 
 use crate::fault::{Cause, ReadFault, fault_here, fault_under_key};
 use crate::schema::Schema;
@@ -16,9 +16,9 @@ use toml::{Table, Value};
 /// let fault = at_key(alloc, "name", Cause::Missing); // reported as `missing at name`
 /// ```
 #[cold]
-#[tactic(auto, using(crate::proofs::Behind::fault_behind))]
+#[tactic(auto, using(crate::proofs::Under::fault_under))]
 pub fn at_key(alloc: Global, word: &str, cause: Cause) -> ReadFault
-    ensures { FaultIn (behind (key word.now) (itself (cause_of cause))) result }
+    ensures { FaultIn (under (key word.now) (at_value (cause_of cause))) result }
 {
     fault_under_key(alloc, word, fault_here(alloc, cause))
 }
@@ -30,9 +30,9 @@ pub fn at_key(alloc: Global, word: &str, cause: Cause) -> ReadFault
 /// ```
 #[inline(always)]
 pub fn read_under<T: Schema>(alloc: Global, value: &Value, word: &str) -> Result<T, ReadFault>
-    ensures { GivesBehind (key word.now) T.kind T.content (view value.now) result }
+    ensures { GivesUnder (key word.now) T.kind T.content (view value.now) result }
 {
-    source_under(alloc, Source::Lent(value), word)
+    source_under(alloc, Source::Borrowed(value), word)
 }
 
 /// Puts what is written of the value into the table under the key `first`, in place of what stands there.

@@ -59,7 +59,7 @@ pub trait Schema: Sized + Drop {
         ensures answers { Answers kind content (view value.now) result }
         ensures schema { takes_no_memory → IfErr result IsSchemaError }
     {
-        Self::read(alloc, Source::Lent(value)).map_err(refusal)
+        Self::read(alloc, Source::Borrowed(value)).map_err(refusal)
     }
 
     /// What is found in a value, in order: each fault that it has, what does not fit where that is no fault, and each key
@@ -94,7 +94,7 @@ impl Schema for String {
     #[inline(always)]
     fn read(alloc: Global, source: Source<'_>) -> Result<String, ReadFault> {
         match source {
-            Source::Taken(Value::String(s)) => Ok(s),
+            Source::Owned(Value::String(s)) => Ok(s),
             other => text(alloc, other.value()),
         }
     }
@@ -161,11 +161,11 @@ impl<T: Schema> Schema for Vec<T> {
 
     fn read(alloc: Global, source: Source<'_>) -> Result<Vec<T>, ReadFault> {
         match source {
-            Source::Lent(Value::Array(items)) => {
-                read_items(alloc, items.len(), Items::Lent(items.iter()))
+            Source::Borrowed(Value::Array(items)) => {
+                read_items(alloc, items.len(), Items::Borrowed(items.iter()))
             }
-            Source::Taken(Value::Array(items)) => {
-                read_items(alloc, items.len(), Items::Taken(items.into_iter()))
+            Source::Owned(Value::Array(items)) => {
+                read_items(alloc, items.len(), Items::Owned(items.into_iter()))
             }
             _ => Err(fault_here(alloc, Cause::WrongKind)),
         }

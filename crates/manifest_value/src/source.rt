@@ -1,10 +1,10 @@
 //! What is read: a value or a table, borrowed or owned.
 
-ghost use Rattle.manifest_schema.specs.Prelude.{view, key, found_behind};
+ghost use Rattle.manifest_schema.specs.Prelude.{view, key, found_under};
 ghost use Rattle.std.specs.Prelude.{◌≡◌, IfOk, IfErr};
 ghost use Rattle.manifest_value.specs.Faults.{FaultIn, no_table};
 ghost use Rattle.manifest_value.specs.Found.{HasNoFault};
-ghost use Rattle.manifest_value.specs.Reading.{GivesBehind, data_of};
+ghost use Rattle.manifest_value.specs.Reading.{GivesUnder, data_of};
 ghost use Rattle.manifest_value.specs.Sources.{source_view, members_of, table_source, entries_view};
 ghost use Rattle.manifest_value.specs.Walks.{Ascend};
 
@@ -18,18 +18,18 @@ use toml::{Table, Value};
 #[derive(Drop)]
 pub enum Source<'t> {
     /// It is borrowed: what it holds is copied.
-    Lent(&'t Value),
+    Borrowed(&'t Value),
     /// It is owned: what it holds is moved.
-    Taken(Value),
+    Owned(Value),
 }
 
 /// A table that is read.
 #[derive(Drop)]
 pub enum TableSource<'t> {
     /// It is borrowed: what its values hold is copied.
-    Lent(&'t Table),
+    Borrowed(&'t Table),
     /// It is owned: what its keys and values hold is moved.
-    Taken(Table),
+    Owned(Table),
 }
 
 impl<'t> Source<'t> {
@@ -39,8 +39,8 @@ impl<'t> Source<'t> {
         ensures { view result.now ≡ source_view self.now }
     {
         match self {
-            Source::Lent(value) => *value,
-            Source::Taken(value) => value,
+            Source::Borrowed(value) => *value,
+            Source::Owned(value) => value,
         }
     }
 
@@ -57,8 +57,8 @@ impl<'t> Source<'t> {
         ensures fault { IfErr result (FaultIn (no_table (source_view self.entry))) }
     {
         match self {
-            Source::Lent(Value::Table(table)) => Ok(TableSource::Lent(table)),
-            Source::Taken(Value::Table(table)) => Ok(TableSource::Taken(table)),
+            Source::Borrowed(Value::Table(table)) => Ok(TableSource::Borrowed(table)),
+            Source::Owned(Value::Table(table)) => Ok(TableSource::Owned(table)),
             _ => Err(fault_here(alloc, Cause::WrongKind)),
         }
     }
@@ -70,8 +70,8 @@ impl<'t> TableSource<'t> {
         ensures { data_of result.now ≡ table_source self.now }
     {
         match self {
-            TableSource::Lent(table) => *table,
-            TableSource::Taken(table) => table,
+            TableSource::Borrowed(table) => *table,
+            TableSource::Owned(table) => table,
         }
     }
 
@@ -82,8 +82,8 @@ impl<'t> TableSource<'t> {
         ensures in_order { Ascend (members_of self.entry) }
     {
         match self {
-            TableSource::Lent(table) => Entries::Lent(table.iter()),
-            TableSource::Taken(table) => Entries::Taken(table.into_iter()),
+            TableSource::Borrowed(table) => Entries::Borrowed(table.iter()),
+            TableSource::Owned(table) => Entries::Owned(table.into_iter()),
         }
     }
 }
@@ -97,9 +97,9 @@ pub(crate) fn source_under<T: Schema>(
     word: &str,
 ) -> Result<T, ReadFault>
     ensures gives { let d = source_view source.entry in
-        GivesBehind (key word.now) T.kind T.content d result }
+        GivesUnder (key word.now) T.kind T.content d result }
     ensures clean { let inside = T.kind.findings (source_view source.entry) in
-        IfOk result (λ x. HasNoFault (found_behind (key word.now) inside)) }
+        IfOk result (λ x. HasNoFault (found_under (key word.now) inside)) }
 {
     match T::read(alloc, source) {
         Ok(x) => Ok(x),

@@ -14,9 +14,12 @@ returns-clause-answers c =
     let folders = option_copied c.args.folders in
     record {
       made = c.output_or_refusal-text.result;
-      told = c.outcome-told.result;
-      is_made = finished boxed_content asked.output asked.most asked.input bytes root folders (RefusesToMake asked.most asked.input bytes root folders) c.make-made.result c.output_or_refusal-text.result c.make-made.ensures.ok c.make-made.ensures.refused c.output_or_refusal-text.ensures.made c.output_or_refusal-text.ensures.refused;
-      outcome = c.outcome-told.ensures;
+      report = c.outcome-report.result;
+      is_made = finished boxed_content asked.output asked.most asked.input bytes root folders
+          (RefusesToMake asked.most asked.input bytes root folders) c.make-made.result c.output_or_refusal-text.result
+          c.make-made.ensures.ok c.make-made.ensures.refused c.output_or_refusal-text.ensures.made
+          c.output_or_refusal-text.ensures.refused;
+      outcome = c.outcome-report.ensures;
       hands = c.write_answer.ensures;
     }
 
@@ -26,6 +29,12 @@ returns-clause-dates c = λ is_toml seven.
     let bytes = c.args.bytes.now in
     let root = option_copied c.args.root in
     let folders = option_copied c.args.folders in
-    let made = finished boxed_content asked.output asked.most asked.input bytes root folders (RefusesToMake asked.most asked.input bytes root folders) c.make-made.result c.output_or_refusal-text.result c.make-made.ensures.ok c.make-made.ensures.refused c.output_or_refusal-text.ensures.made c.output_or_refusal-text.ensures.refused in
-    let of_text = subst (λ (input : Input). IsMade (Gives asked.output asked.most (Makes asked.most input bytes root folders)) (OrOutput asked.output asked.most (Makes asked.most input bytes root folders) (RefusesToMake asked.most input bytes root folders)) c.output_or_refusal-text.result) is_toml made in
-    is_not_seven asked.output asked.most bytes root folders c.output_or_refusal-text.result c.outcome-told.result of_text c.outcome-told.ensures (sym c.write_answer.ensures.status ∙ seven)
+    let made = finished boxed_content asked.output asked.most asked.input bytes root folders
+    (RefusesToMake asked.most asked.input bytes root folders) c.make-made.result c.output_or_refusal-text.result
+    c.make-made.ensures.ok c.make-made.ensures.refused c.output_or_refusal-text.ensures.made
+    c.output_or_refusal-text.ensures.refused in
+    let of_text = subst (λ (input : Input). IsMade (Gives asked.output asked.most (Makes asked.most input bytes root
+    folders)) (OrOutput asked.output asked.most (Makes asked.most input bytes root folders)
+    (RefusesToMake asked.most input bytes root folders)) c.output_or_refusal-text.result) is_toml made in
+    is_not_seven asked.output asked.most bytes root folders c.output_or_refusal-text.result c.outcome-report.result
+    of_text c.outcome-report.ensures (sym c.write_answer.ensures.status ∙ seven)

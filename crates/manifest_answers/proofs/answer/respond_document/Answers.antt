@@ -3,8 +3,8 @@ use Rattle.manifest_answers.proofs.answer.respond_document.Goals as goal
 pub returns : goal.returns
 returns c = record {
   made = c.document_table-document.result;
-  told = c.outcome-told.result;
+  report = c.outcome-report.result;
   is_made = c.document_table-document.ensures;
-  outcome = c.outcome-told.ensures;
+  outcome = c.outcome-report.ensures;
   hands = c.write_answer.ensures;
 }

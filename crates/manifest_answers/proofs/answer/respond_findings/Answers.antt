@@ -3,8 +3,8 @@ use Rattle.manifest_answers.proofs.answer.respond_findings.Goals as goal
 pub returns : goal.returns
 returns c = record {
   made = c.document_findings-findings.result;
-  told = c.outcome-told.result;
+  report = c.outcome-report.result;
   is_made = c.document_findings-findings.ensures;
-  outcome = c.outcome-told.ensures;
+  outcome = c.outcome-report.ensures;
   hands = c.write_answer.ensures;
 }

@@ -3,8 +3,8 @@ use Rattle.manifest_answers.proofs.answer.respond_unread.Goals as goal
 pub returns : goal.returns
 returns c = record {
   made = c.unread_table-table.result;
-  told = c.outcome-told.result;
+  report = c.outcome-report.result;
   is_made = c.unread_table-table.ensures;
-  outcome = c.outcome-told.ensures;
+  outcome = c.outcome-report.ensures;
   hands = c.write_answer.ensures;
 }

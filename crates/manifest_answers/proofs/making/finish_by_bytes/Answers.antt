@@ -10,10 +10,12 @@ returns-in-Ok-clause-ok c =
     let old = manifest_content view view c.args.manifest.now in
     let new = manifest_content view view c.finish_by-finished.new.manifest in
     let stored = stored_by c.args.folders in
-    let by_bytes : FinishesStored c.args.most (Some root) stored old new → FinishesByBytes c.args.most c.args.input (Some c.in-Some.bytes.now) stored old new = λ h. (Some root, c.in-Ok.ensures.ok, h) in
+    let by_bytes : FinishesStored c.args.most (Some root) stored old new → FinishesByBytes c.args.most c.args.input
+    (Some c.in-Some.bytes.now) stored old new = λ h. (Some root, c.in-Ok.ensures.ok, h) in
     rw c.in-Some.is (on_ok_weaker _ by_bytes (rw c.deref.ensures at c.finish_by-finished.ensures.ok))
 
 pub returns-in-Ok-clause-refused : goal.returns-in-Ok-clause-refused
 returns-in-Ok-clause-refused c =
     let root = manifest_content view view c.in-Ok.root.value in
-    rw c.in-Some.is (IfErr-weaker c.finish_by-finished.result _ _ (λ e h. inr (Some root, c.in-Ok.ensures.ok, h)) (rw c.deref.ensures at c.finish_by-finished.ensures.refused))
+    rw c.in-Some.is (IfErr-weaker c.finish_by-finished.result _ _ (λ e h. inr (Some root, c.in-Ok.ensures.ok, h))
+    (rw c.deref.ensures at c.finish_by-finished.ensures.refused))

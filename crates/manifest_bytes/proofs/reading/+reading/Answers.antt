@@ -25,28 +25,32 @@ read_value-returns-in-None-2-clause-reads t c d rest fits h =
     let read = c.in_ok-text-in-Some-eq1.ensures.reads s rest (rw is at fits) left in
     grind (arith, common_steps, view-String)
 
-pub read_value-returns-in_ok-read_items-in-Some-eq7-clause-reads : goal.read_value-returns-in_ok-read_items-in-Some-eq7-clause-reads
+pub read_value-returns-in_ok-read_items-in-Some-eq7-clause-reads :
+    goal.read_value-returns-in_ok-read_items-in-Some-eq7-clause-reads
 read_value-returns-in_ok-read_items-in-Some-eq7-clause-reads t c d rest fits h =
     let all = rw (c.in-Some-eq7.ensures, c.in-Some-eq7.field-0-test) at h in
     let (ds, is, left) = tag_array d _ rest all in
     let read = c.read_items.ensures.reads ds rest (rw is at fits) left in
     grind (arith, common_steps, view-Array)
 
-pub read_value-returns-in_err-read_items-in-Some-eq7-clause-reads : goal.read_value-returns-in_err-read_items-in-Some-eq7-clause-reads
+pub read_value-returns-in_err-read_items-in-Some-eq7-clause-reads :
+    goal.read_value-returns-in_err-read_items-in-Some-eq7-clause-reads
 read_value-returns-in_err-read_items-in-Some-eq7-clause-reads t c d rest fits h =
     let all = rw (c.in-Some-eq7.ensures, c.in-Some-eq7.field-0-test) at h in
     let (ds, is, left) = tag_array d _ rest all in
     let read = c.read_items.ensures.reads ds rest (rw is at fits) left in
     grind (arith, common_steps, view-Array)
 
-pub read_value-returns-in_ok-read_members-in-Some-eq8-clause-reads : goal.read_value-returns-in_ok-read_members-in-Some-eq8-clause-reads
+pub read_value-returns-in_ok-read_members-in-Some-eq8-clause-reads :
+    goal.read_value-returns-in_ok-read_members-in-Some-eq8-clause-reads
 read_value-returns-in_ok-read_members-in-Some-eq8-clause-reads t c d rest fits h =
     let all = rw (c.in-Some-eq8.ensures, c.in-Some-eq8.field-0-test) at h in
     let (ms, is, left) = tag_table d _ rest all in
     let read = c.read_members.ensures.reads ms rest (rw is at fits) left in
     grind (arith, common_steps, view-Table)
 
-pub read_value-returns-in_err-read_members-in-Some-eq8-clause-reads : goal.read_value-returns-in_err-read_members-in-Some-eq8-clause-reads
+pub read_value-returns-in_err-read_members-in-Some-eq8-clause-reads :
+    goal.read_value-returns-in_err-read_members-in-Some-eq8-clause-reads
 read_value-returns-in_err-read_members-in-Some-eq8-clause-reads t c d rest fits h =
     let all = rw (c.in-Some-eq8.ensures, c.in-Some-eq8.field-0-test) at h in
     let (ms, is, left) = tag_table d _ rest all in
@@ -87,7 +91,8 @@ pub read_members-returns-in_err-member-clause-reads : goal.read_members-returns-
 read_members-returns-in_err-member-clause-reads t c ms rest fits h =
     let (counted, long, left) = c.loop.invariant.left ms rest fits h in
     let next = member_next ms _ _ _ rest fits.1 left (omega arith) in
-    let (named, mid) = rw c.in-Some.is at (c.in_ok-key.ensures.reads next.k (encoded next.d ++ next.after) next.named next.bytes) in
+    let (named, mid) = rw c.in-Some.is at (c.in_ok-key.ensures.reads next.k (encoded next.d ++ next.after) next.named
+    next.bytes) in
     let refused = c.in_err-member.ensures.reads next.d next.after next.fits mid in
     passed_on _ _ _ _ _ _ c.from_residual-in_err-member.ensures.1 next.inside refused
 
@@ -96,11 +101,17 @@ read_members-loop-preserved t c = record {
   left = λ ms rest fits h.
       let (counted, long, left) = c.loop.invariant.left ms rest fits h in
       let next = member_next ms _ _ _ rest fits.1 left (omega arith) in
-      let (named, mid) = rw c.in-Some.is at (c.in_ok-key.ensures.reads next.k (encoded next.d ++ next.after) next.named next.bytes) in
+      let (named, mid) = rw c.in-Some.is at (c.in_ok-key.ensures.reads next.k (encoded next.d ++ next.after) next.named
+      next.bytes) in
       let (low, (same, new)) = c.in_ok-member.ensures.reads next.d next.after next.fits mid in
       let last = c.in_ok-put.ensures.put ∙ next.last _ _ (same_Some _ _ named) in
       (counted, rw last (grind (arith, common_steps)), rw last (next.read _ _ _ (same_Some _ _ named) low same new));
-  fewer = omega (arith, rw c.in-Some.is at c.in_ok-key.ensures.shrinks, c.in_ok-member.ensures.shrinks, c.loop.invariant.fewer);
+  fewer = omega (
+    arith,
+    rw c.in-Some.is at c.in_ok-key.ensures.shrinks,
+    c.in_ok-member.ensures.shrinks,
+    c.loop.invariant.fewer,
+  );
 }
 
 pub read_members-returns-clause-reads : goal.read_members-returns-clause-reads

@@ -23,4 +23,9 @@ returns-then-eq-clause-inverse c d fits h =
 pub returns-clause-inverse : goal.returns-clause-inverse
 returns-clause-inverse c d fits h =
     let read = c.read_value.ensures.reads d [] fits (h ∙ sym (append-nil (encoded d))) in
-    grind (arith, common_steps, slice_eq-Decides Decides-eqb c.as_slice.result.now c.args.bytes.now c.eq.result c.eq.ensures)
+    grind (
+      arith,
+      common_steps,
+      slice_eq-Decides Decides-eqb c.as_slice.result.now c.args.bytes.now c.eq.result
+          c.eq.ensures,
+    )

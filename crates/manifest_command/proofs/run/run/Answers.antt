@@ -14,4 +14,5 @@ pub returns-in-Ok-clause-file_printed : goal.returns-in-Ok-clause-file_printed
 returns-in-Ok-clause-file_printed g c = λ a asks zero. served_file _ a _ _ _ _ c.in-Some.ensures asks c.in-Ok.ensures.ok
 
 pub returns-in-Err-clause-file_refused : goal.returns-in-Err-clause-file_refused
-returns-in-Err-clause-file_refused g c = λ a asks one. failed_file _ a _ _ _ _ c.in-Some.ensures asks c.in-Err.ensures.refused
+returns-in-Err-clause-file_refused g c = λ a asks one. failed_file _ a _ _ _ _ c.in-Some.ensures asks
+    c.in-Err.ensures.refused

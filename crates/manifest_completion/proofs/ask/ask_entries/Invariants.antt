@@ -5,4 +5,5 @@ use Rattle.manifest_completion.proofs.AskLemmas.{Answered}
 use Rattle.manifest_completion.proofs.ask.ask_entries.Given as goal
 
 abbrev pub invariant-loop-name : goal.invariant-loop-name
-invariant-loop-name g l = AllZip (Answered (g.FS.AbstractFilesystem.allows l.fs) l.folder) (map (λ x. string_bytes x.now) l.yielded) (answers_of l.entries)
+invariant-loop-name g l = AllZip (Answered (g.FS.AbstractFilesystem.allows l.fs) l.folder)
+    (map (λ x. string_bytes x.now) l.yielded) (answers_of l.entries)

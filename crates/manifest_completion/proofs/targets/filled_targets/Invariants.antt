@@ -6,5 +6,6 @@ use Rattle.manifest_completion.proofs.targets.filled_targets.Given as goal
 
 abbrev pub invariant-loop-target : goal.invariant-loop-target
 invariant-loop-target l =
-    map product_content l.list.items ++ map (with_defaults (defaults_content l.defaults)) (map (pathed l.finds) (map product_content (drop l.target-index l.declared)))
-    ≡ map (with_defaults (defaults_content l.defaults)) (map (pathed l.finds) (map product_content l.declared))
+    map product_content l.list.items ++ map (with_defaults (defaults_content l.defaults)) (map (pathed l.discovered)
+    (map product_content (drop l.target-index l.declared)))
+    ≡ map (with_defaults (defaults_content l.defaults)) (map (pathed l.discovered) (map product_content l.declared))

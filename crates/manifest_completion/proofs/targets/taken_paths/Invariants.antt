@@ -6,5 +6,6 @@ use Rattle.manifest_completion.proofs.targets.taken_paths.Given as goal
 
 abbrev pub invariant-loop-target : goal.invariant-loop-target
 invariant-loop-target l =
-    SamePaths (paths_in l.taken ++ paths_of (map (pathed l.finds) (map product_content (drop l.target-index l.targets))))
-    (paths_of (map (pathed l.finds) (map product_content l.targets)))
+    SamePaths (paths_in l.taken
+    ++ paths_of (map (pathed l.discovered) (map product_content (drop l.target-index l.targets))))
+    (paths_of (map (pathed l.discovered) (map product_content l.targets)))

@@ -7,4 +7,5 @@ use Rattle.manifest_inherit.proofs.faults.and_under.Given as goal
 -- the refusals so far, and those that are to come, with the key before their paths
 abbrev pub invariant-loop-fault : goal.invariant-loop-fault
 invariant-loop-fault l =
-    map fault_of l.list.items ++ refused_under l.word (map fault_of (into_iter_items l.fault-iterator)) ≡ map fault_of l.fn.list.items ++ refused_under l.word (map fault_of l.fn.more.items)
+    map fault_of l.list.items ++ refused_under l.word (map fault_of (into_iter_items l.fault-iterator)) ≡ map fault_of
+    l.fn.list.items ++ refused_under l.word (map fault_of l.fn.more.items)

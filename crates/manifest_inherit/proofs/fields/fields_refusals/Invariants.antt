@@ -9,6 +9,6 @@ use Rattle.manifest_inherit.proofs.fields.fields_refusals.Given as goal
 -- the refusals of the fields so far, and those of the fields that are to come
 abbrev pub invariant-loop-i : goal.invariant-loop-i
 invariant-loop-i g l =
-    let w = Some (workspace_package_content l.lent) in
+    let w = Some (workspace_package_content l.shared) in
     let p = package_of g.M.Schema.kind g.M.Schema.content l.own in
     map fault_of l.list.items ++ refusals_from l.i lendable w p ≡ fields_refusals lendable w p

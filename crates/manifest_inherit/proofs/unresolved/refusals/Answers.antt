@@ -5,4 +5,13 @@ use Rattle.manifest_inherit.proofs.unresolved.refusals.Goals as goal
 pub returns : goal.returns
 unfolding all_refusals
 returns g c =
-    rw (c.in_ok-list-6.ensures, c.in_ok-inside-2.ensures, c.in_ok-list-5.ensures, c.in_ok-list-4.ensures, c.in_ok-list-3.ensures, c.in_ok-list-2.ensures, c.in_ok-list.ensures, c.in_ok-inside.ensures) refl
+    rw (
+      c.in_ok-list-6.ensures,
+      c.in_ok-inside-2.ensures,
+      c.in_ok-list-5.ensures,
+      c.in_ok-list-4.ensures,
+      c.in_ok-list-3.ensures,
+      c.in_ok-list-2.ensures,
+      c.in_ok-list.ensures,
+      c.in_ok-inside.ensures,
+    ) refl

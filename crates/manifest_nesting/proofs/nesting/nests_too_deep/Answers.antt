@@ -20,20 +20,25 @@ scan_turn k i n (x ∷ text) h e = let one_more : k - i ≡ suc (k - (i + 1)) = 
 
 pub returns-then-is_empty : goal.returns-then-is_empty
 returns-then-is_empty c =
-    sym (scan_empty (length c.args.text.now - c.loop-i.i) c.loop-i.nesting c.loop-i.rest.now (search rules)) ∙ c.loop-i.invariant
+    sym (scan_empty (length c.args.text.now - c.loop-i.i) c.loop-i.nesting c.loop-i.rest.now (search rules))
+    ∙ c.loop-i.invariant
 
 pub returns-in-None : goal.returns-in-None
 returns-in-None c =
     let k = length c.args.text.now in
-    let ends : turn c.loop-i.nesting c.loop-i.rest.now ≡ None = sym c.turn.ensures ∙ ap (option_map (λ r. (c.turn.new.nesting, r.now))) c.in-None.is in
-    let turned = scan_turn k c.loop-i.i c.loop-i.nesting c.loop-i.rest.now (search rules) (grind arith) ∙ ap (λ o. unwrap_or (option_map (λ p. scan (k - (c.loop-i.i + 1)) p.0 p.1) o) true) ends in
+    let ends : turn c.loop-i.nesting c.loop-i.rest.now ≡ None = sym c.turn.ensures
+    ∙ ap (option_map (λ r. (c.turn.new.nesting, r.now))) c.in-None.is in
+    let turned = scan_turn k c.loop-i.i c.loop-i.nesting c.loop-i.rest.now (search rules) (grind arith)
+    ∙ ap (λ o. unwrap_or (option_map (λ p. scan (k - (c.loop-i.i + 1)) p.0 p.1) o) true) ends in
     sym turned ∙ c.loop-i.invariant
 
 pub loop-i-preserved : goal.loop-i-preserved
 loop-i-preserved c =
     let k = length c.args.text.now in
-    let goes_on : turn c.loop-i.nesting c.loop-i.rest.now ≡ Some (c.turn.new.nesting, c.in-Some.left.now) = sym c.turn.ensures ∙ ap (option_map (λ r. (c.turn.new.nesting, r.now))) c.in-Some.is in
-    let turned = scan_turn k c.loop-i.i c.loop-i.nesting c.loop-i.rest.now (search rules) (grind arith) ∙ ap (λ o. unwrap_or (option_map (λ p. scan (k - (c.loop-i.i + 1)) p.0 p.1) o) true) goes_on in
+    let goes_on : turn c.loop-i.nesting c.loop-i.rest.now ≡ Some (c.turn.new.nesting, c.in-Some.left.now) =
+    sym c.turn.ensures ∙ ap (option_map (λ r. (c.turn.new.nesting, r.now))) c.in-Some.is in
+    let turned = scan_turn k c.loop-i.i c.loop-i.nesting c.loop-i.rest.now (search rules) (grind arith)
+    ∙ ap (λ o. unwrap_or (option_map (λ p. scan (k - (c.loop-i.i + 1)) p.0 p.1) o) true) goes_on in
     sym turned ∙ c.loop-i.invariant
 
 -- no turn is left
@@ -43,4 +48,5 @@ scan_out k i n text h = let none_left : k - i ≡ zero = omega arith in rw none_
 
 pub returns : goal.returns
 returns c =
-    sym (scan_out (length c.args.text.now) c.loop-i.i c.loop-i.nesting c.loop-i.rest.now (search rules)) ∙ c.loop-i.invariant
+    sym (scan_out (length c.args.text.now) c.loop-i.i c.loop-i.nesting c.loop-i.rest.now (search rules))
+    ∙ c.loop-i.invariant

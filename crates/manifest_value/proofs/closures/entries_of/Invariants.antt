@@ -5,4 +5,5 @@ use Rattle.manifest_value.proofs.closures.entries_of.Given as goal
 
 abbrev pub invariant-loop-key : goal.invariant-loop-key
 invariant-loop-key g l =
-    (done : List (String Global × Value)) × (l.table.entries ≡ done ++ l.key-iterator) × EntriesGiven (FnReturnsAt g.F.Fn l.read) done l.all.entries
+    (done : List (String Global × Value)) × (l.table.entries ≡ done ++ l.key-iterator)
+    × EntriesGiven (FnReturnsAt g.F.Fn l.read) done l.all.entries

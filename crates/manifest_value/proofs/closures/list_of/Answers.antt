@@ -9,7 +9,12 @@ items_of-requires g c = λ b h. c.requires b (c.in-Array.items, c.in-Array.is, r
 
 pub returns-in-Array-clause-ok : goal.returns-in-Array-clause-ok
 returns-in-Array-clause-ok g c =
-    IfOk-weaker c.items_of.result _ _ (λ xs h. record { list = c.in-Array.items; is = c.in-Array.is; given = rw c.as_slice.ensures.value at h }) c.items_of.ensures.ok
+    IfOk-weaker c.items_of.result _ _ (λ xs h. record {
+      list = c.in-Array.items;
+      is = c.in-Array.is;
+      given =
+          rw c.as_slice.ensures.value at h;
+    }) c.items_of.ensures.ok
 
 pub returns-in-Array-clause-fault : goal.returns-in-Array-clause-fault
 returns-in-Array-clause-fault g c =

@@ -7,4 +7,5 @@ use Rattle.manifest_value.proofs.findings.+lenient.Given as goal
 -- the nodes so far, and those that are to come
 abbrev pub invariant-nodes_leniently-loop-node : goal.invariant-nodes_leniently-loop-node
 invariant-nodes_leniently-loop-node l =
-    found_among l.out.items ++ leniently (found_among (into_iter_items l.node-iterator)) ≡ leniently (found_among l.fn.nodes.items)
+    found_among l.out.items ++ leniently (found_among (into_iter_items l.node-iterator)) ≡ leniently
+    (found_among l.fn.nodes.items)

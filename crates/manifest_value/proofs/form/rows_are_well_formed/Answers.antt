@@ -11,7 +11,8 @@ row_is_well_formed-requires g c =
 pub returns-then-not-row_is_well_formed : goal.returns-then-not-row_is_well_formed
 returns-then-not-row_is_well_formed g c = (
   λ e. absurd (never e),
-  λ all. c.if-not-row_is_well_formed.ensures.1 (row_good g.T.Rowed.rows c.loop-i.i (g.T.Rowed.content c.args.x.now) all),
+  λ all. c.if-not-row_is_well_formed.ensures.1 (row_good g.T.Rowed.rows c.loop-i.i (g.T.Rowed.content c.args.x.now)
+      all),
 )
   where
     never : IsTrue false → ⊥
@@ -19,7 +20,8 @@ returns-then-not-row_is_well_formed g c = (
 
 pub loop-i-preserved : goal.loop-i-preserved
 loop-i-preserved g c =
-    rw add-one (one_good g.T.Rowed.rows c.loop-i.i (g.T.Rowed.content c.args.x.now) c.loop-i.invariant (c.if-not-row_is_well_formed.ensures.0 refl))
+    rw add-one (one_good g.T.Rowed.rows c.loop-i.i (g.T.Rowed.content c.args.x.now) c.loop-i.invariant
+    (c.if-not-row_is_well_formed.ensures.0 refl))
 
 pub returns : goal.returns
 returns g c =

@@ -10,4 +10,5 @@ pub returns : goal.returns
 returns g c =
     let rows = g.T.Rowed.rows in
     let ms = rest_view c.args.entries.items in
-    c.in_ok-left.ensures ∙ ap (λ ws. without ws ms) (ap all_words c.names.ensures.named ∙ words_spelled rows) ∙ sym (left_closed rows (spelled rows) ms c.covers.ensures)
+    c.in_ok-left.ensures ∙ ap (λ ws. without ws ms) (ap all_words c.names.ensures.named ∙ words_spelled rows)
+    ∙ sym (left_closed rows (spelled rows) ms c.covers.ensures)

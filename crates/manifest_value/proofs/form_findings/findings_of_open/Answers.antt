@@ -9,6 +9,8 @@ returns-in_ok-findings_of_rest-in-Table g c =
     let rows = g.T.Rowed.rows in
     let ms = table_view c.in-Table.table in
     let (by_rows, left, ascending) = c.in_ok-found-in-Table.ensures in
-    let others = c.in_ok-findings_of_rest-in-Table.ensures ∙ ap (λ ms. entry_findings g.X.Schema.kind.findings ms) left ∙ sym (c.requires.of_its_kind ms) in
-    let whole = ap₂ (λ a b. a ++ b) by_rows others ∙ open_found rows ms c.requires.ends_with_map ∙ ap (form_findings rows) (sym (ap view c.in-Table.is ∙ view-Table c.in-Table.table)) in
+    let others = c.in_ok-findings_of_rest-in-Table.ensures ∙ ap (λ ms. entry_findings g.X.Schema.kind.findings ms) left
+    ∙ sym (c.requires.of_its_kind ms) in
+    let whole = ap₂ (λ a b. a ++ b) by_rows others ∙ open_found rows ms c.requires.ends_with_map
+    ∙ ap (form_findings rows) (sym (ap view c.in-Table.is ∙ view-Table c.in-Table.table)) in
     IfOk-weaker c.and.result _ _ (λ f h. h ∙ whole) c.and.ensures

@@ -15,7 +15,8 @@ bounds-slots-i g c =
     let names = c.names-names.result.now in
     let slots = c.as_slice-slots.result.now in
     let n = as_many rows names c.names-names.ensures.named in
-    let there : map row_view slots ≡ slots_at (names_of rows) ms = ap (map row_view) c.as_slice-slots.ensures.value ∙ c.in_ok-walk.ensures.slots ∙ ap (λ ss. slots_at ss ms) c.names-names.ensures.named in
+    let there : map row_view slots ≡ slots_at (names_of rows) ms = ap (map row_view) c.as_slice-slots.ensures.value
+    ∙ c.in_ok-walk.ensures.slots ∙ ap (λ ss. slots_at ss ms) c.names-names.ensures.named in
     let m = as_many_slots row_view rows ms slots there in
     omega (arith, n, m, c.loop-i-test.true, c.loop-i.auto.i-end)
 
@@ -32,13 +33,17 @@ loop-i-preserved g c =
     let slots = c.as_slice-slots.result.now in
     let i = c.loop-i.i in
     let so_far = found c.loop-i.out in
-    let there : map row_view slots ≡ slots_at (names_of rows) ms = ap (map row_view) c.as_slice-slots.ensures.value ∙ c.in_ok-walk.ensures.slots ∙ ap (λ ss. slots_at ss ms) c.names-names.ensures.named in
+    let there : map row_view slots ≡ slots_at (names_of rows) ms = ap (map row_view) c.as_slice-slots.ensures.value
+    ∙ c.in_ok-walk.ensures.slots ∙ ap (λ ss. slots_at ss ms) c.names-names.ensures.named in
     let n = as_many rows names c.names-names.ensures.named in
     let m = as_many_slots row_view rows ms slots there in
-    let slot = at_place row_view slots (slots_at (names_of rows) ms) i c.index-slots-i.result there (omega (arith, n, m, c.loop-i-test.true, c.loop-i.auto.i-end)) in
-    let name = at_place spellings_view names (names_of rows) i _ c.names-names.ensures.named (omega (arith, c.loop-i-test.true, c.loop-i.auto.i-end)) in
+    let slot = at_place row_view slots (slots_at (names_of rows) ms) i c.index-slots-i.result there
+    (omega (arith, n, m, c.loop-i-test.true, c.loop-i.auto.i-end)) in
+    let name = at_place spellings_view names (names_of rows) i _ c.names-names.ensures.named
+    (omega (arith, c.loop-i-test.true, c.loop-i.auto.i-end)) in
     let words = spellings_view (get_or names i _) in
-    let row = c.in_ok-row_findings.ensures words (first_of _ _) ∙ ap (λ s. findings_at i rows words (row_view s)) c.index-slots-i.is in
+    let row = c.in_ok-row_findings.ensures words (first_of _ _) ∙ ap (λ s. findings_at i rows words (row_view s))
+    c.index-slots-i.is in
     rw add-one
     (ap (λ x. x ++ findings_from (suc i) rows ms) (c.in_ok-out.ensures ∙ ap (λ x. so_far ++ x) row)
     ∙ append_assoc so_far (findings_at i rows words _) (findings_from (suc i) rows ms)
@@ -51,7 +56,9 @@ returns g c =
     let so_far = found c.loop-i.out in
     let n = as_many rows c.names-names.result.now c.names-names.ensures.named in
     let end : c.loop-i.i ≡ many rows = omega (arith, n, c.loop-i-test.false, c.loop-i.auto.i-end) in (
-      sym (append-nil so_far) ∙ ap (λ x. so_far ++ x) (sym (ap (λ i. findings_from i rows ms) end ∙ none_found rows ms)) ∙ c.loop-i.invariant,
-      c.in_ok-walk.ensures.rest ∙ ap (λ ws. without ws ms) (ap all_words c.names-names.ensures.named ∙ words_spelled rows),
+      sym (append-nil so_far) ∙ ap (λ x. so_far ++ x) (sym (ap (λ i. findings_from i rows ms) end ∙ none_found rows ms))
+          ∙ c.loop-i.invariant,
+      c.in_ok-walk.ensures.rest ∙ ap (λ ws. without ws ms) (ap all_words c.names-names.ensures.named
+          ∙ words_spelled rows),
       c.in_ok-walk.ensures.in_order,
     )

@@ -14,9 +14,12 @@ loop-key-preserved g c =
     let rest : Members = entries_view c.next.new.self in
     let d : Data = source_view c.in-Some.source in
     let entry = c.in-Ok.entry in
-    let left = subst (reads_first K ms (entries_content f c.loop-key.all.items)) c.in-Some.ensures.steps c.loop-key.invariant in
-    let named = subst (λ k. reads_first K ms (entries_content f c.loop-key.all.items) (member k d rest)) (sym c.in-Ok.ensures.0) left in
-    subst (λ es. reads_first K ms (entries_content f es) rest) (sym c.in_ok-push-in-Ok.ensures.items) (reads_more K f ms c.loop-key.all.items entry.0 entry.1 d rest named c.in-Ok.ensures.1)
+    let left = subst (reads_first K ms (entries_content f c.loop-key.all.items)) c.in-Some.ensures.steps
+    c.loop-key.invariant in
+    let named = subst (λ k. reads_first K ms (entries_content f c.loop-key.all.items) (member k d rest))
+    (sym c.in-Ok.ensures.0) left in
+    subst (λ es. reads_first K ms (entries_content f es) rest) (sym c.in_ok-push-in-Ok.ensures.items)
+    (reads_more K f ms c.loop-key.all.items entry.0 entry.1 d rest named c.in-Ok.ensures.1)
 
 pub returns-in-Err : goal.returns-in-Err
 returns-in-Err g c =

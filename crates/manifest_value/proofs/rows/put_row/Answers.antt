@@ -7,5 +7,7 @@ pub returns : goal.returns
 unfolding put_some
 returns g c =
     let named : string_bytes c.in_ok-from_str.field-0 ≡ c.args.first.now = c.in_ok-from_str.ensures.ok in
-    let seen : view c.in_ok-to_value.field-0 ≡ g.T.Schema.kind.written (g.T.Schema.content c.args.value.now) = c.in_ok-to_value.ensures in
-    ap members_view c.in_ok-_old.ensures.entries ∙ members_view-insert c.args.table.now.entries c.in_ok-from_str.field-0 c.in_ok-to_value.field-0 ∙ rw (named, seen)
+    let seen : view c.in_ok-to_value.field-0 ≡ g.T.Schema.kind.written (g.T.Schema.content c.args.value.now) =
+    c.in_ok-to_value.ensures in
+    ap members_view c.in_ok-_old.ensures.entries ∙ members_view-insert c.args.table.now.entries c.in_ok-from_str.field-0
+    c.in_ok-to_value.field-0 ∙ rw (named, seen)

@@ -9,4 +9,5 @@ use Rattle.manifest_value.proofs.walking.entries_without.Given as goal
 abbrev pub invariant-loop-name : goal.invariant-loop-name
 invariant-loop-name l =
     let words = all_words (map spellings_view l.rows) in
-    join (rest_view l.others.items) (without words (entries_view l.name-iterator)) ≡ without words (rest_view l.fn.entries.items)
+    join (rest_view l.others.items) (without words (entries_view l.name-iterator)) ≡ without words
+    (rest_view l.fn.entries.items)

@@ -5,4 +5,5 @@ use Rattle.manifest_value.proofs.walking.row_of.Given as goal
 
 -- the key is no spelling of the rows so far
 abbrev pub invariant-loop-i : goal.invariant-loop-i
-invariant-loop-i l = is_among (all_words (map spellings_view l.rows)) l.key ≡ is_among (all_words (map spellings_view (drop l.i l.rows))) l.key
+invariant-loop-i l = is_among (all_words (map spellings_view l.rows)) l.key ≡ is_among
+    (all_words (map spellings_view (drop l.i l.rows))) l.key

@@ -18,11 +18,14 @@ loop-key-preserved-in-Some-row_of c =
     let left = entries_view c.next.new.self in
     let all : members_of c.args.table ≡ join done (member k d left) = before ∙ ap (join done) c.in-Some.ensures.steps in
     let none = not_before done k d left (subst Ascend all c.entries-key-items.ensures.in_order) in
-    let word : is_word_at i ss k ≡ true = subst (λ w. is_word_at i ss w ≡ true) c.as_str.ensures c.in-Some-row_of.ensures.2 in (
+    let word : is_word_at i ss k ≡ true = subst (λ w. is_word_at i ss w ≡ true) c.as_str.ensures
+    c.in-Some-row_of.ensures.2 in (
       with_last done k d,
       all ∙ sym (join-last done k d left),
       c.fill_slot.ensures.many ∙ lengths,
-      c.fill_slot.ensures.views ∙ ap (λ w. filled_at i w d (map row_view c.loop-key.slots.items)) (c.in-Some-row_of.ensures.0 ∙ c.as_str.ensures) ∙ ap (filled_at i k d) slots ∙ sym (slots-last i ss k d done c.requires word none),
+      c.fill_slot.ensures.views ∙ ap (λ w. filled_at i w d (map row_view c.loop-key.slots.items))
+          (c.in-Some-row_of.ensures.0 ∙ c.as_str.ensures) ∙ ap (filled_at i k d) slots
+          ∙ sym (slots-last i ss k d done c.requires word none),
       rest ∙ sym (without-last_named words k d done (word_among i ss k word)),
     )
 
@@ -39,7 +42,8 @@ loop-key-preserved c =
       before ∙ ap (join done) c.in-Some.ensures.steps ∙ sym (join-last done k d left),
       lengths,
       slots ∙ sym (slots-last_none ss k d done other),
-      ap rest_view c.in_ok-push-in-None-row_of.ensures.items ∙ rest-last c.loop-key.rest.items (c.in-Some.key, c.in-Some.value)
+      ap rest_view c.in_ok-push-in-None-row_of.ensures.items ∙ rest-last c.loop-key.rest.items
+          (c.in-Some.key, c.in-Some.value)
           ∙ ap (λ m. with_last m k d) rest ∙ sym (without-last_other words k d done other),
     )
 
@@ -52,5 +56,6 @@ returns c =
     let whole = rest ∙ ap (without words) all in record {
       slots = slots ∙ ap (slots_at ss) all;
       rest = whole;
-      in_order = subst Ascend (sym whole) (ascend_without words (members_of c.args.table) c.entries-key-items.ensures.in_order);
+      in_order = subst Ascend (sym whole) (ascend_without words (members_of c.args.table)
+          c.entries-key-items.ensures.in_order);
     }

@@ -8,4 +8,5 @@ use Rattle.manifest_value.proofs.well_formed.none_is_named.Given as goal
 abbrev pub invariant-loop-key : goal.invariant-loop-key
 invariant-loop-key g l =
     let words = all_words (map spellings_view l.rows) in
-    none_named words (entries_content g.T.Schema.content l.all.entries) ≡ none_named words (entries_content g.T.Schema.content l.key-iterator)
+    none_named words (entries_content g.T.Schema.content l.all.entries) ≡ none_named words
+    (entries_content g.T.Schema.content l.key-iterator)

@@ -6,4 +6,5 @@ use Rattle.manifest_value.proofs.well_formed.values_are_well_formed.Given as goa
 -- the values so far are well-formed: all are exactly if the rest are
 abbrev pub invariant-loop-key : goal.invariant-loop-key
 invariant-loop-key g l =
-    good_entries g.T.Schema.kind (entries_content g.T.Schema.content l.all.entries) ↔ good_entries g.T.Schema.kind (entries_content g.T.Schema.content l._key-iterator)
+    good_entries g.T.Schema.kind (entries_content g.T.Schema.content l.all.entries) ↔ good_entries g.T.Schema.kind
+    (entries_content g.T.Schema.content l._key-iterator)

@@ -7,7 +7,8 @@ use Rattle.manifest_value.proofs.writers.write_list.Goals as goal
 pub loop-x-preserved : goal.loop-x-preserved
 loop-x-preserved g c =
     rw c.in_ok-push.ensures.items
-    (items_given-more (FnReturnsAt g.F.Fn c.args.write) c.args.items.now c.loop-x.x-index c.x-item.result c.loop-x.out.items c.in_ok-call_at.field-0 (omega arith) c.x-item.is c.loop-x.invariant c.in_ok-call_at.ensures)
+    (items_given-more (FnReturnsAt g.F.Fn c.args.write) c.args.items.now c.loop-x.x-index c.x-item.result
+    c.loop-x.out.items c.in_ok-call_at.field-0 (omega arith) c.x-item.is c.loop-x.invariant c.in_ok-call_at.ensures)
 
 pub returns : goal.returns
 returns g c =

@@ -12,7 +12,8 @@ returns-in-Ok-clause-reads_as_it g c = λ good headed deep.
     let ms : Members = rewritten (tree_of g.P.Schema.kind) (tree_of g.W.Schema.kind) m in
     let same : table_view c.in_ok-table.table ≡ ms = c.in_ok-table.ensures in
     let text = string_bytes c.in-Ok.text in
-    let back = subst (λ (ns : Members). members_depth ns ≤ 80 → parse_document text ≡ Some ns) same c.in-Ok.ensures.reads_back in
+    let back = subst (λ (ns : Members). members_depth ns ≤ 80 → parse_document text ≡ Some ns) same
+    c.in-Ok.ensures.reads_back in
     record {
       document = ms;
       parsed = back deep;

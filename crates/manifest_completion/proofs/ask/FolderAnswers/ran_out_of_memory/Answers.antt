@@ -9,6 +9,8 @@ use Rattle.manifest_completion.proofs.ask.FolderAnswers.ran_out_of_memory.Goals 
 pub returns-else-is_memory_fault : goal.returns-else-is_memory_fault
 returns-else-is_memory_fault c =
     let xs = c.args.self.now.entries.items in
-    let e : c.any.result ≡ list_any (λ x. is_memory_fault (answer_of x)) xs = any_from_yields_List (λ x. is_memory_fault (answer_of x)) _ _ c.any.result c.any.ensures.ran (YieldsList-from_slice xs cc) (λ x b q k. search (rules, tests)) in
+    let e : c.any.result ≡ list_any (λ x. is_memory_fault (answer_of x)) xs = any_from_yields_List
+    (λ x. is_memory_fault (answer_of x)) _ _ c.any.result c.any.ensures.ran (YieldsList-from_slice xs cc)
+    (λ x b q k. search (rules, tests)) in
     let q : is_memory_fault (answer_of c.args.self.now.own) ≡ false = sym c.if-is_memory_fault.ensures in
     rw q e

@@ -7,4 +7,5 @@ pub returns-then-is_text : goal.returns-then-is_text
 returns-then-is_text c =
     let d = view c.args.value.now in
     let test : is_text d ≡ true = sym c.if-is_text.ensures in
-    IfOk-weaker c.findings.result _ _ (λ f h. h ∙ sym (ap (λ b. split_findings level.findings (form lint_rows).findings b d) test)) c.findings.ensures
+    IfOk-weaker c.findings.result _ _ (λ f h. h
+    ∙ sym (ap (λ b. split_findings level.findings (form lint_rows).findings b d) test)) c.findings.ensures

@@ -6,4 +6,5 @@ use Rattle.manifest_value.proofs.findings.Findings.and_all.Given as goal
 -- what the nodes so far say, and those that are to come
 abbrev pub invariant-loop-node : goal.invariant-loop-node
 invariant-loop-node l =
-    found_among l.nodes.items ++ found_among (into_iter_items l.node-iterator) ≡ found_among l.fn.self.nodes.items ++ found_among l.fn.more.nodes.items
+    found_among l.nodes.items ++ found_among (into_iter_items l.node-iterator) ≡ found_among l.fn.self.nodes.items
+    ++ found_among l.fn.more.nodes.items

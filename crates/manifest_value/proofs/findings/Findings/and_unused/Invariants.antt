@@ -8,4 +8,5 @@ use Rattle.manifest_value.proofs.findings.Findings.and_unused.Given as goal
 -- the findings so far, and the keys that are to come
 abbrev pub invariant-loop-key : goal.invariant-loop-key
 invariant-loop-key l =
-    found_among l.nodes.items ++ unused_keys (rest_view (into_iter_items l.key-iterator)) ≡ found_among l.fn.self.nodes.items ++ unused_keys (rest_view l.fn.rest.items)
+    found_among l.nodes.items ++ unused_keys (rest_view (into_iter_items l.key-iterator)) ≡ found_among
+    l.fn.self.nodes.items ++ unused_keys (rest_view l.fn.rest.items)

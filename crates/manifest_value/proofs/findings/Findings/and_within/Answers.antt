@@ -5,4 +5,5 @@ use Rattle.manifest_value.proofs.findings.Findings.and_within.Goals as goal
 pub returns : goal.returns
 returns c =
     let inside = c.args.more.nodes in
-    among_pushed c.push.new.self.items c.args.self.nodes.items (Within c.args.step inside) _ c.in_ok-push.ensures.items (in-Within c.args.step inside)
+    among_pushed c.push.new.self.items c.args.self.nodes.items (Within c.args.step inside) _ c.in_ok-push.ensures.items
+    (in-Within c.args.step inside)

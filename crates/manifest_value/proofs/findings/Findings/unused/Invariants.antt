@@ -8,4 +8,5 @@ use Rattle.manifest_value.proofs.findings.Findings.unused.Given as goal
 -- those so far, and those that are to come
 abbrev pub invariant-loop-finding : goal.invariant-loop-finding
 invariant-loop-finding l =
-    map path_of l.paths.items ++ unused_of (map finding_of (into_iter_items l.finding-iterator)) ≡ unused_of (found l.self)
+    map path_of l.paths.items ++ unused_of (map finding_of (into_iter_items l.finding-iterator)) ≡ unused_of
+    (found l.self)

@@ -1,11 +1,11 @@
 //! Values that are kept as they are.
-ghost use Rattle.manifest_schema.specs.Prelude.{Data, view, array_view, table_view, plain, plain_items, plain_members, float_findings, item_floats, entry_floats, kept as kept_kind};
+ghost use Rattle.manifest_schema.specs.Prelude.{Data, view, array_view, table_view, plain, plain_items, plain_members, float_findings, item_floats, entry_floats, raw as raw_kind};
 ghost use Rattle.std.specs.Prelude.{◌≡◌, not, IsTrue, IfOk};
-ghost use Rattle.manifest_schema.proofs.KindLaws.{kept_sound};
+ghost use Rattle.manifest_schema.proofs.KindLaws.{raw_sound};
 ghost use Rattle.manifest_value.specs.Found.{found};
 ghost use Rattle.manifest_value.specs.Reading.{Gives, GivesOr};
 
-use crate::fault::{Cause, ReadFault, Step, fault_behind_step, fault_here, fault_under_key};
+use crate::fault::{Cause, ReadFault, Step, fault_here, fault_under_key, fault_under_step};
 use crate::findings::{Findings, Found};
 use crate::schema::Schema;
 use crate::source::Source;
@@ -80,7 +80,7 @@ fn refuse_float_in_items(alloc: Global, items: &Vec<Value>) -> Result<(), ReadFa
 {
     for (i, item) in items.iter().enumerate() {
         if let Err(fault) = refuse_float(alloc, item) {
-            return Err(fault_behind_step(Step::Index(i), fault));
+            return Err(fault_under_step(Step::Index(i), fault));
         }
     }
     Ok(())
@@ -147,8 +147,8 @@ fn find_floats_in_members(alloc: Global, members: &Table) -> Found
 /// ```ignore
 /// let level = kept(alloc, &value)?; // of `3` the same 3; of `{ a = [1, 2.5] }` a refusal at `a[1]`
 /// ```
-pub fn kept(alloc: Global, value: &Value) -> Result<Value, ReadFault>
-    ensures { Gives kept_kind view (view value.now) result }
+pub fn raw(alloc: Global, value: &Value) -> Result<Value, ReadFault>
+    ensures { Gives raw_kind view (view value.now) result }
 {
     refuse_float(alloc, value)?;
     Ok(value.clone()?)
@@ -160,13 +160,13 @@ impl Schema for Value {
 
     ghost content = { view };
 
-    ghost kind = { kept_kind };
+    ghost kind = { raw_kind };
 
     fn read(alloc: Global, source: Source<'_>) -> Result<Value, ReadFault> {
         refuse_float(alloc, source.value())?;
         match source {
-            Source::Lent(value) => Ok(value.clone()?),
-            Source::Taken(value) => Ok(value),
+            Source::Borrowed(value) => Ok(value.clone()?),
+            Source::Owned(value) => Ok(value),
         }
     }
 
@@ -182,5 +182,5 @@ impl Schema for Value {
         !holds_float(self)
     }
 
-    ghost lawful = { kept_sound };
+    ghost lawful = { raw_sound };
 }

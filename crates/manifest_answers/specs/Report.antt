@@ -17,7 +17,7 @@ use Rattle.manifest_inherit.specs.declared.error.FinishError.TheVariants as unfi
 use Rattle.manifest_answers.specs.declared.refusal.InputError.{InputError}
 use Rattle.manifest_answers.specs.declared.refusal.InputError.TheVariants as unread
 use Rattle.manifest_answers.specs.declared.refusal.Refusal.TheVariants.{Bytes, Root, Listings, Finishing, Printing, TooLong, Memory}
-use Rattle.manifest_answers.specs.declared.telling.Told.{Told}
+use Rattle.manifest_answers.specs.declared.reporting.Report.{Report}
 
 -- THE NUMBER of a cause
 abbrev pub cause_number : Cause → ℕ
@@ -41,16 +41,16 @@ abbrev pub at_root : Bool → ℕ → ℕ
 at_root is_root status = if is_root then status + 16 else status
 
 -- WHAT IS REPORTED: this status, with this cause and this text, and no place in the bytes
-abbrev pub IsTold : Told → ℕ → ℕ → Text → Type 0
-IsTold t status cause text =
+abbrev pub IsReport : Report → ℕ → ℕ → Text → Type 0
+IsReport t status cause text =
     (t.status ≡ status) × (t.cause ≡ cause) × (t.text.items ≡ text) × (t.start ≡ 0) × (t.end ≡ 0)
 
 -- out of memory
-abbrev pub TellsMemory : Told → Type 0
-TellsMemory t = IsTold t 6 0 []
+abbrev pub ReportsMemory : Report → Type 0
+ReportsMemory t = IsReport t 6 0 []
 
 -- a text that is no TOML, by the words of `toml` and the place in it; running out of memory is reported as such
-pub record TellsToml (is_root : Bool) (e : TomlError) (t : Told) : Type 0 where
+pub record ReportsToml (is_root : Bool) (e : TomlError) (t : Report) : Type 0 where
   pub refused : ¬ IsMemory e
   pub status : t.status ≡ at_root is_root 1
   pub cause : t.cause ≡ 0
@@ -58,50 +58,50 @@ pub record TellsToml (is_root : Bool) (e : TomlError) (t : Told) : Type 0 where
   pub end : t.end ≡ span_end e
 
 -- a fault of the schema, by its cause and the text of its path
-abbrev pub TellsSchema : Bool → SchemaFault → Told → Type 0
-TellsSchema is_root f t =
-    IsTold t (at_root is_root 2) (cause_number (cause_of f.cause)) (path_text (path_of f.path))
+abbrev pub ReportsSchema : Bool → SchemaFault → Report → Type 0
+ReportsSchema is_root f t =
+    IsReport t (at_root is_root 2) (cause_number (cause_of f.cause)) (path_text (path_of f.path))
 
 -- THE ERROR of a manifest or of its root
-abbrev pub TellsError : Bool → Error → Told → Type 0
-TellsError is_root (fault.Parse (Toml e)) t = TellsToml is_root e.value t
-TellsError is_root (fault.Parse (Schema f)) t = TellsSchema is_root f t
-TellsError is_root (fault.Io e) t = IsTold t 3 (kind_number (error_kind e)) []
-TellsError is_root (fault.Utf8 e) t = IsTold t (at_root is_root 4) 0 []
-TellsError is_root (fault.Other s) t = IsTold t 5 0 (string_bytes s)
-TellsError is_root (fault.Memory e) t = TellsMemory t
+abbrev pub ReportsError : Bool → Error → Report → Type 0
+ReportsError is_root (fault.Parse (Toml e)) t = ReportsToml is_root e.value t
+ReportsError is_root (fault.Parse (Schema f)) t = ReportsSchema is_root f t
+ReportsError is_root (fault.Io e) t = IsReport t 3 (kind_number (error_kind e)) []
+ReportsError is_root (fault.Utf8 e) t = IsReport t (at_root is_root 4) 0 []
+ReportsError is_root (fault.Other s) t = IsReport t 5 0 (string_bytes s)
+ReportsError is_root (fault.Memory e) t = ReportsMemory t
 
 -- why a manifest is not printed
-abbrev pub TellsPrinting : Error → Told → Type 0
-TellsPrinting (fault.Other s) t = IsTold t 7 0 (string_bytes s)
-TellsPrinting e t = TellsError false e t
+abbrev pub ReportsPrinting : Error → Report → Type 0
+ReportsPrinting (fault.Other s) t = IsReport t 7 0 (string_bytes s)
+ReportsPrinting e t = ReportsError false e t
 
 -- why it is not resolved
-abbrev pub TellsResolving : ResolveError → Told → Type 0
-TellsResolving (Refused (unresolved.NotInWorkspace s)) t = IsTold t 10 0 (string_bytes s)
-TellsResolving (Refused (unresolved.InheritedInWorkspace s)) t = IsTold t 11 0 (string_bytes s)
-TellsResolving (Refused unresolved.MixedLints) t = IsTold t 12 0 []
-TellsResolving (Refused unresolved.ToolNamedWorkspace) t = IsTold t 13 0 []
-TellsResolving (NoMemory e) t = TellsMemory t
+abbrev pub ReportsResolving : ResolveError → Report → Type 0
+ReportsResolving (Refused (unresolved.NotInWorkspace s)) t = IsReport t 10 0 (string_bytes s)
+ReportsResolving (Refused (unresolved.InheritedInWorkspace s)) t = IsReport t 11 0 (string_bytes s)
+ReportsResolving (Refused unresolved.MixedLints) t = IsReport t 12 0 []
+ReportsResolving (Refused unresolved.ToolNamedWorkspace) t = IsReport t 13 0 []
+ReportsResolving (NoMemory e) t = ReportsMemory t
 
 -- why bytes are no manifest
-abbrev pub TellsInput : Bool → InputError → Told → Type 0
-TellsInput is_root (unread.Manifest e) t = TellsError is_root e t
-TellsInput is_root unread.Untagged t = IsTold t (at_root is_root 14) 0 []
-TellsInput is_root unread.TooDeep t = IsTold t (at_root is_root 15) 0 []
+abbrev pub ReportsInput : Bool → InputError → Report → Type 0
+ReportsInput is_root (unread.Manifest e) t = ReportsError is_root e t
+ReportsInput is_root unread.Untagged t = IsReport t (at_root is_root 14) 0 []
+ReportsInput is_root unread.TooDeep t = IsReport t (at_root is_root 15) 0 []
 
 -- why a manifest is not finished
-abbrev pub TellsFinishing : FinishError → Told → Type 0
-TellsFinishing (unfinished.Manifest e) t = TellsError false e t
-TellsFinishing unfinished.NoWorkspace t = IsTold t 9 0 []
-TellsFinishing (unfinished.Resolve e) t = TellsResolving e t
+abbrev pub ReportsFinishing : FinishError → Report → Type 0
+ReportsFinishing (unfinished.Manifest e) t = ReportsError false e t
+ReportsFinishing unfinished.NoWorkspace t = IsReport t 9 0 []
+ReportsFinishing (unfinished.Resolve e) t = ReportsResolving e t
 
 -- EACH REFUSAL
-abbrev pub Tells : Refusal → Told → Type 0
-Tells (Bytes e) t = TellsInput false e t
-Tells (Root e) t = TellsInput true e t
-Tells Listings t = IsTold t 8 0 []
-Tells (Finishing e) t = TellsFinishing e t
-Tells (Printing e) t = TellsPrinting e t
-Tells TooLong t = IsTold t 32 0 []
-Tells (Memory e) t = TellsMemory t
+abbrev pub Reports : Refusal → Report → Type 0
+Reports (Bytes e) t = ReportsInput false e t
+Reports (Root e) t = ReportsInput true e t
+Reports Listings t = IsReport t 8 0 []
+Reports (Finishing e) t = ReportsFinishing e t
+Reports (Printing e) t = ReportsPrinting e t
+Reports TooLong t = IsReport t 32 0 []
+Reports (Memory e) t = ReportsMemory t

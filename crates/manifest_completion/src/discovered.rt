@@ -4,8 +4,8 @@ ghost use Rattle.std.specs.Prelude.{◌≡◌, ◌++◌, OnOk, IfOk, string_byte
 ghost use Rattle.std.specs.Option.{option_copied};
 ghost use Rattle.manifest_completion.specs.Listings.{lists};
 ghost use Rattle.manifest_completion.specs.Answered.{answer_of};
-ghost use Rattle.manifest_completion.specs.Finds.{stem, entry_finds, main_find};
-ghost use Rattle.manifest_completion.specs.Steps.{finds_content, folder_paired};
+ghost use Rattle.manifest_completion.specs.Finds.{stem, discovered_in_entry, discovered_main};
+ghost use Rattle.manifest_completion.specs.Steps.{all_discovered_content, folder_paired};
 
 use crate::ask::{FolderAnswers, join};
 use std::alloc::{AllocError, Global};
@@ -20,7 +20,7 @@ pub struct FoundTarget {
 }
 
 /// A name without its ending `.rs`; `None` where it does not end so.
-#[tactic(auto, using(crate::proofs::FindLemmas::stem_is))]
+#[tactic(auto, using(crate::proofs::DiscoveredLemmas::stem_is))]
 fn stem(name: &str) -> Option<&str>
     ensures { option_copied result ≡ stem name.now }
 {
@@ -39,26 +39,26 @@ pub fn lists(answer: &io::Result<BTreeSet<String>>, name: &str) -> bool
 
 /// Appends the finds of one entry of a folder of targets: a file `x.rs` is a target `x`, and so is a folder `x` whose
 /// listing, `answer`, has `main.rs`.
-fn push_entry_finds(
-    finds: &mut Vec<FoundTarget>,
+fn push_discovered_in_entry(
+    discovered: &mut Vec<FoundTarget>,
     alloc: Global,
     folder: &str,
     name: &str,
     answer: &io::Result<BTreeSet<String>>,
 ) -> Result<(), AllocError>
     ensures { OnOk result
-        (finds_content finds.new.items
-        ≡ finds_content finds.old.items ++ entry_finds folder.now name.now (answer_of answer.now)) }
+        (all_discovered_content discovered.new.items
+        ≡ all_discovered_content discovered.old.items ++ discovered_in_entry folder.now name.now (answer_of answer.now)) }
 {
     if let Some(stem) = stem(name) {
-        finds.push(FoundTarget {
+        discovered.push(FoundTarget {
             name: String::from_str(alloc, stem)?,
             path: join(alloc, folder, name)?,
         })?;
     }
     if lists(answer, "main.rs") {
         let inside = join(alloc, folder, name)?;
-        finds.push(FoundTarget {
+        discovered.push(FoundTarget {
             name: String::from_str(alloc, name)?,
             path: join(alloc, inside.as_str(), "main.rs")?,
         })?;
@@ -66,45 +66,45 @@ fn push_entry_finds(
     Ok(())
 }
 
-/// The finds of a folder of targets, as [`push_entry_finds`] makes them of each of its names and the answer at it, in
+/// The finds of a folder of targets, as [`push_discovered_in_entry`] makes them of each of its names and the answer at it, in
 /// the order of the names; none where the folder itself was answered with a fault.
-#[tactic(auto, using(crate::proofs::FindLemmas::paired_none))]
-pub fn folder_finds(
+#[tactic(auto, using(crate::proofs::DiscoveredLemmas::paired_none))]
+pub fn discovered_in_folder(
     alloc: Global,
     folder: &str,
     answers: &FolderAnswers,
 ) -> Result<Vec<FoundTarget>, AllocError>
-    ensures { IfOk result (λ v. finds_content v.items ≡ folder_paired folder.now answers.now) }
+    ensures { IfOk result (λ v. all_discovered_content v.items ≡ folder_paired folder.now answers.now) }
 {
-    let mut finds = Vec::new(alloc);
+    let mut discovered = Vec::new(alloc);
     let Ok(names) = &answers.own else {
-        return Ok(finds);
+        return Ok(discovered);
     };
     let mut entries = answers.entries.iter();
     for name in names.iter() {
         match entries.next() {
             Some(answer) => {
-                push_entry_finds(&mut finds, alloc, folder, name.as_str(), answer)?;
+                push_discovered_in_entry(&mut discovered, alloc, folder, name.as_str(), answer)?;
             }
             None => {}
         }
     }
-    Ok(finds)
+    Ok(discovered)
 }
 
 /// Appends the find of `src/main.rs`, under the package's name, if `source`, the answer at `src`, lists it.
-pub fn push_main_find(
-    finds: &mut Vec<FoundTarget>,
+pub fn push_discovered_main(
+    discovered: &mut Vec<FoundTarget>,
     alloc: Global,
     name: &str,
     source: &io::Result<BTreeSet<String>>,
 ) -> Result<(), AllocError>
     ensures { OnOk result
-        (finds_content finds.new.items
-        ≡ finds_content finds.old.items ++ main_find name.now (answer_of source.now)) }
+        (all_discovered_content discovered.new.items
+        ≡ all_discovered_content discovered.old.items ++ discovered_main name.now (answer_of source.now)) }
 {
     if lists(source, "main.rs") {
-        finds.push(FoundTarget {
+        discovered.push(FoundTarget {
             name: String::from_str(alloc, name)?,
             path: String::from_str(alloc, "src/main.rs")?,
         })?;

@@ -4,7 +4,7 @@
 ghost use Rattle.std.specs.Prelude.{◌≡◌, ◌≤◌, ◌⊎◌, IsUtf8, string_bytes};
 ghost use Rattle.std.specs.IoError.{error_kind};
 ghost use Rattle.manifest_value.specs.Faults.{cause_of};
-ghost use Rattle.manifest_answers.specs.Told.{cause_number, kind_number, at_root, IsTold, TellsMemory, TellsToml, TellsSchema, TellsError, TellsInput, TellsResolving, TellsFinishing, TellsPrinting, Tells};
+ghost use Rattle.manifest_answers.specs.Report.{cause_number, kind_number, at_root, IsReport, ReportsMemory, ReportsToml, ReportsSchema, ReportsError, ReportsInput, ReportsResolving, ReportsFinishing, ReportsPrinting, Reports};
 
 use crate::refusal::{InputError, Refusal};
 use cargo_manifest::{Cause, Error, ParseFault, SchemaFault};
@@ -15,7 +15,7 @@ use std::io::ErrorKind;
 
 /// A report: the numbers of an answer, and its text. `docs/LIBRARY.md` has the numbers.
 #[derive(Debug, Drop)]
-pub struct Told {
+pub struct Report {
     pub status: u8,
     pub cause: u8,
     pub start: usize,
@@ -27,11 +27,11 @@ pub struct Told {
 const OF_ROOT: u8 = 16;
 
 /// The report of a status, a cause and a text; `start` and `end` are 0.
-pub(crate) fn with_text(status: u8, cause: u8, text: Vec<u8>) -> Told
-    ensures told { IsTold result status cause text.items }
+pub(crate) fn with_text(status: u8, cause: u8, text: Vec<u8>) -> Report
+    ensures report { IsReport result status cause text.items }
     ensures utf8 { IsUtf8 text.items → IsUtf8 result.text.items }
 {
-    Told {
+    Report {
         status,
         cause,
         start: 0,
@@ -41,16 +41,16 @@ pub(crate) fn with_text(status: u8, cause: u8, text: Vec<u8>) -> Told
 }
 
 /// The report of a status, a cause and a string as its text; `start` and `end` are 0.
-fn with_string(status: u8, cause: u8, text: String) -> Told
-    ensures told { IsTold result status cause (string_bytes text) }
+fn with_string(status: u8, cause: u8, text: String) -> Report
+    ensures report { IsReport result status cause (string_bytes text) }
     ensures utf8 { IsUtf8 result.text.items }
 {
     with_text(status, cause, text.into_bytes())
 }
 
 /// The report of out of memory. It takes the error of the refused allocation, so that it cannot be made up.
-fn memory(alloc: Global, _refused: AllocError) -> Told
-    ensures told { TellsMemory result }
+fn memory(alloc: Global, _refused: AllocError) -> Report
+    ensures report { ReportsMemory result }
     ensures utf8 { IsUtf8 result.text.items }
 {
     with_text(6, 0, Vec::new(alloc))
@@ -94,15 +94,15 @@ fn at_root(is_root: bool, status: u8) -> u8
 }
 
 /// The report of a text that is no TOML: the message of `toml`, and where in the bytes.
-fn tell_toml(alloc: Global, fault: &toml::de::Error, is_root: bool) -> Told
-    ensures told { TellsMemory result ⊎ TellsToml is_root fault.now result }
+fn tell_toml(alloc: Global, fault: &toml::de::Error, is_root: bool) -> Report
+    ensures report { ReportsMemory result ⊎ ReportsToml is_root fault.now result }
     ensures utf8 { IsUtf8 result.text.items }
 {
     let Some(range) = fault.span() else {
         return memory(alloc, AllocError);
     };
     match String::from_str(alloc, fault.message()) {
-        Ok(text) => Told {
+        Ok(text) => Report {
             status: at_root(is_root, 1),
             cause: 0,
             start: range.start,
@@ -114,8 +114,8 @@ fn tell_toml(alloc: Global, fault: &toml::de::Error, is_root: bool) -> Told
 }
 
 /// The report of a fault of the schema: its cause, and the text of its key path.
-fn tell_schema(alloc: Global, fault: &SchemaFault, is_root: bool) -> Told
-    ensures told { TellsMemory result ⊎ TellsSchema is_root fault.now result }
+fn tell_schema(alloc: Global, fault: &SchemaFault, is_root: bool) -> Report
+    ensures report { ReportsMemory result ⊎ ReportsSchema is_root fault.now result }
     ensures utf8 { IsUtf8 result.text.items }
 {
     match fault.path.to_text(alloc) {
@@ -129,8 +129,8 @@ fn tell_schema(alloc: Global, fault: &SchemaFault, is_root: bool) -> Told
 
 /// The report of an [`Error`]: status 1 to 6, and for a text that is no TOML, a fault of the schema and bytes that are
 /// not UTF-8 16 more, if it is the root's. Instead it may be that of out of memory, where there is none for its text.
-fn tell_error(alloc: Global, error: Error, is_root: bool) -> Told
-    ensures told { TellsMemory result ⊎ TellsError is_root error result }
+fn tell_error(alloc: Global, error: Error, is_root: bool) -> Report
+    ensures report { ReportsMemory result ⊎ ReportsError is_root error result }
     ensures utf8 { IsUtf8 result.text.items }
 {
     match error {
@@ -145,8 +145,8 @@ fn tell_error(alloc: Global, error: Error, is_root: bool) -> Told
 
 /// The report of why bytes are no manifest: that of the error, or status 14 or 15, of the root 16 more. Instead it may
 /// be that of out of memory.
-fn tell_input(alloc: Global, error: InputError, is_root: bool) -> Told
-    ensures told { TellsMemory result ⊎ TellsInput is_root error result }
+fn tell_input(alloc: Global, error: InputError, is_root: bool) -> Report
+    ensures report { ReportsMemory result ⊎ ReportsInput is_root error result }
     ensures utf8 { IsUtf8 result.text.items }
 {
     match error {
@@ -158,8 +158,8 @@ fn tell_input(alloc: Global, error: InputError, is_root: bool) -> Told
 
 /// The report of why a manifest is not resolved: status 10 to 13, or 6 for out of memory; the text is the key or the
 /// name, where the refusal has one.
-fn tell_resolving(alloc: Global, error: ResolveError) -> Told
-    ensures told { TellsMemory result ⊎ TellsResolving error result }
+fn tell_resolving(alloc: Global, error: ResolveError) -> Report
+    ensures report { ReportsMemory result ⊎ ReportsResolving error result }
     ensures utf8 { IsUtf8 result.text.items }
 {
     match error {
@@ -173,8 +173,8 @@ fn tell_resolving(alloc: Global, error: ResolveError) -> Told
 
 /// The report of why a manifest is not resolved or not completed: status 9 for a root without a workspace, else that of
 /// the error. Instead it may be that of out of memory.
-fn tell_finishing(alloc: Global, error: FinishError) -> Told
-    ensures told { TellsMemory result ⊎ TellsFinishing error result }
+fn tell_finishing(alloc: Global, error: FinishError) -> Report
+    ensures report { ReportsMemory result ⊎ ReportsFinishing error result }
     ensures utf8 { IsUtf8 result.text.items }
 {
     match error {
@@ -186,8 +186,8 @@ fn tell_finishing(alloc: Global, error: FinishError) -> Told
 
 /// The report of why a manifest's table is not printed: status 7 and the text of [`Error::Other`], or that of any other
 /// error.
-fn tell_printing(alloc: Global, error: Error) -> Told
-    ensures told { TellsMemory result ⊎ TellsPrinting error result }
+fn tell_printing(alloc: Global, error: Error) -> Report
+    ensures report { ReportsMemory result ⊎ ReportsPrinting error result }
     ensures utf8 { IsUtf8 result.text.items }
 {
     match error {
@@ -198,8 +198,8 @@ fn tell_printing(alloc: Global, error: Error) -> Told
 
 /// The report of a refusal, by its kind: status, cause, positions and text. Instead it may be that of out of memory,
 /// where there is none for its text.
-pub(crate) fn tell(alloc: Global, refusal: Refusal) -> Told
-    ensures told { TellsMemory result ⊎ Tells refusal result }
+pub(crate) fn report_of(alloc: Global, refusal: Refusal) -> Report
+    ensures report { ReportsMemory result ⊎ Reports refusal result }
     ensures utf8 { IsUtf8 result.text.items }
 {
     match refusal {
