@@ -1,13 +1,14 @@
 //! The driver of scripts/library_speed: the same steps by this library and by the Rust crate, in turns.
 //!
 //! - `library-speed times INPUT..`: the times of each step; an INPUT is a file, or a folder whose files are read one by one;
+//! - `library-speed manifests FOLDER`: a table of manifests by how long they are, each in a folder of FOLDER with its files;
 //! - `library-speed calls STEP COUNT FILE`: this many calls of a step, to be counted from outside;
 //! - `library-speed peak STEP FILE`: the most memory that this process had, in kB, after one call of a step (or of `nothing`).
 
 use original::Manifest as Original;
 use proved::Manifest as Typed;
 use std::hint::black_box;
-use std::path::Path;
+use std::path::{Path, PathBuf};
 use std::time::{Duration, Instant};
 use std::{env, fs};
 
@@ -160,6 +161,123 @@ fn inputs(path: &Path) -> Vec<Vec<u8>> {
     vec![fs::read(path).expect("a file")]
 }
 
+/// A manifest that both read and complete: its text, its file, and what both read of it.
+struct Real {
+    text: Vec<u8>,
+    file: PathBuf,
+    typed: Typed,
+    original: Original,
+}
+
+impl Real {
+    fn of(file: PathBuf) -> Option<Self> {
+        let text = fs::read(&file).ok()?;
+        let (typed, original) = (Typed::from_slice(&text).ok()?, Original::from_slice(&text).ok()?);
+        let completed =
+            typed.clone().complete_from_path(&file).is_ok() && original.clone().complete_from_path(&file).is_ok();
+        (completed && toml::to_string(&original).is_ok()).then_some(Self { text, file, typed, original })
+    }
+}
+
+/// How often each step is taken on the manifests of a class; its time is the least of these.
+const ROUNDS: usize = 61;
+
+/// What a step takes in microseconds, on one manifest in the mean.
+type Column = fn(&[Real]) -> f64;
+
+/// How many manifests a step is taken on in a turn at least: a class with fewer is taken again.
+const TURN: usize = 200;
+
+/// The time of a step on what is made of each manifest before. What the step makes is dropped in it, what it is given is not.
+fn microseconds<'a, T, U>(all: &'a [Real], before: impl Fn(&'a Real) -> T, step: impl Fn(&mut T) -> U) -> f64 {
+    let count = all.len() * TURN.div_ceil(all.len());
+    let mut given: Vec<T> = all.iter().cycle().take(count).map(before).collect();
+    let began = Instant::now();
+    for one in &mut given {
+        drop(black_box(step(one)));
+    }
+    began.elapsed().as_secs_f64() * 1e6 / count as f64
+}
+
+/// The steps in pairs, ours first, and what is ours alone.
+const COLUMNS: [Column; 7] = [
+    |all| microseconds(all, text_of, |text| Typed::from_slice(text).is_ok_and(shown)),
+    |all| microseconds(all, text_of, |text| Original::from_slice(text).is_ok_and(shown)),
+    |all| {
+        microseconds(all, |one| (one.typed.clone(), &*one.file), |(made, file)| made.complete_from_path(file).is_ok())
+    },
+    |all| {
+        microseconds(
+            all,
+            |one| (one.original.clone(), &*one.file),
+            |(made, file)| made.complete_from_path(file).is_ok(),
+        )
+    },
+    |all| microseconds(all, |one| &one.typed, |manifest| manifest.to_toml_string().is_ok_and(shown)),
+    |all| microseconds(all, |one| &one.original, |manifest| toml::to_string(manifest).is_ok_and(shown)),
+    |all| microseconds(all, text_of, |text| proved::faults(text).is_ok_and(shown)),
+];
+
+fn text_of(one: &Real) -> &[u8] {
+    &one.text
+}
+
+/// Lets what was made be seen, so that it is made.
+fn shown<T>(made: T) -> bool {
+    black_box(&made);
+    true
+}
+
+/// The least time of each column, taken by turns.
+fn least(manifests: &[Real]) -> [f64; 7] {
+    let mut best = [f64::MAX; 7];
+    for _ in 0..ROUNDS {
+        for (least, column) in best.iter_mut().zip(COLUMNS) {
+            *least = least.min(column(manifests));
+        }
+    }
+    best
+}
+
+/// The classes of manifests, by their bytes.
+const CLASSES: [(&str, usize, usize); 6] = [
+    ("below 300", 0, 300),
+    ("300 to 600", 300, 600),
+    ("600 to 1,200", 600, 1_200),
+    ("1,200 to 2,500", 1_200, 2_500),
+    ("above", 2_500, usize::MAX),
+    ("all", 0, usize::MAX),
+];
+
+/// A row of the table: what both take for a step and the ratio, of three steps; what `faults` takes, and over `from_slice`.
+fn print_row(name: &str, manifests: &[Real]) {
+    let best = least(manifests);
+    let cells: Vec<String> = (0..3)
+        .map(|n| [best[2 * n], best[2 * n + 1]])
+        .map(|[ours, theirs]| format!("{ours:.1} / {theirs:.1} = **{:.2}**", ours / theirs))
+        .collect();
+    println!("| {name} | {} | {} | {:.1}, {:.2} |", manifests.len(), cells.join(" | "), best[6], best[6] / best[0]);
+}
+
+/// The table of all manifests of a folder that both read, complete and print.
+fn manifests(folder: &Path) {
+    let places = fs::read_dir(folder).expect("a folder").map(|place| place.expect("a place").path().join("Cargo.toml"));
+    let mut places: Vec<PathBuf> = places.collect();
+    places.sort();
+    let count = places.len();
+    let mut all: Vec<Real> = places.into_iter().filter_map(Real::of).collect();
+    all.sort_by_key(|one| one.text.len());
+    println!("{} of {count} manifests are read, completed and printed by both", all.len());
+    println!("| bytes | manifests | `from_slice` | `complete_from_path` | to text | `faults`, over `from_slice` |\n|---|---|---|---|---|---|");
+    for (name, from, to) in CLASSES {
+        let class = |one: &Real| one.text.len() >= from && one.text.len() < to;
+        let (begin, end) = (all.iter().position(class), all.iter().rposition(class));
+        if let (Some(begin), Some(end)) = (begin, end) {
+            print_row(name, &all[begin..=end]);
+        }
+    }
+}
+
 fn call(word: &str, bytes: &[u8]) {
     let step = STEPS.into_iter().find(|step| step.0 == word).expect("a step");
     black_box((step.3)(black_box(bytes)));
@@ -176,6 +294,7 @@ fn main() {
     let words: Vec<String> = env::args().skip(1).collect();
     match words.iter().map(String::as_str).collect::<Vec<_>>().as_slice() {
         ["times", paths @ ..] => paths.iter().for_each(|path| times(Path::new(path))),
+        ["manifests", folder] => manifests(Path::new(folder)),
         ["calls", step, count, file] => {
             let bytes = fs::read(file).expect("a file");
             (0..count.parse().expect("a number")).for_each(|_| call(step, &bytes));

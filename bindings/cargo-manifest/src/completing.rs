@@ -1,10 +1,10 @@
 //! Completing a manifest: which folders are asked for, and the proved call.
 
 use crate::calls::{tables, ListingError, Listings, Refusal};
-use crate::codec::Aside;
+use crate::codec::{Aside, Encode, Members, Writer};
 use crate::error::refused_table;
 use crate::reading::{decode, encode};
-use crate::{AbstractFilesystem, Error, Filesystem, Manifest, StringOrBool};
+use crate::{AbstractFilesystem, Error, Filesystem, Manifest, Package, StringOrBool, Value};
 use std::collections::BTreeSet;
 use std::io;
 use std::path::Path;
@@ -54,7 +54,7 @@ impl<PackageMetadata> Manifest<PackageMetadata> {
     pub fn complete_from_abstract_filesystem<FS: AbstractFilesystem>(&mut self, fs: &FS) -> Result<(), Error> {
         let Some(package) = &self.package else { return Ok(()) };
         let asks_for_build = matches!(package.build, None | Some(StringOrBool::Bool(true)));
-        let table = encode(self, Aside::default())?;
+        let table = Declared { manifest: self, package }.table()?;
         let mut asked = Asked { fs, listings: Listings::new(), error: None };
         let src = asked.ask("src", |error| error.kind() != io::ErrorKind::NotFound);
         if self.lib.as_ref().is_some_and(|library| library.path.is_none()) && !src.contains("lib.rs") {
@@ -64,9 +64,87 @@ impl<PackageMetadata> Manifest<PackageMetadata> {
         if asks_for_build {
             asked.ask(".", |_| true);
         }
-        let completed = tables::completed(&table, &asked.listings).map_err(|refusal| asked.refused(refusal))?;
-        self.replace(&completed);
+        let whole = if cfg!(debug_assertions) { encode(self, Aside::default()).ok() } else { None };
+        match tables::completed(&table, &asked.listings) {
+            Ok(completed) => self.put_targets(&completed),
+            Err(refusal) => return Err(asked.refused(refusal)),
+        }
+        if let Some(Ok(wanted)) = whole.map(|whole| tables::completed(&whole, &asked.listings)) {
+            let is_as_whole = encode(self, Aside::default()).is_ok_and(|table| table == wanted);
+            assert!(is_as_whole, "completion makes other targets of the whole manifest");
+        }
         Ok(())
+    }
+
+    /// Puts the targets and the build script of a completed table in the place of the manifest's own.
+    fn put_targets(&mut self, table: &[u8]) {
+        let (completed, _) = decode::<PackageMetadata, Value>(table);
+        if let (Some(new), Some(old)) = (completed.package, &mut self.package) {
+            old.build = new.build;
+        }
+        self.lib = completed.lib;
+        self.bin = completed.bin;
+        self.example = completed.example;
+        self.test = completed.test;
+        self.bench = completed.bench;
+    }
+}
+
+/// What completion reads of a manifest with a package: the package's name, edition, build script and flags, and the
+/// declared targets. What it makes of them does not depend on anything else, so the rest is not passed to the call.
+struct Declared<'a, P, W> {
+    manifest: &'a Manifest<P, W>,
+    package: &'a Package<P>,
+}
+
+impl<P, W> Declared<'_, P, W> {
+    /// The table of a manifest that has nothing else.
+    fn table(&self) -> Result<Vec<u8>, Error> {
+        let mut writer = Writer::new(Aside::default());
+        self.encode(&mut writer);
+        writer.finish().map(|(table, _)| table).map_err(Error::Other)
+    }
+}
+
+impl<P, W> Encode for Declared<'_, P, W> {
+    fn encode(&self, writer: &mut Writer) {
+        let Manifest { lib, bin, example, test, bench, .. } = self.manifest;
+        let package = DeclaredPackage(self.package);
+        let mut members = Members::with_room(6);
+        members.push("package", &package);
+        if let Some(library) = lib {
+            members.push("lib", library);
+        }
+        for (key, targets) in [("bin", bin), ("example", example), ("test", test), ("bench", bench)] {
+            if !targets.is_empty() {
+                members.push(key, targets);
+            }
+        }
+        members.encode(writer);
+    }
+}
+
+/// The same for its package.
+struct DeclaredPackage<'a, P>(&'a Package<P>);
+
+impl<P> Encode for DeclaredPackage<'_, P> {
+    fn encode(&self, writer: &mut Writer) {
+        let Package { name, edition, build, autolib, autobins, autoexamples, autotests, autobenches, .. } = self.0;
+        let mut members = Members::with_room(8);
+        members.push("name", name);
+        if let Some(edition) = edition {
+            members.push("edition", edition);
+        }
+        if let Some(build) = build {
+            members.push("build", build);
+        }
+        let of_lists = [("autobins", autobins), ("autoexamples", autoexamples), ("autotests", autotests)];
+        for (key, flag) in of_lists.into_iter().chain([("autobenches", autobenches), ("autolib", autolib)]) {
+            if let Some(flag) = flag {
+                members.push(key, flag);
+            }
+        }
+        members.encode(writer);
     }
 }
 

@@ -3,7 +3,7 @@
 //!
 //! Each function returns at once: it is there for its contract, a law of the definitions.
 
-ghost use Rattle.manifest_schema.specs.Prelude.{tree_of, MeansOne, WrittenIsRead, AcceptedIsWellFormed, WrittenMeansTheSame, RewrittenMeansTheSame, RewrittenTwiceIsOnce, SameExactly, SameWrittenIsSame, FaultyMeansNothing, AcceptedOrFaulty, FindsEveryFault, FaultlessIfMeant, SameWithoutUnused, RewrittenWithoutUnused, FindsEachOnce, FindsNothingWritten, FindsNothingRewritten, IgnoresBadgesAlone, IgnoresNothing, IsClean, WritesEachRow, form, manifest_rows, OldTopUnused, OldWrittenIsRead, MeantDatesAreValid, WrittenDatesAreValid};
+ghost use Rattle.manifest_schema.specs.Prelude.{tree_of, MeansOne, WrittenIsRead, AcceptedIsWellFormed, WrittenMeansTheSame, RewrittenMeansTheSame, RewrittenTwiceIsOnce, SameExactly, SameWrittenIsSame, FaultyMeansNothing, AcceptedOrFaulty, FindsEveryFault, FaultlessIfMeant, SameWithoutUnused, RewrittenWithoutUnused, FindsEachOnce, FindsNothingWritten, FindsNothingRewritten, IgnoresBadgesAlone, IgnoresNothing, IsClean, raw, WritesEachRow, form, manifest_rows, OldTopUnused, OldWrittenIsRead, MeantDatesAreValid, WrittenDatesAreValid};
 ghost use Rattle.manifest_completion.specs.Laws.{CompletedIsFixed};
 ghost use Rattle.cargo_manifest.specs.Completes.{StoredDecides, StoredDecidesUnfound};
 ghost use Rattle.cargo_manifest.specs.Dates.{ParsedDatesAreValid, ReadDatesAreValid, CompletedDatesAreValid};
@@ -127,7 +127,7 @@ pub fn finds_nothing_written<P: Metadata, W: Metadata>()
 #[tactic(auto, using(manifest_schema::proofs::IgnoredLaws::ignores_badges_alone, manifest_schema::proofs::IgnoredLaws::raw_ignores_nothing))]
 pub fn badges_alone_are_ignored<P: Metadata, W: Metadata>()
     ensures badges { IgnoresBadgesAlone (tree_of P.kind) (tree_of W.kind) }
-    ensures kept { IgnoresNothing (tree_of raw) }
+    ensures raw { IgnoresNothing (tree_of raw) }
 {}
 
 /// The table that is written of a well-formed manifest holds what the need of each row writes, under the first spelling
