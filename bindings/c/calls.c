@@ -9,7 +9,8 @@
 
 enum which {
     CANONICAL, COMPLETED, RESOLVED, RESOLVED_COMPLETED, TABLE, COMPLETED_TABLE, RESOLVED_TABLE, RESOLVED_COMPLETED_TABLE,
-    TABLE_WITHOUT_METADATA, DOCUMENT, FINDINGS, CANONICAL_OF_TABLE, COMPLETED_OF_TABLE, RESOLVED_OF_TABLES, COMPLETED_TEXT_OF_TABLE, ALL_OF_TABLES
+    TABLE_WITHOUT_METADATA, DOCUMENT, FINDINGS, CANONICAL_OF_TABLE, COMPLETED_OF_TABLE, RESOLVED_OF_TABLES,
+    COMPLETED_TEXT_OF_TABLE, ALL_OF_TABLES
 };
 
 /* A call, and its answer. For bytes, a root or folders that are null a null pointer and the length 0 are passed. */
@@ -473,7 +474,8 @@ static int is_put(const struct call *call, const uint8_t *text, size_t length, s
 static int is_table(const struct call *call)
 {
     return call->which != CANONICAL && call->which != COMPLETED && call->which != RESOLVED
-           && call->which != RESOLVED_COMPLETED && call->which != CANONICAL_OF_TABLE;
+           && call->which != RESOLVED_COMPLETED && call->which != CANONICAL_OF_TABLE
+           && call->which != COMPLETED_TEXT_OF_TABLE;
 }
 
 /* Whether the answer is that the text is longer than it may be, and all of `out` is as it was. */
