@@ -61,11 +61,9 @@ fn table_alone(bytes: &[u8]) -> usize {
 
 /// What the Rust crate prints. Its printer needs values before tables, which not each of its manifests has; then it
 /// goes by way of a value.
-fn printed(manifest: &Original) -> String {
-    toml::to_string(manifest).unwrap_or_else(|_| {
-        let value = toml::Value::try_from(manifest).expect("a value");
-        toml::to_string(&value).expect("a text")
-    })
+fn printed(manifest: &Original) -> Option<String> {
+    let by_value = || toml::to_string(&toml::Value::try_from(manifest).ok()?).ok();
+    toml::to_string(manifest).ok().or_else(by_value)
 }
 
 const TYPED: usize = 0;
@@ -87,7 +85,7 @@ const STEPS: [Step; 6] = [
         Typed::from_slice(bytes).expect("a manifest").to_toml_string().expect("a text").len()
     }),
     ("original-text", "Rust crate: and to_string", true, |bytes| {
-        printed(&Original::from_slice(bytes).expect("a manifest")).len()
+        printed(&Original::from_slice(bytes).expect("a manifest")).expect("a text").len()
     }),
     ("canonical", "library: canonical", true, |bytes| proved::calls::canonical(bytes).expect("a text").len()),
     ("table", "library: the table alone, `manifest_table`", false, table_alone),
@@ -175,7 +173,7 @@ impl Real {
         let (typed, original) = (Typed::from_slice(&text).ok()?, Original::from_slice(&text).ok()?);
         let completed =
             typed.clone().complete_from_path(&file).is_ok() && original.clone().complete_from_path(&file).is_ok();
-        (completed && toml::to_string(&original).is_ok()).then_some(Self { text, file, typed, original })
+        (completed && printed(&original).is_some()).then_some(Self { text, file, typed, original })
     }
 }
 
@@ -214,7 +212,7 @@ const COLUMNS: [Column; 7] = [
         )
     },
     |all| microseconds(all, |one| &one.typed, |manifest| manifest.to_toml_string().is_ok_and(shown)),
-    |all| microseconds(all, |one| &one.original, |manifest| toml::to_string(manifest).is_ok_and(shown)),
+    |all| microseconds(all, |one| &one.original, |manifest| printed(manifest).is_some_and(shown)),
     |all| microseconds(all, text_of, |text| proved::faults(text).is_ok_and(shown)),
 ];
 
