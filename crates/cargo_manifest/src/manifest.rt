@@ -15,12 +15,11 @@ use crate::workspace::Workspace;
 use manifest_parts::{
     Badges, DepsSet, FeatureSet, MaybeInheritedLintsSet, PatchSet, Product, TargetDepsSet,
 };
-use manifest_value::findings::Found;
 use manifest_value::form::{RowPut, RowRead, Rowed, Word, write_form};
 use manifest_value::row_slots::RowSlot;
 use manifest_value::{
-    Form, Metadata, Spellings, empty_of, findings_of_row, good_row_of, names_of_rows, put_row_of,
-    read_row_of,
+    Form, Found, Metadata, Spellings, empty_of, findings_of_row, good_row_of, names_of_rows,
+    put_row_of, read_row_of,
 };
 use std::alloc::{AllocError, Global};
 use toml::{Table, Value};

@@ -12,12 +12,11 @@ ghost use Rattle.manifest_parts.specs.Queries.{version_of};
 ghost use Rattle.cargo_manifest.specs.Tables.{package_content, package_of, package_form};
 
 use manifest_parts::{Edition, MaybeInherited, Publish, Resolver, StringOrBool};
-use manifest_value::findings::Found;
 use manifest_value::form::{RowPut, RowRead, Rowed, Word, read_form};
 use manifest_value::row_slots::RowSlot;
 use manifest_value::{
-    Form, Metadata, ReadFault, Spellings, TableSource, empty_of, findings_of_row, good_row_of,
-    names_of_rows, put_row_of, read_row_of,
+    Form, Found, Metadata, ReadFault, Spellings, TableSource, empty_of, findings_of_row,
+    good_row_of, names_of_rows, put_row_of, read_row_of,
 };
 use std::alloc::Global;
 use toml::{Table, Value};

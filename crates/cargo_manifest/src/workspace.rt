@@ -9,12 +9,11 @@ ghost use Rattle.cargo_manifest.specs.Tables.{workspace_package_content, workspa
 ghost use Rattle.manifest_value.specs.Reading.{IsOfTable};
 
 use manifest_parts::{DepsSet, Edition, LintsSet, Publish, Resolver, StringOrBool};
-use manifest_value::findings::Found;
 use manifest_value::form::{RowPut, RowRead, Rowed, Word};
 use manifest_value::row_slots::RowSlot;
 use manifest_value::{
-    Form, Metadata, Spellings, empty_of, findings_of_row, good_row_of, names_of_rows, put_row_of,
-    read_row_of,
+    Form, Found, Metadata, Spellings, empty_of, findings_of_row, good_row_of, names_of_rows,
+    put_row_of, read_row_of,
 };
 use std::alloc::Global;
 use toml::{Table, Value};

@@ -10,6 +10,7 @@ use Rattle.manifest_value.specs.declared.error.Error.TheVariants as fault
 use Rattle.manifest_value.specs.declared.error.ParseFault.TheVariants.{Toml, Schema}
 use Rattle.manifest_inherit.specs.declared.error.ResolveError.{ResolveError}
 use Rattle.manifest_inherit.specs.declared.error.ResolveError.TheVariants.{Refused, Memory as NoMemory}
+use Rattle.manifest_inherit.specs.declared.error.Refusal.{Refusal as Unresolved}
 use Rattle.manifest_inherit.specs.declared.error.Refusal.TheVariants as unresolved
 use Rattle.manifest_answers.specs.declared.refusal.Refusal.{Refusal}
 use Rattle.manifest_inherit.specs.declared.error.FinishError.{FinishError}
@@ -76,12 +77,16 @@ abbrev pub ReportsPrinting : Error → Report → Type 0
 ReportsPrinting (fault.Other s) t = IsReport t 7 0 (string_bytes s)
 ReportsPrinting e t = ReportsError false e t
 
--- why it is not resolved
+-- what cannot be inherited
+abbrev pub TellsUnresolved : Unresolved → Report → Type 0
+TellsUnresolved (unresolved.NotInWorkspace s) t = IsReport t 10 0 (string_bytes s)
+TellsUnresolved (unresolved.InheritedInWorkspace s) t = IsReport t 11 0 (string_bytes s)
+TellsUnresolved unresolved.MixedLints t = IsReport t 12 0 []
+TellsUnresolved unresolved.ToolNamedWorkspace t = IsReport t 13 0 []
+
+-- why it is not resolved: the refusal, without its path
 abbrev pub ReportsResolving : ResolveError → Report → Type 0
-ReportsResolving (Refused (unresolved.NotInWorkspace s)) t = IsReport t 10 0 (string_bytes s)
-ReportsResolving (Refused (unresolved.InheritedInWorkspace s)) t = IsReport t 11 0 (string_bytes s)
-ReportsResolving (Refused unresolved.MixedLints) t = IsReport t 12 0 []
-ReportsResolving (Refused unresolved.ToolNamedWorkspace) t = IsReport t 13 0 []
+ReportsResolving (Refused f) t = TellsUnresolved f.refusal t
 ReportsResolving (NoMemory e) t = ReportsMemory t
 
 -- why bytes are no manifest

@@ -7,8 +7,7 @@ ghost use Rattle.manifest_schema.proofs.ChoiceLaws.{edition_sound, edition_plain
 ghost use Rattle.manifest_parts.specs.Parts.{edition_content, resolver_content, level_content, status_content};
 
 use manifest_value::fault::fault_here;
-use manifest_value::findings::{Choices, Findings, Found};
-use manifest_value::{Cause, Plain, ReadFault, Schema, Source};
+use manifest_value::{Cause, Choices, Findings, Found, Plain, ReadFault, Schema, Source};
 use std::alloc::{AllocError, Global};
 use toml::Value;
 

@@ -8,10 +8,11 @@ ghost use Rattle.manifest_value.specs.Found.{found};
 ghost use Rattle.manifest_value.specs.Reading.{data_of};
 
 use manifest_value::fault::fault_here;
-use manifest_value::findings::{Findings, Found};
 use manifest_value::readers::find;
 use manifest_value::rows::put_row;
-use manifest_value::{Cause, Plain, ReadFault, Schema, Source, TableSource, spelled, walk};
+use manifest_value::{
+    Cause, Findings, Found, Plain, ReadFault, Schema, Source, TableSource, spelled, walk,
+};
 use std::alloc::{AllocError, Global};
 use toml::{Table, Value};
 

@@ -9,8 +9,7 @@ ghost use Rattle.manifest_value.specs.Reading.{Reads};
 ghost use Rattle.manifest_parts.specs.Refusals.{RefusesStrip};
 
 use manifest_value::fault::fault_here;
-use manifest_value::findings::{Choices, Findings, Found};
-use manifest_value::{Cause, Error, ReadFault, Schema, Source};
+use manifest_value::{Cause, Choices, Error, Findings, Found, ReadFault, Schema, Source};
 use std::alloc::{AllocError, Global};
 use toml::Value;
 

@@ -1,70 +1,53 @@
 -- What the code finds in a value, as the definitions see it, and what is found row by row.
-use Rattle.manifest_schema.specs.Prelude.{Members, Spellings, Slot, at, without, Rows, no_more, others, ◌⨾◌, entry_findings, fault, ignored, unused, found_under, Text, Path, key, Cause as SchemaCause}
+use Rattle.manifest_schema.specs.Prelude.{Members, Spellings, Slot, at, without, Rows, no_more, others, ◌⨾◌, entry_findings, fault, ignored, unused, Text, Path, key, Cause as SchemaCause}
 use Rattle.manifest_schema.specs.Findings.{Finding as PathFinding}
 use Rattle.manifest_schema.specs.OneFault.{fault_here}
 use Rattle.std.specs.Prelude.{◌≡◌, ℕ, zero, suc, List, [], ◌∷◌, ◌++◌, map, string_bytes}
 use Rattle.std.specs.Borrow.{Bor}
-use Rattle.manifest_value.specs.Faults.{step_of, path_of, cause_of}
+use Rattle.manifest_value.specs.Faults.{path_of, cause_of}
 use Rattle.manifest_value.specs.declared.fault.SchemaFault.{SchemaFault}
 use Rattle.manifest_value.specs.declared.fault.ReadFault.{ReadFault}
 use Rattle.manifest_value.specs.declared.fault.ReadFault.TheVariants.{Schema, Memory}
-use Rattle.manifest_value.specs.declared.finding_lists.Finding.{Finding}
-use Rattle.manifest_value.specs.declared.finding_lists.Finding.TheVariants.{Fault, Ignored, Unused}
-use Rattle.manifest_value.specs.declared.findings.FindingNode.{FindingNode, fold-FindingNode}
-use Rattle.manifest_value.specs.declared.findings.FindingNode.TheOpen.{FindingNode-F}
+use Rattle.manifest_value.specs.Placed.{placed_in, placed_among, placed}
+use Rattle.manifest_value.specs.declared.findings.FindingNode.{FindingNode}
 use Rattle.manifest_value.specs.declared.findings.Findings.{Findings}
+use Rattle.manifest_value.specs.declared.schema_findings.Finding.{Finding}
+use Rattle.manifest_value.specs.declared.schema_findings.Finding.TheVariants.{Fault, Ignored, Unused}
 
 -- the words of a choice
 abbrev pub choices_of : Bor (List (Bor Text)) → List Text
 choices_of words = map (λ (w : Bor Text). w.now) words.now
 
--- AS A LIST
--- a finding, by its path, its cause and the words of a choice
-abbrev pub finding_of : Finding → PathFinding
-finding_of (Fault f words) = fault (path_of f.path) (cause_of f.cause) (choices_of words)
-finding_of (Ignored f words) = ignored (path_of f.path) (cause_of f.cause) (choices_of words)
-finding_of (Unused p) = unused (path_of p)
-
 -- a fault, by its path and its cause
 abbrev pub fault_of : SchemaFault → Path × SchemaCause
 fault_of f = (path_of f.path, cause_of f.cause)
 
--- AS A TREE
--- lists of findings, one after another
-abbrev pub joined : List (List PathFinding) → List PathFinding
-joined [] = []
-joined (fs ∷ more) = fs ++ joined more
+-- a finding at its path, by its cause and the words of a choice, or by the key that stands there
+abbrev pub finding_at : Path → Finding → PathFinding
+finding_at p (Fault c words) = fault p (cause_of c) (choices_of words)
+finding_at p (Ignored c words) = ignored p (cause_of c) (choices_of words)
+finding_at p (Unused k) = unused (p ++ key (string_bytes k) ∷ [])
 
--- one node, with what is found by each node inside
-abbrev pub node_step : FindingNode-F (List PathFinding) → List PathFinding
-node_step (FindingNode-F.Fault c words) = fault [] (cause_of c) (choices_of words) ∷ []
-node_step (FindingNode-F.Ignored c words) = ignored [] (cause_of c) (choices_of words) ∷ []
-node_step (FindingNode-F.Unused k) = unused (key (string_bytes k) ∷ []) ∷ []
-node_step (FindingNode-F.Within s inside) = found_under (step_of s) (joined inside.items)
+abbrev pub findings_of : List (Path × Finding) → List PathFinding
+findings_of fs = map (λ f. finding_at f.0 f.1) fs
 
--- what a node says
-abbrev pub found_in : FindingNode → List PathFinding
-found_in = fold-FindingNode (List PathFinding) node_step
+-- what a node says, and some nodes in their order
+abbrev pub found_in : FindingNode Finding → List PathFinding
+found_in n = findings_of (placed_in n)
 
--- what some nodes say, in their order
-abbrev pub found_among : List FindingNode → List PathFinding
-found_among nodes = joined (map found_in nodes)
+abbrev pub found_among : List (FindingNode Finding) → List PathFinding
+found_among nodes = findings_of (placed_among nodes)
 
 -- ALL THAT IS FOUND, in its order
-abbrev pub found : Findings → List PathFinding
-found fs = found_among fs.nodes.items
-
--- the findings of a value at this path
-abbrev pub found_below : Path → List PathFinding → List PathFinding
-found_below [] fs = fs
-found_below (s ∷ p) fs = found_under s (found_below p fs)
+abbrev pub found : Findings Finding → List PathFinding
+found fs = findings_of (placed fs)
 
 -- this list is what was found
-abbrev pub Finds : List PathFinding → Findings → Type 0
+abbrev pub Finds : List PathFinding → Findings Finding → Type 0
 Finds all fs = found fs ≡ all
 
 -- the fault with which a value itself is refused is all that is found
-abbrev pub IsFoundHere : List Text → ReadFault → Findings → Type 0
+abbrev pub IsFoundHere : List Text → ReadFault → Findings Finding → Type 0
 IsFoundHere words (Schema f) fs = found fs ≡ fault_here words (cause_of f.cause)
 IsFoundHere words (Memory e) fs = ⊥
 

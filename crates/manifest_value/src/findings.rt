@@ -1,140 +1,146 @@
-//! What is found in a value: its faults, what is ignored where it does not fit, and the keys that nothing reads.
+//! What is found in a value, each finding at its path: as a tree, in which each step of a path stands once.
 //!
-//! It is kept as a tree, in which each step of a path stands once: so it takes memory in proportion to the value that it
-//! is found in, however many findings stand below one long key.
+//! So it takes memory in proportion to the value that it is found in, however many findings stand below one long key.
+//! What a finding is, the type `C` says: of the schema it is a [`Finding`](crate::Finding).
 
-ghost use Rattle.manifest_schema.specs.Prelude.{found_here, found_under, unused_keys, leniently, key, index};
-ghost use Rattle.std.specs.Prelude.{◌≡◌, ◌++◌, [], IfOk};
-ghost use Rattle.manifest_value.specs.Faults.{step_of, cause_of};
-ghost use Rattle.manifest_value.specs.Found.{choices_of, found_in, found_among, found, IsFoundHere};
-ghost use Rattle.manifest_value.specs.Sources.{rest_view};
+ghost use Rattle.manifest_schema.specs.Prelude.{key, index};
+ghost use Rattle.std.specs.Prelude.{◌≡◌, ◌++◌, [], ◌∷◌, IfOk, OnOk, map, option_map};
+ghost use Rattle.manifest_value.specs.Faults.{step_of, path_of};
+ghost use Rattle.manifest_value.specs.Placed.{placed_here, placed_under, placed_below, first_of, place_of, placed_in, placed_among, placed};
 
-use crate::entries::Entry;
-use crate::fault::{Cause, ReadFault, Step};
+use crate::fault::{KeyPath, Step};
 use std::alloc::{AllocError, Global};
-
-/// The words that there are where a text is not one of a choice; none for any other cause.
-pub type Choices = &'static [&'static str];
-
-/// Of each other cause.
-const NO_CHOICES: Choices = &[];
 
 /// A part of what is found in a value.
 #[derive(Debug, PartialEq, Eq, Drop)]
-pub enum FindingNode {
-    /// The value, or its absence, does not fit.
-    Fault(Cause, Choices),
-    /// The value, or its absence, does not fit, and that is no fault: the field counts as absent, as of a badge.
-    Ignored(Cause, Choices),
-    /// Nothing reads the entry of this key, and nothing that stands in it is found.
-    Unused(String),
+pub enum FindingNode<C> {
+    /// What is found at the value itself.
+    Here(C),
     /// What is found in the value that the step leads to.
-    Within(Step, Vec<FindingNode>),
+    Within(Step, Vec<FindingNode<C>>),
 }
 
 /// What is found in a value, in the order in which it is reported: depth first, from the first node on.
 #[derive(Debug, PartialEq, Eq, Drop)]
-pub struct Findings {
-    nodes: Vec<FindingNode>,
+pub struct Findings<C> {
+    pub(crate) nodes: Vec<FindingNode<C>>,
 }
 
-/// What the calls here return: findings, or out of memory.
-pub type Found = Result<Findings, AllocError>;
-
-/// The node where it is of a value whose faults are ignored.
-#[cycle(lenient)]
-fn node_leniently(alloc: Global, node: FindingNode) -> Result<FindingNode, AllocError>
-    ensures { IfOk result (λ n. found_in n ≡ leniently (found_in node)) }
+/// The path with the step before it.
+fn path_under(alloc: Global, step: &Step, path: KeyPath) -> Result<KeyPath, AllocError>
+    ensures { IfOk result (λ p. path_of p ≡ step_of step.now ∷ path_of path) }
 {
+    let mut steps = path.steps;
+    steps.insert(0, step.clone(alloc)?)?;
+    Ok(KeyPath { steps })
+}
+
+/// The list, and after it what a node says of the value at the path. The path stays as it is, unless memory runs out.
+#[cycle(lists)]
+fn push_node<'a, C>(
+    alloc: Global,
+    node: &'a FindingNode<C>,
+    path: &mut KeyPath,
+    out: Vec<(KeyPath, &'a C)>,
+) -> Result<Vec<(KeyPath, &'a C)>, AllocError>
+    ensures list { let reported = placed_below (path_of path.old) (placed_in node.now) in
+        IfOk result (λ v. map place_of v.items ≡ map place_of out.entry.items ++ reported) }
+    ensures path { OnOk result (path_of path.new ≡ path_of path.old) }
+{
+    let mut out = out;
     match node {
-        FindingNode::Fault(cause, choices) => Ok(FindingNode::Ignored(cause, choices)),
-        FindingNode::Within(step, nodes) => Ok(FindingNode::Within(
-            step,
-            nodes_leniently(alloc, nodes)?,
-        )),
-        other => Ok(other),
+        FindingNode::Here(found) => {
+            out.push((path.clone(alloc)?, found))?;
+            Ok(out)
+        }
+        FindingNode::Within(step, nodes) => {
+            path.steps.push(step.clone(alloc)?)?;
+            let out = push_nodes(alloc, nodes, path, out)?;
+            drop(path.steps.pop());
+            Ok(out)
+        }
     }
 }
 
-/// The nodes where they are of a value whose faults are ignored.
-#[cycle(lenient)]
-fn nodes_leniently(alloc: Global, nodes: Vec<FindingNode>) -> Result<Vec<FindingNode>, AllocError>
-    ensures { IfOk result (λ v. found_among v.items ≡ leniently (found_among nodes.items)) }
+/// The list, and after it what the nodes say of the value at the path. The path stays as it is, unless memory runs out.
+#[cycle(lists)]
+fn push_nodes<'a, C>(
+    alloc: Global,
+    nodes: &'a [FindingNode<C>],
+    path: &mut KeyPath,
+    out: Vec<(KeyPath, &'a C)>,
+) -> Result<Vec<(KeyPath, &'a C)>, AllocError>
+    ensures list { let reported = placed_below (path_of path.old) (placed_among nodes.now) in
+        IfOk result (λ v. map place_of v.items ≡ map place_of out.entry.items ++ reported) }
+    ensures path { OnOk result (path_of path.new ≡ path_of path.old) }
 {
-    let mut out = Vec::new(alloc);
+    let mut out = out;
     for node in nodes {
-        out.push(node_leniently(alloc, node)?)?;
+        out = push_node(alloc, node, path, out)?;
     }
     Ok(out)
 }
 
-impl Findings {
+/// The first of what a node says, with its path from the value that the node is of, if it says anything.
+#[cycle(first)]
+fn first_in<C>(alloc: Global, node: &FindingNode<C>) -> Result<Option<(KeyPath, &C)>, AllocError>
+    ensures { IfOk result (λ f. option_map place_of f ≡ first_of (placed_in node.now)) }
+{
+    match node {
+        FindingNode::Here(found) => {
+            let steps = Vec::new(alloc);
+            Ok(Some((KeyPath { steps }, found)))
+        }
+        FindingNode::Within(step, nodes) => match first_among(alloc, nodes)? {
+            Some((path, found)) => Ok(Some((path_under(alloc, step, path)?, found))),
+            None => Ok(None),
+        },
+    }
+}
+
+/// The first of what the nodes say, with its path, if they say anything.
+#[cycle(first)]
+fn first_among<C>(
+    alloc: Global,
+    nodes: &[FindingNode<C>],
+) -> Result<Option<(KeyPath, &C)>, AllocError>
+    ensures { IfOk result (λ f. option_map place_of f ≡ first_of (placed_among nodes.now)) }
+{
+    for node in nodes {
+        match first_in(alloc, node)? {
+            Some(first) => return Ok(Some(first)),
+            None => {}
+        }
+    }
+    Ok(None)
+}
+
+impl<C: Drop> Findings<C> {
     /// No finding.
     ///
     /// ```ignore
     /// let none = Findings::none(alloc);
     /// ```
     #[inline(always)]
-    pub fn none(alloc: Global) -> Findings
-        ensures { found result ≡ [] }
+    pub fn none(alloc: Global) -> Findings<C>
+        ensures { placed result ≡ [] }
     {
         Findings {
             nodes: Vec::new(alloc),
         }
     }
 
-    /// What one node says, and no more.
-    fn alone(alloc: Global, node: FindingNode) -> Found
-        ensures { IfOk result (λ f. found f ≡ found_in node) }
+    /// This at the value itself, and no more.
+    ///
+    /// ```ignore
+    /// let found = Findings::alone(alloc, Refusal::MixedLints)?;
+    /// ```
+    pub fn alone(alloc: Global, found: C) -> Result<Findings<C>, AllocError>
+        ensures { IfOk result (λ f. placed f ≡ placed_here found) }
     {
         let mut nodes = Vec::new(alloc);
-        nodes.push(node)?;
+        nodes.push(FindingNode::Here(found))?;
         Ok(Findings { nodes })
-    }
-
-    /// What is found in a value that is refused itself, and in which nothing else is found: its one fault, and of a choice
-    /// the words that there are. It fails where the refusal is one of memory, and when out of memory.
-    ///
-    /// ```ignore
-    /// let found = Findings::of_refusal(alloc, refused, &["1", "2", "3"])?; // of the version of a resolver
-    /// ```
-    #[cold]
-    pub fn of_refusal(alloc: Global, refused: ReadFault, choices: Choices) -> Found
-        ensures { IfOk result (IsFoundHere (choices_of choices.entry) refused) }
-    {
-        let cause = match refused {
-            ReadFault::Schema(fault) => fault.cause,
-            ReadFault::Memory(refused) => return Err(refused),
-        };
-        match cause {
-            Cause::NotAChoice => Findings::alone(alloc, FindingNode::Fault(cause, choices)),
-            _ => Findings::alone(alloc, FindingNode::Fault(cause, NO_CHOICES)),
-        }
-    }
-
-    /// The fault of this cause at the value itself, alone, with no choice.
-    ///
-    /// ```ignore
-    /// let found = Findings::here(alloc, Cause::WrongKind)?;
-    /// ```
-    #[cold]
-    pub fn here(alloc: Global, cause: Cause) -> Found
-        ensures { IfOk result (λ f. found f ≡ found_here (cause_of cause)) }
-    {
-        Findings::alone(alloc, FindingNode::Fault(cause, NO_CHOICES))
-    }
-
-    /// The fault of this cause under a key, alone.
-    ///
-    /// ```ignore
-    /// let found = Findings::under(alloc, "name", Cause::Missing)?;
-    /// ```
-    #[cold]
-    pub fn under(alloc: Global, word: &str, cause: Cause) -> Found
-        ensures { IfOk result
-            (λ f. found f ≡ found_under (key word.now) (found_here (cause_of cause))) }
-    {
-        Findings::none(alloc).and_under(alloc, word, Findings::here(alloc, cause)?)
     }
 
     /// These findings, and then more.
@@ -143,8 +149,8 @@ impl Findings {
     /// let all = first.and(second)?;
     /// ```
     #[inline(always)]
-    pub fn and(self, more: Findings) -> Found
-        ensures { IfOk result (λ f. found f ≡ found self ++ found more) }
+    pub fn and(self, more: Findings<C>) -> Result<Findings<C>, AllocError>
+        ensures { IfOk result (λ f. placed f ≡ placed self ++ placed more) }
     {
         if more.nodes.is_empty() {
             return Ok(self);
@@ -153,8 +159,8 @@ impl Findings {
     }
 
     /// These findings, and then more, whose nodes are moved.
-    fn and_all(self, more: Findings) -> Found
-        ensures { IfOk result (λ f. found f ≡ found self ++ found more) }
+    fn and_all(self, more: Findings<C>) -> Result<Findings<C>, AllocError>
+        ensures { IfOk result (λ f. placed f ≡ placed self ++ placed more) }
     {
         let mut nodes = self.nodes;
         for node in more.nodes {
@@ -164,9 +170,9 @@ impl Findings {
     }
 
     /// These findings, and then those of the value that a step leads to.
-    fn and_within(self, step: Step, more: Findings) -> Found
+    fn and_within(self, step: Step, more: Findings<C>) -> Result<Findings<C>, AllocError>
         ensures { IfOk result
-            (λ f. found f ≡ found self ++ found_under (step_of step) (found more)) }
+            (λ f. placed f ≡ placed self ++ placed_under (step_of step) (placed more)) }
     {
         let mut nodes = self.nodes;
         nodes.push(FindingNode::Within(step, more.nodes))?;
@@ -179,9 +185,14 @@ impl Findings {
     /// let all = found.and_under(alloc, "package", inside)?;
     /// ```
     #[inline(always)]
-    pub fn and_under(self, alloc: Global, word: &str, more: Findings) -> Found
+    pub fn and_under(
+        self,
+        alloc: Global,
+        word: &str,
+        more: Findings<C>,
+    ) -> Result<Findings<C>, AllocError>
         ensures { IfOk result
-            (λ f. found f ≡ found self ++ found_under (key word.now) (found more)) }
+            (λ f. placed f ≡ placed self ++ placed_under (key word.now) (placed more)) }
     {
         if more.nodes.is_empty() {
             return Ok(self);
@@ -194,8 +205,9 @@ impl Findings {
     /// ```ignore
     /// let all = found.and_at(0, first_item)?;
     /// ```
-    pub fn and_at(self, i: usize, more: Findings) -> Found
-        ensures { IfOk result (λ f. found f ≡ found self ++ found_under (index i) (found more)) }
+    pub fn and_at(self, i: usize, more: Findings<C>) -> Result<Findings<C>, AllocError>
+        ensures { IfOk result
+            (λ f. placed f ≡ placed self ++ placed_under (index i) (placed more)) }
     {
         if more.nodes.is_empty() {
             return Ok(self);
@@ -203,39 +215,38 @@ impl Findings {
         self.and_within(Step::Index(i), more)
     }
 
-    /// These findings, and then the keys of entries that nothing reads.
-    ///
-    /// ```ignore
-    /// let all = found.and_unused(alloc, walk.rest)?;
-    /// ```
-    pub fn and_unused(self, alloc: Global, rest: Vec<Entry<'_>>) -> Found
-        ensures { IfOk result
-            (λ f. found f ≡ found self ++ unused_keys (rest_view rest.entry.items)) }
-    {
-        let mut nodes = self.nodes;
-        for (key, value) in rest {
-            drop(value);
-            nodes.push(FindingNode::Unused(key.into_string(alloc)?))?;
-        }
-        Ok(Findings { nodes })
-    }
-
-    /// The findings where they are of a value whose faults are ignored: each fault becomes `Ignored`.
-    ///
-    /// ```ignore
-    /// let ignored = Findings::here(alloc, Cause::WrongKind)?.leniently(alloc)?;
-    /// ```
-    pub fn leniently(self, alloc: Global) -> Found
-        ensures { IfOk result (λ f. found f ≡ leniently (found self)) }
-    {
-        let nodes = nodes_leniently(alloc, self.nodes)?;
-        Ok(Findings { nodes })
-    }
-
     /// The nodes, in their order.
-    pub fn nodes(&self) -> &[FindingNode]
-        ensures { found_among result.now ≡ found self.now }
+    pub fn nodes(&self) -> &[FindingNode<C>]
+        ensures { placed_among result.now ≡ placed self.now }
     {
         self.nodes.as_slice()
+    }
+
+    /// The first of the findings, with its path, if there is one.
+    ///
+    /// ```ignore
+    /// if let Some((path, finding)) = found.first(alloc)? { .. }
+    /// ```
+    pub fn first(&self, alloc: Global) -> Result<Option<(KeyPath, &C)>, AllocError>
+        ensures { IfOk result (λ f. option_map place_of f ≡ first_of (placed self.now)) }
+    {
+        first_among(alloc, self.nodes())
+    }
+
+    /// The findings, in their order, each with its whole path.
+    ///
+    /// Each path has a copy of its keys. So the list can take as much memory as the square of what the findings take:
+    /// who takes values from others goes through [`nodes`](Findings::nodes).
+    ///
+    /// ```ignore
+    /// for (path, finding) in found.to_vec(alloc)? { .. }
+    /// ```
+    pub fn to_vec(&self, alloc: Global) -> Result<Vec<(KeyPath, &C)>, AllocError>
+        ensures { IfOk result (λ v. map place_of v.items ≡ placed self.now) }
+    {
+        let mut path = KeyPath {
+            steps: Vec::new(alloc),
+        };
+        push_nodes(alloc, self.nodes(), &mut path, Vec::new(alloc))
     }
 }

@@ -8,15 +8,17 @@ ghost use Rattle.manifest_value.specs.Walks.{Ascend};
 
 use crate::entries::{Entries, Entry};
 use crate::fault::Cause;
-use crate::findings::{Findings, Found};
+use crate::findings::Findings;
 use crate::form::{Form, Rowed};
 use crate::schema::Schema;
+use crate::schema_findings::{Finding, Found};
 use crate::source::TableSource;
 use crate::walking::{entries_without, walk};
 use std::alloc::{AllocError, Global};
 use toml::{Table, Value};
 
 /// What is found in the items of a list, each with its index before the path.
+#[tactic(auto, using(crate::proofs::FindingTrees::finding_steps))]
 pub(crate) fn findings_of_items<T: Schema>(alloc: Global, items: &[Value]) -> Found
     ensures { IfOk result (λ f. found f ≡ item_findings T.kind.findings 0 (items_view items.now)) }
 {
@@ -28,6 +30,7 @@ pub(crate) fn findings_of_items<T: Schema>(alloc: Global, items: &[Value]) -> Fo
 }
 
 /// What is found in the values of entries, each with its key before the path.
+#[tactic(auto, using(crate::proofs::FindingTrees::finding_steps))]
 fn findings_of_entries<T: Schema>(alloc: Global, entries: Entries<'_>) -> Found
     ensures { IfOk result
         (λ f. found f ≡ entry_findings T.kind.findings (entries_view entries.entry)) }
@@ -60,7 +63,7 @@ fn findings_of_rest<T: Schema>(alloc: Global, rest: Vec<Entry<'_>>) -> Found
 pub fn findings_of_rows<'t, T: Rowed>(
     alloc: Global,
     table: &'t Table,
-) -> Result<(Findings, Vec<Entry<'t>>), AllocError>
+) -> Result<(Findings<Finding>, Vec<Entry<'t>>), AllocError>
     ensures { IfOk result (λ r. (found r.0 ≡ findings_from 0 T.rows (table_view table.entry.now))
         × (rest_view r.1.items ≡ without (spelled T.rows) (table_view table.entry.now))
         × Ascend (rest_view r.1.items)) }
@@ -84,7 +87,7 @@ pub fn findings_of_rows<'t, T: Rowed>(
 pub fn findings_of_closed<'t, T: Form>(
     alloc: Global,
     table: &'t Table,
-) -> Result<(Findings, Vec<Entry<'t>>), AllocError>
+) -> Result<(Findings<Finding>, Vec<Entry<'t>>), AllocError>
     ensures { IfOk result (λ r. (found r.0 ≡ row_findings T.rows (table_view table.entry.now))
         × (rest_view r.1.items ≡ left_over T.rows (table_view table.entry.now))) }
 {

@@ -10,9 +10,10 @@ ghost use Rattle.manifest_schema.proofs.KindLaws.{map_sound};
 
 use crate::entries::{Entries, Entry, Key};
 use crate::fault::{Cause, ReadFault};
-use crate::findings::{Findings, Found};
+use crate::findings::Findings;
 use crate::form_findings::findings_of_map;
 use crate::schema::Schema;
+use crate::schema_findings::Found;
 use crate::source::{Source, TableSource, source_under};
 use crate::well_formed::values_are_well_formed;
 use crate::writers::entries_by;

@@ -6,9 +6,10 @@ ghost use Rattle.manifest_value.specs.Faults.{FaultIn, IsSchema};
 ghost use Rattle.manifest_value.specs.Reading.{written_as};
 
 use crate::fault::{Cause, ReadFault, fault_here};
-use crate::findings::{Findings, Found};
+use crate::findings::Findings;
 use crate::rows::put_optional;
 use crate::schema::Schema;
+use crate::schema_findings::Found;
 use crate::source::Source;
 use std::alloc::{AllocError, Global};
 use toml::{Table, Value};

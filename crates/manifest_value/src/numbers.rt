@@ -5,8 +5,9 @@ ghost use Rattle.manifest_schema.specs.Kinds.{whole};
 ghost use Rattle.manifest_schema.proofs.KindLaws.{whole_sound};
 
 use crate::fault::{Cause, ReadFault, fault_here};
-use crate::findings::{Findings, Found};
+use crate::findings::Findings;
 use crate::schema::Schema;
+use crate::schema_findings::Found;
 use crate::source::Source;
 use std::alloc::{AllocError, Global};
 use toml::Value;

@@ -6,8 +6,9 @@ ghost use Rattle.manifest_value.specs.Found.{found};
 ghost use Rattle.manifest_value.specs.Reading.{Gives, GivesOr};
 
 use crate::fault::{Cause, ReadFault, Step, fault_here, fault_under_key, fault_under_step};
-use crate::findings::{Findings, Found};
+use crate::findings::Findings;
 use crate::schema::Schema;
+use crate::schema_findings::Found;
 use crate::source::Source;
 use std::alloc::{AllocError, Global};
 use toml::{Table, Value};
@@ -116,6 +117,7 @@ fn find_floats(alloc: Global, value: &Value) -> Found
 
 /// Each float in the items of an array, with the item's index before its path.
 #[cycle(all_places)]
+#[tactic(auto, using(crate::proofs::FindingTrees::finding_steps))]
 fn find_floats_in_items(alloc: Global, items: &Vec<Value>) -> Found
     ensures { IfOk result (λ f. found f ≡ item_floats 0 (array_view items.now)) }
 {
@@ -128,6 +130,7 @@ fn find_floats_in_items(alloc: Global, items: &Vec<Value>) -> Found
 
 /// Each float in the values of a table, with the entry's key before its path.
 #[cycle(all_places)]
+#[tactic(auto, using(crate::proofs::FindingTrees::finding_steps))]
 fn find_floats_in_members(alloc: Global, members: &Table) -> Found
     ensures { IfOk result (λ f. found f ≡ entry_floats (table_view members.now)) }
 {

@@ -8,19 +8,23 @@ ghost use Rattle.manifest_value.specs.Found.{found, Finds};
 ghost use Rattle.manifest_value.specs.Sources.{row_view};
 
 use crate::fault::Cause;
-use crate::findings::{Findings, Found};
+use crate::findings::Findings;
 use crate::form::Word;
 use crate::row_slots::RowSlot;
 use crate::schema::Schema;
+use crate::schema_findings::Found;
 use std::alloc::Global;
 use toml::Value;
 
 /// What is found in a value that stands under a key: each finding has the key before its path.
+#[tactic(auto, using(crate::proofs::FindingTrees::finding_steps))]
 fn found_under<T: Schema>(alloc: Global, word: &str, value: &Value) -> Found
     ensures { IfOk result
         (λ f. found f ≡ found_under (key word.now) (T.kind.findings (view value.now))) }
 {
-    Findings::none(alloc).and_under(alloc, word, T::findings(alloc, value)?)
+    let inside = T::findings(alloc, value)?;
+    let found = Findings::none(alloc).and_under(alloc, word, inside)?;
+    Ok(found)
 }
 
 /// What is found of a row that may be absent: two spellings are the fault `TwoSpellings` under the first one, `key`; else

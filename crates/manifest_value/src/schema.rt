@@ -11,10 +11,11 @@ ghost use Rattle.manifest_value.specs.Sources.{source_view};
 
 use crate::error::{Error, refusal};
 use crate::fault::{Cause, ReadFault, fault_here};
-use crate::findings::{Findings, Found};
+use crate::findings::Findings;
 use crate::form_findings::findings_of_items;
 use crate::items::{Items, read_items};
 use crate::readers::{boolean, text};
+use crate::schema_findings::Found;
 use crate::source::Source;
 use crate::well_formed::items_are_well_formed;
 use crate::writers::{write_list, write_text};

@@ -1,9 +1,9 @@
-use Rattle.manifest_value.specs.declared.findings.FindingNode.{Within}
-use Rattle.manifest_value.proofs.FindingTrees.{among_pushed, in-Within}
+use Rattle.std.proofs.Common.{arith}
+use Rattle.std.proofs.lemmas.Grind.{common_steps}
+use Rattle.manifest_value.proofs.FindingTrees.{within}
 use Rattle.manifest_value.proofs.findings.Findings.and_within.Goals as goal
 
 pub returns : goal.returns
-returns c =
-    let inside = c.args.more.nodes in
-    among_pushed c.push.new.self.items c.args.self.nodes.items (Within c.args.step inside) _ c.in_ok-push.ensures.items
-    (in-Within c.args.step inside)
+returns g c =
+    let said = within c.args.step c.args.more.nodes in
+    grind (arith, common_steps, said)

@@ -3,7 +3,7 @@ use Rattle.std.specs.Vec.Iter.{into_iter_items}
 use Rattle.manifest_schema.specs.Prelude.{unused_keys}
 use Rattle.manifest_value.specs.Found.{found_among}
 use Rattle.manifest_value.specs.Sources.{rest_view}
-use Rattle.manifest_value.proofs.findings.Findings.and_unused.Given as goal
+use Rattle.manifest_value.proofs.schema_findings.Findings+Finding.and_unused.Given as goal
 
 -- the findings so far, and the keys that are to come
 abbrev pub invariant-loop-key : goal.invariant-loop-key

@@ -2,7 +2,7 @@ use Rattle.std.proofs.Common.{◌≡◌, ◌++◌}
 use Rattle.std.specs.Vec.Iter.{into_iter_items}
 use Rattle.manifest_schema.specs.Prelude.{leniently}
 use Rattle.manifest_value.specs.Found.{found_among}
-use Rattle.manifest_value.proofs.findings.+lenient.Given as goal
+use Rattle.manifest_value.proofs.schema_findings.+lenient.Given as goal
 
 -- the nodes so far, and those that are to come
 abbrev pub invariant-nodes_leniently-loop-node : goal.invariant-nodes_leniently-loop-node
