@@ -4,7 +4,7 @@ use crate::calls::{tables, ListingError, Listings, Refusal};
 use crate::codec::{Aside, Encode, Members, Writer};
 use crate::error::refused_table;
 use crate::reading::{decode, encode};
-use crate::{AbstractFilesystem, Error, Filesystem, Manifest, Package, StringOrBool, Value};
+use crate::{AbstractFilesystem, Error, Filesystem, Manifest, Package, Product, StringOrBool, Value};
 use std::collections::BTreeSet;
 use std::io;
 use std::path::Path;
@@ -69,9 +69,9 @@ impl<PackageMetadata> Manifest<PackageMetadata> {
             Ok(completed) => self.put_targets(&completed),
             Err(refusal) => return Err(asked.refused(refusal)),
         }
-        if let Some(Ok(wanted)) = whole.map(|whole| tables::completed(&whole, &asked.listings)) {
-            let is_as_whole = encode(self, Aside::default()).is_ok_and(|table| table == wanted);
-            assert!(is_as_whole, "completion makes other targets of the whole manifest");
+        if let Some(Ok(whole)) = whole.map(|whole| tables::completed(&whole, &asked.listings)) {
+            let (whole, _) = decode::<PackageMetadata, Value>(&whole);
+            assert!(targets(self) == targets(&whole), "completion makes other targets of the whole manifest");
         }
         Ok(())
     }
@@ -88,6 +88,13 @@ impl<PackageMetadata> Manifest<PackageMetadata> {
         self.test = completed.test;
         self.bench = completed.bench;
     }
+}
+
+/// What completion makes: the build script, the library and the lists of targets.
+fn targets<P, W>(manifest: &Manifest<P, W>) -> (Option<&StringOrBool>, Option<&Product>, [&[Product]; 4]) {
+    let Manifest { package, lib, bin, example, test, bench, .. } = manifest;
+    let build = package.as_ref().and_then(|package| package.build.as_ref());
+    (build, lib.as_ref(), [bin, example, test, bench])
 }
 
 /// What completion reads of a manifest with a package: the package's name, edition, build script and flags, and the
