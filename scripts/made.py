@@ -5,6 +5,11 @@ import textwrap
 
 from schema import FORMS, value
 
+# what stands where something begins that is made: in the code, the definitions, Python, C and a page
+WORDS = "(made by scripts/keys --write)"
+MARK, IN_DEFINITIONS, IN_PYTHON, IN_C, IN_PAGE = (
+    mark.format(WORDS) for mark in ("// {}", "-- {}", "# {}", "/* {} */", "<!-- {} -->")
+)
 REFERENCE = "https://doc.rust-lang.org/cargo/reference"
 # what one value and many values of a kind are called, its type in the definitions, what a value of the code holds there, and its
 # type in Rust
@@ -27,24 +32,9 @@ KINDS = {
     "status": ("[status](#words)", "", "MaintenanceStatus", "status_content", "MaintenanceStatus"),
     "strip": ("[strip](#words)", "", "StripSetting", "strip_content", "StripSetting"),
 }
-# of each form, what a value of the code holds, as a function
-CONTENTS = {
-    "inherited_rows": "inherited_content",
-    "detailed_rows": "detail_content",
-    "lint_rows": "lint_config_content",
-    "product_rows": "product_content",
-    "badge_rows": "badge_content",
-    "maintenance_rows": "maintenance_content",
-    "badges_rows": "badges_content",
-    "profile_rows": "profile_content",
-    "profiles_rows": "profiles_content",
-    "lints_rows": "lints_content",
-    "platform_rows": "platform_content",
-    "package_rows": "package_content",
-    "workspace_package_rows": "workspace_package_content",
-    "workspace_rows": "workspace_content",
-    "manifest_rows": "manifest_content",
-}
+# of forms whose name another definition has: what a value of the code holds, as a function, and the name of its laws
+CONTENTS = {"detailed_rows": "detail_content", "lint_rows": "lint_config_content"}
+LAWS = {"lint_rows": "lint_config"}
 # the maps that have a name in Rust
 MAPS = {
     "BTreeMap<String, Dependency>": "DepsSet",
@@ -55,6 +45,11 @@ MAPS = {
     "BTreeMap<String, ToolLintsSet>": "LintsSet",
 }
 WRITTEN = {"never": "always", "if_true": "unless true", "if_false": "unless false", "is_empty": "unless empty"}
+
+
+def region(pattern, lines, indent="", mark=None):
+    """A part of a file: where it stands, and its lines, the first of which may be a mark."""
+    return pattern, [f"{indent}{line}".rstrip() for line in ([mark] if mark else []) + list(lines)]
 
 
 # A KIND
@@ -153,11 +148,16 @@ def keys_table(form):
 
 def table(head, rows):
     """A table of a page."""
-    lines = ["| " + " | ".join(head) + " |", "|" + "---|" * len(head)]
-    return lines + ["| " + " | ".join(cells).replace("|  |", "| |") + " |" for cells in rows]
+    first, *others = (re.sub(r"  (?=\|)", " ", f"| {' | '.join(cells)} |") for cells in (head, *rows))
+    return [first, "|" + "---|" * len(head), *others]
 
 
 # THE DEFINITIONS
+def content_of(name):
+    """The function that says what a value of a form's struct holds."""
+    return CONTENTS.get(name, name.replace("_rows", "_content"))
+
+
 def escaped(field):
     return f"«{field}»" if field in ("package", "optional") else field
 
@@ -185,9 +185,9 @@ def function(kind, maps):
         case [inner]:
             return function(inner, maps)
         case ["form", [inner, of]]:
-            return f"{CONTENTS[inner]} {function(of, maps)}"
+            return f"{content_of(inner)} {function(of, maps)}"
         case ["form", inner]:
-            return CONTENTS[inner]
+            return content_of(inner)
         case ["inh", inner]:
             return f"inh_content {in_parentheses(function(inner, maps))}"
         case ["list_of", inner]:
@@ -282,31 +282,223 @@ def code_rows(form):
             yield f'{row.field}: {code_need(row)} "{row.key}"{second};'
 
 
-def rowed_head(form):
-    """The beginning of the impl of `Rowed`."""
-    name = form.name.removesuffix("_rows")
+def code_list(form):
+    """The list, and the static of its spellings."""
     return [
-        f"ghost Content = {{ Contents.{form.record} }};", "",
-        f"ghost content = {{ {CONTENTS[form.name]} }};", "",
-        f"ghost rows = {{ {form.name} }};", "",
-        "fn names() -> &'static [Spellings] {", f"    {name.upper()}", "}", "",
+        f"macro_rules! {form.macro} {{", "    ($make:ident $given:tt) => {", "        $make! { $given",
+        *indented(12, [MARK, *code_rows(form)]), "        }", "    };", "}",
+        "", f"static {form.macro.upper()}: &[Spellings] = {form.macro}!(names_of_rows());",
     ]
 
 
-def rowed_rest(form, has_unfit):
-    """The end of it: the methods that go over the rows. A form of which each row is always well-formed says so by hand."""
-    name = form.name.removesuffix("_rows")
+def indented(by, lines):
+    return [f"{' ' * by}{line}".rstrip() for line in lines]
+
+
+def spaced(blocks):
+    """The lines of all blocks, with an empty line between two."""
+    return [line for block in blocks if block for line in ("", *block)][1:]
+
+
+def comment(text):
+    """The comment of an item."""
+    return [f"/// {line}" for line in textwrap.wrap(text, 116, break_long_words=False, break_on_hyphens=False)]
+
+
+def ghost(name, what):
+    """A ghost member of an impl."""
+    return textwrap.wrap(f"ghost {name} = {{ {what} }};", 96, subsequent_indent="    ")
+
+
+def parameters(form):
+    """The type parameters of a form's struct: the types of its metadata."""
+    return [rust_type(kind) for kind in form.kinds]
+
+
+def struct_of(form):
+    """The struct of a form, with its type parameters."""
+    return f"{form.record}<{', '.join(names)}>" if (names := parameters(form)) else form.record
+
+
+def impl_of(trait, form):
+    """The first line of an impl for a form's struct."""
+    bounds = ", ".join(f"{name}: Metadata" for name in parameters(form))
+    return f"impl<{bounds}> {trait} for {struct_of(form)} {{" if bounds else f"impl {trait} for {form.record} {{"
+
+
+def of_metadata(name, form, *members):
+    """A definition that takes these members of each type of metadata."""
+    names = parameters(form)
+    return " ".join([name, *(member.format(name) for member in members for name in names)])
+
+
+def needs_memory(form):
+    """Whether `empty` takes the allocator, but for a required row."""
+    with_memory = ("default_list", "nonempty_list", "default_map", "default_text")
+    return any(code_need(row).startswith(with_memory) for row in form.rows if row.key)
+
+
+def empty_of(form):
+    """What makes a record of which no row is read, with what the required row holds: its comment and its line; None where the
+    required row is no text, so that it is by hand."""
+    required = [row for row in form.rows if row.need == "required"]
+    if form.is_open or parameters(form) or [row.kind for row in required] not in ([], ["text"]):
+        return None
+    alloc = "alloc" if needs_memory(form) or required else "()"
+    if required:
+        said = f"the struct, the allocator, and what `{required[0].field}`, the required row, holds until it is read"
+    elif alloc == "alloc":
+        said = "the struct and the allocator; no row is required"
+    else:
+        said = "the struct; no row needs the allocator, and none is required"
+    return f"// {said}", f"{form.macro}!(empty_of({form.record}, {alloc}, {'String::new(alloc)' if required else '()'}))"
+
+
+def empty(form, text):
+    """The method `empty`, by what the file has; None where it is by hand."""
+    if re.search(rf"^impl Default for {form.record} {{", text, re.M):
+        lines = [f"{form.record}::default()"]
+    elif re.search(rf"^    pub fn default\(alloc: Global\) -> {form.record}\b", text, re.M):
+        lines = [f"{form.record}::default(alloc)"]
+    elif not (lines := empty_of(form)):
+        return None
+    alloc = "alloc" if "alloc" in lines[-1] else "_alloc"
+    return [f"fn empty({alloc}: Global) -> {struct_of(form)} {{", *indented(4, lines), "}"]
+
+
+def default(form):
+    """The impl of `Default`, within its braces, of a form of which each row may be absent; None where it is by hand."""
+    lines = empty_of(form)
+    if lines is None or "alloc" in lines[-1]:
+        return None
+    is_default = ghost("is_default", f"IsOfTable {form.name} {content_of(form.name)} no_members")
+    return [MARK, *spaced([is_default, [f"fn default() -> {form.record} {{", *indented(4, lines), "}"]])]
+
+
+# what the impl of `Rowed` may have that is by hand: a method `empty` that is not as any other; the attributes of `read_row`; and,
+# with its comment, that each row is always well-formed
+BY_HAND = {
+    "empty": r"^    fn empty\((?:.*\n)*?    \}\n",
+    "attributes": r"(?:^    #\[.*\n)+(?=(?:^    //.*\n)?^    fn read_row\()",
+    "well_formed": r"(?:^    /// .*\n)+^    fn row_is_well_formed\((?:.*\n)*?    \}\n",
+}
+
+
+def by_hand(impl):
+    """The lines of each of these, of an impl as it stands there."""
+    found = {name: re.search(pattern, impl, re.M) for name, pattern in BY_HAND.items()}
+    return {name: textwrap.dedent(part[0]).strip().split("\n") if part else [] for name, part in found.items()}
+
+
+def rowed_head(form):
+    """The beginning of the impl of `Rowed`."""
+    content = of_metadata(f"{form.macro}_of", form, "{}.kind", "{}.content") if form.kinds else content_of(form.name)
+    return spaced([
+        ghost("Content", f"Contents.{form.record}"), ghost("content", content),
+        ghost("rows", of_metadata(form.name, form, "(tree_of {}.kind)")),
+        ["fn names() -> &'static [Spellings] {", f"    {form.macro.upper()}", "}"],
+    ])
+
+
+def rowed_methods(form):
+    """The end of it: the methods that go over the rows."""
     methods = {
         "read_row(&mut self, alloc: Global, i: usize, key: Word, slot: &mut RowSlot<'_>) -> RowRead":
             "read_row_of(self, alloc, i, key, slot)",
         "row_findings(&self, alloc: Global, i: usize, key: Word, slot: &RowSlot<'_>) -> Found":
             "findings_of_row(self, alloc, i, key, slot)",
         "put_row(&self, alloc: Global, i: usize, key: Word, out: &mut Table) -> RowPut": "put_row_of(self, alloc, i, key, out)",
+        "row_is_well_formed(&self, i: usize) -> bool": "good_row_of(self, i)",
     }
-    if has_unfit:
-        methods["row_is_well_formed(&self, i: usize) -> bool"] = "good_row_of(self, i)"
-    lines = [line for head, call in methods.items() for line in (f"fn {head} {{", f"    {name}!({call})", "}", "")]
-    return lines[:-1] if has_unfit else lines
+    return [[f"fn {head} {{", f"    {form.macro}!({call})", "}"] for head, call in methods.items()]
+
+
+def rowed(form, text, kept):
+    """The impl of `Rowed`, in a file with this text; `kept` is what it has that is by hand."""
+    others = " but the last" if kept["well_formed"] else ""
+    said = comment(
+        f"[`Rowed`] says what each method does. The body `{form.macro}!(read_row_of(..))` is made of the rows of"
+        f" `{form.macro}!`, as a `match` on the row's index `i`, and so are the others{others} (`manifest_value::row_macros`).")
+    first, methods = empty(form, text), rowed_methods(form)
+    mark = [] if first and not kept["attributes"] else [MARK]
+    methods[0] = [*kept["attributes"], *mark, *methods[0]]
+    methods[-1] = kept["well_formed"] or methods[-1]
+    lines = spaced([[MARK, *rowed_head(form)], first or kept["empty"], *methods])
+    return [*said, impl_of("Rowed", form), *indented(4, lines), "}"]
+
+
+def form_impl(form, kept):
+    """The impl of `Form`, after that of `Rowed`; none of a form that takes any other key."""
+    if form.is_open:
+        return []
+    said = comment("A form: each field is a row, so it is read and written by its list alone, and `Schema` comes with it."
+                   " `covers` is a law, with an empty body.")
+    law = f"{LAWS.get(form.name, form.macro)}_sound"
+    lawful = ghost("lawful", of_metadata(law, form, "(tree_of {}.kind)", "(tree_sound {}.lawful)"))
+    lines = [*([MARK] if kept["well_formed"] else []), "fn covers() {}", "", *lawful]
+    return [*said, impl_of("Form", form), *indented(4, lines), "}"]
+
+
+def impls(form, text, there):
+    """The impls of `Rowed` and `Form`, in a file with this text, where they stand there as `there`."""
+    kept = by_hand(there)
+    return spaced([rowed(form, text, kept), form_impl(form, kept)])
+
+
+# THE IMPLS of Copied and of Compared
+# kinds whose values have no memory, so that a copy of one is never refused
+SMALL = ("flag", "truth", "codegen", "priority", "lint", "edition", "resolver", "level", "status", "strip")
+# forms so wide that a copy is compared with the original row by row
+WIDE = ("detailed_rows", "badges_rows", "profile_rows", "workspace_package_rows")
+# types whose impl of Copied is by hand: they hold values of other types, whose laws it names
+COPIED_BY_HAND = ("Dependency", "Target", "Profiles", "Package", "Workspace", "Manifest")
+
+
+def is_small(kind, forms):
+    """Whether a value of a kind has no memory."""
+    match kind:
+        case [inner]:
+            return is_small(inner, forms)
+        case ["form", str(form)]:
+            return all(is_small(row.kind, forms) for row in forms[form].rows)
+    return kind in SMALL
+
+
+def copied(held, content, shown):
+    """The impl of `Copied`, within its braces."""
+    return spaced([ghost("Held", held), ghost("held", content), shown])
+
+
+def copies_of(form, forms):
+    """How it is shown that a copy of a form's struct holds what it is copied from."""
+    if form.name not in WIDE:
+        return ghost("copies", "Prim.search rules" if is_small(["form", form.name], forms) else "Prim.search (rules, copy_laws)")
+    content = content_of(form.name)
+    return [
+        f"ghost copies = {{ λ x y c. by_rows {form.name} {form.macro}_built",
+        f"    ({content} y) ({content} x)", f"    (unfold {form.name} in Prim.search (rules, copy_laws)) }};",
+    ]
+
+
+def impls_of_copied(forms):
+    """Of each type its impl of `Copied`, within its braces."""
+    by_name = {form.name: form for form in forms}
+    of_types = {}
+    for name, (_, _, content, held, of) in KINDS.items():
+        content = content if "{" in content else f"Contents.{content}"
+        shown = "Prim.search rules" if name in SMALL else "Prim.search (rules, copy_laws)"
+        of_types[of] = copied(content, held, ghost("copies", shown))
+    for form in forms:
+        of_types[form.record] = copied(f"Contents.{form.record}", content_of(form.name), copies_of(form, by_name))
+    return {name: lines for name, lines in of_types.items() if name not in COPIED_BY_HAND}
+
+
+def impls_of_compared(forms):
+    """Of each type whose values have no memory its impl of `Compared`, within its braces."""
+    by_name = {form.name: form for form in forms}
+    small = [of for name, (*_, of) in KINDS.items() if name in SMALL]
+    small += [form.record for form in forms if is_small(["form", form.name], by_name)]
+    return dict.fromkeys(small, spaced([ghost("compares", "Prim.search rules"), ghost("succeeds", "Prim.search rules")]))
 
 
 # THE RUST CRATE

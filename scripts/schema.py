@@ -54,12 +54,23 @@ class Row:
 
 @dataclass
 class Form:
-    """A form: its name, its section in docs/KEYS.md, its record, and its rows."""
+    """A form: its name, its section in docs/KEYS.md, its record, the kinds that it takes, and its rows."""
 
     name: str
     section: str
     record: str
+    kinds: list
     rows: list
+
+    @property
+    def macro(self):
+        """The macro that has the list of its rows in the code."""
+        return self.name.removesuffix("_rows")
+
+    @property
+    def is_open(self):
+        """Whether any other key is an entry of one more field."""
+        return self.rows[-1].key is None
 
 
 def parse(text):
@@ -77,8 +88,8 @@ def parse(text):
 
 
 def definitions(text, pattern):
-    """Each definition whose name has this pattern: its name, and what stands after its `=` up to an empty line."""
-    return re.findall(rf"^({pattern})(?: \w+)* =((?:.*\n)(?:\S? .*\n)*)", text, re.M)
+    """Each definition whose name has this pattern: its name, what it takes, and what stands after its `=` up to an empty line."""
+    return re.findall(rf"^({pattern})((?: \w+)*) =((?:.*\n)(?:\S? .*\n)*)", text, re.M)
 
 
 def value(words, kind="text"):
@@ -129,15 +140,15 @@ def forms(top):
     """Each form, in the order of the definitions."""
     for file in ("PartForms.antt", "ManifestForms.antt"):
         text = (top / SPECS / file).read_text(encoding="utf-8")
-        for name, body in definitions(text, r"\w+_rows"):
+        for name, taken, body in definitions(text, r"\w+_rows"):
             section, record = FORMS.get(name, (name, name))
-            yield Form(name, section, record, list(rows_of(body)))
+            yield Form(name, section, record, taken.split(), list(rows_of(body)))
 
 
 def choices(top):
     """The words of each choice: texts between quotes, and booleans."""
     text = (top / SPECS / "Choices.antt").read_text(encoding="utf-8")
-    for name, body in definitions(text, r"\w+_words"):
+    for name, _, body in definitions(text, r"\w+_words"):
         words = re.findall(r'codes ("[^"]*")', body)
         if name == "strip_words":
             words += re.findall(r"^strip_value \w+ = boolean (\w+)", text, re.M)

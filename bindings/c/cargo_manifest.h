@@ -82,30 +82,32 @@ extern "C" {
 
    A text is refused as too deep before it is parsed (by its headers, dotted keys and brackets) or after that (by its table). Of
    tagged bytes 14 or 15 is reported, by which is met first.
-   MANIFEST_MEMORY may stand in the place of any of them. There are no other numbers than these. */
+   MANIFEST_MEMORY may stand in the place of any of them. There are no other numbers than these.
+
+   A key path is keys that are joined by points, in double quotes where they are no bare keys of TOML, and places in arrays, from 0
+   on: `package.authors[0]`, `target."cfg(unix)".dependencies.b`. No text is read as a manifest that is refused as MANIFEST_DATE,
+   which is proved: tables that are passed in can be. Of 15 and 32 LIMITS says more. */
 enum manifest_status {
-    /* the text is what was asked for */
+    /* (made by scripts/keys --write) */
+    /* nothing is refused: the text is what was asked for */
     MANIFEST_ACCEPTED = 0,
-    /* the bytes are no TOML: the text says why, in words for people, and `start` and `end` where in the bytes */
+    /* the bytes are no TOML: the text is the message of `toml` */
     MANIFEST_NO_TOML = 1,
-    /* the bytes are TOML and no manifest: `cause` is one of enum manifest_cause, and the text is the key path of the fault,
-       as `package.authors[0]` or `target."cfg(unix)".dependencies.b`: keys joined by points, in double quotes where they
-       are no bare keys of TOML, and places in arrays, from 0 on */
+    /* the bytes are TOML and no manifest: `cause` is one of enum manifest_cause, and the text is the key path, as
+       `package.authors[0]` */
     MANIFEST_SCHEMA = 2,
-    /* a folder has a fault that refuses the completion: `cause` is one of enum manifest_fault. MANIFEST_OUT_OF_MEMORY is
-       reported also where there was no memory for a copy of its names */
+    /* a folder has a fault that refuses the completion: `cause` is one of enum manifest_fault */
     MANIFEST_IO = 3,
     /* the bytes are not UTF-8 */
     MANIFEST_NOT_UTF8 = 4,
-    /* a declared library has no file, as the text says */
+    /* a declared library has no file: the text is a sentence that says so */
     MANIFEST_OTHER = 5,
     /* no memory was left */
     MANIFEST_MEMORY = 6,
-    /* the manifest keeps a date-time that cannot be written, as the text says: one of a table that was passed in. (No text is
-       read as one, which is proved.) */
+    /* the manifest keeps a date-time that no text can have: the text is a sentence that says so */
     MANIFEST_DATE = 7,
-    /* the folders are no listings: a path or a name is not UTF-8, the names of a folder do not ascend, or two folders have
-       one path */
+    /* the folders are no listings: a path or a name is not UTF-8, the names of a folder do not ascend in the order of their
+       bytes, or two folders have one path */
     MANIFEST_LISTINGS = 8,
     /* the root has no `workspace` */
     MANIFEST_NO_WORKSPACE = 9,
@@ -114,15 +116,15 @@ enum manifest_status {
     MANIFEST_NOT_IN_WORKSPACE = 10,
     /* the workspace inherits its own dependency: the text is its name */
     MANIFEST_INHERITED_IN_WORKSPACE = 11,
-    /* the manifest inherits its lints, and has lints of a tool as well */
+    /* lints are inherited, and the manifest has lints of a tool as well */
     MANIFEST_MIXED_LINTS = 12,
-    /* the manifest inherits its lints, and the workspace has lints of a tool named `workspace` */
+    /* lints are inherited, and those of the workspace have a tool `workspace` */
     MANIFEST_TOOL_NAMED_WORKSPACE = 13,
-    /* bytes that should be a tagged table are not one: a text in them is not UTF-8, the keys of a table do not ascend, a number
-       is not written in the shortest way, or they end too early or too late */
+    /* bytes that should be a tagged table are not one: a text in them is not UTF-8, the keys of a table do not ascend, a
+       number is not written in the shortest way, or they end too early or too late */
     MANIFEST_UNTAGGED = 14,
-    /* arrays and tables stand in one another deeper than MANIFEST_DEPTH_LIMIT, or a dotted key leads deeper than 112 after a
-       header of an array of tables */
+    /* arrays and tables stand in one another more than 128 deep, or a dotted key leads deeper than 112 after a header of an
+       array of tables */
     MANIFEST_TOO_DEEP = 15,
     /* 1, 2, 4, 14 and 15 of the root: 16 more. `start` and `end` are places in the root */
     MANIFEST_ROOT_NO_TOML = 17,
@@ -130,7 +132,7 @@ enum manifest_status {
     MANIFEST_ROOT_NOT_UTF8 = 20,
     MANIFEST_ROOT_UNTAGGED = 30,
     MANIFEST_ROOT_TOO_DEEP = 31,
-    /* what is asked for could take more bytes than `most`, or what is inherited does: see LIMITS */
+    /* what is asked for could take more bytes than `most`, or what is inherited does */
     MANIFEST_TOO_LONG = 32
 };
 
@@ -139,14 +141,15 @@ enum manifest_status {
 
 /* The cause of MANIFEST_SCHEMA and MANIFEST_ROOT_SCHEMA. */
 enum manifest_cause {
-    MANIFEST_WRONG_KIND = 1,    /* the value is of another kind */
-    MANIFEST_MISSING = 2,       /* a required key is absent; the path ends in it */
-    MANIFEST_TWO_SPELLINGS = 3, /* a key stands there in both of its spellings */
-    MANIFEST_NOT_A_CHOICE = 4,  /* the text is not among those that are known here */
+    /* (made by scripts/keys --write) */
+    MANIFEST_WRONG_KIND = 1,    /* the value is of another kind, as a number for a text */
+    MANIFEST_MISSING = 2,       /* a required key is absent; the path ends with it */
+    MANIFEST_TWO_SPELLINGS = 3, /* a table has a key by both spellings, as `default-features` and `default_features` */
+    MANIFEST_NOT_A_CHOICE = 4,  /* the text is none of those that may stand there, as `edition = "2020"` */
     MANIFEST_OUT_OF_RANGE = 5,  /* the whole number is too large or too small */
-    MANIFEST_NOT_TRUE = 6,      /* the boolean has to be true */
-    MANIFEST_HOLDS_FLOAT = 7,   /* a value that is kept as it is holds a float */
-    MANIFEST_METADATA = 8       /* metadata of a type of its own does not fit; no call here has one */
+    MANIFEST_NOT_TRUE = 6,      /* a boolean that has to be true is false */
+    MANIFEST_HOLDS_FLOAT = 7,   /* a value that is kept as it is, as metadata, holds a float */
+    MANIFEST_METADATA = 8       /* the type of the metadata refuses it; no call of the library has such a type */
 };
 
 /* What a call answers. */
@@ -175,9 +178,10 @@ struct manifest_names {
 };
 
 /* The fault of a folder, and the cause of MANIFEST_IO. As the fault of a folder, each other number is MANIFEST_OTHER_FAULT
-   too. */
+   too. As a cause, MANIFEST_OUT_OF_MEMORY is reported also where there was no memory for a copy of a folder's names. */
 enum manifest_fault {
     MANIFEST_NO_FAULT = 0,
+    /* (made by scripts/keys --write) */
     MANIFEST_NOT_FOUND = 1,
     MANIFEST_OUT_OF_MEMORY = 2,
     MANIFEST_OTHER_FAULT = 3

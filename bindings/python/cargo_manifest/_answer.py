@@ -6,6 +6,7 @@ from typing import Any, Callable, Optional
 
 from ._library import Answer, Call, Request, manifest_run
 from ._listings import Listings
+from ._numbers import ACCEPTED
 from ._reader import utf8
 from ._refusal import refusal
 
@@ -79,6 +80,6 @@ def _given(
             break
         room = answer.length
     said = bytes(memoryview(out)[: answer.length])
-    if answer.status == 0:
+    if answer.status == ACCEPTED:
         return said
     raise refusal(answer, utf8(said), *given)

@@ -9,13 +9,12 @@ from collections.abc import Iterable, Mapping
 from typing import Any, Optional, Union
 
 from ._library import Bytes, Folder
+from ._numbers import NOT_FOUND, OTHER_FAULT, OUT_OF_MEMORY
 
 Fault = Union[OSError, MemoryError]
 Folders = Union[str, os.PathLike[str], Mapping[str, Union[Iterable[str], Fault]]]
 
 Listed = Union[list[bytes], Fault]
-
-NOT_FOUND, OUT_OF_MEMORY, OTHER = 1, 2, 3
 
 _TOP = b"."
 _SOURCES = b"src"
@@ -28,7 +27,7 @@ def _number_of(fault: Fault) -> int:
         return NOT_FOUND
     if isinstance(fault, MemoryError) or fault.errno == errno.ENOMEM:
         return OUT_OF_MEMORY
-    return OTHER
+    return OTHER_FAULT
 
 
 def _encoded(text: str, what: str) -> bytes:

@@ -3,19 +3,16 @@ from __future__ import annotations
 
 from typing import Optional
 
+from . import _numbers
 from ._cause import Cause
 from ._error import ManifestError, Part, Place
 from ._library import Answer, broken
-from ._listings import NOT_FOUND, OUT_OF_MEMORY, Listings
-
-# the root's statuses are the manifest's plus this number
-_OF_ROOT = 16
-
-_NO_TOML, _SCHEMA, _FOLDER, _NOT_UTF8, _MEMORY = 1, 2, 3, 4, 6
+from ._listings import Listings
 
 _NO_MEMORY = "no memory was left for the manifest"
 
 SCHEMA_CAUSES = {
+    # (made by scripts/keys --write)
     1: Cause.WRONG_KIND,
     2: Cause.MISSING,
     3: Cause.TWO_SPELLINGS,
@@ -27,22 +24,22 @@ SCHEMA_CAUSES = {
 }
 
 # statuses that the library has words for
-_TOLD = {5: Cause.NO_LIBRARY_FILE, 7: Cause.DATE_WITHOUT_TEXT}
+_TOLD = {_numbers.OTHER: Cause.NO_LIBRARY_FILE, _numbers.DATE: Cause.DATE_WITHOUT_TEXT}
 
 # statuses with a name in the workspace
 _NAMED: dict[int, tuple[Cause, Part]] = {
-    10: (Cause.NOT_IN_WORKSPACE, "manifest"),
-    11: (Cause.INHERITED_IN_WORKSPACE, "root"),
+    _numbers.NOT_IN_WORKSPACE: (Cause.NOT_IN_WORKSPACE, "manifest"),
+    _numbers.INHERITED_IN_WORKSPACE: (Cause.INHERITED_IN_WORKSPACE, "root"),
 }
 
 _PLAIN: dict[int, tuple[Cause, Part]] = {
-    8: (Cause.FOLDER_NOT_UTF8, "manifest"),
-    9: (Cause.NO_WORKSPACE, "root"),
-    12: (Cause.MIXED_LINTS, "manifest"),
-    13: (Cause.TOOL_NAMED_WORKSPACE, "root"),
-    15: (Cause.TOO_DEEP, "manifest"),
-    31: (Cause.TOO_DEEP, "root"),
-    32: (Cause.TOO_LONG, "manifest"),
+    _numbers.LISTINGS: (Cause.FOLDER_NOT_UTF8, "manifest"),
+    _numbers.NO_WORKSPACE: (Cause.NO_WORKSPACE, "root"),
+    _numbers.MIXED_LINTS: (Cause.MIXED_LINTS, "manifest"),
+    _numbers.TOOL_NAMED_WORKSPACE: (Cause.TOOL_NAMED_WORKSPACE, "root"),
+    _numbers.TOO_DEEP: (Cause.TOO_DEEP, "manifest"),
+    _numbers.ROOT_TOO_DEEP: (Cause.TOO_DEEP, "root"),
+    _numbers.TOO_LONG: (Cause.TOO_LONG, "manifest"),
 }
 
 
@@ -56,11 +53,11 @@ def place_of(text: bytes, start: int, end: int) -> Place:
 
 def _of_text(answer: Answer, said: str, status: int, part: Part, text: bytes) -> ManifestError:
     """The error of a text that is not read: the root's are reported as the manifest's."""
-    if status == _NOT_UTF8:
+    if status == _numbers.NOT_UTF8:
         return ManifestError(Cause.NOT_UTF8, part=part)
-    if status == _NO_TOML:
+    if status == _numbers.NO_TOML:
         return ManifestError(Cause.NO_TOML, said, part=part, place=place_of(text, answer.start, answer.end))
-    if status == _SCHEMA and answer.cause in SCHEMA_CAUSES:
+    if status == _numbers.SCHEMA and answer.cause in SCHEMA_CAUSES:
         return ManifestError(SCHEMA_CAUSES[answer.cause], part=part, path_text=said)
     raise broken()
 
@@ -69,10 +66,11 @@ def _of_folder(answer: Answer, listings: Optional[Listings]) -> Exception:
     """The exception of a folder, with the fault that it was listed with as its cause."""
     folder, fault = (None, None) if listings is None else listings.fault(answer.cause)
     refused: Exception
-    if answer.cause == OUT_OF_MEMORY:
+    if answer.cause == _numbers.OUT_OF_MEMORY:
         refused = MemoryError(_NO_MEMORY)
     else:
-        refused = ManifestError(Cause.FOLDER_NOT_FOUND if answer.cause == NOT_FOUND else Cause.FOLDER_FAULT, name=folder)
+        is_there = answer.cause != _numbers.NOT_FOUND
+        refused = ManifestError(Cause.FOLDER_FAULT if is_there else Cause.FOLDER_NOT_FOUND, name=folder)
     refused.__cause__ = fault
     return refused
 
@@ -83,11 +81,11 @@ def refusal(answer: Answer, said: str, manifest: bytes, root: bytes, listings: O
     if status in _PLAIN:
         cause, part = _PLAIN[status]
         return ManifestError(cause, part=part)
-    if status > _OF_ROOT:
-        return _of_text(answer, said, status - _OF_ROOT, "root", root)
-    if status == _FOLDER:
+    if status > _numbers.OF_ROOT:
+        return _of_text(answer, said, status - _numbers.OF_ROOT, "root", root)
+    if status == _numbers.IO:
         return _of_folder(answer, listings)
-    if status == _MEMORY:
+    if status == _numbers.MEMORY:
         return MemoryError(_NO_MEMORY)
     if status in _TOLD:
         return ManifestError(_TOLD[status], said)

@@ -2,14 +2,14 @@
 use Rattle.manifest_schema.specs.Prelude.{Data, Members, Kind, IsSound, foremost, manifest_faults}
 use Rattle.std.proofs.Common.{◌≡◌, ℕ, List, Some}
 use Rattle.toml.specs.Parse.{parse_document}
-use Rattle.manifest_schema.proofs.FoundLaws.{faulty_means_nothing}
-use Rattle.manifest_value.specs.Faults.{FaultIn, path_of, cause_of}
-use Rattle.manifest_value.specs.declared.fault.ReadFault.{ReadFault}
-use Rattle.manifest_value.specs.declared.fault.ReadFault.TheVariants as read
-use Rattle.manifest_value.specs.Refusals.{IsRefusal}
-use Rattle.manifest_value.specs.declared.error.Error.{Error}
-use Rattle.manifest_value.specs.declared.error.Error.TheVariants.{Parse, Memory}
-use Rattle.manifest_value.specs.declared.error.ParseFault.TheVariants.{Schema}
+use Rattle.manifest_schema.proofs.Findings.FoundLaws.{faulty_means_nothing}
+use Rattle.manifest_fault.specs.Faults.{FaultIn, path_of, cause_of}
+use Rattle.manifest_fault.specs.declared.fault.ReadFault.{ReadFault}
+use Rattle.manifest_fault.specs.declared.fault.ReadFault.TheVariants as read
+use Rattle.manifest_fault.specs.Refusals.{IsRefusal}
+use Rattle.manifest_fault.specs.declared.error.Error.{Error}
+use Rattle.manifest_fault.specs.declared.error.Error.TheVariants.{Parse, Memory}
+use Rattle.manifest_fault.specs.declared.error.ParseFault.TheVariants.{Schema}
 use Rattle.manifest_value.proofs.FoundLemmas.{foremost_among}
 use Rattle.cargo_manifest.specs.Answers.{RefusesTable, RefusesText}
 

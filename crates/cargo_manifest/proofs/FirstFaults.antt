@@ -1,10 +1,10 @@
 -- The first fault of a table without a header, and of the document of a text.
 use Rattle.manifest_schema.specs.Prelude.{Data, table, Members, key, Kind, IsSound, form, package_rows, manifest_rows, Rows, Manifest, IsFaultless, first_found, found_under, unused_keys, without, row_findings, left_over, form_findings, old_findings}
 use Rattle.std.proofs.Common.{[], ◌∷◌, ◌++◌, Option, Some, None, codes, sym, ◌∙◌}
-use Rattle.manifest_schema.proofs.Faultless.{faults-keys}
-use Rattle.manifest_schema.proofs.ManifestLaws.{manifest_sound}
-use Rattle.manifest_value.specs.Faults.{FaultIn}
-use Rattle.manifest_value.specs.declared.fault.ReadFault.{ReadFault}
+use Rattle.manifest_schema.proofs.Findings.Faultless.{faults-keys}
+use Rattle.manifest_schema.proofs.Forms.ManifestLaws.{manifest_sound}
+use Rattle.manifest_fault.specs.Faults.{FaultIn}
+use Rattle.manifest_fault.specs.declared.fault.ReadFault.{ReadFault}
 use Rattle.manifest_value.proofs.FirstLemmas.{first_before, first_after, first_same, read_clean}
 use Rattle.cargo_manifest.specs.Answers.{old_package_findings}
 

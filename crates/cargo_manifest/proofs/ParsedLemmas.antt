@@ -10,7 +10,7 @@ use Rattle.toml_parser.specs.Numbers.{number, plain_number, decimal_number, pref
 use Rattle.toml.specs.Data.{push_item}
 use Rattle.toml.specs.Tables.{Node, value, open_table, open_array, Nodes, no_nodes, node, get_node, insert, replace, close, close_node, Edit, header_node, dot_node, along_header, along_dots, Definition, new_node, redefine, at_key, put, Document, define_as, define, implicit, dotted}
 use Rattle.toml.specs.Parse.{keyval, items, members, atom, val, expression, line, lines, parse_document}
-use Rattle.manifest_schema.proofs.DateLaws.{meant_dates_are_valid}
+use Rattle.manifest_schema.proofs.Values.DateLaws.{meant_dates_are_valid}
 use Rattle.cargo_manifest.specs.Dates.{ParsedDatesAreValid, ReadDatesAreValid}
 
 -- what is so of a value, if there is one

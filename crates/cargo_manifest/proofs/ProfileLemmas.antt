@@ -1,9 +1,9 @@
 -- A fault of a custom profile is a fault of the profiles, and the first one where the others are read.
 use Rattle.manifest_schema.specs.Prelude.{Members, table, without, form, spelled, profile_rows, profiles_rows, first_found, entry_findings, form_findings, IsFaultless}
 use Rattle.std.proofs.Common.{◌≡◌, subst}
-use Rattle.manifest_value.specs.Faults.{FaultIn}
-use Rattle.manifest_value.specs.declared.fault.ReadFault.{ReadFault}
-use Rattle.manifest_value.specs.Found.{findings_from, other_findings}
+use Rattle.manifest_fault.specs.Faults.{FaultIn}
+use Rattle.manifest_fault.specs.declared.fault.ReadFault.{ReadFault}
+use Rattle.manifest_value.specs.FoundRows.{findings_from, other_findings}
 use Rattle.manifest_value.proofs.FoundLemmas.{open_found}
 use Rattle.manifest_value.proofs.FirstLemmas.{first_before, first_after}
 

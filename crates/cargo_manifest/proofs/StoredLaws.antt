@@ -1,7 +1,7 @@
 -- Where one answer is stored for each path text, what is stored decides what completing a manifest answers.
 use Rattle.std.proofs.Common.{⊎_elim, inl, inr, Ok, Err}
 use Rattle.std.specs.IoError.{error_kind}
-use Rattle.manifest_value.specs.declared.error.Error.TheVariants.{Parse, Io, Utf8, Other, Memory}
+use Rattle.manifest_fault.specs.declared.error.Error.TheVariants.{Parse, Io, Utf8, Other, Memory}
 use Rattle.manifest_completion.specs.Completed.{completed_to, refused, no_library, completed}
 use Rattle.manifest_completion.specs.Stored.{stored_map}
 use Rattle.manifest_completion.proofs.StoredLaws.{manifest_settled, by_stored}

@@ -1,6 +1,6 @@
 -- What it comes down to that a package, a workspace or a manifest is well-formed.
 use Rattle.manifest_schema.specs.Prelude.{Data, Kind, map_of, good_some, form, Workspace, lint, workspace_rows}
-use Rattle.manifest_schema.proofs.GoodLaws.{package_good, package_metadata_good, workspace_good, workspace_metadata_good, manifest_good, manifest_parts_good}
+use Rattle.manifest_schema.proofs.Values.GoodLaws.{package_good, package_metadata_good, workspace_good, workspace_metadata_good, manifest_good, manifest_parts_good}
 use Rattle.cargo_manifest.specs.WellFormed.{PackageByMetadata, WorkspaceByParts, ManifestByParts}
 
 lints_good : (K : Kind Data) (w : Workspace) → (form (workspace_rows K)).good w → good_some (map_of (map_of lint))

@@ -2,11 +2,11 @@
 use Rattle.manifest_schema.specs.Prelude.{Data, table, Members, key, form, package_rows, Finding, found_under, foremost, manifest_faults, members_depth, members_have_valid_dates, IsDocumentText, IsMemory, IsWithin, Kind, tree_of, Manifest, means, rewritten, well_formed, is_headed}
 use Rattle.std.specs.Prelude.{◌≡◌, ◌<◌, ◌≤◌, ◌⊎◌, ℕ, List, length, true, false, Option, Some, None, IsUtf8, codes, string_bytes}
 use Rattle.toml.specs.Parse.{parse_document}
-use Rattle.manifest_value.specs.declared.fault.SchemaFault.{SchemaFault}
-use Rattle.manifest_value.specs.Faults.{IsOneOf}
-use Rattle.manifest_value.specs.declared.error.Error.{Error}
-use Rattle.manifest_value.specs.declared.error.Error.TheVariants.{Parse, Utf8, Other, Memory}
-use Rattle.manifest_value.specs.declared.error.ParseFault.TheVariants.{Toml, Schema}
+use Rattle.manifest_fault.specs.declared.fault.SchemaFault.{SchemaFault}
+use Rattle.manifest_fault.specs.Faults.{IsOneOf}
+use Rattle.manifest_fault.specs.declared.error.Error.{Error}
+use Rattle.manifest_fault.specs.declared.error.Error.TheVariants.{Parse, Utf8, Other, Memory}
+use Rattle.manifest_fault.specs.declared.error.ParseFault.TheVariants.{Toml, Schema}
 use Rattle.cargo_manifest.specs.Printed.{printed_bound}
 use Rattle.cargo_manifest.specs.Whole.{manifest_content}
 use Rattle.cargo_manifest.specs.declared.manifest.Manifest.{Manifest as ManifestOfCode}

@@ -1,14 +1,14 @@
 -- What completing a manifest answers.
 use Rattle.manifest_schema.specs.Prelude.{error_kind, Global, Text, Manifest}
 use Rattle.std.specs.Prelude.{◌≡◌, Result, Ok, Err, Vec, string_bytes}
-use Rattle.manifest_value.specs.declared.error.Error.{Error}
-use Rattle.manifest_value.specs.declared.error.Error.TheVariants.{Io, Other, Memory}
+use Rattle.manifest_fault.specs.declared.error.Error.{Error}
+use Rattle.manifest_fault.specs.declared.error.Error.TheVariants.{Io, Other, Memory}
 use Rattle.manifest_completion.specs.Listings.{Answer}
 use Rattle.manifest_completion.specs.Completed.{Completion, completed_to, refused, no_library, completed, asked, ByOneMap}
 use Rattle.manifest_completion.specs.Stored.{AnswersAsStored, stored_map}
 use Rattle.manifest_completion.specs.Outcome.{library_text, IsRefusalOf}
 use Rattle.manifest_completion.specs.Unfound.{manifest_unfound, manifest_asked_unfound, IsAnswer, IsOutcome}
-use Rattle.manifest_value.specs.declared.fault.KeyPath.{KeyPath}
+use Rattle.manifest_fault.specs.declared.fault.KeyPath.{KeyPath}
 
 -- the manifest becomes this by one map of listings, whose answer at each place that is asked the filesystem allows
 abbrev pub ComesTo : (Text → Answer → Type 0) → Manifest → Completion Manifest → Type 0

@@ -3,8 +3,8 @@ use Rattle.manifest_schema.specs.Prelude.{error_kind, ErrorKind, path_bytes, Dat
 use Rattle.std.specs.Prelude.{◌≡◌, ◌⊎◌, ℕ, List, Option, Some, None, Result, Ok, Err, IsUtf8}
 use Rattle.std.specs.declared.path.Path.{Path}
 use Rattle.std.specs.Path.{path_parent}
-use Rattle.manifest_value.specs.declared.error.Error.{Error}
-use Rattle.manifest_value.specs.declared.error.Error.TheVariants.{Io}
+use Rattle.manifest_fault.specs.declared.error.Error.{Error}
+use Rattle.manifest_fault.specs.declared.error.Error.TheVariants.{Io}
 use Rattle.manifest_completion.specs.Listings.{AnyAscending}
 use Rattle.manifest_completion.specs.Completed.{completed_to}
 use Rattle.cargo_manifest.specs.Answers.{IsDocumentOf, Refuses}

@@ -4,7 +4,7 @@
 ghost use Rattle.std.specs.Prelude.{◌≡◌, [], IsOkAnd, OnErr, Ok, Some, None};
 ghost use Rattle.manifest_schema.specs.Contents;
 ghost use Rattle.cargo_manifest.specs.Tables.{package_of};
-ghost use Rattle.manifest_completion.specs.Completed.{targets_of, with_targets, autobins, autoexamples, autotests, autobenches};
+ghost use Rattle.manifest_completion.specs.Completed.{targets_of, with_targets, flag_by, autobins, autoexamples, autotests, autobenches};
 ghost use Rattle.manifest_completion.specs.Outcome.{declared_content, completed_content};
 ghost use Rattle.cargo_manifest.specs.Completes.{Completes, IsUnfound};
 ghost use Rattle.cargo_manifest.specs.Whole.{manifest_raw};
@@ -12,8 +12,7 @@ ghost use Rattle.cargo_manifest.specs.Whole.{manifest_raw};
 use crate::manifest::Manifest;
 use crate::package::Package;
 use manifest_completion::{
-    AbstractFilesystem, CompletedTargets, DeclaredTargets, complete, discovers, is_legacy,
-    unfound_targets,
+    AbstractFilesystem, CompletedTargets, DeclaredTargets, TargetFolder, complete, unfound_targets,
 };
 use manifest_value::{Error, KeyPath, Metadata};
 use std::alloc::Global;
@@ -42,6 +41,17 @@ fn declared_targets<'a, P: Metadata>(
         example: &manifest.example,
         test: &manifest.test,
         bench: &manifest.bench,
+    }
+}
+
+/// Whether found targets are added to a list; false without a package.
+fn adds<P: Metadata>(manifest: &Manifest<P, Value>, folder: TargetFolder) -> bool
+    ensures { let m = manifest_raw P.kind P.content manifest.now in
+        result ≡ flag_by m.«package» m folder }
+{
+    match &manifest.package {
+        Some(package) => declared_targets(manifest, package).adds(folder),
+        None => false,
     }
 }
 
@@ -84,10 +94,7 @@ impl<P: Metadata> Manifest<P, Value> {
     pub fn autobins(&self) -> bool
         ensures { result ≡ autobins (manifest_raw P.kind P.content self.now) }
     {
-        match &self.package {
-            Some(package) => discovers(package.autobins, is_legacy(&package.edition), &self.bin),
-            None => false,
-        }
+        adds(self, TargetFolder::Bins)
     }
 
     /// Whether found examples are added to `example`, as [`Manifest::autobins`] says of binaries.
@@ -98,14 +105,7 @@ impl<P: Metadata> Manifest<P, Value> {
     pub fn autoexamples(&self) -> bool
         ensures { result ≡ autoexamples (manifest_raw P.kind P.content self.now) }
     {
-        match &self.package {
-            Some(package) => discovers(
-                package.autoexamples,
-                is_legacy(&package.edition),
-                &self.example,
-            ),
-            None => false,
-        }
+        adds(self, TargetFolder::Examples)
     }
 
     /// Whether found tests are added to `test`, as [`Manifest::autobins`] says of binaries.
@@ -116,10 +116,7 @@ impl<P: Metadata> Manifest<P, Value> {
     pub fn autotests(&self) -> bool
         ensures { result ≡ autotests (manifest_raw P.kind P.content self.now) }
     {
-        match &self.package {
-            Some(package) => discovers(package.autotests, is_legacy(&package.edition), &self.test),
-            None => false,
-        }
+        adds(self, TargetFolder::Tests)
     }
 
     /// Whether found benches are added to `bench`, as [`Manifest::autobins`] says of binaries.
@@ -130,16 +127,7 @@ impl<P: Metadata> Manifest<P, Value> {
     pub fn autobenches(&self) -> bool
         ensures { result ≡ autobenches (manifest_raw P.kind P.content self.now) }
     {
-        match &self.package {
-            Some(package) => {
-                discovers(
-                    package.autobenches,
-                    is_legacy(&package.edition),
-                    &self.bench,
-                )
-            }
-            None => false,
-        }
+        adds(self, TargetFolder::Benches)
     }
 
     /// Completes the manifest by what the filesystem lists: the library, the binaries, examples, tests and benches, and

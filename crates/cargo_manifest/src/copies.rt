@@ -4,8 +4,8 @@ ghost use Rattle.manifest_schema.specs.Prelude.{fun_ext, Data, raw, manifest_row
 ghost use Rattle.std.specs.Prelude.{◌≡◌, map, option_map, string_bytes};
 ghost use Rattle.std.proofs.Common.{ap, rules};
 ghost use Rattle.manifest_schema.specs.Contents;
-ghost use Rattle.manifest_schema.proofs.ManifestLaws.{manifest_built, package_built, workspace_built};
-ghost use Rattle.manifest_schema.proofs.CopyLaws.{copy_laws, items_copied, some_copied, entries_copied};
+ghost use Rattle.manifest_schema.proofs.Forms.ManifestLaws.{manifest_built, package_built, workspace_built};
+ghost use Rattle.manifest_schema.proofs.Forms.CopyLaws.{copy_laws, items_copied, some_copied, entries_copied};
 ghost use Rattle.manifest_value.specs.Entries.{entries_content};
 ghost use Rattle.manifest_value.proofs.FormLemmas.{by_rows};
 ghost use Rattle.manifest_parts.proofs.CopyLaws.{shared_copied};

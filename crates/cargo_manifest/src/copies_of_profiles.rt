@@ -3,10 +3,10 @@
 ghost use Rattle.manifest_schema.specs.Prelude.{profiles_rows, workspace_package_rows};
 ghost use Rattle.std.specs.Prelude.{◌≡◌, map, option_map, string_bytes};
 ghost use Rattle.std.proofs.Common.{rules};
-ghost use Rattle.manifest_schema.proofs.CopyLaws.{copy_laws};
+ghost use Rattle.manifest_schema.proofs.Forms.CopyLaws.{copy_laws};
 ghost use Rattle.manifest_schema.specs.Contents;
-ghost use Rattle.manifest_schema.proofs.PartLaws.{profiles_built};
-ghost use Rattle.manifest_schema.proofs.ManifestLaws.{workspace_package_built};
+ghost use Rattle.manifest_schema.proofs.Forms.PartLaws.{profiles_built};
+ghost use Rattle.manifest_schema.proofs.Forms.ManifestLaws.{workspace_package_built};
 ghost use Rattle.manifest_value.proofs.FormLemmas.{by_rows};
 ghost use Rattle.cargo_manifest.specs.Tables.{workspace_package_content, profiles_content};
 ghost use Rattle.manifest_value.specs.Entries.{entries_content};
@@ -18,6 +18,7 @@ use crate::profiles::Profiles;
 use crate::workspace::WorkspacePackage;
 use manifest_value::Copied;
 
+// (made by scripts/keys --write)
 impl Copied for WorkspacePackage {
     ghost Held = { Contents.WorkspacePackage };
 

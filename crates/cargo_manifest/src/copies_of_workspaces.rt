@@ -5,9 +5,9 @@ ghost use Rattle.manifest_schema.specs.Prelude.{fun_ext, Data, raw, workspace_ro
 ghost use Rattle.std.specs.Prelude.{◌≡◌, map, option_map, String, string_bytes};
 ghost use Rattle.std.proofs.Common.{ap, rules};
 ghost use Rattle.manifest_schema.specs.Contents;
-ghost use Rattle.manifest_schema.proofs.ManifestLaws.{workspace_built};
+ghost use Rattle.manifest_schema.proofs.Forms.ManifestLaws.{workspace_built};
 ghost use Rattle.manifest_value.proofs.FormLemmas.{by_rows};
-ghost use Rattle.manifest_schema.proofs.CopyLaws.{copy_laws, some_copied, entries_copied};
+ghost use Rattle.manifest_schema.proofs.Forms.CopyLaws.{copy_laws, some_copied, entries_copied};
 ghost use Rattle.manifest_value.specs.Entries.{entries_content};
 ghost use Rattle.manifest_parts.specs.Parts.{resolver_content};
 ghost use Rattle.manifest_parts.specs.Records.{lint_content};

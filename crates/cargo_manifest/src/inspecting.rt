@@ -3,21 +3,23 @@
 
 ghost use Rattle.manifest_schema.specs.Prelude.{get_member, table_view, raw, tree_of, manifest_findings, manifest_faults, manifest_ignored, manifest_unused, old_findings};
 ghost use Rattle.std.specs.Prelude.{◌≡◌, codes, map, IfOk};
-ghost use Rattle.manifest_value.specs.Faults.{path_of};
-ghost use Rattle.manifest_value.specs.Found.{fault_of, found};
+ghost use Rattle.manifest_fault.specs.Faults.{path_of};
+ghost use Rattle.manifest_fault.specs.Found.{fault_of, found};
 
 use crate::manifest::Manifest;
 use crate::package::Package;
 use crate::reading::has_package_or_workspace;
-use manifest_value::findings::{Findings, Found};
-use manifest_value::form_findings::{entries_left_over, findings_of_closed, findings_of_form};
+use manifest_value::form_findings::{
+    and_unused, entries_left_over, findings_of_closed, findings_of_form,
+};
 use manifest_value::readers::find;
-use manifest_value::{KeyPath, Metadata, Schema, SchemaFault, entries_without, spelled};
+use manifest_value::{Found, KeyPath, Metadata, Schema, SchemaFault, entries_without, spelled};
 use std::alloc::{AllocError, Global};
 use toml::{Table, Value};
 
 /// What is found in a table without a header: by the rows of a manifest, and then in `project`, if it is there, or else
 /// by the rows of a package; and then each key that nothing reads.
+#[tactic(auto, using(manifest_fault::proofs::FindingTrees::finding_steps))]
 fn old_findings<P: Metadata, W: Metadata>(alloc: Global, table: &Table) -> Found
     ensures { let ms = table_view table.now in
         IfOk result (λ f. found f ≡ old_findings (tree_of P.kind) (tree_of W.kind) ms
@@ -28,13 +30,15 @@ fn old_findings<P: Metadata, W: Metadata>(alloc: Global, table: &Table) -> Found
         Some(project) => {
             let inside = Package::<P>::findings(alloc, project)?;
             let left = entries_without(alloc, rest, &spelled!["project"])?;
-            let found = Findings::none(alloc).and_under(alloc, "project", inside)?;
-            rows.and(found.and_unused(alloc, left)?)
+            let found = rows.and_under(alloc, "project", inside)?;
+            let found = and_unused(alloc, found, left)?;
+            Ok(found)
         }
         None => {
             let (package, _) = findings_of_closed::<Package<P>>(alloc, table)?;
             let left = entries_left_over::<Package<P>>(alloc, rest)?;
-            rows.and(package.and_unused(alloc, left)?)
+            let found = rows.and(and_unused(alloc, package, left)?)?;
+            Ok(found)
         }
     }
 }

@@ -23,13 +23,13 @@ pub fn means_one<P: Metadata, W: Metadata>()
 
 /// What is written of a well-formed manifest is read as that manifest, by the form of a manifest (which takes no old
 /// header into account).
-#[tactic(auto, using(manifest_schema::proofs::MeaningLaws::written_is_read, manifest_schema::proofs::KindLaws::tree_sound))]
+#[tactic(auto, using(manifest_schema::proofs::Meaning::MeaningLaws::written_is_read, manifest_schema::proofs::Values::KindLaws::tree_sound))]
 pub fn written_is_read<P: Metadata, W: Metadata>()
     ensures { WrittenIsRead (tree_of P.kind) (tree_of W.kind) }
 {}
 
 /// What a table means is well-formed, and has a package or a workspace.
-#[tactic(auto, using(manifest_schema::proofs::MeaningLaws::accepted_is_well_formed, manifest_schema::proofs::KindLaws::tree_sound))]
+#[tactic(auto, using(manifest_schema::proofs::Meaning::MeaningLaws::accepted_is_well_formed, manifest_schema::proofs::Values::KindLaws::tree_sound))]
 pub fn accepted_is_well_formed<P: Metadata, W: Metadata>()
     ensures { AcceptedIsWellFormed (tree_of P.kind) (tree_of W.kind) }
 {}
@@ -44,13 +44,13 @@ pub fn well_formed_by_parts<P: Metadata, W: Metadata>()
 {}
 
 /// What is written of a well-formed manifest with a package or a workspace means that manifest.
-#[tactic(auto, using(manifest_schema::proofs::MeaningLaws::written_means_the_same, manifest_schema::proofs::KindLaws::tree_sound))]
+#[tactic(auto, using(manifest_schema::proofs::Meaning::MeaningLaws::written_means_the_same, manifest_schema::proofs::Values::KindLaws::tree_sound))]
 pub fn written_means_the_same<P: Metadata, W: Metadata>()
     ensures { WrittenMeansTheSame (tree_of P.kind) (tree_of W.kind) }
 {}
 
 /// The rewritten table of an accepted table (the canonical table of what it means) means the same manifest.
-#[tactic(auto, using(manifest_schema::proofs::MeaningLaws::rewritten_means_the_same, manifest_schema::proofs::KindLaws::tree_sound))]
+#[tactic(auto, using(manifest_schema::proofs::Meaning::MeaningLaws::rewritten_means_the_same, manifest_schema::proofs::Values::KindLaws::tree_sound))]
 pub fn rewritten_means_the_same<P: Metadata, W: Metadata>()
     ensures { RewrittenMeansTheSame (tree_of P.kind) (tree_of W.kind) }
 {}
@@ -82,13 +82,13 @@ pub fn accepted_or_faulty<P: Metadata, W: Metadata>()
 
 /// Each fault of a table is found, and no other: those by the form of a manifest, and where the table has no header those
 /// of the old package, whose paths begin with `project` where the table has it.
-#[tactic(auto, using(manifest_schema::proofs::FoundLaws::finds_every_fault))]
+#[tactic(auto, using(manifest_schema::proofs::Findings::FoundLaws::finds_every_fault))]
 pub fn finds_every_fault<P: Metadata, W: Metadata>()
     ensures { FindsEveryFault (tree_of P.kind) (tree_of W.kind) }
 {}
 
 /// No fault is found in a table exactly if it means a manifest.
-#[tactic(auto, using(manifest_schema::proofs::FoundLaws::faultless_if_meant, manifest_schema::proofs::KindLaws::tree_sound))]
+#[tactic(auto, using(manifest_schema::proofs::Findings::FoundLaws::faultless_if_meant, manifest_schema::proofs::Values::KindLaws::tree_sound))]
 pub fn faultless_if_meant<P: Metadata, W: Metadata>()
     ensures { FaultlessIfMeant (tree_of P.kind) (tree_of W.kind) }
 {}
@@ -107,7 +107,7 @@ pub fn rewritten_without_unused<P: Metadata, W: Metadata>()
 
 /// Each place of a table whose keys ascend, as do those of the tables inside, is reported once: no two findings have
 /// the same path, and none stands inside the value that another one stands at.
-#[tactic(auto, using(manifest_schema::proofs::FoundOnce::finds_each_once, manifest_schema::proofs::KindLaws::tree_sound))]
+#[tactic(auto, using(manifest_schema::proofs::Findings::FoundOnce::finds_each_once, manifest_schema::proofs::Values::KindLaws::tree_sound))]
 pub fn finds_each_once<P: Metadata, W: Metadata>()
     ensures { FindsEachOnce (tree_of P.kind) (tree_of W.kind) }
 {}
@@ -115,7 +115,7 @@ pub fn finds_each_once<P: Metadata, W: Metadata>()
 /// Nothing is found in what is written of a well-formed manifest with a package or a workspace, nor in the rewritten
 /// table of an accepted table: no fault, nothing that is ignored, and no key that nothing reads. Nor does the form of a
 /// manifest (which takes no old header into account) find anything in what is written of any well-formed manifest.
-#[tactic(auto, using(manifest_schema::proofs::WrittenLaws::finds_nothing_written, manifest_schema::proofs::WrittenLaws::finds_nothing_rewritten, manifest_schema::proofs::KindLaws::tree_sound))]
+#[tactic(auto, using(manifest_schema::proofs::Meaning::WrittenLaws::finds_nothing_written, manifest_schema::proofs::Meaning::WrittenLaws::finds_nothing_rewritten, manifest_schema::proofs::Values::KindLaws::tree_sound))]
 pub fn finds_nothing_written<P: Metadata, W: Metadata>()
     ensures form { IsClean (form (manifest_rows (tree_of P.kind) (tree_of W.kind))) }
     ensures written { FindsNothingWritten (tree_of P.kind) (tree_of W.kind) }
@@ -124,7 +124,7 @@ pub fn finds_nothing_written<P: Metadata, W: Metadata>()
 
 /// Where nothing of its metadata is ignored, as of metadata of the type `Value`, what is ignored of a table is exactly
 /// what does not fit in its badges: the fault of a badge, or of the maintenance, under its key.
-#[tactic(auto, using(manifest_schema::proofs::IgnoredLaws::ignores_badges_alone, manifest_schema::proofs::IgnoredLaws::raw_ignores_nothing))]
+#[tactic(auto, using(manifest_schema::proofs::Findings::IgnoredLaws::ignores_badges_alone, manifest_schema::proofs::Findings::IgnoredLaws::raw_ignores_nothing))]
 pub fn badges_alone_are_ignored<P: Metadata, W: Metadata>()
     ensures badges { IgnoresBadgesAlone (tree_of P.kind) (tree_of W.kind) }
     ensures raw { IgnoresNothing (tree_of raw) }
@@ -132,14 +132,14 @@ pub fn badges_alone_are_ignored<P: Metadata, W: Metadata>()
 
 /// The table that is written of a well-formed manifest holds what the need of each row writes, under the first spelling
 /// of the row, and nothing else.
-#[tactic(auto, using(manifest_schema::proofs::WrittenLaws::manifest_by_rows))]
+#[tactic(auto, using(manifest_schema::proofs::Meaning::WrittenLaws::manifest_by_rows))]
 pub fn manifest_is_written_by_rows<P: Metadata, W: Metadata>()
     ensures { WritesEachRow (manifest_rows (tree_of P.kind) (tree_of W.kind)) }
 {}
 
 /// At the top of a table without a header a key is unused exactly if no row of a manifest has it, and, where the table
 /// has the old `project`, it is not that key, or else no row of the package has it, which is read from the same table.
-#[tactic(auto, using(manifest_schema::proofs::Pinned::old_top_is_unused, manifest_schema::proofs::KindLaws::tree_sound))]
+#[tactic(auto, using(manifest_schema::proofs::Findings::Pinned::old_top_is_unused, manifest_schema::proofs::Values::KindLaws::tree_sound))]
 pub fn old_top_is_unused<P: Metadata, W: Metadata>()
     ensures { OldTopUnused (tree_of P.kind) (tree_of W.kind) }
 {}
@@ -188,7 +188,7 @@ pub fn parsed_dates_are_valid()
 
 /// Where metadata is kept as it is, a manifest that is meant by a table without a date-time that TOML cannot write
 /// keeps none, nor does what it is completed to, and none stands in what is written of it.
-#[tactic(auto, using(manifest_schema::proofs::DateLaws::meant_dates_are_valid, manifest_schema::proofs::DateLaws::written_dates_are_valid))]
+#[tactic(auto, using(manifest_schema::proofs::Values::DateLaws::meant_dates_are_valid, manifest_schema::proofs::Values::DateLaws::written_dates_are_valid))]
 pub fn kept_dates_are_valid()
     ensures meant { MeantDatesAreValid }
     ensures completed { CompletedDatesAreValid }

@@ -4,8 +4,8 @@
 ghost use Rattle.manifest_schema.specs.Prelude.{Data, no_members, table_view, form, tree_of, raw, manifest_rows, rewritten};
 ghost use Rattle.std.specs.Prelude.{◌≡◌, IfOk};
 ghost use Rattle.manifest_schema.specs.Contents;
-ghost use Rattle.manifest_schema.proofs.KindLaws.{tree_sound};
-ghost use Rattle.manifest_schema.proofs.ManifestLaws.{manifest_sound};
+ghost use Rattle.manifest_schema.proofs.Values.KindLaws.{tree_sound};
+ghost use Rattle.manifest_schema.proofs.Forms.ManifestLaws.{manifest_sound};
 ghost use Rattle.cargo_manifest.specs.Whole.{manifest_content, manifest_of};
 ghost use Rattle.manifest_value.specs.Reading.{IsOfTable};
 
@@ -15,12 +15,11 @@ use crate::workspace::Workspace;
 use manifest_parts::{
     Badges, DepsSet, FeatureSet, MaybeInheritedLintsSet, PatchSet, Product, TargetDepsSet,
 };
-use manifest_value::findings::Found;
 use manifest_value::form::{RowPut, RowRead, Rowed, Word, write_form};
 use manifest_value::row_slots::RowSlot;
 use manifest_value::{
-    Form, Metadata, Spellings, empty_of, findings_of_row, good_row_of, names_of_rows, put_row_of,
-    read_row_of,
+    Form, Found, Metadata, Spellings, empty_of, findings_of_row, good_row_of, names_of_rows,
+    put_row_of, read_row_of,
 };
 use std::alloc::{AllocError, Global};
 use toml::{Table, Value};
@@ -161,6 +160,7 @@ impl<P, W> Manifest<P, W> {
 /// [`Rowed`] says what each method does. The body `manifest!(read_row_of(..))` is made of the rows of `manifest!`, as a
 /// `match` on the row's index `i`, and so are the others (`manifest_value::row_macros`).
 impl<P: Metadata, W: Metadata> Rowed for Manifest<P, W> {
+    // (made by scripts/keys --write)
     ghost Content = { Contents.Manifest };
 
     ghost content = { manifest_of P.kind W.kind P.content W.content };
@@ -175,7 +175,6 @@ impl<P: Metadata, W: Metadata> Rowed for Manifest<P, W> {
         Manifest::default(alloc)
     }
 
-    // (made by scripts/keys --write)
     fn read_row(&mut self, alloc: Global, i: usize, key: Word, slot: &mut RowSlot<'_>) -> RowRead {
         manifest!(read_row_of(self, alloc, i, key, slot))
     }

@@ -4,20 +4,19 @@
 ghost use Rattle.manifest_schema.specs.Prelude.{Data, string, no_members, member, tree_of, raw, form, package_rows};
 ghost use Rattle.std.specs.Prelude.{◌≡◌, Some, string_bytes, codes};
 ghost use Rattle.manifest_schema.specs.Contents;
-ghost use Rattle.manifest_schema.proofs.KindLaws.{tree_sound};
-ghost use Rattle.manifest_schema.proofs.ManifestLaws.{package_sound};
+ghost use Rattle.manifest_schema.proofs.Values.KindLaws.{tree_sound};
+ghost use Rattle.manifest_schema.proofs.Forms.ManifestLaws.{package_sound};
 ghost use Rattle.manifest_value.specs.Reading.{data_of, Gives, IsOfTable};
 ghost use Rattle.manifest_parts.specs.Parts.{inh_content};
 ghost use Rattle.manifest_parts.specs.Queries.{version_of};
 ghost use Rattle.cargo_manifest.specs.Tables.{package_content, package_of, package_form};
 
 use manifest_parts::{Edition, MaybeInherited, Publish, Resolver, StringOrBool};
-use manifest_value::findings::Found;
 use manifest_value::form::{RowPut, RowRead, Rowed, Word, read_form};
 use manifest_value::row_slots::RowSlot;
 use manifest_value::{
-    Form, Metadata, ReadFault, Spellings, TableSource, empty_of, findings_of_row, good_row_of,
-    names_of_rows, put_row_of, read_row_of,
+    Form, Found, Metadata, ReadFault, Spellings, TableSource, empty_of, findings_of_row,
+    good_row_of, names_of_rows, put_row_of, read_row_of,
 };
 use std::alloc::Global;
 use toml::{Table, Value};
@@ -255,6 +254,7 @@ pub fn package_from<M: Metadata>(alloc: Global, table: &Table) -> Result<Package
 /// [`Rowed`] says what each method does. The body `package!(read_row_of(..))` is made of the rows of `package!`, as a
 /// `match` on the row's index `i`, and so are the others (`manifest_value::row_macros`).
 impl<M: Metadata> Rowed for Package<M> {
+    // (made by scripts/keys --write)
     ghost Content = { Contents.Package };
 
     ghost content = { package_of M.kind M.content };

@@ -3,13 +3,12 @@
 
 ghost use Rattle.manifest_schema.specs.Prelude.{no_members, form, profiles_rows};
 ghost use Rattle.manifest_schema.specs.Contents;
-ghost use Rattle.manifest_schema.proofs.PartLaws.{profiles_sound};
+ghost use Rattle.manifest_schema.proofs.Forms.PartLaws.{profiles_sound};
 ghost use Rattle.manifest_value.specs.Reading.{Gives, IsOfTable};
 ghost use Rattle.manifest_value.specs.Sources.{table_source};
 ghost use Rattle.cargo_manifest.specs.Tables.{profiles_content};
 
 use manifest_parts::Profile;
-use manifest_value::findings::Found;
 use manifest_value::form::{
     RowPut, RowRead, Rowed, Word, put_rows, read_open, rows_are_well_formed,
 };
@@ -18,8 +17,8 @@ use manifest_value::maps::{entries_table, map_of_entries};
 use manifest_value::row_slots::RowSlot;
 use manifest_value::well_formed::{none_is_named, values_are_well_formed};
 use manifest_value::{
-    ReadFault, Schema, Source, Spellings, TableSource, findings_of_row, good_row_of, names_of_rows,
-    put_row_of, read_row_of, table,
+    Found, ReadFault, Schema, Source, Spellings, TableSource, findings_of_row, good_row_of,
+    names_of_rows, put_row_of, read_row_of, table,
 };
 use std::alloc::{AllocError, Global};
 use std::collections::BTreeMap;
@@ -112,7 +111,6 @@ impl Rowed for Profiles {
         Profiles::default(alloc)
     }
 
-    // (made by scripts/keys --write)
     fn read_row(&mut self, alloc: Global, i: usize, key: Word, slot: &mut RowSlot<'_>) -> RowRead {
         profiles!(read_row_of(self, alloc, i, key, slot))
     }

@@ -10,7 +10,7 @@ ghost use Rattle.cargo_manifest.specs.Answers.{IsDocumentOf, Refuses, RefusesTab
 
 use crate::manifest::Manifest;
 use crate::package::{Package, package_from};
-use manifest_value::error::refusal;
+use manifest_fault::error::refusal;
 use manifest_value::form::read_form_into;
 use manifest_value::readers::find;
 use manifest_value::rows::read_under;

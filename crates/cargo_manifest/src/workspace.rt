@@ -3,18 +3,17 @@
 
 ghost use Rattle.manifest_schema.specs.Prelude.{Data, no_members, form, tree_of, raw, workspace_package_rows, workspace_rows};
 ghost use Rattle.manifest_schema.specs.Contents;
-ghost use Rattle.manifest_schema.proofs.KindLaws.{tree_sound};
-ghost use Rattle.manifest_schema.proofs.ManifestLaws.{workspace_package_sound, workspace_sound};
+ghost use Rattle.manifest_schema.proofs.Values.KindLaws.{tree_sound};
+ghost use Rattle.manifest_schema.proofs.Forms.ManifestLaws.{workspace_package_sound, workspace_sound};
 ghost use Rattle.cargo_manifest.specs.Tables.{workspace_package_content, workspace_content, workspace_of};
 ghost use Rattle.manifest_value.specs.Reading.{IsOfTable};
 
 use manifest_parts::{DepsSet, Edition, LintsSet, Publish, Resolver, StringOrBool};
-use manifest_value::findings::Found;
 use manifest_value::form::{RowPut, RowRead, Rowed, Word};
 use manifest_value::row_slots::RowSlot;
 use manifest_value::{
-    Form, Metadata, Spellings, empty_of, findings_of_row, good_row_of, names_of_rows, put_row_of,
-    read_row_of,
+    Form, Found, Metadata, Spellings, empty_of, findings_of_row, good_row_of, names_of_rows,
+    put_row_of, read_row_of,
 };
 use std::alloc::Global;
 use toml::{Table, Value};
@@ -117,8 +116,8 @@ macro_rules! workspace_package {
 
 static WORKSPACE_PACKAGE: &[Spellings] = workspace_package!(names_of_rows());
 
-/// The rows of `workspace_package!`. [`Rowed`] says what each method does, and `manifest_value::row_macros` what the
-/// macro makes of the rows.
+/// [`Rowed`] says what each method does. The body `workspace_package!(read_row_of(..))` is made of the rows of
+/// `workspace_package!`, as a `match` on the row's index `i`, and so are the others (`manifest_value::row_macros`).
 impl Rowed for WorkspacePackage {
     // (made by scripts/keys --write)
     ghost Content = { Contents.WorkspacePackage };
@@ -135,7 +134,6 @@ impl Rowed for WorkspacePackage {
         WorkspacePackage::default()
     }
 
-    // (made by scripts/keys --write)
     fn read_row(&mut self, alloc: Global, i: usize, key: Word, slot: &mut RowSlot<'_>) -> RowRead {
         workspace_package!(read_row_of(self, alloc, i, key, slot))
     }
@@ -163,6 +161,7 @@ impl Form for WorkspacePackage {
 
 /// What the empty table is read as: each field is `None`.
 impl Default for WorkspacePackage {
+    // (made by scripts/keys --write)
     ghost is_default = { IsOfTable workspace_package_rows workspace_package_content no_members };
 
     fn default() -> WorkspacePackage {
@@ -250,6 +249,7 @@ impl<M> Workspace<M> {
 /// [`Rowed`] says what each method does. The body `workspace!(read_row_of(..))` is made of the rows of `workspace!`, as
 /// a `match` on the row's index `i`, and so are the others (`manifest_value::row_macros`).
 impl<M: Metadata> Rowed for Workspace<M> {
+    // (made by scripts/keys --write)
     ghost Content = { Contents.Workspace };
 
     ghost content = { workspace_of M.kind M.content };
@@ -264,7 +264,6 @@ impl<M: Metadata> Rowed for Workspace<M> {
         Workspace::default(alloc)
     }
 
-    // (made by scripts/keys --write)
     fn read_row(&mut self, alloc: Global, i: usize, key: Word, slot: &mut RowSlot<'_>) -> RowRead {
         workspace!(read_row_of(self, alloc, i, key, slot))
     }

@@ -1,10 +1,10 @@
 -- Of texts no date-time comes that cannot be written, so that status 7 is never told of them.
 use Rattle.manifest_schema.specs.Prelude.{Text, Manifest, KeepsValidDates}
 use Rattle.std.proofs.Common.{◌≡◌, ℕ, List, Option, Some, None, Vec, Global, Result, Ok, Err, Bool, true, false, true≢false, inl, inr, sym, subst, ◌∙◌, arith}
-use Rattle.manifest_schema.proofs.DateLaws.{written_dates_are_valid}
-use Rattle.manifest_value.specs.declared.error.Error.{Error}
-use Rattle.manifest_value.specs.declared.error.Error.TheVariants as error
-use Rattle.manifest_value.specs.declared.error.ParseFault.TheVariants.{Toml as NoToml}
+use Rattle.manifest_schema.proofs.Values.DateLaws.{written_dates_are_valid}
+use Rattle.manifest_fault.specs.declared.error.Error.{Error}
+use Rattle.manifest_fault.specs.declared.error.Error.TheVariants as error
+use Rattle.manifest_fault.specs.declared.error.ParseFault.TheVariants.{Toml as NoToml}
 use Rattle.manifest_completion.specs.Listings.{Answer as Listed}
 use Rattle.manifest_completion.specs.Stored.{stored_map}
 use Rattle.cargo_manifest.proofs.ParsedLemmas.{read_dates_are_valid}
@@ -15,6 +15,7 @@ use Rattle.manifest_inherit.specs.declared.error.FinishError.{FinishError}
 use Rattle.manifest_inherit.specs.declared.error.FinishError.TheVariants as unfinished
 use Rattle.manifest_inherit.specs.declared.error.ResolveError.{ResolveError}
 use Rattle.manifest_inherit.specs.declared.error.ResolveError.TheVariants.{Refused}
+use Rattle.manifest_inherit.specs.declared.error.Refusal.{Refusal as Unresolved}
 use Rattle.manifest_inherit.specs.declared.error.Refusal.TheVariants as unresolved
 use Rattle.manifest_answers.specs.declared.folders.Folder.{Folder}
 use Rattle.manifest_answers.specs.declared.reading.Input.TheVariants.{Toml}
@@ -25,7 +26,7 @@ use Rattle.manifest_answers.specs.declared.refusal.InputError.TheVariants as unr
 use Rattle.manifest_answers.specs.declared.refusal.Refusal.{Refusal}
 use Rattle.manifest_answers.specs.declared.refusal.Refusal.TheVariants.{Bytes, Root, Finishing, Printing}
 use Rattle.manifest_answers.specs.declared.reporting.Report.{Report}
-use Rattle.manifest_answers.specs.Report.{ReportsError, ReportsInput, ReportsResolving, ReportsFinishing, ReportsPrinting, Reports}
+use Rattle.manifest_answers.specs.Report.{ReportsError, ReportsInput, TellsUnresolved, ReportsResolving, ReportsFinishing, ReportsPrinting, Reports}
 use Rattle.manifest_answers.specs.Made.{CompletesStored, Makes, RefusesRoot, RefusesToMake, RefusesOutput, Gives, OrOutput, IsMade}
 use Rattle.manifest_answers.specs.Answered.{Outcome}
 
@@ -50,8 +51,12 @@ input_is_not_seven true (unread.Manifest e) t h seven = error_is_not_seven true 
 input_is_not_seven false (unread.Manifest e) t h seven = error_is_not_seven false e t h seven
 input_is_not_seven _ _ t h seven = omega (arith, h.0)
 
+unresolved_is_not_seven : (r : Unresolved) (t : Report) → TellsUnresolved r t → t.status ≡ 7 → ⊥
+unresolved_is_not_seven (unresolved.NotInWorkspace s) t h seven = omega (arith, h.0)
+unresolved_is_not_seven _ t h seven = omega (arith, h.0)
+
 resolving_is_not_seven : (e : ResolveError) (t : Report) → ReportsResolving e t → t.status ≡ 7 → ⊥
-resolving_is_not_seven (Refused (unresolved.NotInWorkspace s)) t h seven = omega (arith, h.0)
+resolving_is_not_seven (Refused f) t h seven = unresolved_is_not_seven f.refusal t h seven
 resolving_is_not_seven _ t h seven = omega (arith, h.0)
 
 finishing_is_not_seven : (e : FinishError) (t : Report) → ReportsFinishing e t → t.status ≡ 7 → ⊥

@@ -5,9 +5,9 @@ use Rattle.std.specs.Prelude.{IfErr}
 use Rattle.manifest_bytes.specs.Decoded.{decoded}
 use Rattle.manifest_bytes.specs.Laws.{IsFloatless}
 use Rattle.manifest_bytes.proofs.FloatLemmas.{tree_floatless, table_is_decoded}
-use Rattle.manifest_schema.proofs.KindLaws.{raw_sound, tree_sound}
-use Rattle.manifest_schema.proofs.ManifestLaws.{manifest_sound}
-use Rattle.manifest_schema.proofs.MeaningLaws.{accepted_is_well_formed}
+use Rattle.manifest_schema.proofs.Values.KindLaws.{raw_sound, tree_sound}
+use Rattle.manifest_schema.proofs.Forms.ManifestLaws.{manifest_sound}
+use Rattle.manifest_schema.proofs.Meaning.MeaningLaws.{accepted_is_well_formed}
 use Rattle.manifest_completion.specs.Listings.{Answer as Listed}
 use Rattle.manifest_completion.specs.Stored.{stored_map}
 use Rattle.manifest_completion.proofs.CompletedLaws.{completed_fixed}

@@ -1,8 +1,8 @@
 -- The table of a manifest whose metadata is not looked at is what its tagged bytes hold.
 use Rattle.manifest_schema.specs.Prelude.{Manifest, unread, unread_sound}
 use Rattle.std.proofs.Common.{◌≡◌, ℕ, List, Vec, Global, Some, Result, Ok, Err, inr, refl, ap, ◌∙◌}
-use Rattle.manifest_schema.proofs.KindLaws.{tree_sound}
-use Rattle.manifest_schema.proofs.MeaningLaws.{accepted_is_well_formed}
+use Rattle.manifest_schema.proofs.Values.KindLaws.{tree_sound}
+use Rattle.manifest_schema.proofs.Meaning.MeaningLaws.{accepted_is_well_formed}
 use Rattle.manifest_bytes.specs.Encoded.{encoded}
 use Rattle.manifest_bytes.specs.Decoded.{decoded}
 use Rattle.manifest_bytes.specs.Laws.{IsFloatless}

@@ -24,6 +24,7 @@ pub record Returns (report : Report) (old new : List ℕ) (a : Answer) : Type 0 
 
 -- what is reported: status 0 with the text, or the refusal, whose text is UTF-8; or out of memory while reporting it
 abbrev pub Outcome : Result (Vec ℕ Global) Refusal → Report → Type 0
+-- ACCEPTED: nothing is refused; the text is what was asked for
 Outcome (Ok v) t = IsReport t 0 0 v.items
 Outcome (Err r) t = (ReportsMemory t ⊎ Reports r t) × IsUtf8 t.text.items
 
@@ -34,7 +35,7 @@ pub record IsAnswered (gives : Text → Type 0) (refuses : Refusals) (old new : 
   pub report : Report
   pub is_made : IsMade gives refuses made
   pub outcome : Outcome made report
-  pub hands : Returns report old new a
+  pub returned : Returns report old new a
 
 -- the answer of a call that makes these manifests or has these refusals, and is asked for this within a bound in bytes
 abbrev pub Answers : Output → ℕ → (Manifest → Type 0) → Refusals → List ℕ → List ℕ → Answer → Type 0

@@ -3,10 +3,12 @@ use Rattle.manifest_schema.specs.Prelude.{Data, Members, string, integer, array,
 use Rattle.std.specs.Prelude.{◌≡◌, ◌⊎◌, ℕ, ℤ, pos, min, List, map, string_bytes}
 use Rattle.toml.specs.View.{items_of}
 use Rattle.manifest_bytes.specs.Encoded.{encoded}
-use Rattle.manifest_value.specs.Faults.{step_of, cause_of}
-use Rattle.manifest_value.specs.Found.{choices_of, found_among}
-use Rattle.manifest_value.specs.declared.findings.FindingNode.{FindingNode, fold-FindingNode}
-use Rattle.manifest_value.specs.declared.findings.FindingNode.TheOpen.{FindingNode-F}
+use Rattle.manifest_fault.specs.Faults.{step_of, cause_of}
+use Rattle.manifest_fault.specs.Found.{choices_of, found_among}
+use Rattle.manifest_fault.specs.declared.findings.FindingNode.{FindingNode, fold-FindingNode}
+use Rattle.manifest_fault.specs.declared.findings.FindingNode.TheOpen.{FindingNode-F}
+use Rattle.manifest_fault.specs.declared.schema_findings.Finding.{Finding}
+use Rattle.manifest_fault.specs.declared.schema_findings.Finding.TheVariants.{Fault, Ignored, Unused}
 use Rattle.manifest_answers.specs.Report.{cause_number}
 use Rattle.manifest_answers.specs.Read.{IsDocument, IsNoDocument}
 use Rattle.manifest_answers.specs.Unread.{no_metadata}
@@ -38,37 +40,41 @@ cause_data what not_a_choice words =
     triple_data (integer (pos what)) (integer (pos (cause_number not_a_choice))) (words_data words)
 cause_data what c words = pair_data (integer (pos what)) (integer (pos (cause_number c)))
 
--- A NODE: 0 is a fault, 1 is ignored, 2 is a key that nothing reads, and 3 is what is found in the value of a step
-abbrev pub node_data_step : FindingNode-F Data → Data
-node_data_step (FindingNode-F.Fault c words) = cause_data 0 (cause_of c) (choices_of words)
-node_data_step (FindingNode-F.Ignored c words) = cause_data 1 (cause_of c) (choices_of words)
-node_data_step (FindingNode-F.Unused k) = pair_data (integer (pos 2)) (string (string_bytes k))
+-- A FINDING: 0 is a fault, 1 is ignored, 2 is a key that nothing reads
+abbrev pub finding_data : Finding → Data
+finding_data (Fault c words) = cause_data 0 (cause_of c) (choices_of words)
+finding_data (Ignored c words) = cause_data 1 (cause_of c) (choices_of words)
+finding_data (Unused k) = pair_data (integer (pos 2)) (string (string_bytes k))
+
+-- A NODE: its finding, or by 3 what is found in the value of a step
+abbrev pub node_data_step : FindingNode-F Finding Data → Data
+node_data_step (FindingNode-F.Here f) = finding_data f
 node_data_step (FindingNode-F.Within s inside) =
     triple_data (integer (pos 3)) (step_data (step_of s)) (array (items_of inside.items))
 
-abbrev pub node_data : FindingNode → Data
-node_data = fold-FindingNode Data node_data_step
+abbrev pub node_data : FindingNode Finding → Data
+node_data = fold-FindingNode Finding Data node_data_step
 
 -- NODES: the array of them, in their order
-abbrev pub nodes_data : List FindingNode → Data
+abbrev pub nodes_data : List (FindingNode Finding) → Data
 nodes_data nodes = array (items_of (map node_data nodes))
 
 -- the nodes say all that is found in the table of a document, whose metadata is not looked at, and no more
-abbrev pub SayAllFound : Members → List FindingNode → Type 0
+abbrev pub SayAllFound : Members → List (FindingNode Finding) → Type 0
 SayAllFound document nodes =
     found_among nodes ≡ manifest_findings no_metadata no_metadata document
 
 -- THE TEXT is the tagged bytes of nodes that say all that is found in the table
 abbrev pub GivesFound : ℕ → Members → Text → Type 0
 GivesFound most document text =
-    (nodes : List FindingNode) × SayAllFound document nodes
+    (nodes : List (FindingNode Finding)) × SayAllFound document nodes
     × AreWithin most (encoded (nodes_data nodes)) text
 
 -- memory ran out, or the tagged bytes of such nodes are refused as they are made
 abbrev pub RefusesFound : ℕ → Members → Refusals
 RefusesFound most document e =
     IsOutOfMemory e
-    ⊎ ((nodes : List FindingNode) × SayAllFound document nodes
+    ⊎ ((nodes : List (FindingNode Finding)) × SayAllFound document nodes
     × RefusesTagged most (encoded (nodes_data nodes)) e)
 
 -- THE TEXT says what is found in the table that the bytes are

@@ -2,10 +2,10 @@
 use Rattle.manifest_schema.specs.Prelude.{AllocError, Data, Members, members_depth, IsMemory, IsWithin, Text, Kind, Faults, first_found, form, Manifest, manifest_rows, means, reads_manifest, raw_metadata}
 use Rattle.std.specs.Prelude.{◌≡◌, ◌⊎◌, ◌<◌, ◌≤◌, Some, None, true, false, IsUtf8, length}
 use Rattle.toml.specs.Parse.{parse_document}
-use Rattle.manifest_value.specs.Refusals.{RefusedIn, IsOutOfMemory}
-use Rattle.manifest_value.specs.declared.error.Error.{Error}
-use Rattle.manifest_value.specs.declared.error.Error.TheVariants.{Parse, Utf8, Memory}
-use Rattle.manifest_value.specs.declared.error.ParseFault.TheVariants.{Toml as NoToml, Schema}
+use Rattle.manifest_fault.specs.Refusals.{RefusedIn, IsOutOfMemory}
+use Rattle.manifest_fault.specs.declared.error.Error.{Error}
+use Rattle.manifest_fault.specs.declared.error.Error.TheVariants.{Parse, Utf8, Memory}
+use Rattle.manifest_fault.specs.declared.error.ParseFault.TheVariants.{Toml as NoToml, Schema}
 use Rattle.cargo_manifest.specs.Answers.{IsFaulty}
 use Rattle.toml.specs.Data.{depth}
 use Rattle.manifest_bytes.specs.Encoded.{encoded}
@@ -34,9 +34,8 @@ AreTooDeep bytes =
     ⊎ ((document : Members) × (parse_document bytes ≡ Some document)
     × (128 < members_depth document))
 
--- the text is no such document: it nests too deep; it is no TOML, at a place in it (where that is said because memory
--- ran
--- out, it may be TOML); or memory ran out
+-- the text is no such document: it nests too deep; it is no TOML, at a place in it (where that is said because
+-- memory ran out, it may be TOML); or memory ran out
 abbrev pub RefusesToParse : Text → InputError → Type 0
 RefusesToParse text TooDeep = AreTooDeep text
 RefusesToParse text (NoManifest (Parse (NoToml e))) =

@@ -3,16 +3,18 @@
 ghost use Rattle.manifest_schema.specs.Prelude.{view, table_view};
 ghost use Rattle.std.specs.Prelude.{◌≡◌, IfOk, map};
 ghost use Rattle.manifest_bytes.specs.Encoded.{encoded};
-ghost use Rattle.manifest_value.specs.Faults.{step_of, cause_of};
-ghost use Rattle.manifest_value.specs.Found.{choices_of};
+ghost use Rattle.manifest_fault.specs.Faults.{step_of, cause_of};
+ghost use Rattle.manifest_fault.specs.Found.{choices_of};
 ghost use Rattle.manifest_answers.specs.Made.{AreWithin, RefusesTagged, IsMade};
-ghost use Rattle.manifest_answers.specs.Inspected.{pair_data, triple_data, index_number, step_data, words_data, cause_data, node_data, nodes_data, GivesFound, RefusesFound, GivesFindings, RefusesFindings};
+ghost use Rattle.manifest_answers.specs.Inspected.{pair_data, triple_data, index_number, step_data, words_data, cause_data, finding_data, node_data, nodes_data, GivesFound, RefusesFound, GivesFindings, RefusesFindings};
 
 use crate::making::tagged_bytes;
 use crate::reading::document;
 use crate::refusal::Refusal;
 use crate::reporting::cause_number;
-use cargo_manifest::{Cause, Choices, FindingNode, Step, Unread, Value, inspect_with_metadata};
+use cargo_manifest::{
+    Cause, Choices, Finding, FindingNode, Step, Unread, Value, inspect_with_metadata,
+};
 use std::alloc::{AllocError, Global};
 use toml::Table;
 
@@ -82,19 +84,27 @@ fn cause_value(alloc: Global, what: u8, cause: Cause, choices: Choices) -> Resul
     }
 }
 
-/// A node as a value: of the number 0 for a fault, 1 for what is ignored, 2 for a key that nothing reads, and 3 for what is
-/// found in the value that a step leads to.
-#[cycle(trees)]
-fn node_value(alloc: Global, node: &FindingNode) -> Result<Value, AllocError>
-    ensures { IfOk result (λ v. view v ≡ node_data node.now) }
+/// A finding as a value: of the number 0 for a fault, 1 for what is ignored, and 2 for a key that nothing reads.
+fn finding_value(alloc: Global, finding: &Finding) -> Result<Value, AllocError>
+    ensures { IfOk result (λ v. view v ≡ finding_data finding.now) }
 {
-    match node {
-        FindingNode::Fault(cause, choices) => cause_value(alloc, 0, *cause, choices),
-        FindingNode::Ignored(cause, choices) => cause_value(alloc, 1, *cause, choices),
-        FindingNode::Unused(key) => {
+    match finding {
+        Finding::Fault(cause, choices) => cause_value(alloc, 0, *cause, choices),
+        Finding::Ignored(cause, choices) => cause_value(alloc, 1, *cause, choices),
+        Finding::Unused(key) => {
             let key = Value::string(alloc, key.as_str())?;
             pair(alloc, Value::Integer(2), key)
         }
+    }
+}
+
+/// A node as a value: that of its finding, or of the number 3 for what is found in the value that a step leads to.
+#[cycle(trees)]
+fn node_value(alloc: Global, node: &FindingNode<Finding>) -> Result<Value, AllocError>
+    ensures { IfOk result (λ v. view v ≡ node_data node.now) }
+{
+    match node {
+        FindingNode::Here(finding) => finding_value(alloc, finding),
         FindingNode::Within(step, nodes) => {
             let step = step_value(alloc, step)?;
             let inside = nodes_value(alloc, nodes)?;
@@ -105,7 +115,7 @@ fn node_value(alloc: Global, node: &FindingNode) -> Result<Value, AllocError>
 
 /// Nodes as a value: the array of them, in their order.
 #[cycle(trees)]
-fn nodes_value(alloc: Global, nodes: &[FindingNode]) -> Result<Value, AllocError>
+fn nodes_value(alloc: Global, nodes: &[FindingNode<Finding>]) -> Result<Value, AllocError>
     ensures { IfOk result (λ v. view v ≡ nodes_data nodes.now) }
 {
     let mut all = Vec::new(alloc);
@@ -116,7 +126,11 @@ fn nodes_value(alloc: Global, nodes: &[FindingNode]) -> Result<Value, AllocError
 }
 
 /// The tagged bytes of nodes.
-fn bytes_of_nodes(alloc: Global, nodes: &[FindingNode], most: usize) -> Result<Vec<u8>, Refusal>
+fn bytes_of_nodes(
+    alloc: Global,
+    nodes: &[FindingNode<Finding>],
+    most: usize,
+) -> Result<Vec<u8>, Refusal>
     ensures { let tagged = encoded (nodes_data nodes.now) in
         IsMade (AreWithin most tagged) (RefusesTagged most tagged) result }
 {

@@ -12,9 +12,9 @@ ghost use Rattle.manifest_answers.specs.Read.{IsDocument, RefusesToParse, IsNoDo
 use crate::refusal::InputError;
 use cargo_manifest::{Error, Manifest, Metadata, ParseFault, Schema, Value, depth};
 use manifest_bytes::{DecodeError, value_of_bytes};
+use manifest_fault::error::refusal;
 use manifest_nesting::{DEPTH_LIMIT, nests_too_deep};
 use manifest_value::Source;
-use manifest_value::error::refusal;
 use std::alloc::Global;
 use std::rc::Rc;
 use toml::Table;

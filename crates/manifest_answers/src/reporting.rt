@@ -3,8 +3,8 @@
 
 ghost use Rattle.std.specs.Prelude.{◌≡◌, ◌≤◌, ◌⊎◌, IsUtf8, string_bytes};
 ghost use Rattle.std.specs.IoError.{error_kind};
-ghost use Rattle.manifest_value.specs.Faults.{cause_of};
-ghost use Rattle.manifest_answers.specs.Report.{cause_number, kind_number, at_root, IsReport, ReportsMemory, ReportsToml, ReportsSchema, ReportsError, ReportsInput, ReportsResolving, ReportsFinishing, ReportsPrinting, Reports};
+ghost use Rattle.manifest_fault.specs.Faults.{cause_of};
+ghost use Rattle.manifest_answers.specs.Report.{cause_number, kind_number, at_root, IsReport, ReportsMemory, ReportsToml, ReportsSchema, ReportsError, ReportsInput, TellsUnresolved, ReportsResolving, ReportsFinishing, ReportsPrinting, Reports};
 
 use crate::refusal::{InputError, Refusal};
 use cargo_manifest::{Cause, Error, ParseFault, SchemaFault};
@@ -61,6 +61,7 @@ pub(crate) fn cause_number(cause: Cause) -> u8
     ensures { result ≡ cause_number (cause_of cause) }
 {
     match cause {
+        // (made by scripts/keys --write)
         Cause::WrongKind => 1,
         Cause::Missing => 2,
         Cause::TwoSpellings => 3,
@@ -156,17 +157,26 @@ fn tell_input(alloc: Global, error: InputError, is_root: bool) -> Report
     }
 }
 
-/// The report of why a manifest is not resolved: status 10 to 13, or 6 for out of memory; the text is the key or the
-/// name, where the refusal has one.
+/// The report of what cannot be inherited: status 10 to 13; the text is the key or the name, where the refusal has one.
+fn tell_unresolved(alloc: Global, refusal: Unresolved) -> Report
+    ensures report { ReportsMemory result ⊎ TellsUnresolved refusal result }
+    ensures utf8 { IsUtf8 result.text.items }
+{
+    match refusal {
+        Unresolved::NotInWorkspace(key) => with_string(10, 0, key),
+        Unresolved::InheritedInWorkspace(name) => with_string(11, 0, name),
+        Unresolved::MixedLints => with_text(12, 0, Vec::new(alloc)),
+        Unresolved::ToolNamedWorkspace => with_text(13, 0, Vec::new(alloc)),
+    }
+}
+
+/// The report of why a manifest is not resolved: that of the refusal, without its path, or status 6 for out of memory.
 fn tell_resolving(alloc: Global, error: ResolveError) -> Report
     ensures report { ReportsMemory result ⊎ ReportsResolving error result }
     ensures utf8 { IsUtf8 result.text.items }
 {
     match error {
-        ResolveError::Refused(Unresolved::NotInWorkspace(key)) => with_string(10, 0, key),
-        ResolveError::Refused(Unresolved::InheritedInWorkspace(name)) => with_string(11, 0, name),
-        ResolveError::Refused(Unresolved::MixedLints) => with_text(12, 0, Vec::new(alloc)),
-        ResolveError::Refused(Unresolved::ToolNamedWorkspace) => with_text(13, 0, Vec::new(alloc)),
+        ResolveError::Refused(fault) => tell_unresolved(alloc, fault.refusal),
         ResolveError::Memory(refused) => memory(alloc, refused),
     }
 }

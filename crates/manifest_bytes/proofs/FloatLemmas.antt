@@ -2,9 +2,9 @@
 use Rattle.manifest_schema.specs.Prelude.{IfSome, Data, Kind, plain, tree_of, good_some, form, profiles_rows, package_rows, workspace_rows, written_manifest}
 use Rattle.std.proofs.Common.{◌≡◌, true, Option, Some, None, sym, ap, ◌∙◌, subst, rules}
 use Rattle.manifest_schema.specs.Contents.{Profiles}
-use Rattle.manifest_schema.proofs.PartLaws.{profiles_sound}
-use Rattle.manifest_schema.proofs.GoodLaws.{package_metadata_good, workspace_metadata_good, manifest_parts_good}
-use Rattle.manifest_schema.proofs.ScalarLaws.{ByScalars, both_are, manifest_has, profiles_turn}
+use Rattle.manifest_schema.proofs.Forms.PartLaws.{profiles_sound}
+use Rattle.manifest_schema.proofs.Values.GoodLaws.{package_metadata_good, workspace_metadata_good, manifest_parts_good}
+use Rattle.manifest_schema.proofs.Values.ScalarLaws.{ByScalars, both_are, manifest_has, profiles_turn}
 use Rattle.manifest_bytes.specs.Laws.{IsFloatless, TableIsDecoded}
 use Rattle.manifest_bytes.proofs.DecodedLemmas.{encoded_is_decoded}
 

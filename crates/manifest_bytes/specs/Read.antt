@@ -3,7 +3,7 @@ use Rattle.std.specs.Prelude.{◌≡◌, ℕ, ◌<◌, ◌≤◌, List, [], ◌�
 use Rattle.std.specs.Float.{binary64}
 use Rattle.toml.specs.Data.{Data, string, float, array, table}
 use Rattle.manifest_bytes.specs.Numbers.{Taken, take_number}
-use Rattle.manifest_bytes.specs.Decoded.{made, take_tagged}
+use Rattle.manifest_bytes.specs.Decoded.{map_taken, take_tagged}
 use Rattle.manifest_bytes.specs.declared.error.DecodeError.{DecodeError}
 use Rattle.manifest_bytes.specs.declared.error.DecodeError.TheVariants.{TooDeep, Memory}
 use Rattle.manifest_bytes.specs.declared.error.Unread.{Unread}
@@ -34,7 +34,7 @@ IsTaken take old result new =
 -- what stands after a tag: a float by its bits, and else as `decoded` takes it
 abbrev pub take_simple : ℕ → List ℕ → Taken Data
 take_simple tag bs =
-    if tag == 9 then made (λ bits. float (from_bits binary64 bits)) (take_number bs)
+    if tag == 9 then map_taken (λ bits. float (from_bits binary64 bits)) (take_number bs)
     else take_tagged (λ cs. None) tag bs
 
 -- WHY NOTHING is read of what nests `deep` deep: that is more than `deepest`, or memory runs out

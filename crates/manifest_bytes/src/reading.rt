@@ -216,8 +216,8 @@ impl Part for Offset {
                 Some(Offset::Custom { minutes })
             }
             2 => {
-                let under = i16::try_from(reader.number()?).ok()?;
-                Some(Offset::Custom { minutes: !under })
+                let minutes = i16::try_from(reader.number()?).ok()?;
+                Some(Offset::Custom { minutes: !minutes })
             }
             _ => None,
         }

@@ -1,7 +1,7 @@
 //! What is found in the table of a document.
 
 use crate::answers::lines_or_none;
-use cargo_manifest::{Choices, Finding, inspect};
+use cargo_manifest::{Choices, Finding, KeyPath, Step, inspect};
 use std::alloc::{AllocError, Global};
 
 /// The words of a choice, each after a blank.
@@ -15,17 +15,21 @@ fn words(alloc: Global, choices: Choices) -> Result<String, AllocError> {
 }
 
 /// A finding as a line: a fault of a choice with its words.
-fn line(alloc: Global, finding: &Finding) -> Result<String, AllocError> {
+fn line(alloc: Global, path: KeyPath, finding: &Finding) -> Result<String, AllocError> {
     match finding {
-        Finding::Fault(fault, choices) => {
+        Finding::Fault(cause, choices) => {
             let words = words(alloc, choices)?;
-            format!(in alloc; "{fault}{words}\n")
+            format!(in alloc; "{cause} at {path}{words}\n")
         }
-        Finding::Ignored(fault, choices) => {
+        Finding::Ignored(cause, choices) => {
             let words = words(alloc, choices)?;
-            format!(in alloc; "ignored: {fault}{words}\n")
+            format!(in alloc; "ignored: {cause} at {path}{words}\n")
         }
-        Finding::Unused(path) => format!(in alloc; "unused: {path}\n"),
+        Finding::Unused(key) => {
+            let mut path = path;
+            path.steps.push(Step::Key(key.clone()?))?;
+            format!(in alloc; "unused: {path}\n")
+        }
     }
 }
 
@@ -34,8 +38,8 @@ pub fn answer(alloc: Global, document: &str) -> anyhow::Result<String> {
     let table = toml::table_from_str(alloc, document)?;
     let found = inspect(alloc, &table)?;
     let mut lines = String::new(alloc);
-    for finding in &found.to_vec(alloc)? {
-        lines.push_str(line(alloc, finding)?.as_str())?;
+    for (path, finding) in found.to_vec(alloc)? {
+        lines.push_str(line(alloc, path, finding)?.as_str())?;
     }
     Ok(lines_or_none(alloc, lines.as_str())?)
 }

@@ -100,8 +100,9 @@ fn lines_of_refusals(
     workspace: &Workspace<Value>,
 ) -> anyhow::Result<String> {
     let mut lines = String::new(alloc);
-    for fault in &manifest_inherit::refusals(alloc, manifest, workspace)? {
-        lines.push_str(format!(in alloc; "{fault}\n")?.as_str())?;
+    let found = manifest_inherit::refusals(alloc, manifest, workspace)?;
+    for (path, refusal) in found.to_vec(alloc)? {
+        lines.push_str(format!(in alloc; "{refusal} at {path}\n")?.as_str())?;
     }
     Ok(lines_or_none(alloc, lines.as_str())?)
 }

@@ -3,7 +3,7 @@
 use crate::answers::{error_text, value_line};
 use anyhow::bail;
 use cargo_manifest::{ReadFault, Schema, Value};
-use manifest_value::error::refusal;
+use manifest_fault::error::refusal;
 use manifest_value::{
     boolean, field, list_of, map_of, table, text, texts, whole, write_list, write_map,
 };

@@ -8,7 +8,7 @@ use cargo_manifest::{
     MaybeInheritedLintsSet, Package, Product, Profile, Profiles, Publish, Resolver, Schema,
     StringOrBool, StripSetting, Target, True, Value, Workspace, WorkspacePackage,
 };
-use manifest_value::error::refusal;
+use manifest_fault::error::refusal;
 use manifest_value::{holds_float, raw};
 use std::alloc::Global;
 use std::collections::BTreeMap;

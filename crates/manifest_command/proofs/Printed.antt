@@ -2,8 +2,8 @@
 use Rattle.manifest_schema.specs.Prelude.{Appends, Keeps, Manifest, raw_metadata}
 use Rattle.std.proofs.Common.{◌≡◌, ℕ, inl, inr, List, [], Option, Some, None, IfSome, ◌∙◌, sym, subst, append-nil}
 use Rattle.std.proofs.KnownBytes.{Keeps-refl}
-use Rattle.manifest_value.specs.declared.error.Error.{Error}
-use Rattle.manifest_value.specs.declared.error.Error.TheVariants.{Parse, Io, Utf8, Other, Memory}
+use Rattle.manifest_fault.specs.declared.error.Error.{Error}
+use Rattle.manifest_fault.specs.declared.error.Error.TheVariants.{Parse, Io, Utf8, Other, Memory}
 use Rattle.cargo_manifest.specs.Answers.{Refuses, RefusesToPrint}
 use Rattle.cargo_manifest.specs.Canonical.{rewritten, Means}
 use Rattle.manifest_command.specs.Run.{Begins, FailsToPrint, IsRefused}

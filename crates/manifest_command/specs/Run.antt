@@ -1,8 +1,8 @@
 -- What a run of the program leaves.
 use Rattle.manifest_schema.specs.Prelude.{Global, Bor, Appends, Keeps, Text, Manifest, raw_metadata}
 use Rattle.std.specs.Prelude.{◌≡◌, ◌≢◌, ℕ, ◌⊎◌, List, [], ◌∷◌, ◌++◌, map, Option, Some, None, String, string_bytes, codes}
-use Rattle.manifest_value.specs.declared.error.Error.{Error}
-use Rattle.manifest_value.specs.declared.error.Error.TheVariants.{Io}
+use Rattle.manifest_fault.specs.declared.error.Error.{Error}
+use Rattle.manifest_fault.specs.declared.error.Error.TheVariants.{Io}
 use Rattle.cargo_manifest.specs.Answers.{Refuses, RefusesToPrint}
 use Rattle.cargo_manifest.specs.Canonical.{rewritten, Means, IsTextOf}
 use Rattle.cargo_manifest.specs.Completes.{ComesTo}

@@ -30,25 +30,20 @@ fn key_text(alloc: Global, name: &str) -> Result<String, AllocError>
     KeyPath { steps }.to_text(alloc)
 }
 
-/// The line that the program prints to standard error where a member is not resolved, with its line feed. A key or a
-/// name in it is written as in a key path.
-fn resolve_line(alloc: Global, refused: &ResolveError) -> Result<String, AllocError> {
-    match refused {
-        ResolveError::Refused(Refusal::NotInWorkspace(name)) => {
+/// The line that the program prints to standard error where a member is not resolved, with its line feed: what is
+/// refused, without its path. A key or a name in it is written as in a key path.
+fn refused_line(alloc: Global, refusal: &Refusal) -> Result<String, AllocError> {
+    match refusal {
+        Refusal::NotInWorkspace(name) => {
             let key = key_text(alloc, name.as_str())?;
             format!(in alloc; "error: not in workspace: {key}\n")
         }
-        ResolveError::Refused(Refusal::InheritedInWorkspace(name)) => {
+        Refusal::InheritedInWorkspace(name) => {
             let key = key_text(alloc, name.as_str())?;
             format!(in alloc; "error: inherited in workspace: {key}\n")
         }
-        ResolveError::Refused(Refusal::MixedLints) => {
-            String::from_str(alloc, "error: mixed lints\n")
-        }
-        ResolveError::Refused(Refusal::ToolNamedWorkspace) => {
-            String::from_str(alloc, "error: tool named workspace\n")
-        }
-        ResolveError::Memory(_) => String::from_str(alloc, "error: memory\n"),
+        Refusal::MixedLints => String::from_str(alloc, "error: mixed lints\n"),
+        Refusal::ToolNamedWorkspace => String::from_str(alloc, "error: tool named workspace\n"),
     }
 }
 
@@ -57,7 +52,10 @@ fn line_of(alloc: Global, refusal: &FinishError) -> Result<String, AllocError> {
     match refusal {
         FinishError::Manifest(error) => error_line(alloc, error),
         FinishError::NoWorkspace => String::from_str(alloc, "error: no workspace\n"),
-        FinishError::Resolve(refused) => resolve_line(alloc, refused),
+        FinishError::Resolve(ResolveError::Refused(fault)) => refused_line(alloc, &fault.refusal),
+        FinishError::Resolve(ResolveError::Memory(_)) => {
+            String::from_str(alloc, "error: memory\n")
+        }
     }
 }
 

@@ -1,17 +1,21 @@
 //! The examples of resolving a member over its workspace, of all its refusals, and of how much it inherits.
 use cargo_manifest::{Manifest, Value, Workspace};
-use manifest_inherit::{ResolveError, ResolveFault, inherits_at_most, refusals, resolve};
+use manifest_inherit::{ResolveError, inherits_at_most, refusals, resolve};
 use std::alloc::{AllocError, Global};
 use std::test::Fail;
 
-/// The example of the call.
-fn all_refusals(
+/// The refusals of a member, a line each, by the example of the call.
+fn lines_of_refusals(
     alloc: Global,
     manifest: &Manifest<Value, Value>,
     workspace: &Workspace<Value>,
-) -> Result<Vec<ResolveFault>, AllocError> {
-    let faults = refusals(alloc, manifest, workspace)?; // as `not in workspace: version at package.version`
-    Ok(faults)
+) -> Result<String, AllocError> {
+    let mut text = String::new(alloc);
+    let found = refusals(alloc, manifest, workspace)?; // as `not in workspace: version` at `package.version`
+    for (path, refusal) in found.to_vec(alloc)? {
+        text.push_str(format!(in alloc; "{refusal} at {path}\n")?.as_str())?;
+    }
+    Ok(text)
 }
 
 /// Puts in what a manifest inherits.
@@ -30,10 +34,7 @@ fn answer(
     manifest: &mut Manifest<Value, Value>,
     workspace: &Workspace<Value>,
 ) -> Result<String, Fail> {
-    let mut text = String::new(alloc);
-    for fault in &all_refusals(alloc, manifest, workspace)? {
-        text.push_str(format!(in alloc; "{fault}\n")?.as_str())?;
-    }
+    let mut text = lines_of_refusals(alloc, manifest, workspace)?;
     if text.is_empty() {
         put_in(alloc, manifest, workspace)?;
         text = manifest.to_toml_string(alloc)?;

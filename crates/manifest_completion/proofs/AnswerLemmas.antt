@@ -5,12 +5,12 @@ use Rattle.std.specs.List.{IsDistinct}
 use Rattle.std.proofs.lemmas.Bool.{and_from, or_from}
 use Rattle.manifest_completion.specs.declared.ask.FolderAnswers.{FolderAnswers}
 use Rattle.manifest_completion.specs.declared.ask.Answers.{Answers}
-use Rattle.manifest_completion.specs.Listings.{Answer, fault, names_of, is_memory_fault, TargetFolder, bins, examples, tests, benches, Place, source, folder, entry, root, joined, folder_text, path_text, entry_answer, FolderListing, ListingMap, folder_of, at, IsAscending, NamesAscend}
+use Rattle.manifest_completion.specs.Listings.{Answer, fault, names_of, is_memory_fault, TargetFolder, target_folders, Place, source, folder, entry, root, joined, folder_text, path_text, entry_answer, FolderListing, ListingMap, at, IsAscending, NamesAscend}
 use Rattle.manifest_completion.specs.Completed.{up_to_memory_fault, folder_places, has_memory_fault, root_places}
 use Rattle.manifest_completion.specs.Answered.{answer_of, answers_of}
-use Rattle.manifest_completion.specs.Asking.{IsAllowedAnswer, AreAllowedAnswers, FolderIsAnswered, IsAnsweredInTurn, folder_listing, listing_map, AllIsAnswered, ran_out_of_memory}
-use Rattle.manifest_completion.proofs.AskLemmas.{none_ascend, ascending_differ}
-use Rattle.manifest_completion.proofs.AskedLaws.{together}
+use Rattle.manifest_completion.specs.Asking.{IsAllowedAnswer, AreAllowedAnswers, FolderIsAnswered, IsAnsweredInTurn, folder_answers, folder_listing, listing_map, AllIsAnswered, ran_out_of_memory}
+use Rattle.manifest_completion.proofs.AskLemmas.{none_ascend, ascending_differ, every}
+use Rattle.manifest_completion.proofs.AskedLaws.{places_of, together}
 use Rattle.manifest_completion.proofs.DecidesLaws.{goes_on, stops_or}
 
 -- the answers, with NotFound past their end
@@ -54,17 +54,17 @@ any_map p f [] = refl
 any_map p f (x ∷ xs) = ap (λ b. p (f x) || b) (any_map p f xs)
 
 -- the answers for the entries, where the map has this folder
-pub entry_answers : (l : ListingMap) (d : TargetFolder) (a : FolderAnswers) → folder_of l d ≡ folder_listing a
+pub entry_answers : (l : ListingMap) (d : TargetFolder) (a : FolderAnswers) → l.folders d ≡ folder_listing a
     → IsDistinct bytes_eq (names_of (answer_of a.own)) → map (λ n. at l (entry d n))
     (names_of (answer_of a.own)) ≡ padded (names_of (answer_of a.own)) (answers_of a.entries)
 entry_answers l d a e h = rw e (lookups (names_of (answer_of a.own)) (answers_of a.entries) h)
 
 -- whether the folder or an entry ran out of memory
-pub folder_fault : (l : ListingMap) (d : TargetFolder) (a : FolderAnswers) → folder_of l d ≡ folder_listing a
+pub folder_fault : (l : ListingMap) (d : TargetFolder) (a : FolderAnswers) → l.folders d ≡ folder_listing a
     → IsAnsweredInTurn d a → has_memory_fault (at l) (folder_places l d) ≡ ran_out_of_memory a
 folder_fault l d a e h =
     let ns = names_of (answer_of a.own) in
-    let own : (folder_of l d).own ≡ answer_of a.own = ap (λ (f : FolderListing). f.own) e in
+    let own : (l.folders d).own ≡ answer_of a.own = ap (λ (f : FolderListing). f.own) e in
     rw own (ap (λ b. is_memory_fault (answer_of a.own) || b)
     (any_map (λ p. is_memory_fault (at l p)) (entry d) ns ∙ sym (any_map is_memory_fault (λ n. at l (entry d n)) ns)
     ∙ ap (list_any is_memory_fault) (entry_answers l d a e (ascending_differ ns h.own.0))
@@ -103,10 +103,10 @@ module _ (allows : Text → Answer → Type 0) (l : ListingMap) where
       )
 
   -- the same for the folder before them
-  pub folder_held : (d : TargetFolder) (a : FolderAnswers) → folder_of l d ≡ folder_listing a → FolderIsAnswered allows
+  pub folder_held : (d : TargetFolder) (a : FolderAnswers) → l.folders d ≡ folder_listing a → FolderIsAnswered allows
       (folder_text d) a → AllByRecursion Holds (up_to_memory_fault (at l) (folder_places l d))
   folder_held d a e h =
-      let own : (folder_of l d).own ≡ answer_of a.own = ap (λ (f : FolderListing). f.own) e in
+      let own : (l.folders d).own ≡ answer_of a.own = ap (λ (f : FolderListing). f.own) e in
       rw own (
         h.own.1,
         stops_or Holds (is_memory_fault (answer_of a.own)) (up_to_memory_fault (at l)
@@ -159,19 +159,12 @@ folder_ascends a P d h n = looked_up (names_of (answer_of a.own)) (answers_of a.
 abbrev anything : Text → Answer → Type 0
 anything path a = Unit {0}
 
-map_ascends : (a : Answers) → IsAnsweredInTurn bins a.bins → IsAnsweredInTurn examples a.examples
-    → IsAnsweredInTurn tests a.tests → IsAnsweredInTurn benches a.benches → Ascends (answer_of a.root)
+map_ascends : (a : Answers) → ((d : TargetFolder) → IsAnsweredInTurn d (folder_answers a d)) → Ascends (answer_of a.root)
     → Ascends (answer_of a.source) → NamesAscend (listing_map a)
-map_ascends a b e t n r s source = s
-map_ascends a b e t n r s (folder bins) = b.own.0
-map_ascends a b e t n r s (folder examples) = e.own.0
-map_ascends a b e t n r s (folder tests) = t.own.0
-map_ascends a b e t n r s (folder benches) = n.own.0
-map_ascends a b e t n r s (entry bins x) = folder_ascends a.bins anything (folder_text bins) b x
-map_ascends a b e t n r s (entry examples x) = folder_ascends a.examples anything (folder_text examples) e x
-map_ascends a b e t n r s (entry tests x) = folder_ascends a.tests anything (folder_text tests) t x
-map_ascends a b e t n r s (entry benches x) = folder_ascends a.benches anything (folder_text benches) n x
-map_ascends a b e t n r s root = r
+map_ascends a h r s source = s
+map_ascends a h r s (folder d) = (h d).own.0
+map_ascends a h r s (entry d n) = folder_ascends (folder_answers a d) anything (folder_text d) (h d) n
+map_ascends a h r s root = r
 
 -- WEAKER
 module _ (P Q : Text → Answer → Type 0) (weaker : (path : Text) (a : Answer) → P path a → Q path a) where
@@ -218,50 +211,49 @@ none_answered stopped allows d a e own none = record {
 }
 
 -- ALL that was answered
-pub all_answered : (allows : Text → Answer → Type 0) (asks : Bool) (a : Answers) →
-    IsAllowedAnswer allows (path_text source) (answer_of a.source) →
-    FolderIsAnswered allows (folder_text bins) a.bins →
-    IsAllowedUnless (ran_out_of_memory a.bins) allows examples a.examples →
-    IsAllowedUnless (ran_out_of_memory a.bins || ran_out_of_memory a.examples) allows tests a.tests →
-    IsAllowedUnless ((ran_out_of_memory a.bins || ran_out_of_memory a.examples) || ran_out_of_memory a.tests) allows
-    benches a.benches →
-    IsAllowedAnswer (λ path answer.
-    (asks && not (((ran_out_of_memory a.bins || ran_out_of_memory a.examples) || ran_out_of_memory a.tests)
-    || ran_out_of_memory a.benches)) ≡ true → allows path answer) (path_text root) (answer_of a.root) →
-    AllIsAnswered allows asks a
-all_answered allows asks a s b e t n r =
-    let ob = answered_in_turn _ bins a.bins b in let oe = answered_in_turn _ examples a.examples e in
-    let ot = answered_in_turn _ tests a.tests t in let on = answered_in_turn _ benches a.benches n in
-    record {
-      bins = ob;
-      examples = oe;
-      tests = ot;
-      benches = on;
-      explained = record {
-        ascending = map_ascends a ob oe ot on r.0 s.0;
-        allowed = (
-          s.1,
-          (
-              let l = listing_map a in
-              let bp = folder_places l bins in let ep = folder_places l examples in let tp = folder_places l tests in
-              let np = folder_places l benches in let rp = root_places asks in
-              subst (λ (ps : List Place). AllByRecursion (λ p. allows (path_text p) (at l p)) (up_to_memory_fault (at l)
-              ps)) (together l rp)
-              (allowed_append allows l bp (ep ++ (tp ++ (np ++ rp))) (folder_held allows l bins a.bins refl b) (λ q1.
-              let f1 : ran_out_of_memory a.bins ≡ false = sym (folder_fault l bins a.bins refl ob) ∙ q1 in
-              allowed_append allows l ep (tp ++ (np ++ rp)) (folder_held allows l examples a.examples refl
-              (answered_on (ran_out_of_memory a.bins) allows examples a.examples e f1)) (λ q2.
-              let f2 = or_from (ran_out_of_memory a.bins) (ran_out_of_memory a.examples) f1
-              (sym (folder_fault l examples a.examples refl oe) ∙ q2) in
-              allowed_append allows l tp (np ++ rp) (folder_held allows l tests a.tests refl (answered_on _ allows tests
-              a.tests t f2)) (λ q3.
-              let f3 = or_from (ran_out_of_memory a.bins || ran_out_of_memory a.examples) (ran_out_of_memory a.tests) f2
-              (sym (folder_fault l tests a.tests refl ot) ∙ q3) in
-              allowed_append allows l np rp (folder_held allows l benches a.benches refl (answered_on _ allows benches
-              a.benches n f3)) (λ q4.
-              let f4 = or_from ((ran_out_of_memory a.bins || ran_out_of_memory a.examples) || ran_out_of_memory a.tests)
-              (ran_out_of_memory a.benches) f3 (sym (folder_fault l benches a.benches refl on) ∙ q4) in
-              root_held allows l asks (λ y. r.1 (and_from asks _ y (ap not f4))))))))),
-        );
-      };
-    }
+module _ (allows : Text → Answer → Type 0) (asks : Bool) (a : Answers) where
+  -- these folders in turn and then that of the manifest, each where no answer before it ran out of memory
+  abbrev pub AskedInTurn : Bool → List TargetFolder → Type 0
+  AskedInTurn stopped [] = IsAllowedAnswer (λ path answer. (asks && not stopped) ≡ true → allows path answer)
+      (path_text root) (answer_of a.root)
+  AskedInTurn stopped (d ∷ ds) =
+      IsAllowedUnless stopped allows d (folder_answers a d)
+      × ((after : Bool) × (after ≡ (stopped || ran_out_of_memory (folder_answers a d))) × AskedInTurn after ds)
+
+  each_in_turn : (stopped : Bool) (ds : List TargetFolder) → AskedInTurn stopped ds
+      → AllByRecursion (λ d. IsAnsweredInTurn d (folder_answers a d)) ds
+  each_in_turn stopped [] h = tt
+  each_in_turn stopped (d ∷ ds) h = (answered_in_turn _ d (folder_answers a d) h.0, each_in_turn h.1.0 ds h.1.2)
+
+  root_ascends : (stopped : Bool) (ds : List TargetFolder) → AskedInTurn stopped ds → Ascends (answer_of a.root)
+  root_ascends stopped [] h = h.0
+  root_ascends stopped (d ∷ ds) h = root_ascends h.1.0 ds h.1.2
+
+  module _ (in_turn : (d : TargetFolder) → IsAnsweredInTurn d (folder_answers a d)) where
+    all_held : (stopped : Bool) (ds : List TargetFolder) → AskedInTurn stopped ds → stopped ≡ false
+        → AllByRecursion (Holds allows (listing_map a)) (up_to_memory_fault (at (listing_map a))
+        (places_of (listing_map a) (root_places asks) ds))
+    all_held stopped [] h e = root_held allows (listing_map a) asks (λ y. h.1 (and_from asks _ y (ap not e)))
+    all_held stopped (d ∷ ds) h e =
+        let l = listing_map a in let f = folder_answers a d in
+        allowed_append allows l (folder_places l d) (places_of l (root_places asks) ds)
+        (folder_held allows l d f refl (answered_on stopped allows d f h.0 e))
+        (λ q. all_held h.1.0 ds h.1.2 (h.1.1 ∙ or_from stopped (ran_out_of_memory f) e
+        (sym (folder_fault l d f refl (in_turn d)) ∙ q)))
+
+  pub all_answered : IsAllowedAnswer allows (path_text source) (answer_of a.source) → AskedInTurn false target_folders
+      → AllIsAnswered allows asks a
+  all_answered s h =
+      let l = listing_map a in
+      let in_turn = every (λ d. IsAnsweredInTurn d (folder_answers a d)) (each_in_turn false target_folders h) in
+      record {
+        in_turn = in_turn;
+        explained = record {
+          ascending = map_ascends a in_turn (root_ascends false target_folders h) s.0;
+          allowed = (
+            s.1,
+            subst (λ (ps : List Place). AllByRecursion (Holds allows l) (up_to_memory_fault (at l) ps))
+                (together l (root_places asks) target_folders) (all_held in_turn false target_folders h refl),
+          );
+        };
+      }

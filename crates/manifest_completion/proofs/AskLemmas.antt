@@ -3,8 +3,15 @@ use Rattle.manifest_schema.specs.Prelude.{Global, Less, AllZip, AllByRecursion, 
 use Rattle.std.proofs.Common.{◌≡◌, List, [], ◌∷◌, ◌++◌, true, false, refl, ap, sym, ◌∙◌, String, map, string_bytes}
 use Rattle.std.specs.List.{IsDistinct}
 use Rattle.std.specs.List.Sorted.{IsStrictlySortedBy}
-use Rattle.manifest_completion.specs.Listings.{Answer, joined, is_memory_fault, IsAscending}
+use Rattle.manifest_completion.specs.Listings.{Answer, joined, is_memory_fault, TargetFolder, Bins, Examples, Tests, Benches, target_folders, IsAscending}
 use Rattle.manifest_completion.specs.Asking.{IsAllowedAnswer, AreAllowedAnswers}
+
+-- FOLDERS: what holds of each of them
+pub every : (P : TargetFolder → Type 0) → AllByRecursion P target_folders → (d : TargetFolder) → P d
+every P h Bins = h.0
+every P h Examples = h.1.0
+every P h Tests = h.1.1.0
+every P h Benches = h.1.1.1.0
 
 -- NAMES of a set ascend
 above : (x : String Global) (xs : List (String Global)) → AllByRecursion (λ y. string_cmp x y ≡ Less) xs

@@ -1,11 +1,11 @@
 -- All path texts that are asked differ.
-use Rattle.manifest_schema.specs.Prelude.{append_assoc, AllByRecursion, bytes_eq, Text, Package}
+use Rattle.manifest_schema.specs.Prelude.{append_assoc, flat_map, AllByRecursion, bytes_eq, Text, Package}
 use Rattle.std.proofs.Common.{◌≡◌, ℕ, List, [], ◌∷◌, ◌++◌, Bool, true, false, refl, ap, sym, ◌∙◌, map, Option, Some, None, if◌then◌else◌, nat_eq, subst}
 use Rattle.std.specs.List.{IsDistinct}
-use Rattle.manifest_completion.specs.Listings.{Answer, is_memory_fault, TargetFolder, bins, examples, tests, benches, Place, source, folder, entry, root, names_of, path_text, ListingMap, at, HasNoNameTwice}
+use Rattle.manifest_completion.specs.Listings.{Answer, is_memory_fault, TargetFolder, Bins, Examples, Tests, Benches, target_folders, by_folder, Place, source, folder, entry, root, names_of, joined, folder_text, path_text, ListingMap, at, HasNoNameTwice}
 use Rattle.manifest_completion.specs.Completed.{PackageTargets, folder_places, target_places, root_places, up_to_memory_fault, stops_at_source, asks_root, asked_targets, asked_by, targets_of}
 use Rattle.manifest_completion.specs.Laws.{AskedDiffer, AscendingDiffer}
-use Rattle.manifest_completion.proofs.AskLemmas.{ascending_differ}
+use Rattle.manifest_completion.proofs.AskLemmas.{ascending_differ, every}
 
 -- the path text of p is not that of any of these
 abbrev AllApart : Place → List Place → Type 0
@@ -53,16 +53,16 @@ differ_up_to f (p ∷ ps) h = one (is_memory_fault (f p)) (apart_up_to f p ps h.
 
 -- ONE FOLDER
 folder_apart : (d : TargetFolder) (n : Text) → bytes_eq (path_text (folder d)) (path_text (entry d n)) ≡ false
-folder_apart bins n = refl
-folder_apart examples n = refl
-folder_apart tests n = refl
-folder_apart benches n = refl
+folder_apart Bins n = refl
+folder_apart Examples n = refl
+folder_apart Tests n = refl
+folder_apart Benches n = refl
 
 entry_eq : (d : TargetFolder) (n m : Text) → bytes_eq (path_text (entry d n)) (path_text (entry d m)) ≡ bytes_eq n m
-entry_eq bins n m = refl
-entry_eq examples n m = refl
-entry_eq tests n m = refl
-entry_eq benches n m = refl
+entry_eq Bins n m = refl
+entry_eq Examples n m = refl
+entry_eq Tests n m = refl
+entry_eq Benches n m = refl
 
 all_apart : (p : Place) (d : TargetFolder) (ns : List Text)
     → ((n : Text) → bytes_eq (path_text p) (path_text (entry d n)) ≡ false) → AllApart p (map (entry d) ns)
@@ -89,10 +89,7 @@ places_differ l d h = (
 
 -- PLACES BY THE FIRST BYTE of their text
 abbrev folder_byte : TargetFolder → ℕ
-folder_byte bins = 115
-folder_byte examples = 101
-folder_byte tests = 116
-folder_byte benches = 98
+folder_byte d = by_folder 115 101 116 98 d
 
 abbrev byte : Place → ℕ
 byte source = 115
@@ -100,17 +97,17 @@ byte (folder d) = folder_byte d
 byte (entry d n) = folder_byte d
 byte root = 46
 
+folder_rest : (d : TargetFolder) → (t : Text) × (folder_text d ≡ folder_byte d ∷ t)
+folder_rest Bins = (_, refl)
+folder_rest Examples = (_, refl)
+folder_rest Tests = (_, refl)
+folder_rest Benches = (_, refl)
+
 rest_of : (p : Place) → (t : Text) × (path_text p ≡ byte p ∷ t)
 rest_of source = (_, refl)
 rest_of root = (_, refl)
-rest_of (folder bins) = (_, refl)
-rest_of (folder examples) = (_, refl)
-rest_of (folder tests) = (_, refl)
-rest_of (folder benches) = (_, refl)
-rest_of (entry bins n) = (_, refl)
-rest_of (entry examples n) = (_, refl)
-rest_of (entry tests n) = (_, refl)
-rest_of (entry benches n) = (_, refl)
+rest_of (folder d) = folder_rest d
+rest_of (entry d n) = let r = folder_rest d in (joined r.0 n, ap (λ t. joined t n) r.1)
 
 by_byte : (p q : Place) → nat_eq (byte p) (byte q) ≡ false → bytes_eq (path_text p) (path_text q) ≡ false
 by_byte p q e = let x = rest_of p in let y = rest_of q in rw (x.1, y.1, e) refl
@@ -129,78 +126,63 @@ folder_across l d qs h = (h (folder d) refl, entries (names_of (at l (folder d))
     entries [] = tt
     entries (m ∷ ms) = (h (entry d m) refl, entries ms)
 
--- ALL PLACES, from the last to the first
+-- ALL PLACES: those of some folders, and then these
+abbrev pub places_of : ListingMap → List Place → List TargetFolder → List Place
+places_of l rest [] = rest
+places_of l rest (d ∷ ds) = folder_places l d ++ places_of l rest ds
+
+pub together : (l : ListingMap) (rest : List Place) (ds : List TargetFolder)
+    → places_of l rest ds ≡ flat_map (folder_places l) ds ++ rest
+together l rest [] = refl
+together l rest (d ∷ ds) = ap (λ (ps : List Place). folder_places l d ++ ps) (together l rest ds)
+    ∙ sym (append_assoc (folder_places l d) (flat_map (folder_places l) ds) rest)
+
+-- none of these folders has this first byte
+abbrev NoneBegins : ℕ → List TargetFolder → Type 0
+NoneBegins b ds = AllByRecursion (λ d. nat_eq b (folder_byte d) ≡ false) ds
+
+apart_from_all : (l : ListingMap) (rest : List Place) (p : Place) (ds : List TargetFolder) → NoneBegins (byte p) ds
+    → AllApart p rest → AllApart p (places_of l rest ds)
+apart_from_all l rest p [] h r = r
+apart_from_all l rest p (d ∷ ds) h r = apart_append p (folder_places l d) (places_of l rest ds)
+    (folder_by_byte p d (names_of (at l (folder d))) h.0) (apart_from_all l rest p ds h.1 r)
+
 at_root : (asks : Bool) (p : Place) → nat_eq (byte p) 46 ≡ false → AllApart p (root_places asks)
 at_root true p e = (by_byte p root e, tt)
 at_root false p e = tt
 
-from_benches : (l : ListingMap) (asks : Bool) (p : Place) → nat_eq (byte p) 46 ≡ false → nat_eq (byte p) 98 ≡ false
-    → AllApart p (folder_places l benches ++ root_places asks)
-from_benches l asks p r b = apart_append p (folder_places l benches) (root_places asks)
-    (folder_by_byte p benches (names_of (at l (folder benches))) b) (at_root asks p r)
-
-from_tests : (l : ListingMap) (asks : Bool) (p : Place) → nat_eq (byte p) 46 ≡ false → nat_eq (byte p) 98 ≡ false
-    → nat_eq (byte p) 116 ≡ false → AllApart p (folder_places l tests ++ (folder_places l benches ++ root_places asks))
-from_tests l asks p r b t = apart_append p (folder_places l tests) _
-    (folder_by_byte p tests (names_of (at l (folder tests))) t) (from_benches l asks p r b)
-
-from_examples : (l : ListingMap) (asks : Bool) (p : Place) → byte p ≡ 115 → AllApart p (folder_places l examples
-    ++ (folder_places l tests ++ (folder_places l benches ++ root_places asks)))
-from_examples l asks p s = apart_append p (folder_places l examples) _ (folder_by_byte p examples
-    (names_of (at l (folder examples))) (rw s refl)) (from_tests l asks p (rw s refl) (rw s refl) (rw s refl))
-
-benches_differ : (l : ListingMap) (asks : Bool) → HasNoNameTwice l → Differ (folder_places l benches
-    ++ root_places asks)
+root_differs : (asks : Bool) → Differ (root_places asks)
 unfolding IsDistinct
-benches_differ l asks h = differ_append (folder_places l benches) (root_places asks) (places_differ l benches h)
-    (one asks) (folder_across l benches (root_places asks) (λ p e. at_root asks p (rw e refl)))
+root_differs true = (tt, tt)
+root_differs false = tt
+
+all_differ : (l : ListingMap) (asks : Bool) (ds : List TargetFolder) → HasNoNameTwice l
+    → IsDistinct (λ d e. nat_eq (folder_byte d) (folder_byte e)) ds → Differ (places_of l (root_places asks) ds)
+unfolding IsDistinct
+all_differ l asks [] h e = root_differs asks
+all_differ l asks (d ∷ ds) h e =
+    differ_append (folder_places l d) (places_of l (root_places asks) ds) (places_differ l d h)
+    (all_differ l asks ds h e.1) (folder_across l d (places_of l (root_places asks) ds)
+    (λ p b. apart_from_all l (root_places asks) p ds (rw b e.0) (at_root asks p (rw b (no_root d)))))
   where
-    one : (b : Bool) → Differ (root_places b)
-    one true = (tt, tt)
-    one false = tt
+    no_root : (f : TargetFolder) → nat_eq (folder_byte f) 46 ≡ false
+    no_root = every (λ f. nat_eq (folder_byte f) 46 ≡ false) (refl, (refl, (refl, (refl, tt))))
 
-tests_differ : (l : ListingMap) (asks : Bool) → HasNoNameTwice l → Differ (folder_places l tests
-    ++ (folder_places l benches ++ root_places asks))
-tests_differ l asks h = differ_append (folder_places l tests) (folder_places l benches ++ root_places asks)
-    (places_differ l tests h) (benches_differ l asks h) (folder_across l tests (folder_places l benches
-    ++ root_places asks) (λ p e. from_benches l asks p (rw e refl) (rw e refl)))
-
-examples_differ : (l : ListingMap) (asks : Bool) → HasNoNameTwice l → Differ (folder_places l examples
-    ++ (folder_places l tests ++ (folder_places l benches ++ root_places asks)))
-examples_differ l asks h = differ_append (folder_places l examples) (folder_places l tests ++ (folder_places l benches
-    ++ root_places asks)) (places_differ l examples h) (tests_differ l asks h)
-    (folder_across l examples (folder_places l tests ++ (folder_places l benches ++ root_places asks))
-    (λ p e. from_tests l asks p (rw e refl) (rw e refl) (rw e refl)))
-
-bins_differ : (l : ListingMap) (asks : Bool) → HasNoNameTwice l → Differ (folder_places l bins
-    ++ (folder_places l examples ++ (folder_places l tests ++ (folder_places l benches ++ root_places asks))))
-bins_differ l asks h = differ_append (folder_places l bins) (folder_places l examples
-    ++ (folder_places l tests ++ (folder_places l benches ++ root_places asks))) (places_differ l bins h)
-    (examples_differ l asks h) (folder_across l bins (folder_places l examples
-    ++ (folder_places l tests ++ (folder_places l benches ++ root_places asks))) (λ p e. from_examples l asks p e))
-
-source_apart : (l : ListingMap) (asks : Bool) → AllApart source (folder_places l bins ++ (folder_places l examples
-    ++ (folder_places l tests ++ (folder_places l benches ++ root_places asks))))
-source_apart l asks = apart_append source (folder_places l bins) _ (
-  refl,
-  all_apart source bins
-      (names_of (at l (folder bins))) (λ n. refl),
-) (from_examples l asks source refl)
-
-pub together : (l : ListingMap) (rest : List Place) → folder_places l bins ++ (folder_places l examples
-    ++ (folder_places l tests ++ (folder_places l benches ++ rest))) ≡ target_places l ++ rest
-together l rest =
-    let b = folder_places l bins in let e = folder_places l examples in let t = folder_places l tests in let n =
-    folder_places l benches in
-    sym (append_assoc b (e ++ (t ++ n)) rest ∙ ap (λ (ps : List Place). b ++ ps) (append_assoc e (t ++ n) rest
-    ∙ ap (λ (ps : List Place). e ++ ps) (append_assoc t n rest)))
+source_apart : (l : ListingMap) (asks : Bool) → AllApart source (places_of l (root_places asks) target_folders)
+source_apart l asks =
+    apart_append source (folder_places l Bins) _
+    (refl, all_apart source Bins (names_of (at l (folder Bins))) (λ n. refl))
+    (apart_from_all l (root_places asks) source (Examples ∷ Tests ∷ Benches ∷ []) (refl, (refl, (refl, tt)))
+    (at_root asks source refl))
 
 targets_differ : (t : PackageTargets) (l : ListingMap) → HasNoNameTwice l → Differ (asked_targets t l)
 unfolding IsDistinct
 targets_differ t l h =
     let asks = asks_root t.build in let ps = target_places l ++ root_places asks in
-    let all : Differ ps = subst Differ (together l (root_places asks)) (bins_differ l asks h) in
-    let first : AllApart source ps = subst (AllApart source) (together l (root_places asks)) (source_apart l asks) in
+    let same = together l (root_places asks) target_folders in
+    let all : Differ ps = subst Differ same (all_differ l asks target_folders h
+    ((refl, (refl, (refl, tt))), ((refl, (refl, tt)), ((refl, tt), (tt, tt))))) in
+    let first : AllApart source ps = subst (AllApart source) same (source_apart l asks) in
     one (stops_at_source t l.source) (apart_up_to (at l) source ps first) (differ_up_to (at l) ps all)
   where
     one : (b : Bool) → AllApart source (up_to_memory_fault (at l) (target_places l ++ root_places (asks_root t.build)))

@@ -1,21 +1,21 @@
 -- What the steps of a completion give, by the definitions.
-use Rattle.manifest_schema.specs.Prelude.{error_kind, list_any, flat_map, or_parts, list_any-append, ErrorKind, NotFound, OutOfMemory, Text, Product, Manifest}
-use Rattle.std.proofs.Common.{◌≡◌, List, [], ◌∷◌, ◌++◌, Bool, true, false, refl, ap, sym, ◌∙◌, map, subst, ◌||◌, Option, Some, None, if◌then◌else◌, Result, Ok, Err}
+use Rattle.manifest_schema.specs.Prelude.{AllByRecursion, fun_ext, error_kind, list_any, flat_map, or_parts, list_any-append, ErrorKind, NotFound, OutOfMemory, Text, Product, Manifest}
+use Rattle.std.proofs.Common.{◌≡◌, List, [], ◌∷◌, ◌++◌, Bool, true, false, refl, ap, ap₂, sym, ◌∙◌, map, subst, ◌||◌, Option, Some, None, if◌then◌else◌, Result, Ok, Err}
 use Rattle.std.specs.Result.{IsErrAnd}
-use Rattle.manifest_value.specs.declared.error.Error.{Error}
-use Rattle.manifest_value.specs.declared.error.Error.TheVariants.{Io, Other, Memory}
+use Rattle.manifest_fault.specs.declared.error.Error.{Error}
+use Rattle.manifest_fault.specs.declared.error.Error.TheVariants.{Io, Other, Memory}
 use Rattle.manifest_completion.specs.declared.completion.CompletedTargets.{CompletedTargets}
 use Rattle.manifest_completion.specs.declared.ask.FolderAnswers.{FolderAnswers}
 use Rattle.manifest_completion.specs.declared.ask.Answers.{Answers}
-use Rattle.manifest_completion.specs.Listings.{Answer, fault, names_of, is_memory_fault, TargetFolder, bins, examples, tests, benches, Place, source, folder, entry, root, folder_text, path_text, FolderListing, ListingMap, folder_of, at, IsAscending, NamesAscend}
+use Rattle.manifest_completion.specs.Listings.{Answer, fault, names_of, is_memory_fault, TargetFolder, target_folders, source, folder, entry, root, folder_text, path_text, FolderListing, ListingMap, at, IsAscending, NamesAscend}
 use Rattle.manifest_completion.specs.Finds.{Discovered, discovered, discovered_in_entry}
-use Rattle.manifest_completion.specs.Completed.{PackageTargets, Explains, folder_places, target_places, has_memory_fault, completed_to, refused, no_library, filled, library, no_file, known, source_fault, root_fault, after_root, completed_targets, asked_targets, asks_root, stops_at_source, completed, asked}
+use Rattle.manifest_completion.specs.Completed.{PackageTargets, Explains, folder_places, target_places, has_memory_fault, completed_to, refused, no_library, filled_by, library, no_file, known, source_fault, root_fault, after_root, completed_targets, asked_targets, asks_root, stops_at_source, completed, asked}
 use Rattle.manifest_completion.specs.Answered.{answer_of, answers_of}
-use Rattle.manifest_completion.specs.Asking.{IsAllowedAnswer, AreAllowedAnswers, IsAnsweredInTurn, folder_listing, listing_map, AllIsAnswered, ran_out_of_memory, some_ran_out_of_memory}
-use Rattle.manifest_completion.specs.Outcome.{completed_content, TargetsComeTo, TargetsRefused, TargetsCompleted}
-use Rattle.manifest_completion.specs.Steps.{IsFault, RefusesLibrary, paired_discovered, folder_paired, TargetsMade, fault_of_answers, CompletesByAnswers}
+use Rattle.manifest_completion.specs.Asking.{IsAllowedAnswer, AreAllowedAnswers, IsAnsweredInTurn, folder_answers, folder_listing, listing_map, AllIsAnswered, ran_out_of_memory, some_ran_out_of_memory}
+use Rattle.manifest_completion.specs.Outcome.{TargetsComeTo, TargetsRefused, TargetsCompleted}
+use Rattle.manifest_completion.specs.Steps.{IsFault, RefusesLibrary, paired_discovered, folder_paired, paired, fault_of_answers, CompletesByAnswers}
 use Rattle.manifest_completion.proofs.DecidesLaws.{with_library}
-use Rattle.manifest_completion.proofs.AskLemmas.{none_ascend, ascending_differ}
+use Rattle.manifest_completion.proofs.AskLemmas.{none_ascend, ascending_differ, every}
 use Rattle.manifest_completion.proofs.AnswerLemmas.{folder_fault, entry_answers, padded, any_map}
 
 -- FINDS: those that are computed are those of the map
@@ -31,41 +31,28 @@ paired_is d f (n ∷ ns) (a ∷ given) e h q =
     rw here (ap (λ (xs : List Discovered). discovered_in_entry d n a ++ xs)
     (paired_is d f ns given there (rw kept at h.1) (or_parts (is_memory_fault a) (list_any is_memory_fault given) q).1))
 
-pub folder_paired_is : (l : ListingMap) (d : TargetFolder) (a : FolderAnswers) → folder_of l d ≡ folder_listing a
+pub folder_paired_is : (l : ListingMap) (d : TargetFolder) (a : FolderAnswers) → l.folders d ≡ folder_listing a
     → IsAnsweredInTurn d a → ran_out_of_memory a ≡ false → folder_paired (folder_text d) a ≡ discovered l d
 folder_paired_is l d a e h q =
-    let own : (folder_of l d).own ≡ answer_of a.own = ap (λ (f : FolderListing). f.own) e in
+    let own : (l.folders d).own ≡ answer_of a.own = ap (λ (f : FolderListing). f.own) e in
     let kept : list_any is_memory_fault (answers_of a.entries) ≡ false = any_map is_memory_fault answer_of
     a.entries.items ∙ (or_parts (is_memory_fault (answer_of a.own)) _ q).1 in
     rw own (paired_is (folder_text d) (λ n. at l (entry d n)) (names_of (answer_of a.own)) (answers_of a.entries)
     (entry_answers l d a e (ascending_differ (names_of (answer_of a.own)) h.own.0)) h.entries kept)
 
 -- THE MAP of a completion that asks `src` alone
-abbrev pub no_folder : FolderListing
-no_folder = record { own = fault NotFound; entries = [] }
-
 abbrev pub only_source : Answer → ListingMap
 only_source src = record {
   source = src;
-  bins = no_folder;
-  examples = no_folder;
-  tests = no_folder;
-  benches =
-      no_folder;
+  folders = λ d. record { own = fault NotFound; entries = [] };
   root = fault NotFound;
 }
 
 pub only_ascends : (src : Answer) → IsAscending (names_of src) → NamesAscend (only_source src)
-only_ascends src d source = d
-only_ascends src d (folder bins) = none_ascend
-only_ascends src d (folder examples) = none_ascend
-only_ascends src d (folder tests) = none_ascend
-only_ascends src d (folder benches) = none_ascend
-only_ascends src d (entry bins n) = none_ascend
-only_ascends src d (entry examples n) = none_ascend
-only_ascends src d (entry tests n) = none_ascend
-only_ascends src d (entry benches n) = none_ascend
-only_ascends src d root = none_ascend
+only_ascends src h source = h
+only_ascends src h (folder d) = none_ascend
+only_ascends src h (entry d n) = none_ascend
+only_ascends src h root = none_ascend
 
 module _ (allows : Text → Answer → Type 0) (t : PackageTargets) (src : Answer) (ok : IsAllowedAnswer allows
     (path_text source) src) where
@@ -91,22 +78,28 @@ module _ (allows : Text → Answer → Type 0) (t : PackageTargets) (src : Answe
   library_error none _ h = absurd h
 
 -- where all was answered, the map has a folder or an entry that ran out of memory exactly where an answer did
-pub any_fault : (allows : Text → Answer → Type 0) (asks : Bool) (a : Answers) → AllIsAnswered allows asks a
-    → has_memory_fault (at (listing_map a)) (target_places (listing_map a)) ≡ some_ran_out_of_memory a
-any_fault allows asks a given =
-    let l = listing_map a in let t = λ (q : Place). is_memory_fault (at l q) in
-    list_any-append t (folder_places l bins) (folder_places l examples
-    ++ (folder_places l tests ++ folder_places l benches))
-    ∙ ap (λ b. list_any t (folder_places l bins) || b) (list_any-append t (folder_places l examples)
-    (folder_places l tests ++ folder_places l benches)
-    ∙ ap (λ b. list_any t (folder_places l examples) || b) (list_any-append t (folder_places l tests)
-    (folder_places l benches)))
-    ∙ cc (
-      folder_fault l bins a.bins refl given.bins,
-      folder_fault l examples a.examples refl given.examples,
-      folder_fault l tests a.tests refl given.tests,
-      folder_fault l benches a.benches refl given.benches,
-    )
+module _ (a : Answers) (in_turn : (d : TargetFolder) → IsAnsweredInTurn d (folder_answers a d)) where
+  faults : (ds : List TargetFolder) → has_memory_fault (at (listing_map a)) (flat_map (folder_places (listing_map a)) ds)
+      ≡ list_any (λ d. ran_out_of_memory (folder_answers a d)) ds
+  faults [] = refl
+  faults (d ∷ ds) =
+      let l = listing_map a in
+      list_any-append (λ p. is_memory_fault (at l p)) (folder_places l d) (flat_map (folder_places l) ds)
+      ∙ ap₂ (λ x y. x || y) (folder_fault l d (folder_answers a d) refl (in_turn d)) (faults ds)
+
+  pub any_fault : has_memory_fault (at (listing_map a)) (target_places (listing_map a)) ≡ some_ran_out_of_memory a
+  any_fault = faults target_folders
+
+  -- and where none did, the finds that are computed are those of the map
+  pub paired_finds : some_ran_out_of_memory a ≡ false → discovered (listing_map a) ≡ paired a
+  paired_finds e = fun_ext (every (λ d. discovered (listing_map a) d ≡ paired a d) (each target_folders e))
+    where
+      each : (ds : List TargetFolder) → list_any (λ d. ran_out_of_memory (folder_answers a d)) ds ≡ false
+          → AllByRecursion (λ d. discovered (listing_map a) d ≡ paired a d) ds
+      each [] f = tt
+      each (d ∷ ds) f =
+          let calm = or_parts (ran_out_of_memory (folder_answers a d)) _ f in
+          (sym (folder_paired_is (listing_map a) d (folder_answers a d) refl (in_turn d) calm.0), each ds calm.1)
 
 -- all was answered
 module _ (allows : Text → Answer → Type 0) (t : PackageTargets) (a : Answers) (given : AllIsAnswered allows
@@ -120,7 +113,7 @@ module _ (allows : Text → Answer → Type 0) (t : PackageTargets) (a : Answers
   answered_outcome =
       with_library t (listing_map a) lib none got
       ∙ ap (λ (b : Bool). if b then refused OutOfMemory else after_root t lib (listing_map a)
-      (root_fault t.build (answer_of a.root))) (any_fault allows (asks_root t.build) a given)
+      (root_fault t.build (answer_of a.root))) (any_fault a given.in_turn)
       ∙ one (some_ran_out_of_memory a)
     where
       one : (b : Bool) → (if b then refused OutOfMemory else after_root t lib (listing_map a)
@@ -136,37 +129,13 @@ module _ (allows : Text → Answer → Type 0) (t : PackageTargets) (a : Answers
       one true k f = cc
       one false k f = refl
 
-  filled_is : some_ran_out_of_memory a ≡ false → (c : CompletedTargets) → TargetsMade t lib a c
-      → filled t lib (listing_map a) ≡ completed_content t c
-  unfolding filled
-  filled_is e c made =
-      let l = listing_map a in
-      let (q1, r1) = or_parts (ran_out_of_memory a.bins) _ e in
-      let (q2, r2) = or_parts (ran_out_of_memory a.examples) _ r1 in
-      let (q3, q4) = or_parts (ran_out_of_memory a.tests) (ran_out_of_memory a.benches) r2 in
-      let fb = folder_paired_is l bins a.bins refl given.bins q1 in let fe = folder_paired_is l examples a.examples refl
-      given.examples q2 in
-      let ft = folder_paired_is l tests a.tests refl given.tests q3 in let fn = folder_paired_is l benches a.benches
-      refl given.benches q4 in
-      rw (
-        made.build,
-        made.library,
-        made.lists.bin,
-        made.lists.example,
-        made.lists.test,
-        made.lists.bench,
-        fb,
-        fe,
-        ft,
-        fn,
-      ) refl
-
   pub by_answers : (r : Result CompletedTargets Error) → CompletesByAnswers t lib a r → TargetsCompleted allows t r
   by_answers (Ok c) h = (
     listing_map a,
     explains_all,
     answered_outcome ∙ ap (after_root t lib (listing_map a)) h.0
-        ∙ ap completed_to (filled_is (calm h.0) c h.1),
+        ∙ ap (λ (f : TargetFolder → List Discovered). completed_to (filled_by t lib (answer_of a.source) (answer_of a.root) f))
+        (paired_finds a given.in_turn (calm h.0)) ∙ ap completed_to (sym h.1),
   )
   by_answers (Err (Io e)) h = (listing_map a, explains_all, answered_outcome ∙ ap (after_root t lib (listing_map a)) h)
   by_answers (Err (Memory e)) h = tt

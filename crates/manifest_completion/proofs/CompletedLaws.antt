@@ -1,12 +1,12 @@
 -- A completed manifest is completed, and is well-formed where the manifest was.
 use Rattle.manifest_schema.specs.Prelude.{option_or, AllByRecursion, ErrorKind, Data, Text, Kind, good_some, form, IsSound, underscored, StringOrBool, a_text, a_flag, Product, Package, Manifest, package_rows, well_formed}
 use Rattle.std.proofs.Common.{◌≡◌, inl, inr, List, [], ◌∷◌, ◌++◌, Bool, true, false, refl, ap, sym, ◌∙◌, ◌&&◌, Option, Some, None, if◌then◌else◌, subst, codes, unwrap_or}
-use Rattle.manifest_schema.proofs.GoodLaws.{package_good, package_metadata_good, manifest_good, manifest_parts_good}
-use Rattle.manifest_schema.proofs.ManifestLaws.{manifest_sound}
-use Rattle.manifest_completion.specs.Listings.{Answer, names, fault, lists, is_memory_fault, examples, tests, benches, Place, source, ListingMap, at}
-use Rattle.manifest_completion.specs.Finds.{discovered, discovered_bins}
-use Rattle.manifest_completion.specs.Targets.{found}
-use Rattle.manifest_completion.specs.Completed.{PackageTargets, is_legacy, own_edition, library_type, library_path, Library, no_file, known, declared_library, inferred_library, library_of, library, asks_root, build_of, bin_defaults, example_defaults, test_defaults, filled, Completion, completed_to, refused, no_library, target_places, has_memory_fault, source_fault, root_fault, completed_targets, targets_of, with_targets, completion_with, completed_by, completed, up_to_memory_fault, root_places, asked_targets, asked_by, asked}
+use Rattle.manifest_schema.proofs.Values.GoodLaws.{package_good, package_metadata_good, manifest_good, manifest_parts_good}
+use Rattle.manifest_schema.proofs.Forms.ManifestLaws.{manifest_sound}
+use Rattle.manifest_completion.specs.Listings.{Answer, names, fault, lists, is_memory_fault, TargetFolder, Bins, Examples, Tests, Benches, Place, source, ListingMap, at}
+use Rattle.manifest_completion.specs.Finds.{discovered, list_finds}
+use Rattle.manifest_completion.specs.Targets.{found, targets}
+use Rattle.manifest_completion.specs.Completed.{PackageTargets, is_legacy, own_edition, library_type, library_path, Library, no_file, known, declared_library, inferred_library, library_of, library, asks_root, build_of, discovers, declared, own_flag, defaults, completed_list, filled_by, filled, Completion, completed_to, refused, no_library, target_places, has_memory_fault, source_fault, root_fault, completed_targets, targets_in, targets_of, with_targets, completion_with, completed_by, completed, up_to_memory_fault, root_places, asked_targets, asked_by, asked}
 use Rattle.manifest_completion.specs.Laws.{IsAmong, IsFixed, CompletedIsFixed}
 use Rattle.manifest_completion.proofs.TargetLaws.{or_idem, targets_fixed}
 
@@ -119,7 +119,7 @@ done_calm t u l h = by_source (source_fault l.source) (library t l.source) (has_
 -- THE SAME AGAIN
 calm_again : (t : PackageTargets) (l : ListingMap) (lib : Option Product) → IsCalm t l lib → IsCalm (filled t lib l) l
     lib
-unfolding filled
+unfolding filled_by
 calm_again t l lib c = record {
   source = c.source;
   library = library_fixed t t.lib lib l.source c.library;
@@ -130,15 +130,14 @@ calm_again t l lib c = record {
 
 filled_again : (t : PackageTargets) (l : ListingMap) (lib : Option Product) → filled (filled t lib l) lib l ≡ filled t
     lib l
-unfolding filled
-filled_again t l lib =
-    rw (
-      build_twice t.build l.root,
-      targets_fixed (bin_defaults t l.source) t.autobins (is_legacy t.edition) (discovered_bins l t.name) t.bin,
-      targets_fixed (example_defaults t) t.autoexamples (is_legacy t.edition) (discovered l examples) t.example,
-      targets_fixed (test_defaults t) t.autotests (is_legacy t.edition) (discovered l tests) t.test,
-      targets_fixed (test_defaults t) t.autobenches (is_legacy t.edition) (discovered l benches) t.bench,
-    ) refl
+unfolding filled_by
+filled_again t l lib = rw (build_twice t.build l.root, again Bins, again Examples, again Tests, again Benches) refl
+  where
+    again : (d : TargetFolder) → let fs = list_finds t.name l.source (discovered l) d in
+        let out = completed_list t l.source (discovered l) d in
+        targets (defaults t l.source d) (discovers (own_flag t d) (is_legacy t.edition) out) fs out ≡ out
+    again d = targets_fixed (defaults t l.source d) (own_flag t d) (is_legacy t.edition)
+        (list_finds t.name l.source (discovered l) d) (declared t d)
 
 -- WHAT IS ASKED AGAIN
 wider : (ps qs : List Place) (q : Place) → AllByRecursion (IsAmong qs) ps → AllByRecursion (IsAmong (q ∷ qs)) ps
@@ -182,15 +181,25 @@ among_by_root l true false h = cc (h refl)
 
 asked_again : (t : PackageTargets) (l : ListingMap) (lib : Option Product) → IsCalm t l lib
     → AllByRecursion (IsAmong (asked_targets t l)) (asked_targets (filled t lib l) l)
-unfolding filled
+unfolding filled_by
 asked_again t l lib c = among_same (asked_calm (filled t lib l) l lib (calm_again t l lib c)) (asked_calm t l lib c)
     (among_by_root l (asks_root (build_of t.build l.root)) (asks_root t.build) (root_again t.build l.root))
 
 -- THE MANIFEST
 targets_back : (p : Package) (m : Manifest) (lib : Option Product) (l : ListingMap) →
     let u = filled (targets_of p m) lib l in targets_of (record p { build = u.build }) (with_targets p m u) ≡ u
-unfolding filled
+unfolding filled_by
 targets_back p m lib l = refl
+
+-- its lists are completed
+pub filled_list : (p : Package) (m : Manifest) (lib : Option Product) (l : ListingMap) (d : TargetFolder)
+    → targets_in (with_targets p m (filled (targets_of p m) lib l)) d
+    ≡ completed_list (targets_of p m) l.source (discovered l) d
+unfolding filled_by
+filled_list p m lib l Bins = refl
+filled_list p m lib l Examples = refl
+filled_list p m lib l Tests = refl
+filled_list p m lib l Benches = refl
 
 pub completed_once : (p : Package) (m n : Manifest) (l : ListingMap)
     → completion_with p m (completed_targets (targets_of p m) l) ≡ completed_to n

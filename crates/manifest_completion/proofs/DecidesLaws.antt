@@ -1,11 +1,12 @@
 -- The answers at the places that are asked decide what is asked and what a manifest becomes.
-use Rattle.manifest_schema.specs.Prelude.{or_parts, append-nil, AllByRecursion, flat_map, ErrorKind, OutOfMemory, Text, StringOrBool, a_text, a_flag, Product, Package}
+use Rattle.manifest_schema.specs.Prelude.{fun_ext, or_parts, append-nil, AllByRecursion, flat_map, ErrorKind, OutOfMemory, Text, StringOrBool, a_text, a_flag, Product, Package}
 use Rattle.std.proofs.Common.{◌≡◌, List, [], ◌∷◌, ◌++◌, Bool, true, false, refl, ap, sym, ◌∙◌, map, Option, Some, None, if◌then◌else◌, ◌||◌, subst}
-use Rattle.manifest_completion.specs.Listings.{Answer, names, fault, names_of, is_memory_fault, TargetFolder, bins, examples, tests, benches, Place, source, folder, entry, root, folder_text, ListingMap, at}
+use Rattle.manifest_completion.specs.Listings.{Answer, names, fault, names_of, is_memory_fault, TargetFolder, target_folders, Place, source, folder, entry, root, folder_text, ListingMap, at}
 use Rattle.manifest_completion.specs.Finds.{Discovered, discovered_in_entry, discovered}
-use Rattle.manifest_completion.specs.Completed.{PackageTargets, folder_places, target_places, root_places, up_to_memory_fault, has_memory_fault, asks_root, root_fault_if, root_fault, build_of, Library, no_file, known, library, source_fault, after_root, filled, completed_to, refused, completed_targets, asked_targets, completed_by, asked_by, completion_with, targets_of}
+use Rattle.manifest_completion.specs.Completed.{PackageTargets, folder_places, target_places, root_places, up_to_memory_fault, has_memory_fault, asks_root, root_fault_if, root_fault, build_of, Library, no_file, known, library, source_fault, after_root, filled_by, filled, completed_to, refused, completed_targets, asked_targets, completed_by, asked_by, completion_with, targets_of}
 use Rattle.manifest_completion.specs.Laws.{AgreeAt, AskedDecides}
-use Rattle.manifest_completion.proofs.AskedLaws.{together}
+use Rattle.manifest_completion.proofs.AskLemmas.{every}
+use Rattle.manifest_completion.proofs.AskedLaws.{places_of, together}
 
 -- LISTS OF PLACES
 stopped_same : (b : Bool) (xs ys : List Place) → (b ≡ false → xs ≡ ys) → (if b then [] else xs) ≡ (if b then [] else ys)
@@ -77,16 +78,14 @@ module _ (l k : ListingMap) where
       → AgreeUpTo (target_places l ++ rest) → up_to_memory_fault (at l) (target_places l ++ rest) ≡ up_to_memory_fault
       (at k) (target_places k ++ rest)
   targets_asked r last h =
-      let n1 = folder_places l benches ++ r in let n2 = folder_places k benches ++ r in
-      let t1 = folder_places l tests ++ n1 in let t2 = folder_places k tests ++ n2 in
-      let e1 = folder_places l examples ++ t1 in let e2 = folder_places k examples ++ t2 in
-      let all : AgreeUpTo (folder_places l bins ++ e1) → up_to_memory_fault (at l) (folder_places l bins
-      ++ e1) ≡ up_to_memory_fault (at k) (folder_places k bins ++ e2) =
-      λ h1. folder_asked bins e1 e2 h1 (λ h2. folder_asked examples t1 t2 h2 (λ h3. folder_asked tests n1 n2 h3
-      (λ h4. folder_asked benches r r h4 last))) in
-      ap (up_to_memory_fault (at l)) (sym (together l r))
-      ∙ all (subst AgreeUpTo (sym (together l r)) h)
-      ∙ ap (up_to_memory_fault (at k)) (together k r)
+      ap (up_to_memory_fault (at l)) (sym (together l r target_folders))
+      ∙ each target_folders (subst AgreeUpTo (sym (together l r target_folders)) h)
+      ∙ ap (up_to_memory_fault (at k)) (together k r target_folders)
+    where
+      each : (ds : List TargetFolder) → AgreeUpTo (places_of l r ds)
+          → up_to_memory_fault (at l) (places_of l r ds) ≡ up_to_memory_fault (at k) (places_of k r ds)
+      each [] g = last g
+      each (d ∷ ds) g = folder_asked d (places_of l r ds) (places_of k r ds) g (each ds)
 
   root_asked : (asks : Bool) → AgreeUpTo (root_places asks) → up_to_memory_fault (at l)
       (root_places asks) ≡ up_to_memory_fault (at k) (root_places asks)
@@ -133,14 +132,25 @@ module _ (l k : ListingMap) where
   same_entries d (n ∷ ns) h = rw h.0 (ap (λ (fs : List Discovered). discovered_in_entry (folder_text d) n
       (at k (entry d n)) ++ fs) (same_entries d ns h.1))
 
-  pub same_discovered : (d : TargetFolder) → AgreeAt l k (folder_places l d) → discovered l d ≡ discovered k d
+  same_discovered : (d : TargetFolder) → AgreeAt l k (folder_places l d) → discovered l d ≡ discovered k d
   same_discovered d h =
       same_entries d (names_of (at l (folder d))) h.1
       ∙ ap (λ a. flat_map (λ n. discovered_in_entry (folder_text d) n (at k (entry d n))) (names_of a)) h.0
 
-  pub agree_front : (ps qs : List Place) → AgreeAt l k (ps ++ qs) → AgreeAt l k ps × AgreeAt l k qs
+  agree_front : (ps qs : List Place) → AgreeAt l k (ps ++ qs) → AgreeAt l k ps × AgreeAt l k qs
   agree_front [] qs h = (tt, h)
   agree_front (p ∷ ps) qs h = let more = agree_front ps qs h.1 in ((h.0, more.0), more.1)
+
+  -- so the finds of each folder are the same
+  pub same_finds : AgreeAt l k (target_places l) → discovered l ≡ discovered k
+  same_finds h = fun_ext (every (λ d. discovered l d ≡ discovered k d) (each target_folders h))
+    where
+      each : (ds : List TargetFolder) → AgreeAt l k (flat_map (folder_places l) ds)
+          → AllByRecursion (λ d. discovered l d ≡ discovered k d) ds
+      each [] g = tt
+      each (d ∷ ds) g =
+          let parts = agree_front (folder_places l d) (flat_map (folder_places l) ds) g in
+          (same_discovered d parts.0, each ds parts.1)
 
   -- THE FOLDER OF THE MANIFEST
   same_root : (b : Option StringOrBool) → AgreeUpTo (root_places (asks_root b))
@@ -153,21 +163,8 @@ module _ (l k : ListingMap) where
   -- THE TARGETS FILLED IN
   same_filled : (t : PackageTargets) (lib : Option Product) → l.source ≡ k.source → AgreeAt l k (target_places l)
       → build_of t.build l.root ≡ build_of t.build k.root → filled t lib l ≡ filled t lib k
-  unfolding filled
-  same_filled t lib e h build =
-      let b = agree_front (folder_places l bins) (folder_places l examples
-      ++ (folder_places l tests ++ folder_places l benches)) h in
-      let x = agree_front (folder_places l examples) (folder_places l tests ++ folder_places l benches) b.1 in
-      let n = agree_front (folder_places l tests) (folder_places l benches) x.1 in
-      rw (
-        e,
-        build,
-        same_discovered bins b.0,
-        same_discovered examples x.0,
-        same_discovered tests n.0,
-        same_discovered
-            benches n.1,
-      ) refl
+  unfolding filled_by
+  same_filled t lib e h build = ap (filled_by t lib l.source l.root) (same_finds h) ∙ rw (e, build) refl
 
   -- WHAT THE TARGETS BECOME
   module _ (t : PackageTargets) (e : l.source ≡ k.source) where

@@ -4,7 +4,7 @@ use Rattle.std.proofs.Common.{◌≡◌, List, [], ◌∷◌, true, false, refl,
 use Rattle.std.specs.Option.{MatchOption}
 use Rattle.std.specs.Str.Pattern.{FindsTextSuffix, StripsSuffix}
 use Rattle.std.proofs.lemmas.Str.Pattern.{ends_text}
-use Rattle.manifest_schema.proofs.CopyLaws.{items_copied}
+use Rattle.manifest_schema.proofs.Forms.CopyLaws.{items_copied}
 use Rattle.manifest_completion.specs.Finds.{stem}
 use Rattle.manifest_completion.specs.Steps.{paired_discovered}
 

@@ -1,13 +1,13 @@
 -- Where one answer is stored for each path text, the map of what is stored decides what completion gives.
 use Rattle.manifest_schema.specs.Prelude.{or-false, error_kind, AllByRecursion, bytes_eq, bytes_eq-Decides, list_any-append, ErrorKind, OutOfMemory, Text, StringOrBool, a_text, a_flag, Product, Package, Manifest}
 use Rattle.std.proofs.Common.{◌≡◌, ◌⊎◌, inl, inr, ⊎_elim, List, [], ◌∷◌, ◌++◌, Bool, true, false, refl, ap, sym, ◌∙◌, map, Option, Some, None, if◌then◌else◌, ◌||◌, subst, Ok, Err}
-use Rattle.manifest_value.specs.declared.error.Error.TheVariants.{Io, Other, Memory}
-use Rattle.manifest_completion.specs.Listings.{Answer, names, fault, names_of, is_memory_kind, is_memory_fault, TargetFolder, bins, examples, tests, benches, Place, source, folder, entry, root, path_text, entry_answer, FolderListing, ListingMap, folder_of, at}
+use Rattle.manifest_fault.specs.declared.error.Error.TheVariants.{Io, Other, Memory}
+use Rattle.manifest_completion.specs.Listings.{Answer, names, fault, names_of, is_memory_kind, is_memory_fault, TargetFolder, target_folders, Place, source, folder, entry, root, path_text, entry_answer, ListingMap, at}
 use Rattle.manifest_completion.specs.Completed.{PackageTargets, folder_places, target_places, root_places, up_to_memory_fault, has_memory_fault, asks_root, root_fault, after_root, Library, no_file, known, library, source_fault, Completion, completed_to, refused, no_library, completed_targets, asked_targets, completed, asked, completed_by, asked_by, completion_with, targets_of, AllAllowed}
-use Rattle.manifest_completion.specs.Stored.{AnswersAsStored, stored_folder, stored_map}
+use Rattle.manifest_completion.specs.Stored.{AnswersAsStored, stored_map}
 use Rattle.manifest_completion.specs.Outcome.{completed_content}
 use Rattle.manifest_completion.specs.Laws.{AgreeAt, StoredDecidesTargets}
-use Rattle.manifest_completion.proofs.AskedLaws.{together}
+use Rattle.manifest_completion.proofs.AskedLaws.{places_of, together}
 use Rattle.manifest_completion.proofs.DecidesLaws.{goes_on, with_library, targets_decide}
 
 -- OUT OF MEMORY
@@ -58,17 +58,10 @@ module _ (stored : Text → Answer) where
   abbrev IsListed : Place → Type 0
   IsListed p = at (stored_map stored) p ≡ stored (path_text p)
 
-  listed_folder : (d : TargetFolder) → folder_of (stored_map stored) d ≡ stored_folder stored d
-  listed_folder bins = refl
-  listed_folder examples = refl
-  listed_folder tests = refl
-  listed_folder benches = refl
-
   listed_entries : (d : TargetFolder) → AllByRecursion IsListed
       (map (entry d) (names_of (stored (path_text (folder d)))))
   listed_entries d = over (names_of (stored (path_text (folder d))))
-      (rw (listed_folder d) (found_all (λ n. stored (path_text (entry d n)))
-      (names_of (stored (path_text (folder d))))))
+      (found_all (λ n. stored (path_text (entry d n))) (names_of (stored (path_text (folder d)))))
     where
       over : (ns : List Text) → AllByRecursion (λ n. IsListed (entry d n)) ns → AllByRecursion IsListed
           (map (entry d) ns)
@@ -112,7 +105,7 @@ module _ (stored : Text → Answer) where
         (λ same.
         let entries : AllByRecursion IsListed (map (entry d) (names_of (at l (folder d)))) =
         rw same (listed_entries d) in
-        walk (folder_places l d) xs (ap (λ (f : FolderListing). f.own) (listed_folder d), entries) rest h)
+        walk (folder_places l d) xs (refl, entries) rest h)
         (λ lost. inr (rw lost refl))
         h.0
 
@@ -124,16 +117,14 @@ module _ (stored : Text → Answer) where
     pub targets_walk : (asks : Bool) → AllByRecursion IsAllowed (up_to_memory_fault (at l) (target_places l
         ++ root_places asks)) → Settles (target_places l ++ root_places asks)
     targets_walk asks h =
-        let r = root_places asks in
-        let n = folder_places l benches ++ r in let t = folder_places l tests ++ n in let e = folder_places l examples
-        ++ t in
-        let all : AllByRecursion IsAllowed (up_to_memory_fault (at l) (folder_places l bins ++ e))
-        → Settles (folder_places l bins ++ e) =
-        λ h1. folder_walk bins e (λ h2. folder_walk examples t (λ h3. folder_walk tests n (λ h4. folder_walk benches r
-        (root_walk asks) h4) h3) h2) h1 in
-        subst Settles (together l r)
-        (all (subst (λ (ps : List Place). AllByRecursion IsAllowed (up_to_memory_fault (at l) ps))
-        (sym (together l r)) h))
+        let same = together l (root_places asks) target_folders in
+        subst Settles same (each target_folders (subst (λ (ps : List Place). AllByRecursion IsAllowed
+        (up_to_memory_fault (at l) ps)) (sym same) h))
+      where
+        each : (ds : List TargetFolder) → AllByRecursion IsAllowed (up_to_memory_fault (at l)
+            (places_of l (root_places asks) ds)) → Settles (places_of l (root_places asks) ds)
+        each [] g = root_walk asks g
+        each (d ∷ ds) g = folder_walk d (places_of l (root_places asks) ds) (each ds) g
 
     -- WHAT THE TARGETS BECOME
     module _ (t : PackageTargets) where

@@ -1,12 +1,12 @@
 -- What is declared stays, and entries that are no targets change nothing.
-use Rattle.manifest_schema.specs.Prelude.{option_or, filter, flat_map, ErrorKind, OutOfMemory, Text, underscored, Product, Package, Manifest}
+use Rattle.manifest_schema.specs.Prelude.{fun_ext, option_or, filter, flat_map, ErrorKind, OutOfMemory, Text, underscored, Product, Package, Manifest}
 use Rattle.std.proofs.Common.{◌≡◌, List, [], ◌∷◌, ◌++◌, Bool, true, false, refl, ap, ap₂, sym, ◌∙◌, map, Option, Some, None, if◌then◌else◌, ◌||◌, subst, codes, is_some}
-use Rattle.manifest_completion.specs.Listings.{Answer, lists, names_of, TargetFolder, bins, examples, tests, benches, folder, entry, folder_text, joined, ListingMap, at}
+use Rattle.manifest_completion.specs.Listings.{Answer, lists, names_of, TargetFolder, folder, entry, folder_text, joined, ListingMap, at}
 use Rattle.manifest_completion.specs.Finds.{Discovered, stem, discovered_file_of, discovered_file, discovered_in_entry, discovered}
 use Rattle.manifest_completion.specs.Targets.{path_by_name, pathed, Defaults, with_defaults, targets}
-use Rattle.manifest_completion.specs.Completed.{PackageTargets, own_edition, library_type, Library, no_file, known, library_path, declared_library, library_of, library, source_fault, after_root, after_library, after_source, root_fault, filled, refused, completed_to, completed_targets, target_places, has_memory_fault, targets_of, with_targets, completion_with, completed_by}
+use Rattle.manifest_completion.specs.Completed.{PackageTargets, own_edition, library_type, Library, no_file, known, library_path, declared_library, library_of, library, source_fault, after_root, after_library, after_source, root_fault, filled_by, filled, refused, completed_to, completed_targets, target_places, has_memory_fault, targets_in, targets_of, with_targets, completion_with, completed_by}
 use Rattle.manifest_completion.specs.Unchanged.{Stays, IsKept, AreKept, DeclaredLibraryIsKept, DeclaredAreKept, DeclaredStays, is_target, target_names, target_entries, HaveSameTargets, OthersChangeNothing}
-use Rattle.manifest_completion.proofs.CompletedLaws.{IsCalm, done_calm, completed_once}
+use Rattle.manifest_completion.proofs.CompletedLaws.{IsCalm, done_calm, filled_list, completed_once}
 
 -- WHAT IS THERE
 stays_or : {A : Type 0} (a b : Option A) → Stays a (option_or a b)
@@ -92,13 +92,10 @@ library_from t (Some lib) src out h = library_kept t lib (library_path t src lib
 -- WHAT IS DECLARED
 filled_kept : (p : Package) (m : Manifest) (l : ListingMap) (lib : Option Product) → IsCalm (targets_of p m) l lib
     → DeclaredAreKept m (with_targets p m (filled (targets_of p m) lib l))
-unfolding filled
+unfolding filled_by
 filled_kept p m l lib c = record {
   lib = library_from (targets_of p m) m.lib l.source lib c.library;
-  bin = targets_kept _ _ _ m.bin;
-  example = targets_kept _ _ _ m.example;
-  test = targets_kept _ _ _ m.test;
-  bench = targets_kept _ _ _ m.bench;
+  lists = λ d. subst (AreKept (targets_in m d)) (sym (filled_list p m lib l d)) (targets_kept _ _ _ (targets_in m d));
 }
 
 declared_by : (o : Option Package) (m n : Manifest) (l : ListingMap) → completed_by o m l ≡ completed_to n
@@ -107,11 +104,7 @@ declared_by None m n l h =
     let same : m ≡ n = cc h in
     subst (DeclaredAreKept m) same (record {
       lib = same_library m.lib;
-      bin = same_kept m.bin;
-      example =
-          same_kept m.example;
-      test = same_kept m.test;
-      bench = same_kept m.bench;
+      lists = λ d. same_kept (targets_in m d);
     })
 declared_by (Some p) m n l h =
     let once = completed_once p m n l h in
@@ -170,15 +163,7 @@ module _ (l k : ListingMap) (h : HaveSameTargets l k) where
       ∙ sym (by_entries k d)
 
   same_filled : (t : PackageTargets) (lib : Option Product) → filled t lib l ≡ filled t lib k
-  unfolding filled
-  same_filled t lib = rw (
-    h.source,
-    h.root,
-    same_discovered bins,
-    same_discovered examples,
-    same_discovered tests,
-    same_discovered benches,
-  ) refl
+  same_filled t lib = rw (h.source, h.root) (ap (filled_by t lib k.source k.root) (fun_ext same_discovered))
 
   by_root : (t : PackageTargets) (lib : Option Product) (r : Option ErrorKind) → after_root t lib l r ≡ after_root t lib
       k r

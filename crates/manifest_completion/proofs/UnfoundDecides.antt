@@ -1,16 +1,16 @@
 -- The answers at the places that are asked decide which declared targets are unfound; and so does what is stored.
 use Rattle.manifest_schema.specs.Prelude.{error_kind, append-nil, AllByRecursion, Global, ErrorKind, OutOfMemory, Text, Path, Package, Manifest}
-use Rattle.std.proofs.Common.{◌≡◌, ◌⊎◌, inl, inr, ⊎_elim, List, [], ◌∷◌, ◌++◌, Bool, true, false, refl, ap, sym, ◌∙◌, subst, map, Option, Some, None, if◌then◌else◌, Result, Ok, Err, Vec}
-use Rattle.manifest_value.specs.declared.error.Error.{Error}
-use Rattle.manifest_value.specs.declared.error.Error.TheVariants.{Io, Memory}
-use Rattle.manifest_value.specs.declared.fault.KeyPath.{KeyPath}
-use Rattle.manifest_value.specs.Faults.{path_of}
-use Rattle.manifest_completion.specs.Listings.{Answer, bins, examples, tests, benches, Place, source, path_text, ListingMap, at}
-use Rattle.manifest_completion.specs.Completed.{PackageTargets, AllAllowed, ByOneMap, folder_places, target_places, has_memory_fault, source_fault, up_to_memory_fault, targets_of}
+use Rattle.std.proofs.Common.{◌≡◌, ◌⊎◌, inl, inr, ⊎_elim, List, [], ◌∷◌, Bool, true, false, refl, ap, ap₂, sym, ◌∙◌, subst, map, Option, Some, None, if◌then◌else◌, Result, Ok, Err, Vec}
+use Rattle.manifest_fault.specs.declared.error.Error.{Error}
+use Rattle.manifest_fault.specs.declared.error.Error.TheVariants.{Io, Memory}
+use Rattle.manifest_fault.specs.declared.fault.KeyPath.{KeyPath}
+use Rattle.manifest_fault.specs.Faults.{path_of}
+use Rattle.manifest_completion.specs.Listings.{Answer, Place, source, path_text, ListingMap, at}
+use Rattle.manifest_completion.specs.Completed.{PackageTargets, AllAllowed, ByOneMap, target_places, has_memory_fault, source_fault, up_to_memory_fault, targets_of}
 use Rattle.manifest_completion.specs.Stored.{AnswersAsStored, stored_map}
 use Rattle.manifest_completion.specs.Laws.{AgreeAt}
-use Rattle.manifest_completion.specs.Unfound.{unfound, unfound_targets, asked_unfound, unfound_by, asked_unfound_by, manifest_unfound, manifest_asked_unfound, IsAnswer, IsOutcome, AskedDecidesUnfound, StoredDecidesUnfound}
-use Rattle.manifest_completion.proofs.DecidesLaws.{memory_seen, memory_agrees, targets_alone, all_asked, same_discovered, agree_front, AgreeUpTo}
+use Rattle.manifest_completion.specs.Unfound.{unfound_from, unfound, unfound_targets, asked_unfound, unfound_by, asked_unfound_by, manifest_unfound, manifest_asked_unfound, IsAnswer, IsOutcome, AskedDecidesUnfound, StoredDecidesUnfound}
+use Rattle.manifest_completion.proofs.DecidesLaws.{memory_seen, memory_agrees, targets_alone, all_asked, same_finds, AgreeUpTo}
 use Rattle.manifest_completion.proofs.StoredLaws.{IsAllowed, Settles, targets_walk}
 
 -- where `src` has no fault that refuses
@@ -24,19 +24,7 @@ module _ (l k : ListingMap) (t : PackageTargets) (e : l.source ≡ k.source) whe
   IsSame = (asked_unfound t l ≡ asked_unfound t k) × (unfound_targets t l ≡ unfound_targets t k)
 
   same_unfound : AgreeAt l k (target_places l) → unfound t l ≡ unfound t k
-  unfolding unfound
-  same_unfound h =
-      let b = agree_front l k (folder_places l bins) (folder_places l examples
-      ++ (folder_places l tests ++ folder_places l benches)) h in
-      let x = agree_front l k (folder_places l examples) (folder_places l tests ++ folder_places l benches) b.1 in
-      let n = agree_front l k (folder_places l tests) (folder_places l benches) x.1 in
-      rw (
-        e,
-        same_discovered l k bins b.0,
-        same_discovered l k examples x.0,
-        same_discovered l k tests n.0,
-        same_discovered l k benches n.1,
-      ) refl
+  same_unfound h = ap₂ (unfound_from t) e (same_finds l k h)
 
   after_none : source_fault l.source ≡ None → AgreeUpTo l k (target_places l) → IsSame
   after_none none h = (asked, outcome)

@@ -1,14 +1,14 @@
 -- The targets for which no file is found are those that completion leaves without a path.
-use Rattle.manifest_schema.specs.Prelude.{is_some, Contains, AllByRecursion, ErrorKind, Text, Path, Product, Package, Manifest}
-use Rattle.std.proofs.Common.{◌≡◌, ◌↔◌, ℕ, suc, List, [], ◌∷◌, ◌++◌, Bool, true, false, refl, ap, sym, ◌∙◌, map, length, drop, codes, Option, Some, None, if◌then◌else◌, subst, Ok}
+use Rattle.manifest_schema.specs.Prelude.{fun_ext, flat_map, is_some, Contains, AllByRecursion, ErrorKind, Text, Path, Product, Package, Manifest}
+use Rattle.std.proofs.Common.{◌≡◌, ◌↔◌, ℕ, suc, List, [], ◌∷◌, ◌++◌, Bool, true, false, refl, ap, sym, ◌∙◌, map, length, drop, Option, Some, None, if◌then◌else◌, subst, Ok}
 use Rattle.std.proofs.lemmas.List.Elements.{All-from_recursion, All-append, All-contains, Contains-push, Contains-append_left}
 use Rattle.std.specs.List.{All}
-use Rattle.manifest_completion.specs.Listings.{examples, tests, benches, ListingMap, at}
-use Rattle.manifest_completion.specs.Finds.{Discovered, discovered, discovered_bins}
+use Rattle.manifest_completion.specs.Listings.{Answer, TargetFolder, target_folders, ListingMap, at}
+use Rattle.manifest_completion.specs.Finds.{Discovered, discovered, list_finds}
 use Rattle.manifest_completion.specs.Targets.{pathed, has_path, added, found, paths_of, Defaults, with_defaults, targets}
-use Rattle.manifest_completion.specs.Completed.{Library, no_file, known, library, bin_defaults, example_defaults, test_defaults, filled, completed_to, refused, no_library, completed_targets, after_library, after_root, root_fault, target_places, has_memory_fault, targets_of, with_targets, completion_with, completed_by}
-use Rattle.manifest_completion.specs.Unfound.{as_completed, place_in, without_path, library_place, unfound_library, unfound, HavePaths, AreLeftWithoutPath, UnfoundAreLeft, RefusedIfUnfound}
-use Rattle.manifest_completion.proofs.CompletedLaws.{IsCalm, done_calm, completed_once}
+use Rattle.manifest_completion.specs.Completed.{PackageTargets, Library, no_file, known, library, declared, defaults, completed_list, filled, completed_to, refused, no_library, completed_targets, after_library, after_root, root_fault, target_places, has_memory_fault, targets_in, targets_of, with_targets, completion_with, completed_by}
+use Rattle.manifest_completion.specs.Unfound.{as_completed, place_in, without_path, library_place, unfound_library, list_key, unfound_in, unfound_from, HavePaths, AreLeftWithoutPath, UnfoundAreLeft, RefusedIfUnfound}
+use Rattle.manifest_completion.proofs.CompletedLaws.{IsCalm, done_calm, filled_list, completed_once}
 
 -- WHAT IS ADDED has a path
 added_have : (d : Defaults) (had : List Text) (fs : List Discovered) → HavePaths (map (with_defaults d) (added had fs))
@@ -54,21 +54,17 @@ targets_have d on fs ps = later_have d fs ps _ (more_have d on (paths_of (map (p
 -- THE MANIFEST
 filled_left : (p : Package) (m : Manifest) (l : ListingMap) (lib : Option Product) → m.«package» ≡ Some p
     → IsCalm (targets_of p m) l lib → AreLeftWithoutPath m (with_targets p m (filled (targets_of p m) lib l)) l
-unfolding filled unfound
+unfolding unfound_from
 filled_left p m l lib e c =
-    let t = targets_of p m in
+    let t = targets_of p m in let n = with_targets p m (filled t lib l) in
+    let is : (d : TargetFolder) → targets_in n d ≡ completed_list t l.source (discovered l) d = filled_list p m lib l in
+    let left : unfound_in t l.source (discovered l) ≡ (λ d. without_path (list_key d) 0 (targets_in n d)) =
+    fun_ext (λ d. sym (ap (without_path (list_key d) 0) (is d) ∙ targets_without (list_key d) _ _ _ (declared t d))) in
     record {
       unfound = rw (e, c.source, c.memory, c.library)
-          (ap Ok (sym (rw (
-            targets_without (codes "bin") _ _ _ t.bin,
-            targets_without (codes "example") _ _ _ t.example,
-            targets_without (codes "test") _ _ _ t.test,
-            targets_without (codes "bench") _ _ _ t.bench,
-          ) refl)));
-      bin = targets_have _ _ _ m.bin;
-      example = targets_have _ _ _ m.example;
-      test = targets_have _ _ _ m.test;
-      bench = targets_have _ _ _ m.bench;
+          (ap (λ (f : TargetFolder → List Path). Ok (flat_map f target_folders)) left);
+      added = λ d. subst (λ (ps : List Product). HavePaths (drop (length (targets_in m d)) ps)) (sym (is d))
+          (targets_have _ _ _ (targets_in m d));
     }
 
 pub unfound_are_left : UnfoundAreLeft
@@ -99,20 +95,11 @@ others k i (p ∷ ps) = one (is_some p.path) (others k (suc i) ps)
 all_others : (k : Text) (ps : List Product) → All IsOther (without_path k 0 ps)
 all_others k ps = All-from_recursion IsOther (without_path k 0 ps) (others k 0 ps)
 
-none_of_lists : (xs ys zs ws : List Path) → All IsOther xs → All IsOther ys → All IsOther zs → All IsOther ws
-    → Contains (xs ++ ys ++ zs ++ ws) library_place → ⊥
-none_of_lists xs ys zs ws x y z w h =
-    let all = All-append IsOther (xs ++ ys ++ zs) ws (All-append IsOther (xs ++ ys) zs (All-append IsOther xs ys x y) z)
-    w in
-    All-contains IsOther (xs ++ ys ++ zs ++ ws) library_place all h refl
-
-first_of_all : (xs ys zs ws : List Path) → Contains ((library_place ∷ []) ++ xs ++ ys ++ zs ++ ws) library_place
-first_of_all xs ys zs ws =
-    let first = library_place ∷ [] in
-    Contains-append_left (first ++ xs ++ ys ++ zs) ws library_place
-    (Contains-append_left (first ++ xs ++ ys) zs library_place
-    (Contains-append_left (first ++ xs) ys library_place
-    (Contains-append_left first xs library_place (Contains-push [] library_place))))
+lists_other : (t : PackageTargets) (src : Answer) (found : TargetFolder → List Discovered) (ds : List TargetFolder)
+    → All IsOther (flat_map (unfound_in t src found) ds)
+lists_other t src found [] = All-from_recursion IsOther [] tt
+lists_other t src found (d ∷ ds) = All-append IsOther (unfound_in t src found d) (flat_map (unfound_in t src found) ds)
+    (all_others (list_key d) (as_completed (defaults t src d) (list_finds t.name src found d) (declared t d))) (lists_other t src found ds)
 
 -- with a library nothing is refused for want of one
 never_without : (p : Package) (m : Manifest) (l : ListingMap) (lib : Option Product)
@@ -126,24 +113,20 @@ never_without p m l lib h = one (has_memory_fault (at l) (target_places l)) (roo
     one false (Some k) e = cc
     one false None e = cc
 
-by_library : (p : Package) (m : Manifest) (l : ListingMap) (c : Library) (xs ys zs ws : List Path) → All IsOther xs
-    → All IsOther ys → All IsOther zs → All IsOther ws
-    → (completion_with p m (after_library (targets_of p m) l c) ≡ no_library) ↔ Contains (unfound_library c ++ xs ++ ys
-    ++ zs ++ ws) library_place
-by_library p m l no_file xs ys zs ws x y z w = (λ h. first_of_all xs ys zs ws, λ h. refl)
-by_library p m l (known lib) xs ys zs ws x y z w = (
+by_library : (p : Package) (m : Manifest) (l : ListingMap) (c : Library) (xs : List Path) → All IsOther xs
+    → (completion_with p m (after_library (targets_of p m) l c) ≡ no_library)
+    ↔ Contains (unfound_library c ++ xs) library_place
+by_library p m l no_file xs x = (
+  λ h. Contains-append_left (library_place ∷ []) xs library_place (Contains-push [] library_place),
+  λ h. refl,
+)
+by_library p m l (known lib) xs x = (
   λ h. absurd (never_without p m l lib h),
-  λ h. absurd
-      (none_of_lists xs ys zs ws x y z w h),
+  λ h. absurd (All-contains IsOther xs library_place x h refl),
 )
 
 pub refused_if_unfound : RefusedIfUnfound
-unfolding unfound
+unfolding unfound_from
 refused_if_unfound p m l e none =
     let t = targets_of p m in
-    rw (e, none)
-    (by_library p m l (library t l.source) _ _ _ _
-    (all_others (codes "bin") (as_completed (bin_defaults t l.source) (discovered_bins l p.name) m.bin))
-    (all_others (codes "example") (as_completed (example_defaults t) (discovered l examples) m.example))
-    (all_others (codes "test") (as_completed (test_defaults t) (discovered l tests) m.test))
-    (all_others (codes "bench") (as_completed (test_defaults t) (discovered l benches) m.bench)))
+    rw (e, none) (by_library p m l (library t l.source) _ (lists_other t l.source (discovered l) target_folders))

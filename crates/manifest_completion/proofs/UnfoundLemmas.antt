@@ -1,19 +1,19 @@
 -- What the steps of looking for targets without a file give, by the definitions.
-use Rattle.manifest_schema.specs.Prelude.{append-nil, or_parts, Global, NotFound, OutOfMemory, Text, Path, Manifest}
+use Rattle.manifest_schema.specs.Prelude.{append-nil, Global, NotFound, OutOfMemory, Text, Path, Manifest}
 use Rattle.std.proofs.Common.{◌≡◌, List, [], ◌∷◌, Bool, true, false, refl, ap, sym, ◌∙◌, subst, None, if◌then◌else◌, Result, Ok, Err, Vec}
 use Rattle.std.specs.Result.{IsErrAnd}
-use Rattle.manifest_value.specs.declared.error.Error.{Error}
-use Rattle.manifest_value.specs.declared.error.Error.TheVariants.{Io, Memory}
-use Rattle.manifest_value.specs.declared.fault.KeyPath.{KeyPath}
+use Rattle.manifest_fault.specs.declared.error.Error.{Error}
+use Rattle.manifest_fault.specs.declared.error.Error.TheVariants.{Io, Memory}
+use Rattle.manifest_fault.specs.declared.fault.KeyPath.{KeyPath}
 use Rattle.manifest_completion.specs.declared.ask.Answers.{Answers}
-use Rattle.manifest_completion.specs.Listings.{Answer, fault, bins, examples, tests, benches, Place, source, path_text, at}
+use Rattle.manifest_completion.specs.Listings.{Answer, fault, Place, source, path_text, at}
 use Rattle.manifest_completion.specs.Completed.{PackageTargets, Explains, ByOneMap, target_places, source_fault, up_to_memory_fault}
 use Rattle.manifest_completion.specs.Answered.{answer_of}
-use Rattle.manifest_completion.specs.Asking.{IsAllowedAnswer, listing_map, AllIsAnswered, ran_out_of_memory, some_ran_out_of_memory}
+use Rattle.manifest_completion.specs.Asking.{IsAllowedAnswer, listing_map, AllIsAnswered, some_ran_out_of_memory}
 use Rattle.manifest_completion.specs.Steps.{IsFault, unfound_by_answers, AnswersUnfound}
-use Rattle.manifest_completion.specs.Unfound.{unfound, unfound_targets, asked_unfound, manifest_unfound, manifest_asked_unfound, AreUnfound}
+use Rattle.manifest_completion.specs.Unfound.{unfound_from, unfound, unfound_targets, asked_unfound, manifest_unfound, manifest_asked_unfound, AreUnfound}
 use Rattle.manifest_completion.proofs.AskLemmas.{none_ascend}
-use Rattle.manifest_completion.proofs.CompleteLemmas.{only_source, only_ascends, folder_paired_is, any_fault}
+use Rattle.manifest_completion.proofs.CompleteLemmas.{only_source, only_ascends, any_fault, paired_finds}
 
 -- `src` is a fault
 pub source_error : (allows : Text → Answer → Type 0) (t : PackageTargets) (src : Answer) (e : Error)
@@ -35,27 +35,14 @@ module _ (allows : Text → Answer → Type 0) (t : PackageTargets) (a : Answers
       rw none (subst (λ (ps : List Place). Explains allows l (source ∷ up_to_memory_fault (at l) ps))
       (append-nil (target_places l)) given.explained)
 
-  unfound_is : some_ran_out_of_memory a ≡ false → unfound t (listing_map a) ≡ unfound_by_answers t a
-  unfolding unfound
-  unfound_is e =
-      let l = listing_map a in
-      let (q1, r1) = or_parts (ran_out_of_memory a.bins) _ e in
-      let (q2, r2) = or_parts (ran_out_of_memory a.examples) _ r1 in
-      let (q3, q4) = or_parts (ran_out_of_memory a.tests) (ran_out_of_memory a.benches) r2 in
-      let fb = folder_paired_is l bins a.bins refl given.bins q1 in let fe = folder_paired_is l examples a.examples refl
-      given.examples q2 in
-      let ft = folder_paired_is l tests a.tests refl given.tests q3 in let fn = folder_paired_is l benches a.benches
-      refl given.benches q4 in
-      rw (fb, fe, ft, fn) refl
-
   outcome : unfound_targets t (listing_map a) ≡ (if some_ran_out_of_memory a then Err OutOfMemory else Ok
       (unfound_by_answers t a))
-  outcome = rw (none, any_fault allows false a given) (one (some_ran_out_of_memory a) refl)
+  outcome = rw (none, any_fault a given.in_turn) (one (some_ran_out_of_memory a) refl)
     where
       one : (b : Bool) → some_ran_out_of_memory a ≡ b → (if b then Err OutOfMemory else Ok (unfound t (listing_map a)))
           ≡ (if b then Err OutOfMemory else Ok (unfound_by_answers t a))
       one true e = refl
-      one false e = ap Ok (unfound_is e)
+      one false e = ap Ok (ap (unfound_from t (answer_of a.source)) (paired_finds a given.in_turn e))
 
   pub by_answers : (r : Result (Vec KeyPath Global) Error) → AnswersUnfound t a r → AreUnfound allows t r
   by_answers (Ok v) h = (listing_map a, explains, outcome ∙ sym h)

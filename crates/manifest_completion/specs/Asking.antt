@@ -4,7 +4,7 @@ use Rattle.std.specs.Prelude.{◌≡◌, List, [], ◌∷◌, ◌++◌, Bool, �
 use Rattle.std.specs.Bool.{MatchBool}
 use Rattle.manifest_completion.specs.declared.ask.FolderAnswers.{FolderAnswers}
 use Rattle.manifest_completion.specs.declared.ask.Answers.{Answers}
-use Rattle.manifest_completion.specs.Listings.{Answer, TargetFolder, bins, examples, tests, benches, Place, source, folder_text, joined, names_of, is_memory_fault, FolderListing, ListingMap, at, IsAscending}
+use Rattle.manifest_completion.specs.Listings.{Answer, TargetFolder, target_folders, by_folder, Place, source, folder_text, joined, names_of, is_memory_fault, FolderListing, ListingMap, at, IsAscending}
 use Rattle.manifest_completion.specs.Completed.{Explains, up_to_memory_fault, target_places, root_places}
 use Rattle.manifest_completion.specs.Answered.{answer_of, answers_of}
 
@@ -31,6 +31,10 @@ pub record FolderIsAnswered (allows : Text → Answer → Type 0) (d : Text) (a 
 abbrev pub IsAnsweredInTurn : TargetFolder → FolderAnswers → Type 0
 IsAnsweredInTurn d a = FolderIsAnswered (λ path answer. Unit {0}) (folder_text d) a
 
+-- what was answered at a folder of targets and at its entries
+abbrev pub folder_answers : Answers → TargetFolder → FolderAnswers
+folder_answers a d = by_folder a.bins a.examples a.tests a.benches d
+
 -- the map of what was answered
 abbrev pub folder_listing : FolderAnswers → FolderListing
 folder_listing a = record {
@@ -41,10 +45,7 @@ folder_listing a = record {
 abbrev pub listing_map : Answers → ListingMap
 listing_map a = record {
   source = answer_of a.source;
-  bins = folder_listing a.bins;
-  examples = folder_listing a.examples;
-  tests = folder_listing a.tests;
-  benches = folder_listing a.benches;
+  folders = λ d. folder_listing (folder_answers a d);
   root = answer_of a.root;
 }
 
@@ -55,10 +56,7 @@ all_places asks l = source ∷ up_to_memory_fault (at l) (target_places l ++ roo
 -- what was answered at `src`, all target folders and their entries, and the manifest's folder where that was asked
 pub record AllIsAnswered (allows : Text → Answer → Type 0) (asks : Bool) (a : Answers)
     : Type 0 where
-  pub bins : IsAnsweredInTurn bins a.bins
-  pub examples : IsAnsweredInTurn examples a.examples
-  pub tests : IsAnsweredInTurn tests a.tests
-  pub benches : IsAnsweredInTurn benches a.benches
+  pub in_turn : (d : TargetFolder) → IsAnsweredInTurn d (folder_answers a d)
   pub explained : Explains allows (listing_map a) (all_places asks (listing_map a))
 
 -- the folder's answer or one of its entries' ran out of memory
@@ -69,6 +67,4 @@ ran_out_of_memory a =
 
 -- some answer ran out of memory
 abbrev pub some_ran_out_of_memory : Answers → Bool
-some_ran_out_of_memory a =
-    ran_out_of_memory a.bins
-    || (ran_out_of_memory a.examples || (ran_out_of_memory a.tests || ran_out_of_memory a.benches))
+some_ran_out_of_memory a = list_any (λ d. ran_out_of_memory (folder_answers a d)) target_folders

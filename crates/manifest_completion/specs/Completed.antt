@@ -1,8 +1,8 @@
 -- What completion makes of a manifest, as a function of the listings; and which places are asked for it.
-use Rattle.manifest_schema.specs.Prelude.{option_or, list_any, AllByRecursion, ErrorKind, NotFound, OutOfMemory, Text, underscored, Inheritable, inherited, local, Edition, e2015, StringOrBool, a_text, a_flag, Product, Package, Manifest, is_empty}
+use Rattle.manifest_schema.specs.Prelude.{option_or, list_any, flat_map, AllByRecursion, ErrorKind, NotFound, OutOfMemory, Text, underscored, Inheritable, inherited, local, Edition, e2015, StringOrBool, a_text, a_flag, Product, Package, Manifest, is_empty}
 use Rattle.std.specs.Prelude.{◌≡◌, List, [], ◌∷◌, ◌++◌, map, codes, if◌then◌else◌, Option, Some, None, Bool, true, false, is_some, unwrap_or, ◌&&◌, ◌||◌, not}
-use Rattle.manifest_completion.specs.Listings.{Answer, names, fault, lists, is_memory_fault, TargetFolder, bins, examples, tests, benches, Place, source, folder, entry, root, names_of, path_text, ListingMap, at, NamesAscend}
-use Rattle.manifest_completion.specs.Finds.{discovered, discovered_bins}
+use Rattle.manifest_completion.specs.Listings.{Answer, names, fault, lists, is_memory_fault, TargetFolder, Bins, Examples, Tests, Benches, target_folders, by_folder, is_bins, is_examples, Place, source, folder, entry, root, names_of, path_text, ListingMap, at, NamesAscend}
+use Rattle.manifest_completion.specs.Finds.{Discovered, discovered, list_finds}
 use Rattle.manifest_completion.specs.Targets.{found, targets, Defaults}
 
 -- THE TARGETS OF A PACKAGE: what completion reads of a manifest. It fills in `build`, the library and the four lists.
@@ -105,44 +105,50 @@ found_build asks a =
 abbrev pub build_of : Option StringOrBool → Answer → Option StringOrBool
 build_of b a = option_or (found_build (asks_root b) a) b
 
--- DEFAULTS of the three sorts of lists
-abbrev pub bin_defaults : PackageTargets → Answer → Defaults
-bin_defaults t src = record {
+-- THE LISTS, each by the folder of its targets: the declared targets
+abbrev pub declared : PackageTargets → TargetFolder → List Product
+declared t d = by_folder t.bin t.example t.test t.bench d
+
+-- what the package says of adding finds to the list
+abbrev pub own_flag : PackageTargets → TargetFolder → Option Bool
+own_flag t d = by_folder t.autobins t.autoexamples t.autotests t.autobenches d
+
+-- whether they are added to it
+abbrev pub adds : PackageTargets → TargetFolder → Bool
+adds t d = discovers (own_flag t d) (is_legacy t.edition) (declared t d)
+
+-- DEFAULTS: an example has the crate type `bin`, and in legacy mode a binary the path `src/main.rs`, where `src` lists it
+abbrev pub defaults : PackageTargets → Answer → TargetFolder → Defaults
+defaults t src d = record {
   edition = own_edition t.edition;
-  crate_type = None;
-  path = if is_legacy t.edition && lists src (codes "main.rs")
+  crate_type = if is_examples d then Some (codes "bin" ∷ []) else None;
+  path = if is_bins d && (is_legacy t.edition && lists src (codes "main.rs"))
       then Some (codes "src/main.rs")
       else None;
 }
 
-abbrev pub example_defaults : PackageTargets → Defaults
-example_defaults t = record {
-  edition = own_edition t.edition;
-  crate_type = Some (codes "bin" ∷ []);
-  path = None;
-}
+-- A COMPLETED LIST, by what `src` lists and what is found in the folders
+abbrev pub completed_list :
+    PackageTargets → Answer → (TargetFolder → List Discovered) → TargetFolder → List Product
+completed_list t src fs d =
+    targets (defaults t src d) (adds t d) (list_finds t.name src fs d) (declared t d)
 
-abbrev pub test_defaults : PackageTargets → Defaults
-test_defaults t = record { edition = own_edition t.edition; crate_type = None; path = None }
+-- the targets with this library, filled in by the answers at `src` and for the folder of the manifest, and by the finds
+unfoldable pub filled_by :
+    PackageTargets → Option Product → Answer → Answer → (TargetFolder → List Discovered) →
+    PackageTargets
+filled_by t lib src here fs = record t {
+  build = build_of t.build here;
+  lib = lib;
+  bin = completed_list t src fs Bins;
+  example = completed_list t src fs Examples;
+  test = completed_list t src fs Tests;
+  bench = completed_list t src fs Benches;
+}
 
 -- THE TARGETS FILLED IN, with this library
-unfoldable pub filled : PackageTargets → Option Product → ListingMap → PackageTargets
-filled t lib l = record t {
-  build = build_of t.build l.root;
-  lib = lib;
-  bin =
-      targets (bin_defaults t l.source) (discovers t.autobins (is_legacy t.edition) t.bin)
-      (discovered_bins l t.name) t.bin;
-  example =
-      targets (example_defaults t) (discovers t.autoexamples (is_legacy t.edition) t.example)
-      (discovered l examples) t.example;
-  test =
-      targets (test_defaults t) (discovers t.autotests (is_legacy t.edition) t.test) (discovered l tests)
-      t.test;
-  bench =
-      targets (test_defaults t) (discovers t.autobenches (is_legacy t.edition) t.bench)
-      (discovered l benches) t.bench;
-}
+abbrev pub filled : PackageTargets → Option Product → ListingMap → PackageTargets
+filled t lib l = filled_by t lib l.source l.root (discovered l)
 
 -- THE OUTCOME OF COMPLETION: what it makes, a refusal for a listing's fault of this kind, or for a missing library file
 pub data Completion (A : Type 0) : Type 0 where
@@ -155,9 +161,7 @@ abbrev pub folder_places : ListingMap → TargetFolder → List Place
 folder_places l d = folder d ∷ map (entry d) (names_of (at l (folder d)))
 
 abbrev pub target_places : ListingMap → List Place
-target_places l =
-    folder_places l bins
-    ++ (folder_places l examples ++ (folder_places l tests ++ folder_places l benches))
+target_places l = flat_map (folder_places l) target_folders
 
 -- the filesystem ran out of memory at one of these places
 abbrev pub has_memory_fault : (Place → Answer) → List Place → Bool
@@ -178,8 +182,7 @@ abbrev pub root_fault : Option StringOrBool → Answer → Option ErrorKind
 root_fault b a = root_fault_if (asks_root b) a
 
 -- refused for the first of these: a fault of `src`, a library without a file, memory that ran out for a folder of
--- targets,
--- a fault of the manifest's folder; else the targets, filled in
+-- targets, a fault of the manifest's folder; else the targets, filled in
 abbrev pub after_root :
     PackageTargets → Option Product → ListingMap → Option ErrorKind → Completion PackageTargets
 after_root t lib l (Some k) = refused k
@@ -201,6 +204,10 @@ abbrev pub completed_targets : PackageTargets → ListingMap → Completion Pack
 completed_targets t l = after_source t l (source_fault l.source)
 
 -- THE MANIFEST
+-- its targets of the list of a folder
+abbrev pub targets_in : Manifest → TargetFolder → List Product
+targets_in m d = by_folder m.bin m.example m.test m.bench d
+
 -- the targets of a manifest with this package
 abbrev pub targets_of : Package → Manifest → PackageTargets
 targets_of p m = record {
@@ -243,22 +250,22 @@ completed_by (Some p) m l = completion_with p m (completed_targets (targets_of p
 abbrev pub completed : Manifest → ListingMap → Completion Manifest
 completed m l = completed_by m.«package» m l
 
--- THE FLAGS of a manifest: false without a package
-abbrev pub flag_by : Option Package → (Package → Option Bool) → List Product → Bool
-flag_by None own ps = false
-flag_by (Some p) own ps = discovers (own p) (is_legacy p.edition) ps
+-- THE FLAGS of a manifest, each that of a list: false without a package
+abbrev pub flag_by : Option Package → Manifest → TargetFolder → Bool
+flag_by None m d = false
+flag_by (Some p) m d = adds (targets_of p m) d
 
 abbrev pub autobins : Manifest → Bool
-autobins m = flag_by m.«package» (λ p. p.autobins) m.bin
+autobins m = flag_by m.«package» m Bins
 
 abbrev pub autoexamples : Manifest → Bool
-autoexamples m = flag_by m.«package» (λ p. p.autoexamples) m.example
+autoexamples m = flag_by m.«package» m Examples
 
 abbrev pub autotests : Manifest → Bool
-autotests m = flag_by m.«package» (λ p. p.autotests) m.test
+autotests m = flag_by m.«package» m Tests
 
 abbrev pub autobenches : Manifest → Bool
-autobenches m = flag_by m.«package» (λ p. p.autobenches) m.bench
+autobenches m = flag_by m.«package» m Benches
 
 -- WHAT IS ASKED
 -- the places up to the first for which memory ran out

@@ -1,7 +1,7 @@
 -- The targets that the listings of a folder hold, each with its name and its path.
 use Rattle.manifest_schema.specs.Prelude.{flat_map, ends_with, Text}
-use Rattle.std.specs.Prelude.{◌-◌, List, [], ◌∷◌, ◌++◌, codes, if◌then◌else◌, Option, Some, None, length, take, nat_eq}
-use Rattle.manifest_completion.specs.Listings.{Answer, TargetFolder, bins, folder, entry, folder_text, joined, ListingMap, at, names_of, lists}
+use Rattle.std.specs.Prelude.{◌-◌, ◌&&◌, List, [], ◌∷◌, ◌++◌, codes, if◌then◌else◌, Option, Some, None, length, take, nat_eq}
+use Rattle.manifest_completion.specs.Listings.{Answer, TargetFolder, is_bins, folder, entry, folder_text, joined, ListingMap, at, names_of, lists}
 
 -- a target that was found
 pub record Discovered : Type 0 where
@@ -35,13 +35,14 @@ abbrev pub discovered : ListingMap → TargetFolder → List Discovered
 discovered l d =
     flat_map (λ n. discovered_in_entry (folder_text d) n (at l (entry d n))) (names_of (at l (folder d)))
 
--- `src/main.rs`, which has the name of the package
-abbrev pub discovered_main : Text → Answer → List Discovered
-discovered_main own src =
-    if lists src (codes "main.rs")
+-- `src/main.rs`, which is a binary and has the name of the package
+abbrev pub discovered_main : Text → Answer → TargetFolder → List Discovered
+discovered_main own src d =
+    if is_bins d && lists src (codes "main.rs")
     then record { name = own; path = codes "src/main.rs" } ∷ []
     else []
 
--- THE FINDS OF THE BINARIES: those of `src/bin`, then `src/main.rs`
-abbrev pub discovered_bins : ListingMap → Text → List Discovered
-discovered_bins l own = discovered l bins ++ discovered_main own l.source
+-- THE FINDS OF A LIST, of what is found in its folder: of the binaries `src/main.rs` is one too, the last
+abbrev pub list_finds :
+    Text → Answer → (TargetFolder → List Discovered) → TargetFolder → List Discovered
+list_finds own src fs d = fs d ++ discovered_main own src d

@@ -2,7 +2,7 @@
 use Rattle.manifest_schema.specs.Prelude.{AllByRecursion, bytes_eq, Data, Text, Kind, Manifest, well_formed, reads_manifest, written_manifest}
 use Rattle.std.specs.Prelude.{◌≡◌, List, [], ◌∷◌, map, ◌⊎◌, Result}
 use Rattle.std.specs.List.{IsDistinct}
-use Rattle.manifest_value.specs.declared.error.Error.{Error}
+use Rattle.manifest_fault.specs.declared.error.Error.{Error}
 use Rattle.manifest_completion.specs.declared.completion.CompletedTargets.{CompletedTargets}
 use Rattle.manifest_completion.specs.Listings.{Answer, Place, path_text, ListingMap, at, NamesAscend, HasNoNameTwice}
 use Rattle.manifest_completion.specs.Completed.{PackageTargets, completed_to, completed, asked}

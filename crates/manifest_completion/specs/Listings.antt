@@ -3,6 +3,8 @@ use Rattle.manifest_schema.specs.Prelude.{list_any, nat_cmp, slice_cmp, bytes_eq
 use Rattle.std.specs.Prelude.{Bool, true, false, if◌then◌else◌, List, [], ◌∷◌, ◌++◌, codes}
 use Rattle.std.specs.List.{IsDistinct}
 use Rattle.std.specs.List.Sorted.{IsStrictlySortedBy}
+pub use Rattle.manifest_completion.specs.declared.target_folder.TargetFolder.{TargetFolder}
+pub use Rattle.manifest_completion.specs.declared.target_folder.TargetFolder.TheVariants.{Bins, Examples, Tests, Benches}
 
 -- AN ANSWER for a folder: the names in it, in the order of bytes, or the kind of a fault
 pub data Answer : Type 0 where
@@ -28,21 +30,34 @@ is_memory_fault (names ns) = false
 is_memory_fault (fault k) = is_memory_kind k
 
 -- PLACES: the source folder, a folder of targets, an entry of one by its name, and the folder of the manifest
-pub data TargetFolder : Type 0 where
-  bins examples tests benches : TargetFolder
-
 pub data Place : Type 0 where
   source : Place
   folder : TargetFolder → Place
   entry : TargetFolder → Text → Place
   root : Place
 
+-- THE FOLDERS OF TARGETS, in the order in which they are asked; each is that of a list of the manifest
+abbrev pub target_folders : List TargetFolder
+target_folders = Bins ∷ Examples ∷ Tests ∷ Benches ∷ []
+
+-- of four things, the one that a folder has
+abbrev pub by_folder : {A : Type 0} → A → A → A → A → TargetFolder → A
+by_folder b e t n Bins = b
+by_folder b e t n Examples = e
+by_folder b e t n Tests = t
+by_folder b e t n Benches = n
+
+-- it is the folder of the binaries
+abbrev pub is_bins : TargetFolder → Bool
+is_bins d = by_folder true false false false d
+
+-- it is the folder of the examples
+abbrev pub is_examples : TargetFolder → Bool
+is_examples d = by_folder false true false false d
+
 -- the text that the filesystem is asked with
 abbrev pub folder_text : TargetFolder → Text
-folder_text bins = codes "src/bin"
-folder_text examples = codes "examples"
-folder_text tests = codes "tests"
-folder_text benches = codes "benches"
+folder_text d = by_folder (codes "src/bin") (codes "examples") (codes "tests") (codes "benches") d
 
 -- a folder and a name in it, with `/` between them
 abbrev pub joined : Text → Text → Text
@@ -61,10 +76,7 @@ pub record FolderListing : Type 0 where
 
 pub record ListingMap : Type 0 where
   pub source : Answer
-  pub bins : FolderListing
-  pub examples : FolderListing
-  pub tests : FolderListing
-  pub benches : FolderListing
+  pub folders : TargetFolder → FolderListing
   pub root : Answer
 
 -- the answer for an entry; what is not in the map is not found
@@ -72,17 +84,11 @@ abbrev pub entry_answer : List (Text × Answer) → Text → Answer
 entry_answer [] n = fault NotFound
 entry_answer (e ∷ es) n = if bytes_eq e.0 n then e.1 else entry_answer es n
 
-abbrev pub folder_of : ListingMap → TargetFolder → FolderListing
-folder_of l bins = l.bins
-folder_of l examples = l.examples
-folder_of l tests = l.tests
-folder_of l benches = l.benches
-
 -- the answer that the map has for a place
 abbrev pub at : ListingMap → Place → Answer
 at l source = l.source
-at l (folder d) = (folder_of l d).own
-at l (entry d n) = entry_answer (folder_of l d).entries n
+at l (folder d) = (l.folders d).own
+at l (entry d n) = entry_answer (l.folders d).entries n
 at l root = l.root
 
 -- these names ascend in the order of bytes, strictly

@@ -3,8 +3,8 @@ use Rattle.manifest_schema.specs.Prelude.{error_kind, OutOfMemory, Text}
 use Rattle.std.specs.Prelude.{◌≡◌, ◌⊎◌, map, codes, option_map, string_bytes, Result, Ok, Err}
 use Rattle.manifest_parts.specs.Parts.{edition_content, text_or_flag_content, inh_content}
 use Rattle.manifest_parts.specs.Records.{product_content}
-use Rattle.manifest_value.specs.declared.error.Error.{Error}
-use Rattle.manifest_value.specs.declared.error.Error.TheVariants.{Io, Other, Memory}
+use Rattle.manifest_fault.specs.declared.error.Error.{Error}
+use Rattle.manifest_fault.specs.declared.error.Error.TheVariants.{Io, Other, Memory}
 use Rattle.manifest_completion.specs.declared.completion.DeclaredTargets.{DeclaredTargets}
 use Rattle.manifest_completion.specs.declared.completion.CompletedTargets.{CompletedTargets}
 use Rattle.manifest_completion.specs.Listings.{Answer}

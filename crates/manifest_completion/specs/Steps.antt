@@ -1,25 +1,23 @@
 -- What the contracts of single steps of a completion cite; it is not needed to read what completion makes.
 use Rattle.manifest_schema.specs.Prelude.{Bor, Global, error_kind, ErrorKind, OutOfMemory, Text, Path, Product}
-use Rattle.std.specs.Prelude.{◌≡◌, if◌then◌else◌, List, [], ◌∷◌, ◌++◌, map, codes, option_map, Option, Some, None, string_bytes, Result, Ok, Err, Vec, true}
-use Rattle.manifest_parts.specs.Parts.{edition_content, text_or_flag_content}
-use Rattle.manifest_parts.specs.Records.{product_content}
-use Rattle.manifest_value.specs.declared.error.Error.{Error}
-use Rattle.manifest_value.specs.declared.error.Error.TheVariants.{Io, Other, Memory}
-use Rattle.manifest_value.specs.declared.fault.KeyPath.{KeyPath}
+use Rattle.std.specs.Prelude.{◌≡◌, if◌then◌else◌, List, [], ◌∷◌, ◌++◌, map, option_map, Option, Some, None, string_bytes, Result, Ok, Err, Vec, true}
+use Rattle.manifest_parts.specs.Parts.{edition_content}
+use Rattle.manifest_fault.specs.declared.error.Error.{Error}
+use Rattle.manifest_fault.specs.declared.error.Error.TheVariants.{Io, Other, Memory}
+use Rattle.manifest_fault.specs.declared.fault.KeyPath.{KeyPath}
 use Rattle.manifest_completion.specs.declared.completion.CompletedTargets.{CompletedTargets}
-use Rattle.manifest_completion.specs.declared.completion.CompletedLists.{CompletedLists}
 use Rattle.manifest_completion.specs.declared.ask.Answers.{Answers}
 use Rattle.manifest_completion.specs.declared.discovered.FoundTarget.{FoundTarget}
 use Rattle.manifest_completion.specs.declared.targets.TargetDefaults.{TargetDefaults}
 use Rattle.manifest_completion.specs.declared.ask.FolderAnswers.{FolderAnswers}
-use Rattle.manifest_completion.specs.Listings.{Answer, folder_text, bins, examples, tests, benches, names_of}
-use Rattle.manifest_completion.specs.Finds.{Discovered, discovered_in_entry, discovered_main}
-use Rattle.manifest_completion.specs.Targets.{Defaults, targets}
-use Rattle.manifest_completion.specs.Completed.{PackageTargets, is_legacy, discovers, bin_defaults, example_defaults, test_defaults, Library, no_file, library, root_fault, build_of}
+use Rattle.manifest_completion.specs.Listings.{Answer, TargetFolder, folder_text, names_of}
+use Rattle.manifest_completion.specs.Finds.{Discovered, discovered_in_entry}
+use Rattle.manifest_completion.specs.Targets.{Defaults}
+use Rattle.manifest_completion.specs.Completed.{PackageTargets, filled_by, Library, no_file, root_fault}
 use Rattle.manifest_completion.specs.Answered.{answer_of, answers_of}
-use Rattle.manifest_completion.specs.Asking.{some_ran_out_of_memory}
-use Rattle.manifest_completion.specs.Outcome.{library_text}
-use Rattle.manifest_completion.specs.Unfound.{as_completed, without_path, unfound_library, IsAnswer}
+use Rattle.manifest_completion.specs.Asking.{folder_answers, some_ran_out_of_memory}
+use Rattle.manifest_completion.specs.Outcome.{completed_content, library_text}
+use Rattle.manifest_completion.specs.Unfound.{unfound_from, IsAnswer}
 
 -- CONTENTS
 abbrev pub discovered_content : FoundTarget → Discovered
@@ -59,34 +57,14 @@ paired_discovered d (n ∷ ns) (a ∷ given) = discovered_in_entry d n a ++ pair
 abbrev pub folder_paired : Text → FolderAnswers → List Discovered
 folder_paired d a = paired_discovered d (names_of (answer_of a.own)) (answers_of a.entries)
 
--- the four lists are completed, by what was answered
-pub record ListsCompleted (t : PackageTargets) (a : Answers) (lists : CompletedLists) : Type 0 where
-  pub bin :
-      map product_content lists.bin.items
-      ≡ targets (bin_defaults t (answer_of a.source))
-      (discovers t.autobins (is_legacy t.edition) t.bin)
-      (folder_paired (folder_text bins) a.bins ++ discovered_main t.name (answer_of a.source)) t.bin
-  pub example :
-      map product_content lists.example.items
-      ≡ targets (example_defaults t) (discovers t.autoexamples (is_legacy t.edition) t.example)
-      (folder_paired (folder_text examples) a.examples) t.example
-  pub test :
-      map product_content lists.test.items
-      ≡ targets (test_defaults t) (discovers t.autotests (is_legacy t.edition) t.test)
-      (folder_paired (folder_text tests) a.tests) t.test
-  pub bench :
-      map product_content lists.bench.items
-      ≡ targets (test_defaults t) (discovers t.autobenches (is_legacy t.edition) t.bench)
-      (folder_paired (folder_text benches) a.benches) t.bench
+-- the finds of each folder, with what was answered at it and at its entries
+abbrev pub paired : Answers → TargetFolder → List Discovered
+paired a d = folder_paired (folder_text d) (folder_answers a d)
 
 -- the targets are completed with this library, by what was answered
-pub record TargetsMade (t : PackageTargets) (lib : Option Product) (a : Answers)
-    (c : CompletedTargets) : Type 0 where
-  pub build : option_map text_or_flag_content c.build ≡ build_of t.build (answer_of a.root)
-  pub library : option_map product_content c.lib ≡ lib
-  pub lists :
-      ListsCompleted t a
-      (record { bin = c.bin; example = c.example; test = c.test; bench = c.bench })
+abbrev pub TargetsMade : PackageTargets → Option Product → Answers → CompletedTargets → Type 0
+TargetsMade t lib a c =
+    completed_content t c ≡ filled_by t lib (answer_of a.source) (answer_of a.root) (paired a)
 
 -- the fault that refuses after all answers: out of memory at a target folder or an entry, or that of the root folder
 abbrev pub fault_of_answers : PackageTargets → Answers → Option ErrorKind
@@ -106,18 +84,7 @@ CompletesByAnswers t lib a (Err e) = RefusesByAnswers t a e
 
 -- where the declared targets without a file stand, by what was answered
 abbrev pub unfound_by_answers : PackageTargets → Answers → List Path
-unfound_by_answers t a =
-    let src = answer_of a.source in
-    unfound_library (library t src)
-    ++ without_path (codes "bin") 0
-    (as_completed (bin_defaults t src)
-    (folder_paired (folder_text bins) a.bins ++ discovered_main t.name src) t.bin)
-    ++ without_path (codes "example") 0
-    (as_completed (example_defaults t) (folder_paired (folder_text examples) a.examples) t.example)
-    ++ without_path (codes "test") 0
-    (as_completed (test_defaults t) (folder_paired (folder_text tests) a.tests) t.test)
-    ++ without_path (codes "bench") 0
-    (as_completed (test_defaults t) (folder_paired (folder_text benches) a.benches) t.bench)
+unfound_by_answers t a = unfound_from t (answer_of a.source) (paired a)
 
 -- the answer on unfound targets, by what was answered
 abbrev pub AnswersUnfound :

@@ -3,7 +3,7 @@ use Rattle.manifest_schema.specs.Prelude.{BTreeMap, get_by_text, Global, NotFoun
 use Rattle.std.specs.Prelude.{◌≡◌, String, Option, Some, None, ◌⊎◌, map}
 use Rattle.manifest_completion.specs.declared.listings.Listing.{Listing}
 use Rattle.manifest_completion.specs.declared.listings.Listing.TheVariants.{Names, Fault}
-use Rattle.manifest_completion.specs.Listings.{Answer, names, fault, names_of, TargetFolder, bins, examples, tests, benches, source, folder, entry, root, path_text, FolderListing, ListingMap}
+use Rattle.manifest_completion.specs.Listings.{Answer, names, fault, names_of, TargetFolder, source, folder, entry, root, path_text, FolderListing, ListingMap}
 use Rattle.manifest_completion.specs.Answered.{set_names}
 
 -- LISTINGS: the answer of what was put, or NotFound
@@ -33,9 +33,6 @@ stored_folder stored d = record {
 abbrev pub stored_map : (Text → Answer) → ListingMap
 stored_map stored = record {
   source = stored (path_text source);
-  bins = stored_folder stored bins;
-  examples = stored_folder stored examples;
-  tests = stored_folder stored tests;
-  benches = stored_folder stored benches;
+  folders = stored_folder stored;
   root = stored (path_text root);
 }

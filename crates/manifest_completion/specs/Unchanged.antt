@@ -3,7 +3,7 @@ use Rattle.manifest_schema.specs.Prelude.{filter, Text, Product, Manifest}
 use Rattle.std.specs.Prelude.{◌≡◌, List, [], ◌∷◌, map, Option, Some, None, Bool, ◌||◌, is_some, codes}
 use Rattle.manifest_completion.specs.Listings.{Answer, lists, names_of, TargetFolder, folder, entry, ListingMap, at}
 use Rattle.manifest_completion.specs.Finds.{stem}
-use Rattle.manifest_completion.specs.Completed.{completed_to, completed, target_places, has_memory_fault}
+use Rattle.manifest_completion.specs.Completed.{targets_in, completed_to, completed, target_places, has_memory_fault}
 
 -- what is there stays
 abbrev pub Stays : {A : Type 0} → Option A → Option A → Type 0
@@ -41,10 +41,7 @@ DeclaredLibraryIsKept (Some old) (Some new) = LibraryIsKept old new
 
 pub record DeclaredAreKept (old new : Manifest) : Type 0 where
   pub lib : DeclaredLibraryIsKept old.lib new.lib
-  pub bin : AreKept old.bin new.bin
-  pub example : AreKept old.example new.example
-  pub test : AreKept old.test new.test
-  pub bench : AreKept old.bench new.bench
+  pub lists : (d : TargetFolder) → AreKept (targets_in old d) (targets_in new d)
 
 -- what is declared stays in every completion
 abbrev pub DeclaredStays : Type 0
@@ -63,9 +60,8 @@ abbrev pub target_entries : ListingMap → TargetFolder → List (Text × Bool)
 target_entries l d =
     map (λ n. (n, lists (at l (entry d n)) (codes "main.rs"))) (target_names l d)
 
--- two maps have the same, but for what else there is: entries that are no targets, and what is answered for them; and
--- what
--- else stands in a folder with `main.rs`
+-- two maps have the same, but for what else there is: entries that are no targets, and what is answered for them;
+-- and what else stands in a folder with `main.rs`
 pub record HaveSameTargets (l k : ListingMap) : Type 0 where
   pub source : l.source ≡ k.source
   pub root : l.root ≡ k.root

@@ -1,21 +1,25 @@
 -- The declared targets for which completion finds no file, by where they stand in the manifest.
-use Rattle.manifest_schema.specs.Prelude.{error_kind, ErrorKind, OutOfMemory, is_some, AllByRecursion, Contains, Text, Path, key, index, Product, Package, Manifest}
+use Rattle.manifest_schema.specs.Prelude.{error_kind, ErrorKind, OutOfMemory, is_some, flat_map, AllByRecursion, Contains, Text, Path, key, index, Product, Package, Manifest}
 use Rattle.std.specs.Prelude.{◌≡◌, ◌⊎◌, ◌↔◌, ℕ, suc, List, [], ◌∷◌, ◌++◌, map, length, drop, codes, if◌then◌else◌, Option, Some, None, true, Result, Ok, Err, Vec}
-use Rattle.manifest_value.specs.declared.error.Error.{Error}
-use Rattle.manifest_value.specs.declared.error.Error.TheVariants.{Io, Memory}
-use Rattle.manifest_value.specs.declared.fault.KeyPath.{KeyPath}
-use Rattle.manifest_value.specs.Faults.{path_of}
+use Rattle.manifest_fault.specs.declared.error.Error.{Error}
+use Rattle.manifest_fault.specs.declared.error.Error.TheVariants.{Io, Memory}
+use Rattle.manifest_fault.specs.declared.fault.KeyPath.{KeyPath}
+use Rattle.manifest_fault.specs.Faults.{path_of}
 use Rattle.std.specs.declared.alloc.Global.{Global}
-use Rattle.manifest_completion.specs.Listings.{Answer, examples, tests, benches, Place, source, ListingMap, at}
-use Rattle.manifest_completion.specs.Finds.{Discovered, discovered, discovered_bins}
+use Rattle.manifest_completion.specs.Listings.{Answer, TargetFolder, target_folders, by_folder, Place, source, ListingMap, at}
+use Rattle.manifest_completion.specs.Finds.{Discovered, discovered, list_finds}
 use Rattle.manifest_completion.specs.Targets.{pathed, Defaults, with_defaults}
-use Rattle.manifest_completion.specs.Completed.{PackageTargets, Library, no_file, known, library, bin_defaults, example_defaults, test_defaults, completed_to, no_library, completed, target_places, has_memory_fault, source_fault, up_to_memory_fault, targets_of, ByOneMap}
+use Rattle.manifest_completion.specs.Completed.{PackageTargets, Library, no_file, known, library, declared, defaults, completed_to, no_library, completed, target_places, has_memory_fault, source_fault, up_to_memory_fault, targets_in, targets_of, ByOneMap}
 use Rattle.manifest_completion.specs.Stored.{AnswersAsStored, stored_map}
 use Rattle.manifest_completion.specs.Laws.{AgreeAt}
 
 -- the declared targets of a list as they stand in the completed list: filled in, and with their defaults
 abbrev pub as_completed : Defaults → List Discovered → List Product → List Product
 as_completed d fs ps = map (with_defaults d) (map (pathed fs) ps)
+
+-- the key of the list of a folder's targets
+abbrev pub list_key : TargetFolder → Text
+list_key d = by_folder (codes "bin") (codes "example") (codes "test") (codes "bench") d
 
 -- where a target of a list stands, as `bin[1]`
 abbrev pub place_in : Text → ℕ → Path
@@ -35,16 +39,22 @@ abbrev pub unfound_library : Library → List Path
 unfound_library no_file = library_place ∷ []
 unfound_library (known lib) = []
 
--- THE DECLARED TARGETS WITHOUT A FILE: a library without a file, then of each list the targets without a path
-unfoldable pub unfound : PackageTargets → ListingMap → List Path
-unfound t l =
-    unfound_library (library t l.source)
-    ++ without_path (codes "bin") 0
-    (as_completed (bin_defaults t l.source) (discovered_bins l t.name) t.bin)
-    ++ without_path (codes "example") 0
-    (as_completed (example_defaults t) (discovered l examples) t.example)
-    ++ without_path (codes "test") 0 (as_completed (test_defaults t) (discovered l tests) t.test)
-    ++ without_path (codes "bench") 0 (as_completed (test_defaults t) (discovered l benches) t.bench)
+-- where the declared targets of a list stand that are without a path, by what `src` lists and what is found
+abbrev pub unfound_in :
+    PackageTargets → Answer → (TargetFolder → List Discovered) → TargetFolder → List Path
+unfound_in t src fs d =
+    without_path (list_key d) 0
+    (as_completed (defaults t src d) (list_finds t.name src fs d) (declared t d))
+
+-- a library without a file, then of each list the targets without a path
+unfoldable pub unfound_from :
+    PackageTargets → Answer → (TargetFolder → List Discovered) → List Path
+unfound_from t src fs =
+    unfound_library (library t src) ++ flat_map (unfound_in t src fs) target_folders
+
+-- THE DECLARED TARGETS WITHOUT A FILE
+abbrev pub unfound : PackageTargets → ListingMap → List Path
+unfound t l = unfound_from t l.source (discovered l)
 
 -- THE OUTCOME: refused for a fault of `src`, or for memory that ran out for a folder of targets; else where they stand
 abbrev pub unfound_after :
@@ -94,11 +104,7 @@ AreUnfound allows t = IsAnswer (ByOneMap allows (asked_unfound t) (unfound_targe
 -- LAWS
 -- where the targets of a manifest without a path stand
 abbrev pub all_without_path : Manifest → List Path
-all_without_path m =
-    without_path (codes "bin") 0 m.bin
-    ++ without_path (codes "example") 0 m.example
-    ++ without_path (codes "test") 0 m.test
-    ++ without_path (codes "bench") 0 m.bench
+all_without_path m = flat_map (λ d. without_path (list_key d) 0 (targets_in m d)) target_folders
 
 -- each of these targets has a path
 abbrev pub HavePaths : List Product → Type 0
@@ -108,10 +114,7 @@ HavePaths ps = AllByRecursion (λ p. is_some p.path ≡ true) ps
 -- declared
 pub record AreLeftWithoutPath (m n : Manifest) (l : ListingMap) : Type 0 where
   pub unfound : manifest_unfound m l ≡ Ok (all_without_path n)
-  pub bin : HavePaths (drop (length m.bin) n.bin)
-  pub example : HavePaths (drop (length m.example) n.example)
-  pub test : HavePaths (drop (length m.test) n.test)
-  pub bench : HavePaths (drop (length m.bench) n.bench)
+  pub added : (d : TargetFolder) → HavePaths (drop (length (targets_in m d)) (targets_in n d))
 
 -- where a manifest with a package is completed, its unfound targets are those that completion leaves without a path
 abbrev pub UnfoundAreLeft : Type 0

@@ -2,11 +2,12 @@
 
 ghost use Rattle.std.specs.Prelude.{◌≡◌, [], codes, IfOk, string_bytes, true, false, ◌&&◌, not};
 ghost use Rattle.std.specs.declared.io.ErrorKind.TheVariants.{NotFound};
-ghost use Rattle.manifest_completion.specs.Listings.{joined, is_memory_fault, fault, IsAscending};
+ghost use Rattle.manifest_completion.specs.Listings.{joined, folder_text, is_memory_fault, fault, IsAscending};
 ghost use Rattle.manifest_completion.specs.Answered.{answer_of, answers_of, set_names};
-ghost use Rattle.manifest_completion.specs.Asking.{IsAllowedAnswer, AreAllowedAnswers, FolderIsAnswered, AllIsAnswered, ran_out_of_memory, some_ran_out_of_memory};
+ghost use Rattle.manifest_completion.specs.Asking.{IsAllowedAnswer, AreAllowedAnswers, FolderIsAnswered, AllIsAnswered, folder_answers, ran_out_of_memory, some_ran_out_of_memory};
 
 use crate::filesystem::AbstractFilesystem;
+use crate::target_folder::TargetFolder;
 use std::alloc::{AllocError, Global};
 use std::collections::BTreeSet;
 use std::io;
@@ -140,6 +141,18 @@ impl FolderAnswers {
 }
 
 impl Answers {
+    /// What was answered at a folder of targets and at its entries.
+    pub fn of(&self, folder: TargetFolder) -> &FolderAnswers
+        ensures { result.now ≡ folder_answers self.now folder }
+    {
+        match folder {
+            TargetFolder::Bins => &self.bins,
+            TargetFolder::Examples => &self.examples,
+            TargetFolder::Tests => &self.tests,
+            TargetFolder::Benches => &self.benches,
+        }
+    }
+
     /// Whether a folder of targets or an entry of one was answered with a fault of the kind `OutOfMemory`; `src` and
     /// the folder of the manifest do not count.
     pub fn ran_out_of_memory(&self) -> bool
@@ -157,15 +170,15 @@ fn ask_folder_unless<FS: AbstractFilesystem>(
     stopped: bool,
     alloc: Global,
     fs: &FS,
-    folder: &str,
+    folder: TargetFolder,
 ) -> Result<FolderAnswers, AllocError>
     ensures { IfOk result (λ answers. FolderIsAnswered
-        (λ path answer. stopped ≡ false → FS.allows fs.now path answer) folder.now answers) }
+        (λ path answer. stopped ≡ false → FS.allows fs.now path answer) (folder_text folder) answers) }
 {
     if stopped {
         return Ok(FolderAnswers::of_unasked_folder(alloc));
     }
-    ask_folder(alloc, fs, folder)
+    ask_folder(alloc, fs, folder.path())
 }
 
 /// Asks at `.`, the folder of the manifest, if `asks` is true; else returns that it is not found, and asks nothing.
@@ -196,13 +209,13 @@ pub fn ask_folders<FS: AbstractFilesystem>(
     ensures source { IfOk result (λ a. a.source ≡ source) }
     ensures answered { IfOk result (λ a. AllIsAnswered (FS.allows fs.now) asks_root a) }
 {
-    let bins = ask_folder(alloc, fs, "src/bin")?;
+    let bins = ask_folder_unless(false, alloc, fs, TargetFolder::Bins)?;
     let after_bins = bins.ran_out_of_memory();
-    let examples = ask_folder_unless(after_bins, alloc, fs, "examples")?;
+    let examples = ask_folder_unless(after_bins, alloc, fs, TargetFolder::Examples)?;
     let after_examples = after_bins | examples.ran_out_of_memory();
-    let tests = ask_folder_unless(after_examples, alloc, fs, "tests")?;
+    let tests = ask_folder_unless(after_examples, alloc, fs, TargetFolder::Tests)?;
     let after_tests = after_examples | tests.ran_out_of_memory();
-    let benches = ask_folder_unless(after_tests, alloc, fs, "benches")?;
+    let benches = ask_folder_unless(after_tests, alloc, fs, TargetFolder::Benches)?;
     let after_benches = after_tests | benches.ran_out_of_memory();
     let root = ask_root_if(asks_root & !after_benches, alloc, fs);
     Ok(Answers {

@@ -1,22 +1,19 @@
 //! Completing the targets of a package.
 
-ghost use Rattle.std.specs.Prelude.{◌≡◌, ◌++◌, map, codes, option_map, IfOk, MatchResult, None, false};
+ghost use Rattle.std.specs.Prelude.{◌≡◌, map, option_map, IfOk, MatchResult, None, false};
 ghost use Rattle.manifest_parts.specs.Parts.{edition_content, text_or_flag_content, inh_content};
 ghost use Rattle.manifest_parts.specs.Records.{product_content};
-ghost use Rattle.manifest_completion.specs.Listings.{examples, tests, benches};
 ghost use Rattle.manifest_completion.specs.Answered.{answer_of};
 ghost use Rattle.manifest_completion.specs.Asking.{some_ran_out_of_memory};
-ghost use Rattle.manifest_completion.specs.Finds.{discovered_main};
-ghost use Rattle.manifest_completion.specs.Targets.{targets};
-ghost use Rattle.manifest_completion.specs.Completed.{is_legacy, own_edition, discovers, asks_root, build_of, bin_defaults, example_defaults, test_defaults, source_fault, root_fault_if};
+ghost use Rattle.manifest_completion.specs.Completed.{is_legacy, own_edition, discovers, declared, own_flag, adds, asks_root, build_of, defaults, completed_list, source_fault, root_fault_if};
 ghost use Rattle.manifest_completion.specs.Outcome.{declared_content, TargetsCompleted};
-ghost use Rattle.manifest_completion.specs.Steps.{defaults_content, folder_paired, IsFault, RanOutOfMemory, ListsCompleted, CompletesByAnswers};
+ghost use Rattle.manifest_completion.specs.Steps.{defaults_content, paired, IsFault, RanOutOfMemory, CompletesByAnswers};
 
-use crate::ask::{Answers, FolderAnswers, ask, ask_folders};
-use crate::copies::copy_optional_text;
-use crate::discovered::{discovered_in_folder, lists, push_discovered_main};
+use crate::ask::{Answers, ask, ask_folders};
+use crate::discovered::{discovered_targets, lists};
 use crate::filesystem::AbstractFilesystem;
 use crate::library::completed_library;
+use crate::target_folder::TargetFolder;
 use crate::targets::{TargetDefaults, completed_list};
 use manifest_parts::{Edition, MaybeInherited, Product, StringOrBool};
 use manifest_value::Error;
@@ -56,6 +53,44 @@ pub struct DeclaredTargets<'a> {
     pub bench: &'a [Product],
 }
 
+impl DeclaredTargets<'_> {
+    /// The declared targets of a list.
+    pub(crate) fn list(&self, folder: TargetFolder) -> &[Product]
+        ensures { map product_content result.now ≡ declared (declared_content self.now) folder }
+    {
+        match folder {
+            TargetFolder::Bins => self.bin,
+            TargetFolder::Examples => self.example,
+            TargetFolder::Tests => self.test,
+            TargetFolder::Benches => self.bench,
+        }
+    }
+
+    /// What the package says by a flag such as `autobins` of adding found targets to a list.
+    fn own_flag(&self, folder: TargetFolder) -> Option<bool>
+        ensures { option_map (λ b. b) result ≡ own_flag (declared_content self.now) folder }
+    {
+        match folder {
+            TargetFolder::Bins => self.autobins,
+            TargetFolder::Examples => self.autoexamples,
+            TargetFolder::Tests => self.autotests,
+            TargetFolder::Benches => self.autobenches,
+        }
+    }
+
+    /// Whether found targets are added to a list, as [`discovers`] says.
+    ///
+    /// ```ignore
+    /// let adds = declared.adds(TargetFolder::Bins);
+    /// ```
+    pub fn adds(&self, folder: TargetFolder) -> bool
+        ensures { result ≡ adds (declared_content self.now) folder }
+    {
+        let own = self.own_flag(folder);
+        discovers(own, is_legacy(self.edition), self.list(folder))
+    }
+}
+
 /// What completion makes of the declared targets: the build script, the library and the four lists.
 #[derive(Debug, Drop)]
 pub struct CompletedTargets {
@@ -63,19 +98,6 @@ pub struct CompletedTargets {
     pub build: Option<StringOrBool>,
     /// The library, declared or inferred.
     pub lib: Option<Product>,
-    /// The binaries, declared and found.
-    pub bin: Vec<Product>,
-    /// The examples, declared and found.
-    pub example: Vec<Product>,
-    /// The tests, declared and found.
-    pub test: Vec<Product>,
-    /// The benches, declared and found.
-    pub bench: Vec<Product>,
-}
-
-/// The four completed lists.
-#[derive(Debug, Drop)]
-pub struct CompletedLists {
     /// The binaries, declared and found.
     pub bin: Vec<Product>,
     /// The examples, declared and found.
@@ -209,142 +231,59 @@ fn completed_build(
     }
 }
 
-/// The edition that a test or a bench takes where it has none: the package's own.
-pub(crate) fn test_defaults(declared: &DeclaredTargets<'_>) -> TargetDefaults
-    ensures { defaults_content result ≡ test_defaults (declared_content declared.now) }
-{
-    TargetDefaults {
-        edition: own_edition(declared.edition),
-        crate_type: None,
-        path: None,
-    }
-}
-
-/// The edition and the crate type `bin` that an example takes where it has none.
-pub(crate) fn example_defaults(declared: &DeclaredTargets<'_>) -> TargetDefaults
-    ensures { defaults_content result ≡ example_defaults (declared_content declared.now) }
-{
-    TargetDefaults {
-        edition: own_edition(declared.edition),
-        crate_type: Some("bin"),
-        path: None,
-    }
-}
-
-/// What a binary takes where it has none: the package's own edition, and in legacy mode the path `src/main.rs`, where
-/// `src` lists it.
-pub(crate) fn bin_defaults(
+/// What a target of a list takes where it has none: the package's own edition; an example the crate type `bin`; and in
+/// legacy mode a binary the path `src/main.rs`, where `src` lists it.
+pub(crate) fn defaults(
     declared: &DeclaredTargets<'_>,
     source: &io::Result<BTreeSet<String>>,
+    folder: TargetFolder,
 ) -> TargetDefaults
     ensures { defaults_content result
-        ≡ bin_defaults (declared_content declared.now) (answer_of source.now) }
+        ≡ defaults (declared_content declared.now) (answer_of source.now) folder }
 {
-    let path = if is_legacy(declared.edition) & lists(source, "main.rs") {
+    let crate_type = if folder.is_examples() {
+        Some("bin")
+    } else {
+        None
+    };
+    let path = if folder.is_bins() & (is_legacy(declared.edition) & lists(source, "main.rs")) {
         Some("src/main.rs")
     } else {
         None
     };
     TargetDefaults {
         edition: own_edition(declared.edition),
-        crate_type: None,
+        crate_type,
         path,
     }
 }
 
-/// The completed list of one folder of targets, as `tests`: the declared targets of `list`, and where `discovers` is
-/// true those that the answers of the folder show; each with its defaults.
-fn completed_folder(
-    alloc: Global,
-    folder: &str,
-    answers: &FolderAnswers,
-    list: &[Product],
-    discovers: bool,
-    defaults: TargetDefaults,
-) -> Result<Vec<Product>, AllocError>
-    ensures { IfOk result
-        (λ v. map product_content v.items
-        ≡ targets (defaults_content defaults) discovers (folder_paired folder.now answers.now)
-        (map product_content list.now)) }
-{
-    let discovered = discovered_in_folder(alloc, folder, answers)?;
-    completed_list(alloc, list, discovered.as_slice(), discovers, defaults)
-}
-
-/// The completed list of binaries: the declared ones, and where binaries are discovered those that `src/bin` and
-/// `src/main.rs` are; each with its defaults.
-fn completed_bins(
-    alloc: Global,
-    declared: &DeclaredTargets<'_>,
-    source: &io::Result<BTreeSet<String>>,
-    answers: &FolderAnswers,
-) -> Result<Vec<Product>, AllocError>
-    ensures { IfOk result
-        (λ v. map product_content v.items
-        ≡ targets (bin_defaults (declared_content declared.now) (answer_of source.now))
-        (discovers (declared_content declared.now).autobins
-        (is_legacy (declared_content declared.now).edition) (declared_content declared.now).bin)
-        (folder_paired (codes "src/bin") answers.now
-        ++ discovered_main declared.now.name.now (answer_of source.now))
-        (declared_content declared.now).bin) }
-{
-    let mut discovered = discovered_in_folder(alloc, "src/bin", answers)?;
-    push_discovered_main(&mut discovered, alloc, declared.name, source)?;
-    completed_list(
-        alloc,
-        declared.bin,
-        discovered.as_slice(),
-        discovers(declared.autobins, is_legacy(declared.edition), declared.bin),
-        bin_defaults(declared, source),
-    )
-}
-
-/// The four completed lists, as new ones, by what was answered: binaries, examples, tests and benches. Fails only when
-/// out of memory.
-fn completed_lists(
+/// The completed list of a folder, by what was answered: the declared targets, and where the list is added to those
+/// that are found; each with its defaults.
+fn completed_in(
     alloc: Global,
     declared: &DeclaredTargets<'_>,
     answers: &Answers,
-) -> Result<CompletedLists, AllocError>
-    ensures { IfOk result (ListsCompleted (declared_content declared.now) answers.now) }
+    folder: TargetFolder,
+) -> Result<Vec<Product>, AllocError>
+    ensures { let t = declared_content declared.now in
+        IfOk result (λ v. map product_content v.items
+        ≡ completed_list t (answer_of answers.now.source) (paired answers.now) folder) }
 {
-    let legacy = is_legacy(declared.edition);
-    let bin = completed_bins(alloc, declared, &answers.source, &answers.bins)?;
-    let example = completed_folder(
+    let discovered = discovered_targets(alloc, declared.name, answers, folder)?;
+    completed_list(
         alloc,
-        "examples",
-        &answers.examples,
-        declared.example,
-        discovers(declared.autoexamples, legacy, declared.example),
-        example_defaults(declared),
-    )?;
-    let test = completed_folder(
-        alloc,
-        "tests",
-        &answers.tests,
-        declared.test,
-        discovers(declared.autotests, legacy, declared.test),
-        test_defaults(declared),
-    )?;
-    let bench = completed_folder(
-        alloc,
-        "benches",
-        &answers.benches,
-        declared.bench,
-        discovers(declared.autobenches, legacy, declared.bench),
-        test_defaults(declared),
-    )?;
-    Ok(CompletedLists {
-        bin,
-        example,
-        test,
-        bench,
-    })
+        declared.list(folder),
+        discovered.as_slice(),
+        declared.adds(folder),
+        defaults(declared, &answers.source, folder),
+    )
 }
 
 /// The completed targets, by what was answered: the library `lib` as it was passed in, the four lists, and the build
 /// script. Refuses with `Io` where memory ran out for a listing of targets, and then where the folder of the manifest
 /// was asked and is a fault; and with `Memory`.
+#[tactic(auto, unfolding(crate::specs::Completed::filled_by))]
 fn complete_by_answers(
     alloc: Global,
     declared: &DeclaredTargets<'_>,
@@ -357,12 +296,10 @@ fn complete_by_answers(
     check_memory(answers)?;
     check_root(asks_root(declared.build), &answers.root)?;
     let build = completed_build(alloc, declared.build, &answers.root)?;
-    let CompletedLists {
-        bin,
-        example,
-        test,
-        bench,
-    } = completed_lists(alloc, declared, answers)?;
+    let bin = completed_in(alloc, declared, answers, TargetFolder::Bins)?;
+    let example = completed_in(alloc, declared, answers, TargetFolder::Examples)?;
+    let test = completed_in(alloc, declared, answers, TargetFolder::Tests)?;
+    let bench = completed_in(alloc, declared, answers, TargetFolder::Benches)?;
     Ok(CompletedTargets {
         build,
         lib,

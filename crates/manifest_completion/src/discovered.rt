@@ -4,10 +4,11 @@ ghost use Rattle.std.specs.Prelude.{◌≡◌, ◌++◌, OnOk, IfOk, string_byte
 ghost use Rattle.std.specs.Option.{option_copied};
 ghost use Rattle.manifest_completion.specs.Listings.{lists};
 ghost use Rattle.manifest_completion.specs.Answered.{answer_of};
-ghost use Rattle.manifest_completion.specs.Finds.{stem, discovered_in_entry, discovered_main};
-ghost use Rattle.manifest_completion.specs.Steps.{all_discovered_content, folder_paired};
+ghost use Rattle.manifest_completion.specs.Finds.{stem, discovered_in_entry, discovered_main, list_finds};
+ghost use Rattle.manifest_completion.specs.Steps.{all_discovered_content, folder_paired, paired};
 
-use crate::ask::{FolderAnswers, join};
+use crate::ask::{Answers, FolderAnswers, join};
+use crate::target_folder::TargetFolder;
 use std::alloc::{AllocError, Global};
 use std::collections::BTreeSet;
 use std::io;
@@ -66,10 +67,10 @@ fn push_discovered_in_entry(
     Ok(())
 }
 
-/// The finds of a folder of targets, as [`push_discovered_in_entry`] makes them of each of its names and the answer at it, in
+/// The finds of a folder, as [`push_discovered_in_entry`] makes them of each of its names and the answer at it, in
 /// the order of the names; none where the folder itself was answered with a fault.
 #[tactic(auto, using(crate::proofs::DiscoveredLemmas::paired_none))]
-pub fn discovered_in_folder(
+fn discovered_in_folder(
     alloc: Global,
     folder: &str,
     answers: &FolderAnswers,
@@ -92,22 +93,40 @@ pub fn discovered_in_folder(
     Ok(discovered)
 }
 
-/// Appends the find of `src/main.rs`, under the package's name, if `source`, the answer at `src`, lists it.
-pub fn push_discovered_main(
+/// Appends the find of `src/main.rs` to those of the binaries, under the package's name, if `source`, the answer at
+/// `src`, lists it.
+fn push_discovered_main(
     discovered: &mut Vec<FoundTarget>,
     alloc: Global,
     name: &str,
     source: &io::Result<BTreeSet<String>>,
+    folder: TargetFolder,
 ) -> Result<(), AllocError>
     ensures { OnOk result
         (all_discovered_content discovered.new.items
-        ≡ all_discovered_content discovered.old.items ++ discovered_main name.now (answer_of source.now)) }
+        ≡ all_discovered_content discovered.old.items
+        ++ discovered_main name.now (answer_of source.now) folder) }
 {
-    if lists(source, "main.rs") {
+    if folder.is_bins() & lists(source, "main.rs") {
         discovered.push(FoundTarget {
             name: String::from_str(alloc, name)?,
             path: String::from_str(alloc, "src/main.rs")?,
         })?;
     }
     Ok(())
+}
+
+/// The finds of a list, by what was answered: those of its folder, and of the binaries `src/main.rs`, after them.
+pub fn discovered_targets(
+    alloc: Global,
+    name: &str,
+    answers: &Answers,
+    folder: TargetFolder,
+) -> Result<Vec<FoundTarget>, AllocError>
+    ensures { IfOk result (λ v. all_discovered_content v.items
+        ≡ list_finds name.now (answer_of answers.now.source) (paired answers.now) folder) }
+{
+    let mut discovered = discovered_in_folder(alloc, folder.path(), answers.of(folder))?;
+    push_discovered_main(&mut discovered, alloc, name, &answers.source, folder)?;
+    Ok(discovered)
 }

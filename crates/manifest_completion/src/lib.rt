@@ -13,11 +13,13 @@ pub mod index;
 pub mod laws;
 mod library;
 pub mod listings;
+mod target_folder;
 mod targets;
 pub mod unfound;
 
-pub use completion::{CompletedTargets, DeclaredTargets, complete, discovers, is_legacy};
+pub use completion::{CompletedTargets, DeclaredTargets, complete, is_legacy};
 pub use filesystem::AbstractFilesystem;
 pub use folders::Filesystem;
 pub use listings::{Listing, Listings};
+pub use target_folder::TargetFolder;
 pub use unfound::unfound_targets;

@@ -1,24 +1,22 @@
 //! The declared targets of a package for which no file is found.
 
-ghost use Rattle.std.specs.Prelude.{◌≡◌, ◌++◌, ◌∷◌, [], map, codes, IfOk, OnOk};
+ghost use Rattle.std.specs.Prelude.{◌≡◌, ◌++◌, ◌∷◌, [], map, IfOk, OnOk};
 ghost use Rattle.manifest_parts.specs.Records.{product_content};
 ghost use Rattle.manifest_schema.specs.Paths.{key};
-ghost use Rattle.manifest_value.specs.Faults.{path_of};
+ghost use Rattle.manifest_fault.specs.Faults.{path_of};
 ghost use Rattle.manifest_completion.specs.Answered.{answer_of};
-ghost use Rattle.manifest_completion.specs.Finds.{discovered_main};
-ghost use Rattle.manifest_completion.specs.Completed.{bin_defaults, library};
+ghost use Rattle.manifest_completion.specs.Completed.{library};
 ghost use Rattle.manifest_completion.specs.Outcome.{declared_content};
-ghost use Rattle.manifest_completion.specs.Steps.{defaults_content, folder_paired, AnswersUnfound};
-ghost use Rattle.manifest_completion.specs.Unfound.{as_completed, place_in, without_path, unfound_library, AreUnfound};
+ghost use Rattle.manifest_completion.specs.Steps.{defaults_content, paired, AnswersUnfound};
+ghost use Rattle.manifest_completion.specs.Unfound.{as_completed, place_in, without_path, unfound_library, unfound_in, AreUnfound};
 
-use crate::ask::{Answers, FolderAnswers, ask, ask_folders};
-use crate::completion::{
-    DeclaredTargets, bin_defaults, check_memory, check_source, example_defaults, test_defaults,
-};
-use crate::discovered::{discovered_in_folder, push_discovered_main};
+use crate::ask::{Answers, ask, ask_folders};
+use crate::completion::{DeclaredTargets, check_memory, check_source, defaults};
+use crate::discovered::discovered_targets;
 use crate::filesystem::AbstractFilesystem;
 use crate::index::IndexedTargets;
 use crate::library::has_no_file;
+use crate::target_folder::TargetFolder;
 use crate::targets::{TargetDefaults, has_path};
 use manifest_parts::Product;
 use manifest_value::{Error, KeyPath, Step};
@@ -93,51 +91,34 @@ fn push_unfound_library(
     Ok(())
 }
 
-/// Appends where the declared binaries without a path stand.
-fn push_unfound_bins(
+/// Appends where the declared targets of a list stand that are without a path.
+fn push_unfound_in(
     out: &mut Vec<KeyPath>,
     alloc: Global,
     declared: &DeclaredTargets<'_>,
     answers: &Answers,
+    folder: TargetFolder,
 ) -> Result<(), AllocError>
-    ensures { let targets = (declared_content declared.now).bin in
-        let source = answer_of answers.now.source in
-        let found = folder_paired (codes "src/bin") answers.now.bins
-        ++ discovered_main declared.now.name.now source in
-        let defaults = bin_defaults (declared_content declared.now) source in
+    ensures { let t = declared_content declared.now in
         OnOk result (map path_of out.new.items ≡ map path_of out.old.items
-        ++ without_path (codes "bin") 0 (as_completed defaults found targets)) }
+        ++ unfound_in t (answer_of answers.now.source) (paired answers.now) folder) }
 {
-    let mut discovered = discovered_in_folder(alloc, "src/bin", &answers.bins)?;
-    push_discovered_main(&mut discovered, alloc, declared.name, &answers.source)?;
+    let discovered = discovered_targets(alloc, declared.name, answers, folder)?;
     let indexed = IndexedTargets::new(alloc, discovered.as_slice())?;
-    let defaults = bin_defaults(declared, &answers.source);
-    push_without_path(out, alloc, "bin", declared.bin, &indexed, defaults)
-}
-
-/// Appends where the declared targets without a path stand, in the list of the key `list`, of a folder such as `tests`.
-fn push_unfound_in(
-    out: &mut Vec<KeyPath>,
-    alloc: Global,
-    list: &str,
-    folder: &str,
-    answers: &FolderAnswers,
-    declared: &[Product],
-    defaults: TargetDefaults,
-) -> Result<(), AllocError>
-    ensures { let targets = map product_content declared.now in
-        let filled = as_completed (defaults_content defaults)
-        (folder_paired folder.now answers.now) targets in
-        OnOk result (map path_of out.new.items
-        ≡ map path_of out.old.items ++ without_path list.now 0 filled) }
-{
-    let discovered = discovered_in_folder(alloc, folder, answers)?;
-    let indexed = IndexedTargets::new(alloc, discovered.as_slice())?;
-    push_without_path(out, alloc, list, declared, &indexed, defaults)
+    let defaults = defaults(declared, &answers.source, folder);
+    push_without_path(
+        out,
+        alloc,
+        folder.key(),
+        declared.list(folder),
+        &indexed,
+        defaults,
+    )
 }
 
 /// Where the declared targets without a file stand, by what was answered. Refuses with `Io` where memory ran out for a
 /// listing of targets, and with `Memory`.
+#[tactic(auto, unfolding(crate::specs::Unfound::unfound_from))]
 fn unfound_by_answers(
     alloc: Global,
     declared: &DeclaredTargets<'_>,
@@ -148,34 +129,10 @@ fn unfound_by_answers(
     check_memory(answers)?;
     let mut out = Vec::new(alloc);
     push_unfound_library(&mut out, alloc, declared, &answers.source)?;
-    push_unfound_bins(&mut out, alloc, declared, answers)?;
-    push_unfound_in(
-        &mut out,
-        alloc,
-        "example",
-        "examples",
-        &answers.examples,
-        declared.example,
-        example_defaults(declared),
-    )?;
-    push_unfound_in(
-        &mut out,
-        alloc,
-        "test",
-        "tests",
-        &answers.tests,
-        declared.test,
-        test_defaults(declared),
-    )?;
-    push_unfound_in(
-        &mut out,
-        alloc,
-        "bench",
-        "benches",
-        &answers.benches,
-        declared.bench,
-        test_defaults(declared),
-    )?;
+    push_unfound_in(&mut out, alloc, declared, answers, TargetFolder::Bins)?;
+    push_unfound_in(&mut out, alloc, declared, answers, TargetFolder::Examples)?;
+    push_unfound_in(&mut out, alloc, declared, answers, TargetFolder::Tests)?;
+    push_unfound_in(&mut out, alloc, declared, answers, TargetFolder::Benches)?;
     Ok(out)
 }
 

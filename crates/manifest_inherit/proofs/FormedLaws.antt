@@ -7,7 +7,8 @@ use Rattle.manifest_completion.specs.Laws.{CompletedIsFixed}
 use Rattle.cargo_manifest.specs.WellFormed.{PackageByMetadata, WorkspaceByParts, ManifestByParts}
 use Rattle.manifest_inherit.specs.Fields.{lendable}
 use Rattle.manifest_inherit.specs.Resolved.{resolved_package, resolved_lints_by, resolved_lints, resolved}
-use Rattle.manifest_inherit.specs.Refused.{tool_named_workspace, refused_here, tools_refusals, lints_refusals_by, lints_refusals, some_refusals}
+use Rattle.manifest_fault.specs.Placed.{placed_here}
+use Rattle.manifest_inherit.specs.Refused.{tool_named_workspace, tools_refusals, lints_refusals_by, lints_refusals, some_refusals}
 use Rattle.manifest_inherit.specs.Own.{AreOwn, InheritsNothing}
 use Rattle.manifest_inherit.specs.Laws.{ResolvedIsWellFormed, CompletedStaysResolved}
 use Rattle.manifest_inherit.proofs.FirstLemmas.{none_in_both, none_in_parts}
@@ -25,7 +26,7 @@ package_formed K by w None g = tt
 package_formed K by w (Some p) g = (by (resolved_package w p)).1 (subst (good_some K) (sym (metadata_stays w p))
     ((by p).0 g))
 
-is_true_of : (b : Bool) → (if b then [] else refused_here tool_named_workspace) ≡ [] → IsTrue b
+is_true_of : (b : Bool) → (if b then [] else placed_here tool_named_workspace) ≡ [] → IsTrue b
 is_true_of true h = refl
 is_true_of false h = cc
 

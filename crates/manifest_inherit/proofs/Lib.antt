@@ -4,7 +4,7 @@ pub mod FormedLaws
 pub mod LenderLemmas
 pub mod FeatureLemmas
 pub mod EntryLemmas
-pub mod MadeLemmas
 pub mod KeptLemmas
 pub mod RefusalLaws
 pub mod FirstLemmas
+pub mod ListLemmas

@@ -4,10 +4,11 @@ use Rattle.std.proofs.Common.{rules, arith, ◌≡◌, ◌⊎◌, inl, inr, zero
 use Rattle.std.proofs.lemmas.Bool.{and_right}
 use Rattle.std.proofs.lemmas.List.Elements.{Contains-append_left, Contains-append_right, Contains-append_cases, Contains-get_or}
 use Rattle.std.specs.List.{IsDistinct, AllPairs}
-use Rattle.manifest_schema.proofs.TableLaws.{same_key-self, same_key-true}
+use Rattle.manifest_schema.proofs.Tables.TableLaws.{same_key-self, same_key-true}
 use Rattle.manifest_inherit.specs.Fields.{Fields, no_more, ◌⨾◌, lendable}
 use Rattle.manifest_inherit.specs.Resolved.{workspace_dependency, shared_dependencies}
-use Rattle.manifest_inherit.specs.Refused.{Refusal, PlacedRefusals, not_in_workspace, inherited_in_workspace, mixed_lints, tool_named_workspace, refused_here, refused_under, field_refusals, fields_refusals, lender_refusals, dependency_refusals, entries_refusals, dependencies_refusals, platform_refusals, platforms_refusals, tools_refusals, shared_lints_refusals, lints_refusals_by, lints_refusals, some_refusals, all_refusals}
+use Rattle.manifest_fault.specs.Placed.{placed_here, placed_under}
+use Rattle.manifest_inherit.specs.Refused.{Refusal, PlacedRefusals, not_in_workspace, inherited_in_workspace, mixed_lints, tool_named_workspace, field_refusals, fields_refusals, lender_refusals, dependency_refusals, entries_refusals, dependencies_refusals, platform_refusals, platforms_refusals, tools_refusals, shared_lints_refusals, lints_refusals_by, lints_refusals, some_refusals, all_refusals}
 use Rattle.manifest_inherit.specs.Pins.{some_field, field_refused, package_refused, maps_of, platform_maps, name_unfit, dependency_refused, lints_unfit, lints_refused, refused_at, HasDistinctKeys, KeysDiffer}
 use Rattle.manifest_inherit.specs.Laws.{ListsEachRefusal, EmptyIfNoneHolds, ListsEachOnce}
 use Rattle.manifest_inherit.proofs.FirstLemmas.{of_package, of_map, of_platforms, of_lints}
@@ -67,7 +68,7 @@ said_as h to back = record {
 nothing : {H : Type 0} {R : Reasons} → ((p : Path) (r : Refusal) → R p r → ⊥) → Lists H [] R
 nothing h = record { only = λ p r i. absurd (in_none (p, r) i); each = λ p r x. absurd (h p r x); once = λ d. tt }
 
-here : {H : Type 0} (s : Refusal) → Lists H (refused_here s) (λ p r. (p ≡ []) × (r ≡ s))
+here : {H : Type 0} (s : Refusal) → Lists H (placed_here s) (λ p r. (p ≡ []) × (r ≡ s))
 here s = record {
   only = λ p r i. elim (in_cons ([], s) [] (p, r) i) [
     | inl e ↦ (ap (λ (x : Path × Refusal). x.0) e, ap (λ (x : Path × Refusal). x.1) e)
@@ -92,30 +93,30 @@ and_then {fs = fs} {gs = gs} h k apart = record {
 }
 
 under : {H : Type 0} {fs : PlacedRefusals} {R : Reasons} (k : Text) → Lists H fs R
-    → Lists H (refused_under k fs) (λ p r. (q : Path) × (p ≡ key k ∷ q) × R q r)
+    → Lists H (placed_under k fs) (λ p r. (q : Path) × (p ≡ key k ∷ q) × R q r)
 under {fs = fs} k h = record {
   only = λ p r i. let (q, e, j) = of_under fs p r i in (q, e, h.only q r j);
   each = λ p r (q, e, x). rw e (in_under fs q r (h.each q r x));
   once = λ d. once_under fs (h.once d);
 }
   where
-    of_under : (fs : PlacedRefusals) (p : Path) (r : Refusal) → Contains (refused_under k fs) (p, r)
+    of_under : (fs : PlacedRefusals) (p : Path) (r : Refusal) → Contains (placed_under k fs) (p, r)
         → (q : Path) × (p ≡ key k ∷ q) × Contains fs (q, r)
     of_under [] p r i = absurd (in_none (p, r) i)
-    of_under (f ∷ fs) p r i = elim (in_cons (key k ∷ f.0, f.1) (refused_under k fs) (p, r) i) [
+    of_under (f ∷ fs) p r i = elim (in_cons (key k ∷ f.0, f.1) (placed_under k fs) (p, r) i) [
       | inl e ↦ (f.0, ap (λ (x : Path × Refusal). x.0) e, rw (ap (λ (x : Path × Refusal). x.1) e) (first_in f fs))
       | inr j ↦ let (q, s, l) = of_under fs p r j in (q, s, later_in f fs (q, r) l)
     ]
 
     in_under : (fs : PlacedRefusals) (q : Path) (r : Refusal) → Contains fs (q, r)
-        → Contains (refused_under k fs) (key k ∷ q, r)
+        → Contains (placed_under k fs) (key k ∷ q, r)
     in_under [] q r i = absurd (in_none (q, r) i)
     in_under (f ∷ fs) q r i = elim (in_cons f fs (q, r) i) [
-      | inl e ↦ subst (λ (x : Path × Refusal). Contains (refused_under k (x ∷ fs)) (key k ∷ q, r)) e (first_in _ _)
-      | inr j ↦ later_in _ (refused_under k fs) (key k ∷ q, r) (in_under fs q r j)
+      | inl e ↦ subst (λ (x : Path × Refusal). Contains (placed_under k (x ∷ fs)) (key k ∷ q, r)) e (first_in _ _)
+      | inr j ↦ later_in _ (placed_under k fs) (key k ∷ q, r) (in_under fs q r j)
     ]
 
-    once_under : (fs : PlacedRefusals) → Once fs → Once (refused_under k fs)
+    once_under : (fs : PlacedRefusals) → Once fs → Once (placed_under k fs)
     once_under [] h = tt
     once_under (f ∷ fs) h = (
       λ i. let (q, s, j) = of_under fs (key k ∷ f.0) f.1 i in
@@ -277,7 +278,7 @@ shared_lints None = said_as (here (not_in_workspace (codes "lints"))) (λ q r (s
 shared_lints {H = H} (Some ts) = by_names (none_named (codes "workspace" ∷ []) ts) refl
   where
     by_names : (b : Bool) → none_named (codes "workspace" ∷ []) ts ≡ b
-        → Lists H (if b then [] else refused_here tool_named_workspace) (λ q r. (q ≡ []) × lints_unfit (Some ts) r)
+        → Lists H (if b then [] else placed_here tool_named_workspace) (λ q r. (q ≡ []) × lints_unfit (Some ts) r)
     by_names true n = nothing (λ q r (s, x). elim x [
       | inl (a, e) ↦ cc
       | inr (us, t, a, i, e) ↦
@@ -308,7 +309,7 @@ module _ (m : Manifest) (w : Workspace) where
   abbrev shared : Entries Dependency
   shared = shared_dependencies w
 
-  in_package : Lists (KeysDiffer m) (refused_under (codes "package") (of_package m w)) (package_refused m w)
+  in_package : Lists (KeysDiffer m) (placed_under (codes "package") (of_package m w)) (package_refused m w)
   in_package = said_as (under (codes "package") (some (fields_refusals lendable w.«package») _ m.«package»
       (λ x e. fields w.«package» x lendable keys_distinct)))
       (λ p r (q, s, (x, e, y)). (x, e, subst (λ p. some_field (field_refused x w.«package» p r) lendable) (sym s) y))
@@ -335,7 +336,7 @@ module _ (m : Manifest) (w : Workspace) where
       h.maps (key (codes "target") ∷ key n ∷ key k ∷ []) es (inr (ts, n, t, k, e, i, j, refl)))))
 
   in_maps : Lists (KeysDiffer m)
-      (entries_refusals (λ k. of_map m w) (maps_of m) ++ refused_under (codes "target") (of_platforms m w))
+      (entries_refusals (λ k. of_map m w) (maps_of m) ++ placed_under (codes "target") (of_platforms m w))
       (dependency_refused m w)
   in_maps = said_as (and_then maps (under (codes "target") platforms)
       (λ h p r (k, o, q, i, s, x) (q', s', y). differ (codes "target") (maps_of m) k o (search rules) i cc))
@@ -353,14 +354,14 @@ module _ (m : Manifest) (w : Workspace) where
             inr (key n ∷ q', cc, (ts, t, (n, x, q', i, refl, inside)))
       ])
 
-  in_lints : Lists (KeysDiffer m) (refused_under (codes "lints") (of_lints m w)) (lints_refused m w)
+  in_lints : Lists (KeysDiffer m) (placed_under (codes "lints") (of_lints m w)) (lints_refused m w)
   in_lints = said_as (under (codes "lints") (some (lints_refusals w.lints) _ m.lints
       (λ own e. lints own.workspace w.lints own)))
       (λ p r (q, s, (own, e, (u, t, x))). (own, e, u, cc, x)) (λ p r (own, e, u, s, x). ([], s, (own, e, (u, refl, x))))
 
-  all_parts : refused_under (codes "package") (of_package m w)
-      ++ ((entries_refusals (λ k. of_map m w) (maps_of m) ++ refused_under (codes "target") (of_platforms m w))
-      ++ refused_under (codes "lints") (of_lints m w)) ≡ all_refusals m w
+  all_parts : placed_under (codes "package") (of_package m w)
+      ++ ((entries_refusals (λ k. of_map m w) (maps_of m) ++ placed_under (codes "target") (of_platforms m w))
+      ++ placed_under (codes "lints") (of_lints m w)) ≡ all_refusals m w
   unfolding all_refusals
   all_parts = simp (append_assoc, append-nil)
 

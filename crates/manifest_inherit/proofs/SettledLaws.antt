@@ -4,7 +4,8 @@ use Rattle.std.proofs.Common.{◌≡◌, [], ◌∷◌, Bool, true, false, refl,
 use Rattle.manifest_parts.specs.Queries.{says_more, simplify}
 use Rattle.manifest_inherit.specs.Fields.{lendable}
 use Rattle.manifest_inherit.specs.Resolved.{resolved_package, workspace_dependency, version_alone, shared_by, joined, with_shared, resolved_dependency, resolved_entries, resolved_dependencies, resolved_platform, resolved_platforms, resolved_lints_by, resolved_lints, shared_dependencies, resolved}
-use Rattle.manifest_inherit.specs.Refused.{PlacedRefusals, refused_under, lender_refusals, dependency_refusals, entries_refusals, dependencies_refusals, platform_refusals, platforms_refusals, tools_refusals, lints_refusals_by, lints_refusals, some_refusals, all_refusals}
+use Rattle.manifest_fault.specs.Placed.{placed_under}
+use Rattle.manifest_inherit.specs.Refused.{PlacedRefusals, lender_refusals, dependency_refusals, entries_refusals, dependencies_refusals, platform_refusals, platforms_refusals, tools_refusals, lints_refusals_by, lints_refusals, some_refusals, all_refusals}
 use Rattle.manifest_inherit.specs.Own.{AreOwn, IsOwnDependency, AreOwnDependencies, IsOwnPlatform, AreOwnPlatforms, AreOwnLints, InheritsNothing}
 use Rattle.manifest_inherit.specs.Laws.{ResolvedIsSettled, OwnIsSettled}
 use Rattle.manifest_inherit.proofs.FirstLemmas.{none_in_both, none_below, none_in_parts, all_none}
@@ -48,7 +49,7 @@ entries_own : {A : Type 0} (R : Text → A → PlacedRefusals) (P : A → Type 0
     → AllValues P (resolved_entries f es)
 entries_own R P f k [] h = tt
 entries_own R P f k (e ∷ es) h =
-    let (here, more) = none_in_both (refused_under e.0 (R e.0 e.1)) (entries_refusals R es) h in
+    let (here, more) = none_in_both (placed_under e.0 (R e.0 e.1)) (entries_refusals R es) h in
     (k e.0 e.1 (none_below e.0 (R e.0 e.1) here), entries_own R P f k es more)
 
 entries_same : {A : Type 0} (P : A → Type 0) (f : Text → A → A) → ((k : Text) (x : A) → P x → f k x ≡ x)

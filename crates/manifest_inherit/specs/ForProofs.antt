@@ -1,6 +1,6 @@
 -- What the contracts of single steps cite. It is not needed to read what a manifest becomes.
 use Rattle.manifest_schema.specs.Prelude.{Bor, Text, Global, BTreeMap, Entries, Dependency, Lint, Package, WorkspacePackage, Manifest}
-use Rattle.std.specs.Prelude.{◌≡◌, ℕ, zero, suc, List, [], map, Option, Some, option_map, unwrap_or, String}
+use Rattle.std.specs.Prelude.{ℕ, zero, suc, List, [], map, Option, Some, option_map, unwrap_or, String}
 use Rattle.manifest_value.specs.Entries.{entries_content}
 use Rattle.manifest_parts.specs.Records.{platform_content, lint_content}
 use Rattle.manifest_parts.specs.declared.dependency.Dependency.{Dependency as DependencyOfCode}
@@ -10,10 +10,6 @@ use Rattle.manifest_inherit.specs.Fields.{Fields, no_more, ◌⨾◌}
 use Rattle.manifest_inherit.specs.Resolved.{resolved_package, resolved_lints}
 use Rattle.manifest_inherit.specs.Refused.{PlacedRefusals, field_refusals, fields_refusals}
 use Rattle.manifest_inherit.specs.declared.resolution.Made.{Made}
-
--- there is no refusal, and what is made is what it has to become
-abbrev pub Accepted : {A : Type 0} → PlacedRefusals → A → A → Type 0
-Accepted refusals becomes made = (refusals ≡ []) × (made ≡ becomes)
 
 -- the workspace's dependencies that can be inherited, where there is a map of them
 abbrev pub shared_by_map : Option (BTreeMap (String Global) DependencyOfCode) → Entries Dependency

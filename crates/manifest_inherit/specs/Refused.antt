@@ -1,7 +1,8 @@
 -- Why a manifest is not resolved over a workspace: each refusal, at the key path in the manifest of what is inherited
 -- there. Several refusals may hold at once.
-use Rattle.manifest_schema.specs.Prelude.{Text, Path, key, Inheritable, inherited, Entries, none_named, Dependency, by_workspace, Lint, MaybeInheritedLintsSet, Target, Package, WorkspacePackage, Workspace, Manifest}
-use Rattle.std.specs.Prelude.{◌≡◌, List, [], ◌∷◌, ◌++◌, if◌then◌else◌, codes, Option, Some, None}
+use Rattle.manifest_schema.specs.Prelude.{Text, Path, Inheritable, inherited, Entries, none_named, Dependency, by_workspace, Lint, MaybeInheritedLintsSet, Target, Package, WorkspacePackage, Workspace, Manifest}
+use Rattle.std.specs.Prelude.{List, [], ◌∷◌, ◌++◌, if◌then◌else◌, codes, Option, Some, None}
+use Rattle.manifest_fault.specs.Placed.{placed_here, placed_under}
 use Rattle.manifest_inherit.specs.Fields.{Fields, no_more, ◌⨾◌, lendable}
 use Rattle.manifest_inherit.specs.Resolved.{workspace_dependency, shared_dependencies}
 
@@ -19,25 +20,11 @@ pub data Refusal : Type 0 where
 abbrev pub PlacedRefusals : Type 0
 PlacedRefusals = List (Path × Refusal)
 
--- this refusal is the first of the list
-abbrev pub first_refusal : PlacedRefusals → Refusal → Type 0
-first_refusal [] r = ⊥
-first_refusal (f ∷ fs) r = r ≡ f.1
-
--- this refusal at the value itself, alone
-abbrev pub refused_here : Refusal → PlacedRefusals
-refused_here r = ([], r) ∷ []
-
--- the refusals of the value under a key
-abbrev pub refused_under : Text → PlacedRefusals → PlacedRefusals
-refused_under name [] = []
-refused_under name (f ∷ fs) = (key name ∷ f.0, f.1) ∷ refused_under name fs
-
 -- A FIELD, under its key: it is inherited, and the workspace does not have it
 abbrev pub field_refusals :
     {A : Type 0} → Text → Option (Inheritable A) → Option A → PlacedRefusals
 field_refusals name (Some inherited) None =
-    refused_under name (refused_here (not_in_workspace name))
+    placed_under name (placed_here (not_in_workspace name))
 field_refusals name own shared = []
 
 abbrev pub fields_refusals : Fields → Option WorkspacePackage → Package → PlacedRefusals
@@ -47,8 +34,8 @@ fields_refusals (f ⨾ fs) w p =
 
 -- A DEPENDENCY: it is inherited, and the workspace has none of the name, or inherits its own
 abbrev pub lender_refusals : Text → Option Dependency → PlacedRefusals
-lender_refusals name None = refused_here (not_in_workspace name)
-lender_refusals name (Some (by_workspace d)) = refused_here (inherited_in_workspace name)
+lender_refusals name None = placed_here (not_in_workspace name)
+lender_refusals name (Some (by_workspace d)) = placed_here (inherited_in_workspace name)
 lender_refusals name (Some d) = []
 
 abbrev pub dependency_refusals : Entries Dependency → Text → Dependency → PlacedRefusals
@@ -61,7 +48,7 @@ abbrev pub entries_refusals :
     {A : Type 0} → (Text → A → PlacedRefusals) → Entries A → PlacedRefusals
 entries_refusals refusals [] = []
 entries_refusals refusals (e ∷ es) =
-    refused_under e.0 (refusals e.0 e.1) ++ entries_refusals refusals es
+    placed_under e.0 (refusals e.0 e.1) ++ entries_refusals refusals es
 
 abbrev pub dependencies_refusals : Entries Dependency → Entries Dependency → PlacedRefusals
 dependencies_refusals shared = entries_refusals (dependency_refusals shared)
@@ -69,9 +56,9 @@ dependencies_refusals shared = entries_refusals (dependency_refusals shared)
 -- A PLATFORM: those of its three maps
 abbrev pub platform_refusals : Entries Dependency → Target → PlacedRefusals
 platform_refusals shared p =
-    refused_under (codes "dependencies") (dependencies_refusals shared p.dependencies)
-    ++ refused_under (codes "dev-dependencies") (dependencies_refusals shared p.dev_dependencies)
-    ++ refused_under (codes "build-dependencies") (dependencies_refusals shared p.build_dependencies)
+    placed_under (codes "dependencies") (dependencies_refusals shared p.dependencies)
+    ++ placed_under (codes "dev-dependencies") (dependencies_refusals shared p.dev_dependencies)
+    ++ placed_under (codes "build-dependencies") (dependencies_refusals shared p.build_dependencies)
 
 abbrev pub platforms_refusals : Entries Dependency → Entries Target → PlacedRefusals
 platforms_refusals shared = entries_refusals (λ name. platform_refusals shared)
@@ -79,12 +66,12 @@ platforms_refusals shared = entries_refusals (λ name. platform_refusals shared)
 -- LINTS: they are inherited, and have a tool as well; and the workspace has none, or has a tool `workspace`
 abbrev pub tools_refusals : Entries (Entries Lint) → PlacedRefusals
 tools_refusals [] = []
-tools_refusals (tool ∷ tools) = refused_here mixed_lints
+tools_refusals (tool ∷ tools) = placed_here mixed_lints
 
 abbrev pub shared_lints_refusals : Option (Entries (Entries Lint)) → PlacedRefusals
-shared_lints_refusals None = refused_here (not_in_workspace (codes "lints"))
+shared_lints_refusals None = placed_here (not_in_workspace (codes "lints"))
 shared_lints_refusals (Some tools) =
-    if none_named (codes "workspace" ∷ []) tools then [] else refused_here tool_named_workspace
+    if none_named (codes "workspace" ∷ []) tools then [] else placed_here tool_named_workspace
 
 abbrev pub lints_refusals_by :
     Option (Unit {0}) → Option (Entries (Entries Lint)) → MaybeInheritedLintsSet → PlacedRefusals
@@ -104,11 +91,11 @@ some_refusals refusals (Some x) = refusals x
 unfoldable pub all_refusals : Manifest → Workspace → PlacedRefusals
 all_refusals m w =
     let in_map = some_refusals (dependencies_refusals (shared_dependencies w)) in
-    refused_under (codes "package")
+    placed_under (codes "package")
     (some_refusals (fields_refusals lendable w.«package») m.«package»)
-    ++ refused_under (codes "dependencies") (in_map m.dependencies)
-    ++ refused_under (codes "dev-dependencies") (in_map m.dev_dependencies)
-    ++ refused_under (codes "build-dependencies") (in_map m.build_dependencies)
-    ++ refused_under (codes "target")
+    ++ placed_under (codes "dependencies") (in_map m.dependencies)
+    ++ placed_under (codes "dev-dependencies") (in_map m.dev_dependencies)
+    ++ placed_under (codes "build-dependencies") (in_map m.build_dependencies)
+    ++ placed_under (codes "target")
     (some_refusals (platforms_refusals (shared_dependencies w)) m.target)
-    ++ refused_under (codes "lints") (some_refusals (lints_refusals w.lints) m.lints)
+    ++ placed_under (codes "lints") (some_refusals (lints_refusals w.lints) m.lints)

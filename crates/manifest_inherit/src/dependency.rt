@@ -1,19 +1,18 @@
 //! What an inherited dependency becomes.
 
 ghost use Rattle.manifest_schema.specs.Prelude.{option_or, detailed};
-ghost use Rattle.std.specs.Prelude.{◌≡◌, IfOk, IfErr, map, option_map, string_bytes};
+ghost use Rattle.std.specs.Prelude.{◌≡◌, IfOk, option_map, string_bytes};
 ghost use Rattle.manifest_parts.specs.Records.{inherited_content, detail_content, dependency_content};
 ghost use Rattle.manifest_parts.specs.Queries.{simplify};
 ghost use Rattle.manifest_inherit.specs.Resolved.{workspace_dependency, version_alone, joined, resolved_dependency};
 ghost use Rattle.manifest_inherit.specs.Refused.{dependency_refusals};
-ghost use Rattle.manifest_inherit.specs.Answers.{fault_of, RefusesFirst};
-ghost use Rattle.manifest_inherit.specs.ForProofs.{Accepted, shared_by_map};
+ghost use Rattle.manifest_inherit.specs.Answers.{refused};
+ghost use Rattle.manifest_inherit.specs.ForProofs.{shared_by_map};
 
-use crate::error::{ResolveError, inherited_in_workspace, not_in_workspace};
-use crate::faults::{Faults, refused_here};
+use crate::error::{Refusals, inherited_in_workspace, not_in_workspace};
 use crate::features::join_features;
 use manifest_parts::{Dependency, DependencyDetail, DepsSet, InheritedDependencyDetail};
-use manifest_value::copy_of;
+use manifest_value::{Findings, copy_of};
 use std::alloc::{AllocError, Global};
 
 /// The workspace's dependency of this name; `None` where the workspace does not have it, or no dependencies at all.
@@ -69,33 +68,26 @@ fn join_dependency(
 }
 
 /// What a member's dependency of this name becomes: an inherited one the workspace's of the same name, joined with what
-/// the member says; any other one a copy of itself.
+/// the member says; any other one, and one that the workspace does not have or itself inherits, a copy of itself.
 pub(crate) fn resolved_dependency(
     alloc: Global,
     shared: &Option<DepsSet>,
     name: &str,
     own: &Dependency,
-) -> Result<Dependency, ResolveError>
-    ensures ok { let all = shared_by_map shared.now in let d = dependency_content own.now in
-        IfOk result (λ x. Accepted (dependency_refusals all name.now d)
-        (resolved_dependency all name.now d) (dependency_content x)) }
-    ensures refused { let all = shared_by_map shared.now in let d = dependency_content own.now in
-        IfErr result (RefusesFirst (dependency_refusals all name.now d)) }
+) -> Result<Dependency, AllocError>
+    ensures { let d = dependency_content own.now in IfOk result
+        (λ x. dependency_content x ≡ resolved_dependency (shared_by_map shared.now) name.now d) }
 {
     match own {
         Dependency::Simple(version) => Ok(Dependency::Simple(copy_of(version)?)),
         Dependency::Detailed(detail) => Ok(Dependency::Detailed(copy_of(detail)?)),
         Dependency::Inherited(own) => match workspace_dependency(shared, name) {
-            None => Err(ResolveError::Refused(not_in_workspace(alloc, name)?)),
-            Some(Dependency::Inherited(_)) => {
-                Err(ResolveError::Refused(inherited_in_workspace(alloc, name)?))
-            }
+            None => Ok(Dependency::Inherited(copy_of(own)?)),
+            Some(Dependency::Inherited(_)) => Ok(Dependency::Inherited(copy_of(own)?)),
             Some(Dependency::Simple(version)) => {
-                Ok(join_dependency(alloc, own, version_alone(version)?)?)
+                join_dependency(alloc, own, version_alone(version)?)
             }
-            Some(Dependency::Detailed(detail)) => {
-                Ok(join_dependency(alloc, own, copy_of(detail)?)?)
-            }
+            Some(Dependency::Detailed(detail)) => { join_dependency(alloc, own, copy_of(detail)?) }
         },
     }
 }
@@ -107,20 +99,20 @@ pub(crate) fn dependency_refusals(
     shared: &Option<DepsSet>,
     name: &str,
     own: &Dependency,
-) -> Faults
+) -> Refusals
     ensures { let d = dependency_content own.now in IfOk result
-        (λ v. map fault_of v.items ≡ dependency_refusals (shared_by_map shared.now) name.now d) }
+        (λ f. refused f ≡ dependency_refusals (shared_by_map shared.now) name.now d) }
 {
     match own {
-        Dependency::Simple(_) => Ok(Vec::new(alloc)),
-        Dependency::Detailed(_) => Ok(Vec::new(alloc)),
+        Dependency::Simple(_) => Ok(Findings::none(alloc)),
+        Dependency::Detailed(_) => Ok(Findings::none(alloc)),
         Dependency::Inherited(_) => match workspace_dependency(shared, name) {
-            None => refused_here(alloc, not_in_workspace(alloc, name)?),
+            None => Findings::alone(alloc, not_in_workspace(alloc, name)?),
             Some(Dependency::Inherited(_)) => {
-                refused_here(alloc, inherited_in_workspace(alloc, name)?)
+                Findings::alone(alloc, inherited_in_workspace(alloc, name)?)
             }
-            Some(Dependency::Simple(_)) => Ok(Vec::new(alloc)),
-            Some(Dependency::Detailed(_)) => Ok(Vec::new(alloc)),
+            Some(Dependency::Simple(_)) => Ok(Findings::none(alloc)),
+            Some(Dependency::Detailed(_)) => Ok(Findings::none(alloc)),
         },
     }
 }

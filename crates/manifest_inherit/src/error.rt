@@ -1,10 +1,10 @@
 //! Why a manifest is not resolved.
 
-ghost use Rattle.std.specs.Prelude.{◌≡◌, IfOk};
+ghost use Rattle.std.specs.Prelude.{◌≡◌, [], OnOk, IfOk, IfErr};
 ghost use Rattle.manifest_inherit.specs.Refused.{not_in_workspace, inherited_in_workspace};
-ghost use Rattle.manifest_inherit.specs.Answers.{refusal_of};
+ghost use Rattle.manifest_inherit.specs.Answers.{refusal_of, refused, RefusesFirst};
 
-use manifest_value::KeyPath;
+use manifest_value::{Findings, KeyPath};
 use std::alloc::{AllocError, AllocFailed, Global};
 use thiserror::Error;
 
@@ -26,6 +26,9 @@ pub enum Refusal {
     ToolNamedWorkspace,
 }
 
+/// What is returned where refusals are looked for: these in their order, or out of memory.
+pub(crate) type Refusals = Result<Findings<Refusal>, AllocError>;
+
 /// One refusal, at the key path in the manifest of what is inherited: `not in workspace: version at package.version`.
 #[derive(Debug, PartialEq, Eq, Drop, Error)]
 #[error("{refusal} at {path}")]
@@ -37,9 +40,9 @@ pub struct ResolveFault {
 /// What [`resolve`](crate::resolve) refuses with.
 #[derive(Debug, Drop, Error)]
 pub enum ResolveError {
-    /// What the manifest inherits is refused.
+    /// What the manifest inherits is refused: the first of the [`refusals`](crate::refusals).
     #[error("{0}")]
-    Refused(Refusal),
+    Refused(ResolveFault),
     /// No memory was left.
     #[error("memory")]
     Memory(AllocError),
@@ -107,4 +110,33 @@ pub(crate) fn inherited_in_workspace(alloc: Global, name: &str) -> Result<Refusa
     ensures { IfOk result (λ r. refusal_of r ≡ inherited_in_workspace name.now) }
 {
     Ok(Refusal::InheritedInWorkspace(String::from_str(alloc, name)?))
+}
+
+impl Refusal {
+    /// A copy of the refusal.
+    fn clone(&self, alloc: Global) -> Result<Refusal, AllocError>
+        ensures { IfOk result (λ r. refusal_of r ≡ refusal_of self.now) }
+    {
+        match self {
+            Refusal::NotInWorkspace(name) => not_in_workspace(alloc, name.as_str()),
+            Refusal::InheritedInWorkspace(name) => inherited_in_workspace(alloc, name.as_str()),
+            Refusal::MixedLints => Ok(Refusal::MixedLints),
+            Refusal::ToolNamedWorkspace => Ok(Refusal::ToolNamedWorkspace),
+        }
+    }
+}
+
+/// Refuses with the first of these refusals, if there is one.
+#[tactic(auto, using(crate::proofs::ListLemmas::refusal_steps))]
+pub(crate) fn refuse_first(alloc: Global, refusals: Findings<Refusal>) -> Result<(), ResolveError>
+    ensures ok { OnOk result (refused refusals ≡ []) }
+    ensures refused { IfErr result (RefusesFirst (refused refusals)) }
+{
+    match refusals.first(alloc)? {
+        Some((path, refusal)) => {
+            let refusal = refusal.clone(alloc)?;
+            Err(ResolveError::Refused(ResolveFault { path, refusal }))
+        }
+        None => Ok(()),
+    }
 }

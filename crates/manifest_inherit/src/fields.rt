@@ -1,39 +1,40 @@
 //! The fields of a package that may be inherited from a workspace.
 
-ghost use Rattle.std.specs.Prelude.{◌≡◌, ◌<◌, Some, IfOk, length, map, option_map};
+ghost use Rattle.std.specs.Prelude.{◌≡◌, ◌<◌, Some, IfOk, length, option_map};
 ghost use Rattle.manifest_parts.specs.Parts.{inh_content};
 ghost use Rattle.cargo_manifest.specs.Tables.{workspace_package_content, package_of};
 ghost use Rattle.manifest_inherit.specs.Fields.{lendable};
 ghost use Rattle.manifest_inherit.specs.Resolved.{resolved_field, resolved_package};
 ghost use Rattle.manifest_inherit.specs.Refused.{field_refusals, fields_refusals, some_refusals};
-ghost use Rattle.manifest_inherit.specs.Answers.{fault_of};
+ghost use Rattle.manifest_inherit.specs.Answers.{refused};
 ghost use Rattle.manifest_inherit.specs.ForProofs.{how_many, refusals_at};
 
-use crate::error::not_in_workspace;
-use crate::faults::{Faults, and, refused_here, refused_under};
+use crate::error::{Refusals, not_in_workspace};
 use cargo_manifest::{Package, WorkspacePackage};
 use manifest_parts::MaybeInherited;
-use manifest_value::{Metadata, Schema, at_place};
+use manifest_value::{Findings, Metadata, Schema, at_place};
 use std::alloc::Global;
 
 /// Why a field is not resolved, under its key: the package inherits it (`own`), and the workspace does not have it
 /// (`shared`).
+#[tactic(auto, using(crate::proofs::ListLemmas::refusal_steps))]
 fn field_refusals<T: Schema>(
     alloc: Global,
     key: &str,
     own: &Option<MaybeInherited<T>>,
     shared: &Option<T>,
-) -> Faults
+) -> Refusals
     ensures { let o = option_map (inh_content T.content) own.now in
         let l = option_map T.content shared.now in
-        IfOk result (λ v. map fault_of v.items ≡ field_refusals key.now o l) }
+        IfOk result (λ f. refused f ≡ field_refusals key.now o l) }
 {
     match (own, shared) {
         (Some(MaybeInherited::Inherited { .. }), None) => {
-            let here = refused_here(alloc, not_in_workspace(alloc, key)?)?;
-            refused_under(alloc, key, here)
+            let here = Findings::alone(alloc, not_in_workspace(alloc, key)?)?;
+            let found = Findings::none(alloc).and_under(alloc, key, here)?;
+            Ok(found)
         }
-        _ => Ok(Vec::new(alloc)),
+        _ => Ok(Findings::none(alloc)),
     }
 }
 
@@ -70,7 +71,7 @@ macro_rules! keys_of {
 /// The body of `refusals_at` by the list, a `match` on `i`.
 macro_rules! refusals_of {
     (($alloc:ident, $own:ident, $shared:ident, $i:ident) $($field:ident: $key:literal;)*) => {
-        at_place!($i; Ok(Vec::new($alloc));
+        at_place!($i; Ok(Findings::none($alloc));
             $({ field_refusals($alloc, $key, &$own.$field, &$shared.$field) })*)
     };
 }
@@ -102,11 +103,11 @@ fn refusals_at<M: Metadata>(
     own: &Package<M>,
     shared: &WorkspacePackage,
     i: usize,
-) -> Faults
+) -> Refusals
     requires { i < how_many lendable }
     ensures { let p = package_of M.kind M.content own.now in
         let w = Some (workspace_package_content shared.now) in
-        IfOk result (λ v. map fault_of v.items ≡ refusals_at i lendable w p) }
+        IfOk result (λ f. refused f ≡ refusals_at i lendable w p) }
 {
     lendable!(refusals_of(alloc, own, shared, i))
 }
@@ -117,14 +118,14 @@ fn fields_refusals<M: Metadata>(
     alloc: Global,
     own: &Package<M>,
     shared: &WorkspacePackage,
-) -> Faults
+) -> Refusals
     ensures { let p = package_of M.kind M.content own.now in
         let w = Some (workspace_package_content shared.now) in
-        IfOk result (λ v. map fault_of v.items ≡ fields_refusals lendable w p) }
+        IfOk result (λ f. refused f ≡ fields_refusals lendable w p) }
 {
-    let mut list = Vec::new(alloc);
+    let mut list = Findings::none(alloc);
     for i in 0..keys().len() {
-        list = and(list, refusals_at(alloc, own, shared, i)?)?;
+        list = list.and(refusals_at(alloc, own, shared, i)?)?;
     }
     Ok(list)
 }
@@ -134,10 +135,10 @@ pub(crate) fn package_refusals<M: Metadata>(
     alloc: Global,
     own: &Package<M>,
     shared: &Option<WorkspacePackage>,
-) -> Faults
+) -> Refusals
     ensures { let w = option_map workspace_package_content shared.now in
         let p = package_of M.kind M.content own.now in
-        IfOk result (λ v. map fault_of v.items ≡ fields_refusals lendable w p) }
+        IfOk result (λ f. refused f ≡ fields_refusals lendable w p) }
 {
     match shared {
         Some(shared) => fields_refusals(alloc, own, shared),
@@ -155,14 +156,14 @@ pub(crate) fn optional_package_refusals<M: Metadata>(
     alloc: Global,
     own: &Option<Package<M>>,
     shared: &Option<WorkspacePackage>,
-) -> Faults
+) -> Refusals
     ensures { let w = option_map workspace_package_content shared.now in
         let o = option_map (package_of M.kind M.content) own.now in
-        IfOk result (λ v. map fault_of v.items ≡ some_refusals (fields_refusals lendable w) o) }
+        IfOk result (λ f. refused f ≡ some_refusals (fields_refusals lendable w) o) }
 {
     match own {
         Some(own) => package_refusals(alloc, own, shared),
-        None => Ok(Vec::new(alloc)),
+        None => Ok(Findings::none(alloc)),
     }
 }
 

@@ -5,7 +5,6 @@
 
 mod dependency;
 mod error;
-mod faults;
 mod features;
 mod fields;
 pub mod laws;

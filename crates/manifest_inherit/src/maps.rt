@@ -1,24 +1,24 @@
 //! Maps whose values are resolved by their names: dependencies, and platforms with their three maps of dependencies.
 
-ghost use Rattle.std.specs.Prelude.{◌≡◌, ◌++◌, OnOk, IfOk, IfErr, List, ℕ, map, option_map};
+ghost use Rattle.std.specs.Prelude.{◌≡◌, OnOk, IfOk, List, ℕ, option_map};
 ghost use Rattle.manifest_schema.specs.Contents;
 ghost use Rattle.manifest_schema.specs.Paths.{Step};
 ghost use Rattle.manifest_schema.specs.Kinds.{Entries};
 ghost use Rattle.manifest_value.specs.Entries.{entries_content};
 ghost use Rattle.manifest_parts.specs.Records.{dependency_content, platform_content};
 ghost use Rattle.manifest_inherit.specs.Resolved.{resolved_entries, resolved_dependency, resolved_platform};
-ghost use Rattle.manifest_inherit.specs.Refused.{Refusal, refused_under, dependency_refusals, entries_refusals, platform_refusals, some_refusals};
-ghost use Rattle.manifest_inherit.specs.Answers.{fault_of, RefusesFirst};
-ghost use Rattle.manifest_inherit.specs.ForProofs.{Accepted, shared_by_map};
+ghost use Rattle.manifest_inherit.specs.Refused.{Refusal, dependency_refusals, entries_refusals, platform_refusals, some_refusals};
+ghost use Rattle.manifest_inherit.specs.Answers.{refused};
+ghost use Rattle.manifest_inherit.specs.ForProofs.{shared_by_map};
 ghost use Rattle.manifest_inherit.specs.Sizes.{dependency_size, platform_size, Leaves};
 
 use crate::dependency::{dependency_refusals, resolved_dependency};
-use crate::error::{ResolveError, ResolveFault};
-use crate::faults::{Faults, and_under};
+use crate::error::Refusals;
 use crate::sizes::{less_dependency, less_map};
 use manifest_parts::{Dependency, DepsSet, Target};
+use manifest_value::Findings;
 use manifest_value::maps::map_of_list;
-use std::alloc::Global;
+use std::alloc::{AllocError, Global};
 use std::collections::BTreeMap;
 
 /// A value of a map in a manifest which inherits from the workspace: a dependency, by its name, or a platform's table,
@@ -36,24 +36,21 @@ pub(crate) trait Resolvable: Sized + Drop {
     ghost size: { Entries Contents.Dependency → List ℕ → Content → ℕ };
 
     /// A copy of the value, which stands under the key `name`, with what it inherits from the workspace's dependencies
-    /// (`shared`). Refuses where the workspace does not have what is inherited, or itself inherits it.
+    /// (`shared`), where they have it.
     fn resolve_under_name(
         &self,
         alloc: Global,
         shared: &Option<DepsSet>,
         name: &str,
-    ) -> Result<Self, ResolveError>
-        ensures ok { let all = shared_by_map shared.now in let x = content self.now in
-            IfOk result (λ y. Accepted (refusals all name.now x)
-            (resolved all name.now x) (content y)) }
-        ensures refused { let all = shared_by_map shared.now in
-            IfErr result (RefusesFirst (refusals all name.now (content self.now))) };
+    ) -> Result<Self, AllocError>
+        ensures { let made = resolved (shared_by_map shared.now) name.now (content self.now) in
+            IfOk result (λ x. content x ≡ made) };
 
     /// All refusals of the value, which stands under the key `name`: each of what the workspace's dependencies (`shared`)
     /// do not have, or themselves inherit.
-    fn refusals_under_name(&self, alloc: Global, shared: &Option<DepsSet>, name: &str) -> Faults
+    fn refusals_under_name(&self, alloc: Global, shared: &Option<DepsSet>, name: &str) -> Refusals
         ensures { let reported = refusals (shared_by_map shared.now) name.now (content self.now) in
-            IfOk result (λ v. map fault_of v.items ≡ reported) };
+            IfOk result (λ f. refused f ≡ reported) };
 
     /// What is left of `most` after what the value inherits, which stands under the key `name`: the texts of the
     /// workspace's dependencies (`shared`). `None` where these take more.
@@ -79,11 +76,11 @@ impl Resolvable for Dependency {
         alloc: Global,
         shared: &Option<DepsSet>,
         name: &str,
-    ) -> Result<Dependency, ResolveError> {
+    ) -> Result<Dependency, AllocError> {
         resolved_dependency(alloc, shared, name, self)
     }
 
-    fn refusals_under_name(&self, alloc: Global, shared: &Option<DepsSet>, name: &str) -> Faults {
+    fn refusals_under_name(&self, alloc: Global, shared: &Option<DepsSet>, name: &str) -> Refusals {
         dependency_refusals(alloc, shared, name, self)
     }
 
@@ -109,7 +106,7 @@ impl Resolvable for Target {
         alloc: Global,
         shared: &Option<DepsSet>,
         _name: &str,
-    ) -> Result<Target, ResolveError> {
+    ) -> Result<Target, AllocError> {
         let dependencies = resolved_map(alloc, shared, &self.dependencies)?;
         let dev_dependencies = resolved_map(alloc, shared, &self.dev_dependencies)?;
         let build_dependencies = resolved_map(alloc, shared, &self.build_dependencies)?;
@@ -120,23 +117,20 @@ impl Resolvable for Target {
         })
     }
 
-    fn refusals_under_name(&self, alloc: Global, shared: &Option<DepsSet>, _name: &str) -> Faults {
-        let list = Vec::new(alloc);
-        let list = and_map(alloc, list, "dependencies", shared, &self.dependencies)?;
-        let list = and_map(
-            alloc,
-            list,
-            "dev-dependencies",
-            shared,
-            &self.dev_dependencies,
-        )?;
-        and_map(
-            alloc,
-            list,
-            "build-dependencies",
-            shared,
-            &self.build_dependencies,
-        )
+    #[tactic(auto, using(crate::proofs::ListLemmas::refusal_steps))]
+    fn refusals_under_name(
+        &self,
+        alloc: Global,
+        shared: &Option<DepsSet>,
+        _name: &str,
+    ) -> Refusals {
+        let inside = map_refusals(alloc, shared, &self.dependencies)?;
+        let list = Findings::none(alloc).and_under(alloc, "dependencies", inside)?;
+        let inside = map_refusals(alloc, shared, &self.dev_dependencies)?;
+        let list = list.and_under(alloc, "dev-dependencies", inside)?;
+        let inside = map_refusals(alloc, shared, &self.build_dependencies)?;
+        let list = list.and_under(alloc, "build-dependencies", inside)?;
+        Ok(list)
     }
 
     fn less_inherited(&self, most: usize, shared: &Option<DepsSet>, _name: &str) -> Option<usize> {
@@ -147,45 +141,34 @@ impl Resolvable for Target {
 }
 
 /// Copies of the entries of a map (`own`), in their order, each value as [`Resolvable::resolve_under_name`] makes it by the
-/// workspace's dependencies (`shared`). The first refusal is returned.
+/// workspace's dependencies (`shared`).
 fn resolved_list<T: Resolvable>(
     alloc: Global,
     shared: &Option<DepsSet>,
     own: &BTreeMap<String, T>,
-) -> Result<Vec<(String, T)>, ResolveError>
-    ensures ok { let all = shared_by_map shared.now in
-        let es = entries_content T.content own.now.entries in
-        IfOk result (λ v. Accepted (entries_refusals (T.refusals all) es)
-        (resolved_entries (T.resolved all) es) (entries_content T.content v.items)) }
-    ensures refused { let all = shared_by_map shared.now in
-        let es = entries_content T.content own.now.entries in
-        IfErr result (RefusesFirst (entries_refusals (T.refusals all) es)) }
+) -> Result<Vec<(String, T)>, AllocError>
+    ensures { let es = entries_content T.content own.now.entries in IfOk result
+        (λ v. entries_content T.content v.items
+        ≡ resolved_entries (T.resolved (shared_by_map shared.now)) es) }
 {
     let mut list = Vec::new(alloc);
     for (key, x) in own.iter() {
-        let made = match x.resolve_under_name(alloc, shared, key.as_str()) {
-            Ok(made) => made,
-            Err(refusal) => return Err(refusal),
-        };
+        let made = x.resolve_under_name(alloc, shared, key.as_str())?;
         list.push((String::from_str(alloc, key.as_str())?, made))?;
     }
     Ok(list)
 }
 
 /// A new map with the keys of `own`, each value as [`Resolvable::resolve_under_name`] makes it by the workspace's
-/// dependencies (`shared`). The first refusal is returned.
+/// dependencies (`shared`).
 fn resolved_map<T: Resolvable>(
     alloc: Global,
     shared: &Option<DepsSet>,
     own: &BTreeMap<String, T>,
-) -> Result<BTreeMap<String, T>, ResolveError>
-    ensures ok { let all = shared_by_map shared.now in
-        let es = entries_content T.content own.now.entries in
-        IfOk result (λ m. Accepted (entries_refusals (T.refusals all) es)
-        (resolved_entries (T.resolved all) es) (entries_content T.content m.entries)) }
-    ensures refused { let all = shared_by_map shared.now in
-        let es = entries_content T.content own.now.entries in
-        IfErr result (RefusesFirst (entries_refusals (T.refusals all) es)) }
+) -> Result<BTreeMap<String, T>, AllocError>
+    ensures { let es = entries_content T.content own.now.entries in IfOk result
+        (λ m. entries_content T.content m.entries
+        ≡ resolved_entries (T.resolved (shared_by_map shared.now)) es) }
 {
     // (the keys of the map ascend)
     let _in_order = own.len();
@@ -199,15 +182,10 @@ pub(crate) fn make_map<T: Resolvable>(
     shared: &Option<DepsSet>,
     own: &Option<BTreeMap<String, T>>,
     place: &mut Option<BTreeMap<String, T>>,
-) -> Result<(), ResolveError>
-    ensures ok { let all = shared_by_map shared.now in
-        let o = option_map (λ m. entries_content T.content m.entries) own.now in
-        OnOk result (Accepted (some_refusals (entries_refusals (T.refusals all)) o)
-        (option_map (resolved_entries (T.resolved all)) o)
-        (option_map (λ m. entries_content T.content m.entries) place.new)) }
-    ensures refused { let all = shared_by_map shared.now in
-        let o = option_map (λ m. entries_content T.content m.entries) own.now in
-        IfErr result (RefusesFirst (some_refusals (entries_refusals (T.refusals all)) o)) }
+) -> Result<(), AllocError>
+    ensures { let o = option_map (λ m. entries_content T.content m.entries) own.now in
+        OnOk result (option_map (λ m. entries_content T.content m.entries) place.new
+        ≡ option_map (resolved_entries (T.resolved (shared_by_map shared.now))) o) }
 {
     match own {
         Some(own) => {
@@ -223,69 +201,36 @@ pub(crate) fn make_map<T: Resolvable>(
 
 /// All refusals of the values of a map (`own`), as [`Resolvable::refusals_under_name`] has them by the workspace's
 /// dependencies (`shared`), each with the key of its value before the path.
+#[tactic(auto, using(crate::proofs::ListLemmas::refusal_steps))]
 fn map_refusals<T: Resolvable>(
     alloc: Global,
     shared: &Option<DepsSet>,
     own: &BTreeMap<String, T>,
-) -> Faults
+) -> Refusals
     ensures { let reported = T.refusals (shared_by_map shared.now) in
         let es = entries_content T.content own.now.entries in
-        IfOk result (λ v. map fault_of v.items ≡ entries_refusals reported es) }
+        IfOk result (λ f. refused f ≡ entries_refusals reported es) }
 {
-    let mut list = Vec::new(alloc);
+    let mut list = Findings::none(alloc);
     for (key, x) in own.iter() {
         let inside = x.refusals_under_name(alloc, shared, key.as_str())?;
-        list = and_under(alloc, list, key.as_str(), inside)?;
+        list = list.and_under(alloc, key.as_str(), inside)?;
     }
     Ok(list)
 }
 
-/// The list, and then all refusals of the map that stands under this key, as [`map_refusals`] has them.
-fn and_map<T: Resolvable>(
-    alloc: Global,
-    list: Vec<ResolveFault>,
-    word: &str,
-    shared: &Option<DepsSet>,
-    own: &BTreeMap<String, T>,
-) -> Faults
-    ensures { let reported = T.refusals (shared_by_map shared.now) in
-        let es = entries_content T.content own.now.entries in
-        IfOk result (λ v. map fault_of v.items
-        ≡ map fault_of list.items ++ refused_under word.now (entries_refusals reported es)) }
-{
-    let inside = map_refusals(alloc, shared, own)?;
-    and_under(alloc, list, word, inside)
-}
-
 /// All refusals of a map that may be absent, as [`map_refusals`] has them.
-fn optional_map_refusals<T: Resolvable>(
+pub(crate) fn optional_map_refusals<T: Resolvable>(
     alloc: Global,
     shared: &Option<DepsSet>,
     own: &Option<BTreeMap<String, T>>,
-) -> Faults
+) -> Refusals
     ensures { let reported = entries_refusals (T.refusals (shared_by_map shared.now)) in
         let o = option_map (λ m. entries_content T.content m.entries) own.now in
-        IfOk result (λ v. map fault_of v.items ≡ some_refusals reported o) }
+        IfOk result (λ f. refused f ≡ some_refusals reported o) }
 {
     match own {
         Some(own) => map_refusals(alloc, shared, own),
-        None => Ok(Vec::new(alloc)),
+        None => Ok(Findings::none(alloc)),
     }
-}
-
-/// The list, and then all refusals of the map that stands under this key, where there is one.
-pub(crate) fn and_optional_map<T: Resolvable>(
-    alloc: Global,
-    list: Vec<ResolveFault>,
-    word: &str,
-    shared: &Option<DepsSet>,
-    own: &Option<BTreeMap<String, T>>,
-) -> Faults
-    ensures { let reported = entries_refusals (T.refusals (shared_by_map shared.now)) in
-        let o = option_map (λ m. entries_content T.content m.entries) own.now in
-        IfOk result (λ v. map fault_of v.items
-        ≡ map fault_of list.items ++ refused_under word.now (some_refusals reported o)) }
-{
-    let inside = optional_map_refusals(alloc, shared, own)?;
-    and_under(alloc, list, word, inside)
 }

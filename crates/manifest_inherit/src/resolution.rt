@@ -1,20 +1,18 @@
 //! Resolving a manifest over the workspace that it belongs to.
 
-ghost use Rattle.std.specs.Prelude.{◌≡◌, OnOk, OnErr, IfOk, IfErr, Some, option_map};
+ghost use Rattle.std.specs.Prelude.{◌≡◌, OnOk, OnErr, IfOk, Some, option_map};
 ghost use Rattle.manifest_schema.specs.Contents;
 ghost use Rattle.cargo_manifest.specs.Tables.{workspace_package_content, package_of, workspace_of};
 ghost use Rattle.cargo_manifest.specs.Whole.{manifest_of};
-ghost use Rattle.manifest_inherit.specs.Fields.{lendable};
 ghost use Rattle.manifest_inherit.specs.Resolved.{resolved_package, resolved};
-ghost use Rattle.manifest_inherit.specs.Refused.{fields_refusals, some_refusals, all_refusals};
-ghost use Rattle.manifest_inherit.specs.Answers.{Resolves, RefusesFirst};
-ghost use Rattle.manifest_inherit.specs.ForProofs.{Accepted, with_made};
+ghost use Rattle.manifest_inherit.specs.Answers.{Resolves};
+ghost use Rattle.manifest_inherit.specs.ForProofs.{with_made};
 
-use crate::error::ResolveError;
-use crate::faults::refuse_first;
-use crate::fields::{package_refusals, put_fields};
+use crate::error::{ResolveError, refuse_first};
+use crate::fields::put_fields;
 use crate::lints::{make_lints, put_lints};
 use crate::maps::make_map;
+use crate::unresolved::refusals;
 use cargo_manifest::{
     DepsSet, LintsSet, Manifest, Metadata, Package, TargetDepsSet, Workspace, WorkspacePackage,
 };
@@ -67,25 +65,19 @@ fn copy_fields(
 }
 
 /// Sets `made` to a copy of the workspace's fields (`shared`), of which [`put_fields`] takes those that the package `own`
-/// inherits. Without a package `made` stays as it is. Refuses with the first refusal of the package's fields.
+/// inherits. Without a package `made` stays as it is.
 fn make_package<M: Metadata>(
-    alloc: Global,
     own: &Option<Package<M>>,
     shared: &Option<WorkspacePackage>,
     made: &mut WorkspacePackage,
-) -> Result<(), ResolveError>
-    ensures ok { let w = option_map workspace_package_content shared.now in
+) -> Result<(), AllocError>
+    ensures { let w = option_map workspace_package_content shared.now in
         let o = option_map (package_of M.kind M.content) own.now in
-        OnOk result (Accepted (some_refusals (fields_refusals lendable w) o)
-        (option_map (resolved_package w) o)
-        (option_map (resolved_package (Some (workspace_package_content made.new))) o)) }
-    ensures refused { let w = option_map workspace_package_content shared.now in
-        let o = option_map (package_of M.kind M.content) own.now in
-        IfErr result (RefusesFirst (some_refusals (fields_refusals lendable w) o)) }
+        OnOk result (option_map (resolved_package (Some (workspace_package_content made.new))) o
+        ≡ option_map (resolved_package w) o) }
 {
     match own {
-        Some(own) => {
-            refuse_first(package_refusals(alloc, own, shared)?)?;
+        Some(_) => {
             copy_fields(shared, made)?;
             Ok(())
         }
@@ -94,70 +86,52 @@ fn make_package<M: Metadata>(
 }
 
 /// Fills the fields of `made`, each of which is empty before, with what [`put_made`] is to put into the manifest.
-/// Refuses as [`resolve`] does.
 fn make_all<P: Metadata, W: Metadata, V: Metadata>(
     alloc: Global,
     manifest: &Manifest<P, W>,
     workspace: &Workspace<V>,
     made: &mut Made,
-) -> Result<(), ResolveError>
-    ensures ok { let m = manifest_of P.kind W.kind P.content W.content manifest.now in
+) -> Result<(), AllocError>
+    ensures { let m = manifest_of P.kind W.kind P.content W.content manifest.now in
         let w = workspace_of V.kind V.content workspace.now in
-        OnOk result (Accepted (all_refusals m w) (resolved m w) (with_made made.new m)) }
-    ensures refused { let m = manifest_of P.kind W.kind P.content W.content manifest.now in
-        let w = workspace_of V.kind V.content workspace.now in
-        IfErr result (RefusesFirst (all_refusals m w)) }
+        OnOk result (with_made made.new m ≡ resolved m w) }
 {
-    let shared = &workspace.dependencies;
-    make_package(
-        alloc,
-        &manifest.package,
-        &workspace.package,
-        &mut made.fields,
-    )?;
+    let (own, shared) = (manifest, &workspace.dependencies);
+    make_package(&own.package, &workspace.package, &mut made.fields)?;
+    make_map(alloc, shared, &own.dependencies, &mut made.dependencies)?;
     make_map(
         alloc,
         shared,
-        &manifest.dependencies,
-        &mut made.dependencies,
-    )?;
-    make_map(
-        alloc,
-        shared,
-        &manifest.dev_dependencies,
+        &own.dev_dependencies,
         &mut made.dev_dependencies,
     )?;
     make_map(
         alloc,
         shared,
-        &manifest.build_dependencies,
+        &own.build_dependencies,
         &mut made.build_dependencies,
     )?;
-    make_map(alloc, shared, &manifest.target, &mut made.target)?;
-    make_lints(alloc, &manifest.lints, &workspace.lints, &mut made.lints)?;
+    make_map(alloc, shared, &own.target, &mut made.target)?;
+    make_lints(&own.lints, &workspace.lints, &mut made.lints)?;
     Ok(())
 }
 
-/// Makes everything that the manifest inherits, as new values, from copies of what the workspace has. Refuses as
-/// [`resolve`] does.
+/// Makes everything that the manifest inherits, as new values, from copies of what the workspace has.
 fn make<P: Metadata, W: Metadata, V: Metadata>(
     alloc: Global,
     manifest: &Manifest<P, W>,
     workspace: &Workspace<V>,
-) -> Result<Made, ResolveError>
-    ensures ok { let m = manifest_of P.kind W.kind P.content W.content manifest.now in
+) -> Result<Made, AllocError>
+    ensures { let m = manifest_of P.kind W.kind P.content W.content manifest.now in
         let w = workspace_of V.kind V.content workspace.now in
-        IfOk result (λ made. Accepted (all_refusals m w) (resolved m w) (with_made made m)) }
-    ensures refused { let m = manifest_of P.kind W.kind P.content W.content manifest.now in
-        let w = workspace_of V.kind V.content workspace.now in
-        IfErr result (RefusesFirst (all_refusals m w)) }
+        IfOk result (λ made. with_made made m ≡ resolved m w) }
 {
     let mut made = Made::new();
     match make_all(alloc, manifest, workspace, &mut made) {
         Ok(()) => Ok(made),
-        Err(refusal) => {
+        Err(refused) => {
             drop(made);
-            Err(refusal)
+            Err(refused)
         }
     }
 }
@@ -214,6 +188,7 @@ pub fn resolve<P: Metadata, W: Metadata, V: Metadata>(
         (manifest_of P.kind W.kind P.content W.content manifest.new) result }
     ensures refused { OnErr result (manifest.new ≡ manifest.old) }
 {
+    refuse_first(alloc, refusals(alloc, manifest, workspace)?)?;
     let made = make(alloc, manifest, workspace)?;
     put_made(manifest, made);
     Ok(())

@@ -130,9 +130,8 @@ scan (suc k) n [] = false
 scan (suc k) n (c ∷ cs) =
     unwrap_or (option_map (λ p. scan k p.0 p.1) (turn n (c ∷ cs))) true
 
--- THE TEXT NESTS TOO DEEP: it has brackets, headers or dotted keys that lead deeper than 128, or dotted keys that do so
--- than
--- 112 after a header of an array of tables
+-- THE TEXT NESTS TOO DEEP: it has brackets, headers or dotted keys that lead deeper than 128, or dotted keys that lead
+-- deeper than 112 after a header of an array of tables
 abbrev pub nests_too_deep : List ℕ → Bool
 nests_too_deep text = scan (length text) start text
 

@@ -1,8 +1,8 @@
 -- What an error says of a value that is no strip setting.
 use Rattle.manifest_schema.specs.Prelude.{Data, string, strip_meaning}
 use Rattle.std.specs.Prelude.{◌≡◌, ◌++◌, None, codes, string_bytes}
-use Rattle.manifest_value.specs.declared.error.Error.{Error}
-use Rattle.manifest_value.specs.declared.error.Error.TheVariants.{Other, Memory}
+use Rattle.manifest_fault.specs.declared.error.Error.{Error}
+use Rattle.manifest_fault.specs.declared.error.Error.TheVariants.{Other, Memory}
 
 -- the value is no strip setting, and the text says so
 abbrev pub RefusesStrip : Data → Error → Type 0

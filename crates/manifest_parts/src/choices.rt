@@ -3,12 +3,11 @@
 ghost use Rattle.std.specs.Prelude.{◌≡◌, option_map};
 ghost use Rattle.manifest_schema.specs.Contents;
 ghost use Rattle.manifest_schema.specs.Choices.{edition, edition_text, resolver, resolver_text, level, level_text, status, status_text, status_words, meaning_of};
-ghost use Rattle.manifest_schema.proofs.ChoiceLaws.{edition_sound, edition_plain, resolver_sound, level_sound, status_sound};
+ghost use Rattle.manifest_schema.proofs.Values.ChoiceLaws.{edition_sound, edition_plain, resolver_sound, level_sound, status_sound};
 ghost use Rattle.manifest_parts.specs.Parts.{edition_content, resolver_content, level_content, status_content};
 
-use manifest_value::fault::fault_here;
-use manifest_value::findings::{Choices, Findings, Found};
-use manifest_value::{Cause, Plain, ReadFault, Schema, Source};
+use manifest_fault::fault::fault_here;
+use manifest_value::{Cause, Choices, Findings, Found, Plain, ReadFault, Schema, Source};
 use std::alloc::{AllocError, Global};
 use toml::Value;
 
@@ -88,7 +87,7 @@ impl Schema for Edition {
         }
     }
 
-    #[tactic(auto, using(manifest_value::proofs::FoundLemmas::one_fault_read, manifest_value::proofs::FoundLemmas::one_fault_refused, manifest_schema::proofs::OneFaultLaws::choice_one_fault))]
+    #[tactic(auto, using(manifest_value::proofs::FoundLemmas::one_fault_read, manifest_value::proofs::FoundLemmas::one_fault_refused, manifest_schema::proofs::Values::OneFaultLaws::choice_one_fault))]
     fn findings(alloc: Global, value: &Value) -> Found {
         match Edition::read(alloc, Source::Borrowed(value)) {
             Ok(_) => Ok(Findings::none(alloc)),
@@ -168,7 +167,7 @@ impl Schema for Resolver {
         }
     }
 
-    #[tactic(auto, using(manifest_value::proofs::FoundLemmas::one_fault_read, manifest_value::proofs::FoundLemmas::one_fault_refused, manifest_schema::proofs::OneFaultLaws::choice_one_fault))]
+    #[tactic(auto, using(manifest_value::proofs::FoundLemmas::one_fault_read, manifest_value::proofs::FoundLemmas::one_fault_refused, manifest_schema::proofs::Values::OneFaultLaws::choice_one_fault))]
     fn findings(alloc: Global, value: &Value) -> Found {
         match Resolver::read(alloc, Source::Borrowed(value)) {
             Ok(_) => Ok(Findings::none(alloc)),
@@ -252,7 +251,7 @@ impl Schema for LintLevel {
         }
     }
 
-    #[tactic(auto, using(manifest_value::proofs::FoundLemmas::one_fault_read, manifest_value::proofs::FoundLemmas::one_fault_refused, manifest_schema::proofs::OneFaultLaws::choice_one_fault))]
+    #[tactic(auto, using(manifest_value::proofs::FoundLemmas::one_fault_read, manifest_value::proofs::FoundLemmas::one_fault_refused, manifest_schema::proofs::Values::OneFaultLaws::choice_one_fault))]
     fn findings(alloc: Global, value: &Value) -> Found {
         match LintLevel::read(alloc, Source::Borrowed(value)) {
             Ok(_) => Ok(Findings::none(alloc)),
@@ -345,7 +344,7 @@ impl Schema for MaintenanceStatus {
         }
     }
 
-    #[tactic(auto, using(manifest_value::proofs::FoundLemmas::one_fault_read, manifest_value::proofs::FoundLemmas::one_fault_refused, manifest_schema::proofs::OneFaultLaws::choice_one_fault))]
+    #[tactic(auto, using(manifest_value::proofs::FoundLemmas::one_fault_read, manifest_value::proofs::FoundLemmas::one_fault_refused, manifest_schema::proofs::Values::OneFaultLaws::choice_one_fault))]
     fn findings(alloc: Global, value: &Value) -> Found {
         match MaintenanceStatus::read(alloc, Source::Borrowed(value)) {
             Ok(_) => Ok(Findings::none(alloc)),

@@ -42,6 +42,7 @@ pub fn strip_order(x: &StripSetting, y: &StripSetting) -> Ordering
     x.cmp(y)
 }
 
+// (made by scripts/keys --write)
 impl Compared for Edition {
     ghost compares = { Prim.search rules };
 

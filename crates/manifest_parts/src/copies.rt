@@ -4,7 +4,7 @@ ghost use Rattle.manifest_schema.specs.Prelude.{view, Inheritable, detailed_rows
 ghost use Rattle.std.specs.Prelude.{◌≡◌, map, option_map, pos, string_bytes};
 ghost use Rattle.std.proofs.Common.{rules};
 ghost use Rattle.manifest_schema.specs.Contents;
-ghost use Rattle.manifest_schema.proofs.CopyLaws.{copy_laws};
+ghost use Rattle.manifest_schema.proofs.Forms.CopyLaws.{copy_laws};
 ghost use Rattle.manifest_value.specs.Entries.{entries_content};
 ghost use Rattle.manifest_parts.specs.Parts.{
   edition_content,
@@ -28,7 +28,7 @@ ghost use Rattle.manifest_parts.specs.Records.{
   lints_content,
   profile_content,
 };
-ghost use Rattle.manifest_schema.proofs.PartLaws.{detailed_built, profile_built, badges_built};
+ghost use Rattle.manifest_schema.proofs.Forms.PartLaws.{detailed_built, profile_built, badges_built};
 ghost use Rattle.manifest_value.proofs.FormLemmas.{by_rows};
 
 use crate::badges::{Badge, Badges, Maintenance};
@@ -42,6 +42,7 @@ use crate::publish::{Publish, StringOrBool};
 use crate::strip::StripSetting;
 use manifest_value::Copied;
 
+// (made by scripts/keys --write)
 impl Copied for Edition {
     ghost Held = { Contents.Edition };
 

@@ -2,7 +2,7 @@
 
 ghost use Rattle.std.specs.Prelude.{◌≡◌};
 ghost use Rattle.manifest_schema.specs.Contents;
-ghost use Rattle.manifest_schema.proofs.CopyLaws.{entries_copied};
+ghost use Rattle.manifest_schema.proofs.Forms.CopyLaws.{entries_copied};
 ghost use Rattle.manifest_parts.specs.Records.{dependency_content, platform_content};
 ghost use Rattle.manifest_parts.specs.contracts.copies_of_dependencies.DependencyCopied.TheImpl.Laws.{copies-law};
 

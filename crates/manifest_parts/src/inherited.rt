@@ -2,16 +2,18 @@
 
 ghost use Rattle.manifest_schema.specs.Prelude.{view, Data, Path, Cause as FaultCause, Inheritable, inh, inherits, truth, faulty};
 ghost use Rattle.std.specs.Prelude.{◌≡◌, true, IfOk};
-ghost use Rattle.manifest_schema.proofs.KindLaws.{inh_sound, truth_sound};
+ghost use Rattle.manifest_schema.proofs.Values.KindLaws.{inh_sound, truth_sound};
 ghost use Rattle.manifest_parts.specs.Parts.{inh_content};
-ghost use Rattle.manifest_value.specs.Found.{found};
+ghost use Rattle.manifest_fault.specs.Found.{found};
 ghost use Rattle.manifest_value.specs.Reading.{data_of};
 
-use manifest_value::fault::fault_here;
-use manifest_value::findings::{Findings, Found};
+use manifest_fault::fault::fault_here;
+use manifest_value::form_findings::and_unused;
 use manifest_value::readers::find;
 use manifest_value::rows::put_row;
-use manifest_value::{Cause, Plain, ReadFault, Schema, Source, TableSource, spelled, walk};
+use manifest_value::{
+    Cause, Findings, Found, Plain, ReadFault, Schema, Source, TableSource, spelled, walk,
+};
 use std::alloc::{AllocError, Global};
 use toml::{Table, Value};
 
@@ -110,7 +112,7 @@ fn findings_beside_workspace<T: Plain>(alloc: Global, table: &Table) -> Found
 {
     if has_workspace(table) {
         let walk = walk(alloc, TableSource::Borrowed(table), &spelled!["workspace"])?;
-        Findings::none(alloc).and_unused(alloc, walk.rest)
+        and_unused(alloc, Findings::none(alloc), walk.rest)
     } else {
         Findings::here(alloc, Cause::WrongKind)
     }

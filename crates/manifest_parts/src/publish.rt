@@ -3,11 +3,10 @@
 ghost use Rattle.std.specs.Prelude.{◌≡◌, true};
 ghost use Rattle.manifest_schema.specs.Contents;
 ghost use Rattle.manifest_schema.specs.PartForms.{text_or_flag, publish};
-ghost use Rattle.manifest_schema.proofs.RowLaws.{text_or_flag_sound, text_or_flag_plain, publish_sound, publish_plain};
+ghost use Rattle.manifest_schema.proofs.Forms.RowLaws.{text_or_flag_sound, text_or_flag_plain, publish_sound, publish_plain};
 ghost use Rattle.manifest_parts.specs.Parts.{text_or_flag_content, publish_content};
 
-use manifest_value::findings::{Findings, Found};
-use manifest_value::{Plain, ReadFault, Schema, Source};
+use manifest_value::{Findings, Found, Plain, ReadFault, Schema, Source};
 use std::alloc::{AllocError, Global};
 use toml::Value;
 

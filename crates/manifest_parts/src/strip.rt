@@ -3,14 +3,13 @@
 ghost use Rattle.manifest_schema.specs.Prelude.{string, view, strip, strip_meaning};
 ghost use Rattle.std.specs.Prelude.{◌≡◌, Some, IfOk, IfErr};
 ghost use Rattle.manifest_schema.specs.Contents;
-ghost use Rattle.manifest_schema.proofs.ChoiceLaws.{strip_sound};
+ghost use Rattle.manifest_schema.proofs.Values.ChoiceLaws.{strip_sound};
 ghost use Rattle.manifest_parts.specs.Parts.{strip_content};
 ghost use Rattle.manifest_value.specs.Reading.{Reads};
 ghost use Rattle.manifest_parts.specs.Refusals.{RefusesStrip};
 
-use manifest_value::fault::fault_here;
-use manifest_value::findings::{Choices, Findings, Found};
-use manifest_value::{Cause, Error, ReadFault, Schema, Source};
+use manifest_fault::fault::fault_here;
+use manifest_value::{Cause, Choices, Error, Findings, Found, ReadFault, Schema, Source};
 use std::alloc::{AllocError, Global};
 use toml::Value;
 
@@ -94,7 +93,7 @@ impl Schema for StripSetting {
         }
     }
 
-    #[tactic(auto, using(manifest_value::proofs::FoundLemmas::one_fault_read, manifest_value::proofs::FoundLemmas::one_fault_refused, manifest_schema::proofs::OneFaultLaws::choice_one_fault))]
+    #[tactic(auto, using(manifest_value::proofs::FoundLemmas::one_fault_read, manifest_value::proofs::FoundLemmas::one_fault_refused, manifest_schema::proofs::Values::OneFaultLaws::choice_one_fault))]
     fn findings(alloc: Global, value: &Value) -> Found {
         match StripSetting::read(alloc, Source::Borrowed(value)) {
             Ok(_) => Ok(Findings::none(alloc)),

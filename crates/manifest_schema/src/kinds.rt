@@ -70,7 +70,7 @@ impl SoundForm for Brand {
 /// is written of a well-formed content is read back as it; each fault is found, and no other. Each value has a reading or
 /// a fault. Without its unused keys a value whose keys ascend has the same readings and the same faults. Nothing is found
 /// in what is written of a well-formed content. What is found in a value whose keys ascend stands at paths that diverge.
-#[tactic(auto, using(crate::proofs::OldLaws::lawful_of, crate::proofs::OldLaws::clean_of, crate::proofs::OldLaws::diverging_of))]
+#[tactic(auto, using(crate::proofs::Meaning::OldLaws::lawful_of, crate::proofs::Meaning::OldLaws::clean_of, crate::proofs::Meaning::OldLaws::diverging_of))]
 pub fn laws_one_by_one<K: SoundKind>()
     ensures lawful { IsLawful K.kind }
     ensures total { IsTotal K.kind }
@@ -80,7 +80,7 @@ pub fn laws_one_by_one<K: SoundKind>()
 {}
 
 /// Texts, booleans, the boolean true, whole numbers, kept values, and the kind that looks at no value satisfy the laws.
-#[tactic(auto, using(crate::proofs::KindLaws::text_sound, crate::proofs::KindLaws::flag_sound, crate::proofs::KindLaws::truth_sound, crate::proofs::KindLaws::raw_sound, crate::specs::ForProofs::unread_sound))]
+#[tactic(auto, using(crate::proofs::Values::KindLaws::text_sound, crate::proofs::Values::KindLaws::flag_sound, crate::proofs::Values::KindLaws::truth_sound, crate::proofs::Values::KindLaws::raw_sound, crate::specs::ForProofs::unread_sound))]
 pub fn simple_kinds_are_sound()
     ensures text_is { IsSound text }
     ensures flag_is { IsSound flag }
@@ -94,7 +94,7 @@ pub fn simple_kinds_are_sound()
 /// no value of the kind is a table and each content can be written. Where a value may be a table, what may be inherited
 /// still has a reading or a fault of each value, and what is found in a value whose keys ascend stands at paths that
 /// diverge.
-#[tactic(auto, using(crate::proofs::OldLaws::inh_diverging))]
+#[tactic(auto, using(crate::proofs::Meaning::OldLaws::inh_diverging))]
 pub fn made_kinds_are_sound<K: SoundKind>()
     ensures list_is { IsSound (list_of K.kind) }
     ensures map_is { IsSound (map_of K.kind) }
@@ -109,7 +109,7 @@ pub fn made_kinds_are_sound<K: SoundKind>()
 /// content gives it again, and nothing is found of it; without the unused keys of its value it gives the same, and the
 /// same is found but for these keys; and what is found of it stands at paths that diverge, each of which begins with one
 /// spelling. The laws of what is found hold also of a default that is not well-formed, or not all that is skipped.
-#[tactic(auto, using(crate::proofs::NeedLaws::required_sound))]
+#[tactic(auto, using(crate::proofs::Values::NeedLaws::required_sound))]
 pub fn needs_are_sound<K: SoundKind>()
     ensures required_is { IsSoundNeed (required K.kind) }
     ensures optional_is { IsSoundNeed (optional K.kind) }
@@ -125,7 +125,7 @@ pub fn needs_are_sound<K: SoundKind>()
 
 /// A form satisfies the laws of a kind. In one that ends with no more rows, a key of the table is unused exactly if no row
 /// has it.
-#[tactic(auto, using(crate::proofs::FormLaws::form_sound, crate::proofs::FormLaws::unused_if_no_row))]
+#[tactic(auto, using(crate::proofs::Forms::FormLaws::form_sound, crate::proofs::Forms::FormLaws::unused_if_no_row))]
 pub fn form_is_sound<F: SoundForm>()
     ensures kind_is { IsSound (form F.rows) }
     ensures keys_are { UnusedIfNoRow F.rows }
@@ -133,7 +133,7 @@ pub fn form_is_sound<F: SoundForm>()
 
 /// A form writes of a well-formed content what the need of each row writes, under the first spelling of the row, and
 /// the entries of the map of all other keys, where it ends with one. It writes nothing else.
-#[tactic(auto, using(crate::proofs::RowsWritten::writes_each_row))]
+#[tactic(auto, using(crate::proofs::Forms::RowsWritten::writes_each_row))]
 pub fn form_writes_each_row<F: AnyForm>()
     ensures { WritesEachRow F.rows }
 {}
@@ -145,7 +145,7 @@ pub fn form_reads_only_its_keys<F: AnyForm>()
 {}
 
 /// The words that stand with the fault of a text that is none of a choice are exactly the texts that the choice reads.
-#[tactic(auto, using(crate::proofs::Pinned::edition_lists, crate::proofs::Pinned::resolver_lists, crate::proofs::Pinned::level_lists, crate::proofs::Pinned::status_lists, crate::proofs::Pinned::strip_lists))]
+#[tactic(auto, using(crate::proofs::Findings::Pinned::edition_lists, crate::proofs::Findings::Pinned::resolver_lists, crate::proofs::Findings::Pinned::level_lists, crate::proofs::Findings::Pinned::status_lists, crate::proofs::Findings::Pinned::strip_lists))]
 pub fn choices_tell_their_words()
     ensures edition_does { ListsWords edition }
     ensures resolver_does { ListsWords resolver }
@@ -156,7 +156,7 @@ pub fn choices_tell_their_words()
 
 /// What a lenient need ignores is exactly each fault of the value, at its path under the key of the value, or that both
 /// spellings are there, over a kind that ignores nothing itself.
-#[tactic(auto, using(crate::proofs::Pinned::lenient_optional_ignores, crate::proofs::Pinned::lenient_default_ignores))]
+#[tactic(auto, using(crate::proofs::Findings::Pinned::lenient_optional_ignores, crate::proofs::Findings::Pinned::lenient_default_ignores))]
 pub fn lenient_needs_ignore<K: AnyKind>()
     requires { (d : Data) → ignored_of (K.kind.findings d) ≡ [] }
     ensures optional_does { Ignores K.kind (lenient_optional K.kind) }
@@ -166,7 +166,7 @@ pub fn lenient_needs_ignore<K: AnyKind>()
 /// What is unused in a list is what is unused in its items, each under its index, and what is unused in a map whose keys
 /// ascend is what is unused in its entries, each under its key. Of a table whose `workspace` is true, by a kind that may be
 /// inherited, each other key is unused; of another table none is.
-#[tactic(auto, using(crate::proofs::Pinned::unused_by_items, crate::proofs::Pinned::unused_by_entries))]
+#[tactic(auto, using(crate::proofs::Findings::Pinned::unused_by_items, crate::proofs::Findings::Pinned::unused_by_entries))]
 pub fn unused_keys_are_those<K: SoundKind>()
     ensures of_list { UnusedByItems K.kind }
     ensures of_map { UnusedByEntries K.kind }
@@ -176,7 +176,7 @@ pub fn unused_keys_are_those<K: SoundKind>()
 /// The faults of a list are those of its items, each with its index before the path; of a map those of its entries, each
 /// with its key before the path; of a kept value its floats. A table that may inherit and does not has one fault: it is of
 /// the wrong kind.
-#[tactic(auto, using(crate::proofs::FaultPlaces::faulty_by_items, crate::proofs::FaultPlaces::faulty_by_entries, crate::proofs::FaultPlaces::faulty_by_floats))]
+#[tactic(auto, using(crate::proofs::Findings::FaultPlaces::faulty_by_items, crate::proofs::Findings::FaultPlaces::faulty_by_entries, crate::proofs::Findings::FaultPlaces::faulty_by_floats))]
 pub fn faults_stand_inside<K: AnyKind>()
     ensures of_list { FaultyByItems K.kind }
     ensures of_map { FaultyByEntries K.kind }
@@ -187,7 +187,7 @@ pub fn faults_stand_inside<K: AnyKind>()
 /// The faults of a field are those of the value under the spelling that is present, each with this key before the path, or
 /// that both spellings are there, at the first of them; of a field that has to be there also that it is absent, at the
 /// first spelling; and a field that counts as absent where it does not fit has none.
-#[tactic(auto, using(crate::proofs::FaultPlaces::required_faulty, crate::proofs::FaultPlaces::optional_faulty, crate::proofs::FaultPlaces::default_faulty, crate::proofs::FaultPlaces::lenient_optional_never, crate::proofs::FaultPlaces::lenient_default_never))]
+#[tactic(auto, using(crate::proofs::Findings::FaultPlaces::required_faulty, crate::proofs::Findings::FaultPlaces::optional_faulty, crate::proofs::Findings::FaultPlaces::default_faulty, crate::proofs::Findings::FaultPlaces::lenient_optional_never, crate::proofs::Findings::FaultPlaces::lenient_default_never))]
 pub fn faults_stand_at_slots<K: AnyKind>()
     ensures required_is { FaultyIfRequired K.kind (required K.kind) }
     ensures optional_is { FaultyBySlot K.kind (optional K.kind) }
@@ -199,7 +199,7 @@ pub fn faults_stand_at_slots<K: AnyKind>()
 
 /// The faults of a table by a form are those of its rows, and where the form ends with a map of all other keys, those of
 /// the entries of these keys.
-#[tactic(auto, using(crate::proofs::FaultPlaces::faulty_by_rows))]
+#[tactic(auto, using(crate::proofs::Findings::FaultPlaces::faulty_by_rows))]
 pub fn faults_stand_in_rows<F: AnyForm>()
     ensures { FaultyByRows F.rows }
 {}

@@ -3,9 +3,9 @@ use Rattle.manifest_schema.specs.Prelude.{Data, integer, table, member, only, pu
 use Rattle.std.specs.Prelude.{◌≡◌, ℤ, pos, codes, IsTrue, refl}
 use Rattle.std.proofs.Common.{subst, ap}
 use Rattle.manifest_schema.specs.Forms.{row}
-use Rattle.manifest_schema.proofs.KindLaws.{whole_sound}
-use Rattle.manifest_schema.proofs.NeedLaws.{required_sound}
-use Rattle.manifest_schema.proofs.FormLaws.{form_sound}
+use Rattle.manifest_schema.proofs.Values.KindLaws.{whole_sound}
+use Rattle.manifest_schema.proofs.Values.NeedLaws.{required_sound}
+use Rattle.manifest_schema.proofs.Forms.FormLaws.{form_sound}
 
 -- a level from 0 to 9; all other keys are free
 unfoldable pub score_rows : Rows ℤ

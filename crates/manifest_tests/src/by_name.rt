@@ -6,8 +6,8 @@ use cargo_manifest::{
     Cause, Edition, MaybeInherited, Product, ReadFault, Schema, Step, StringOrBool,
 };
 use manifest_completion::{CompletedTargets, DeclaredTargets, complete};
-use manifest_value::error::refusal;
-use manifest_value::fault::{fault_here, fault_under_key, fault_under_step};
+use manifest_fault::error::refusal;
+use manifest_fault::fault::{fault_here, fault_under_key, fault_under_step};
 use manifest_value::maps::{entries_table, map_of_list};
 use manifest_value::metadata::put_tree;
 use manifest_value::rows::{at_key, put_nonempty, put_optional, put_row, put_unless, read_under};

@@ -5,8 +5,8 @@ use cargo_manifest::{
     LintConfig, LintLevel, Maintenance, MaintenanceStatus, MaybeInherited, MaybeInheritedLintsSet,
     Product, Profile, Publish, Resolver, StringOrBool, StripSetting, Target, True,
 };
+use manifest_fault::error::refusal;
 use manifest_parts::inherited::{has_workspace, says_workspace};
-use manifest_value::error::refusal;
 use manifest_value::{Schema, text};
 use std::alloc::Global;
 use std::process::Abort;

@@ -1,7 +1,7 @@
 //! What is found in the table of a document: faults, what is ignored, and the keys that nothing reads.
 use crate::answers::assert_is;
 use cargo_manifest::{
-    Choices, Finding, Findings, KeyPath, SchemaFault, Unread, faults, ignored, inspect,
+    Choices, Finding, Findings, KeyPath, SchemaFault, Step, Unread, faults, ignored, inspect,
     inspect_with_metadata, unused_keys,
 };
 use std::alloc::{AllocError, Global};
@@ -19,25 +19,29 @@ fn words(alloc: Global, choices: Choices) -> Result<String, AllocError> {
 }
 
 /// A finding as a line: a fault of a choice with its words.
-fn line(alloc: Global, finding: &Finding) -> Result<String, AllocError> {
+fn line(alloc: Global, path: KeyPath, finding: &Finding) -> Result<String, AllocError> {
     match finding {
-        Finding::Fault(fault, choices) => {
+        Finding::Fault(cause, choices) => {
             let words = words(alloc, choices)?;
-            format!(in alloc; "{fault}{words}\n")
+            format!(in alloc; "{cause} at {path}{words}\n")
         }
-        Finding::Ignored(fault, choices) => {
+        Finding::Ignored(cause, choices) => {
             let words = words(alloc, choices)?;
-            format!(in alloc; "ignored: {fault}{words}\n")
+            format!(in alloc; "ignored: {cause} at {path}{words}\n")
         }
-        Finding::Unused(path) => format!(in alloc; "unused: {path}\n"),
+        Finding::Unused(key) => {
+            let mut path = path;
+            path.steps.push(Step::Key(key.clone()?))?;
+            format!(in alloc; "unused: {path}\n")
+        }
     }
 }
 
 /// All findings, a line each.
-fn lines(alloc: Global, found: &Findings) -> Result<String, AllocError> {
+fn lines(alloc: Global, found: &Findings<Finding>) -> Result<String, AllocError> {
     let mut text = String::new(alloc);
-    for finding in &found.to_vec(alloc)? {
-        text.push_str(line(alloc, finding)?.as_str())?;
+    for (path, finding) in found.to_vec(alloc)? {
+        text.push_str(line(alloc, path, finding)?.as_str())?;
     }
     Ok(text)
 }
@@ -66,7 +70,7 @@ fn apart(alloc: Global) -> Result<String, Fail> {
 }
 
 /// The findings of two keys of a package.
-fn findings_of_a_package(alloc: Global) -> Result<Findings, Fail> {
+fn findings_of_a_package(alloc: Global) -> Result<Findings<Finding>, Fail> {
     let table = toml::table_from_str(alloc, "[package]\nname = 1\nedtion = '2021'")?;
     let found = inspect(alloc, &table)?; // `wrong kind at package.name`, and nothing reads `package.edtion`
     Ok(found)

@@ -2,16 +2,15 @@
 
 ghost use Rattle.std.specs.Prelude.{◌≡◌, ℤ, pos};
 ghost use Rattle.manifest_schema.specs.Kinds.{whole};
-ghost use Rattle.manifest_schema.proofs.KindLaws.{whole_sound};
+ghost use Rattle.manifest_schema.proofs.Values.KindLaws.{whole_sound};
 ghost use Rattle.manifest_tests.specs.Scores.{score_rows, score_sound, score_plain, score_by_tree};
 
-use manifest_value::fault::fault_here;
-use manifest_value::findings::{Findings, Found};
+use manifest_fault::fault::fault_here;
 use manifest_value::form::{RowPut, RowRead, Rowed, Word};
 use manifest_value::row_slots::RowSlot;
 use manifest_value::{
-    Cause, Form, Metadata, ReadFault, Schema, Source, Spellings, findings_of_row, good_row_of,
-    names_of_rows, put_row_of, read_row_of,
+    Cause, Findings, Form, Found, Metadata, ReadFault, Schema, Source, Spellings, findings_of_row,
+    good_row_of, names_of_rows, put_row_of, read_row_of,
 };
 use std::alloc::{AllocError, Global};
 use toml::{Table, Value};
@@ -43,7 +42,7 @@ impl Schema for Level {
         }
     }
 
-    #[tactic(auto, using(manifest_value::proofs::FoundLemmas::one_fault_read, manifest_value::proofs::FoundLemmas::one_fault_refused, manifest_schema::proofs::OneFaultLaws::whole_one_fault))]
+    #[tactic(auto, using(manifest_value::proofs::FoundLemmas::one_fault_read, manifest_value::proofs::FoundLemmas::one_fault_refused, manifest_schema::proofs::Values::OneFaultLaws::whole_one_fault))]
     fn findings(alloc: Global, value: &Value) -> Found {
         match Level::read(alloc, Source::Borrowed(value)) {
             Ok(_) => Ok(Findings::none(alloc)),

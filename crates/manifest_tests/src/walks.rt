@@ -1,7 +1,7 @@
 //! A walk over a table, and the readers of its rows, by their names.
 use crate::answers::{assert_is, error_text};
+use manifest_fault::error::refusal;
 use manifest_value::entries::Key;
-use manifest_value::error::refusal;
 use manifest_value::maps::map_of_entries;
 use manifest_value::row_readers::{
     read_default, read_lenient, read_lenient_default, read_optional, read_required, read_tree,

@@ -4,10 +4,10 @@ use Rattle.std.proofs.Common.{◌≡◌, ℕ, Result, IfOk, IfErr, String, Globa
 use Rattle.std.proofs.lemmas.List.{take_more, drop_more}
 use Rattle.std.specs.List.Sorted.{IsStrictlySortedBy}
 use Rattle.manifest_value.specs.Calls.{ReaderAnswers, Refused, ItemsGiven, EntriesGiven, ItemRefused, EntryRefused}
-use Rattle.manifest_value.specs.Faults.{FaultIn}
-use Rattle.manifest_value.specs.declared.fault.ReadFault.{ReadFault}
-use Rattle.manifest_value.specs.declared.fault.ReadFault.TheVariants.{Schema, Memory}
-use Rattle.manifest_value.proofs.Under.{fault_weaker}
+use Rattle.manifest_fault.specs.Faults.{FaultIn}
+use Rattle.manifest_fault.specs.declared.fault.ReadFault.{ReadFault}
+use Rattle.manifest_fault.specs.declared.fault.ReadFault.TheVariants.{Schema, Memory}
+use Rattle.manifest_fault.proofs.Under.{fault_weaker}
 use Rattle.manifest_value.proofs.EntryLemmas.{texts, insert_last}
 
 -- the result of a call is its answer, or a fault with which the value is refused

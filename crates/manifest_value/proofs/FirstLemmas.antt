@@ -2,18 +2,18 @@
 use Rattle.manifest_schema.specs.Prelude.{no_fault, table, Data, Items, no_items, item, Members, no_members, member, Text, Path, Cause as SchemaCause, Step, key, index, Spellings, Slot, IsSound, Kind, Entries, Rows, spelled, left_over, findings_beside, fault, ignored, unused, unused_keys, faults_of, among, foremost, first_found, found_under, leniently, IsFaultless, item_findings, entry_findings, form_findings, plain, raw}
 use Rattle.manifest_schema.specs.Findings.{Finding}
 use Rattle.std.proofs.Common.{◌≡◌, ℕ, suc, true, List, [], ◌∷◌, ◌++◌, Result, Ok, Err, OnOk, IfErr, refl, sym, ap, ◌∙◌, subst, length, ◌+◌, arith, drop}
-use Rattle.manifest_schema.proofs.Faultless.{lenient_none, faults-append}
-use Rattle.manifest_schema.proofs.KindLaws.{raw_sound}
+use Rattle.manifest_schema.proofs.Findings.Faultless.{lenient_none, faults-append}
+use Rattle.manifest_schema.proofs.Values.KindLaws.{raw_sound}
 use Rattle.manifest_schema.specs.Kinds.{map_findings, float_findings}
 use Rattle.manifest_value.specs.Entries.{reads_first}
-use Rattle.manifest_value.specs.Faults.{FaultIn, IsUnder, no_table}
+use Rattle.manifest_fault.specs.Faults.{FaultIn, IsUnder, no_table}
 use Rattle.manifest_value.specs.FormRows.{AreAll}
-use Rattle.manifest_value.specs.Found.{HasNoFault, findings_at, findings_from}
+use Rattle.manifest_value.specs.FoundRows.{HasNoFault, findings_at, findings_from}
 use Rattle.manifest_value.specs.Reading.{GivesOr, GivesRow}
 use Rattle.manifest_value.specs.Walks.{names_of, slots_at}
-use Rattle.manifest_value.specs.declared.fault.ReadFault.{ReadFault}
-use Rattle.manifest_value.specs.declared.fault.ReadFault.TheVariants.{Schema, Memory}
-use Rattle.manifest_value.proofs.Under.{fault_weaker}
+use Rattle.manifest_fault.specs.declared.fault.ReadFault.{ReadFault}
+use Rattle.manifest_fault.specs.declared.fault.ReadFault.TheVariants.{Schema, Memory}
+use Rattle.manifest_fault.proofs.Under.{fault_weaker}
 use Rattle.manifest_value.proofs.FoundLemmas.{one_found, closed_rows_found, foremost_among}
 use Rattle.manifest_value.proofs.ReadingLemmas.{reads_first_items}
 

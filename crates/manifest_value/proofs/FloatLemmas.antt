@@ -1,8 +1,8 @@
 -- The place of a float, one step further out.
 use Rattle.manifest_schema.specs.Prelude.{view, items_view, members_view, Value, index, key, plain, plain_items, item_floats, entry_floats, float_findings, faults_of, first_found, found_under}
 use Rattle.std.proofs.Common.{◌≡◌, ℕ, suc, true, ◌&&◌, List, ◌∷◌, ◌++◌, String, Global, string_bytes, sym, ap, ◌∙◌, get_or, length, ◌<◌, drop, drop-cons}
-use Rattle.manifest_value.specs.Faults.{FaultIn, IsUnder}
-use Rattle.manifest_value.specs.declared.fault.ReadFault.{ReadFault}
+use Rattle.manifest_fault.specs.Faults.{FaultIn, IsUnder}
+use Rattle.manifest_fault.specs.declared.fault.ReadFault.{ReadFault}
 use Rattle.manifest_value.proofs.FirstLemmas.{plain_clean, faultless_before, faultless_under, first_before, first_same, first_under}
 
 -- THE FIRST FLOAT: the items and the entries before it have none

@@ -3,11 +3,13 @@ use Rattle.manifest_schema.specs.Prelude.{Data, Kind, Members, no_members, table
 use Rattle.manifest_schema.specs.OneFault.{HasOneFault}
 use Rattle.std.proofs.Common.{◌≡◌, ℕ, zero, suc, List, [], ◌∷◌, ◌++◌, refl, sym, ap, ap₂, ◌∙◌, drop, append_assoc, append-nil, inl}
 use Rattle.manifest_value.specs.FormRows.{many, AreAll}
-use Rattle.manifest_value.specs.Found.{found, findings_at, findings_from, other_findings, IsOpen, IsFoundHere}
-use Rattle.manifest_value.specs.Faults.{FaultIn, path_of, cause_of}
-use Rattle.manifest_value.specs.declared.fault.ReadFault.{ReadFault}
-use Rattle.manifest_value.specs.declared.fault.ReadFault.TheVariants.{Schema, Memory}
-use Rattle.manifest_value.specs.declared.findings.Findings.{Findings}
+use Rattle.manifest_fault.specs.Found.{found, IsFoundHere}
+use Rattle.manifest_value.specs.FoundRows.{findings_at, findings_from, other_findings, IsOpen}
+use Rattle.manifest_fault.specs.Faults.{FaultIn, path_of, cause_of}
+use Rattle.manifest_fault.specs.declared.fault.ReadFault.{ReadFault}
+use Rattle.manifest_fault.specs.declared.fault.ReadFault.TheVariants.{Schema, Memory}
+use Rattle.manifest_fault.specs.declared.findings.Findings.{Findings}
+use Rattle.manifest_fault.specs.declared.schema_findings.Finding.{Finding}
 use Rattle.manifest_value.specs.Walks.{names_of, slots_at}
 use Rattle.manifest_value.proofs.FormLemmas.{head_is, no_cons}
 
@@ -89,7 +91,8 @@ pub one_fault_read : {A : Type 0} {K : Kind A} {words : List Text} → HasOneFau
 one_fault_read h d x r = sym (h.none d x r)
 
 pub one_fault_refused : {A : Type 0} {K : Kind A} {words : List Text} → HasOneFault K words
-    → (d : Data) (e : ReadFault) (fs : Findings) → FaultIn (first_found (K.findings d)) e → IsFoundHere words e fs
+    → (d : Data) (e : ReadFault) (fs : Findings Finding) → FaultIn (first_found (K.findings d)) e
+    → IsFoundHere words e fs
     → found fs ≡ K.findings d
 one_fault_refused {K = K} h d (Schema f) fs stands alone =
     let is_fault = foremost_among (faults_of (K.findings d)) (path_of f.path) (cause_of f.cause) stands in

@@ -2,7 +2,7 @@
 use Rattle.manifest_schema.specs.Prelude.{or-false, replicate, and_parts, or_parts, or_cases, or_right, not-true, cases_Bool, slice_cmp, match_ordering, ordering_reverse, nat_list_cmp_total, is_eq-slice_cmp, bytes_eq-Decides, Data, Members, no_members, member, get_member, same_key, join, with_last, Text, Spellings, Slot, only, both, absent, slot_of_two, at, is_among, without, spell, differ, spellings_of}
 use Rattle.std.proofs.Common.{◌≡◌, ℕ, zero, suc, Bool, true, false, not, ◌||◌, if◌then◌else◌, List, [], ◌∷◌, Option, Some, None, Ordering, Less, Equal, Greater, nat_cmp, refl, sym, ap, ◌∙◌, subst, true≢false, inl, inr, ◌++◌, map, length, get_or, slice_set, bytes_eq, Bor, ◌<◌, arith, ◌+◌, drop, drop-cons, add-one}
 use Rattle.std.proofs.Math.Bool.{or_assoc}
-use Rattle.manifest_schema.proofs.TableLaws.{same_key-true, turned, get-member_other, get-member_same}
+use Rattle.manifest_schema.proofs.Tables.TableLaws.{same_key-true, turned, get-member_other, get-member_same}
 use Rattle.manifest_value.specs.Walks.{spellings_view, all_words, distinct_words, slots_at, filled, filled_at, is_word_at, IsBelow, Ascend}
 use Rattle.manifest_value.specs.Sources.{key_view, source_view, rest_view}
 use Rattle.manifest_value.specs.declared.entries.Key.{Key}

@@ -2,10 +2,10 @@
 use Rattle.manifest_schema.specs.Prelude.{BTreeMap, values, AllZip, Contains, AllocError, Global, array, table, view, items_view, members_view, Value, Path, Cause, key, index, Faults, under}
 use Rattle.std.specs.Prelude.{◌≡◌, ◌⊎◌, List, ◌∷◌, ◌++◌, length, Result, Ok, Err, String, Vec, string_bytes}
 use Rattle.toml.specs.declared.value.Value.{Array, Table}
-use Rattle.manifest_value.specs.Faults.{path_of, cause_of, no_list, no_table}
-use Rattle.manifest_value.specs.declared.fault.SchemaFault.{SchemaFault}
-use Rattle.manifest_value.specs.declared.fault.ReadFault.{ReadFault}
-use Rattle.manifest_value.specs.declared.fault.ReadFault.TheVariants.{Schema}
+use Rattle.manifest_fault.specs.Faults.{path_of, cause_of, no_list, no_table}
+use Rattle.manifest_fault.specs.declared.fault.SchemaFault.{SchemaFault}
+use Rattle.manifest_fault.specs.declared.fault.ReadFault.{ReadFault}
+use Rattle.manifest_fault.specs.declared.fault.ReadFault.TheVariants.{Schema}
 
 -- CALLS
 -- the results that the calls at some items gave, each of them Ok, in order

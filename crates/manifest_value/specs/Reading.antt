@@ -2,10 +2,10 @@
 use Rattle.manifest_schema.specs.Prelude.{BTreeMap, Global, Data, table, Members, table_view, Value, Text, Step, Spellings, first, Kind, Rows, form, first_found, found_under}
 use Rattle.manifest_schema.specs.Findings.{Finding}
 use Rattle.std.specs.Prelude.{◌≡◌, List, String, Result, Ok, Err}
-use Rattle.manifest_value.specs.Faults.{FaultIn}
-use Rattle.manifest_value.specs.Refusals.{RefusedIn}
-use Rattle.manifest_value.specs.declared.error.Error.{Error}
-use Rattle.manifest_value.specs.declared.fault.ReadFault.{ReadFault}
+use Rattle.manifest_fault.specs.Faults.{FaultIn}
+use Rattle.manifest_fault.specs.Refusals.{RefusedIn}
+use Rattle.manifest_fault.specs.declared.error.Error.{Error}
+use Rattle.manifest_fault.specs.declared.fault.ReadFault.{ReadFault}
 
 -- the data that a table is
 abbrev pub data_of : BTreeMap (String Global) Value → Data

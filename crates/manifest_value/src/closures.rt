@@ -3,9 +3,10 @@
 ghost use Rattle.manifest_schema.specs.Prelude.{values, FnReturnsAt, Contains, under, index, key};
 ghost use Rattle.std.specs.Prelude.{◌≡◌, IfOk, IfErr, Ok};
 ghost use Rattle.manifest_value.specs.Calls.{ItemsGiven, EntriesGiven, Refused, IsItemOf, ListGiven, ItemRefused, ListRefused, IsValueOf, MapGiven, EntryRefused, MapRefused};
-ghost use Rattle.manifest_value.specs.Faults.{FaultIn};
+ghost use Rattle.manifest_fault.specs.Faults.{FaultIn};
 
-use crate::fault::{Cause, ReadFault, Step, fault_here, fault_under_key, fault_under_step};
+use manifest_fault::fault::{fault_here, fault_under_key, fault_under_step};
+use manifest_fault::{Cause, ReadFault, Step};
 use std::alloc::Global;
 use std::collections::BTreeMap;
 use toml::{Table, Value};
@@ -32,7 +33,7 @@ fn read_at<T, F: Fn(&Value) -> Result<T, ReadFault>>(
 }
 
 /// Calls `read` with item `i` of a list: returns its answer, or its fault with the index before the path.
-#[tactic(auto, using(crate::proofs::Under::fault_under))]
+#[tactic(auto, using(manifest_fault::proofs::Under::fault_under))]
 fn item_at<T: Drop, F: Fn(&Value) -> Result<T, ReadFault>>(
     read: &F,
     item: &Value,
@@ -94,7 +95,7 @@ pub fn list_of<T: Drop, F: Fn(&Value) -> Result<T, ReadFault> + Drop>(
 
 /// Calls `read` with the value of the entry under the key `word`: returns its answer, or its fault with the key before
 /// the path.
-#[tactic(auto, using(crate::proofs::Under::fault_under))]
+#[tactic(auto, using(manifest_fault::proofs::Under::fault_under))]
 fn entry_at<T: Drop, F: Fn(&Value) -> Result<T, ReadFault>>(
     alloc: Global,
     read: &F,

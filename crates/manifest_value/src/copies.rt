@@ -2,7 +2,7 @@
 ghost use Rattle.manifest_schema.specs.Prelude.{Data, view, Entries};
 ghost use Rattle.std.specs.Prelude.{◌≡◌, ℕ, Bool, List, Option, IfOk, map, option_map, string_bytes, refl};
 ghost use Rattle.std.proofs.Common.{rules};
-ghost use Rattle.manifest_schema.proofs.CopyLaws.{items_copied, some_copied, entries_copied};
+ghost use Rattle.manifest_schema.proofs.Forms.CopyLaws.{items_copied, some_copied, entries_copied};
 ghost use Rattle.manifest_value.specs.Entries.{entries_content};
 
 use crate::metadata::Unread;

@@ -1,22 +1,23 @@
 //! What is found in lists, in maps, and row by row in the tables of forms.
 
-ghost use Rattle.manifest_schema.specs.Prelude.{Members, view, table_view, items_view, without, spelled, form_findings, row_findings, left_over, entry_findings, item_findings, table as table_data};
-ghost use Rattle.std.specs.Prelude.{◌≡◌, IfOk};
-ghost use Rattle.manifest_value.specs.Found.{found, findings_from, other_findings, IsOpen};
+ghost use Rattle.manifest_schema.specs.Prelude.{Members, view, table_view, items_view, without, spelled, form_findings, row_findings, left_over, entry_findings, item_findings, unused_keys, table as table_data};
+ghost use Rattle.std.specs.Prelude.{◌≡◌, ◌++◌, IfOk};
+ghost use Rattle.manifest_fault.specs.Found.{found};
+ghost use Rattle.manifest_value.specs.FoundRows.{findings_from, other_findings, IsOpen};
 ghost use Rattle.manifest_value.specs.Sources.{entries_view, rest_view};
 ghost use Rattle.manifest_value.specs.Walks.{Ascend};
 
 use crate::entries::{Entries, Entry};
-use crate::fault::Cause;
-use crate::findings::{Findings, Found};
 use crate::form::{Form, Rowed};
 use crate::schema::Schema;
 use crate::source::TableSource;
 use crate::walking::{entries_without, walk};
+use manifest_fault::{Cause, Finding, Findings, Found};
 use std::alloc::{AllocError, Global};
 use toml::{Table, Value};
 
 /// What is found in the items of a list, each with its index before the path.
+#[tactic(auto, using(manifest_fault::proofs::FindingTrees::finding_steps))]
 pub(crate) fn findings_of_items<T: Schema>(alloc: Global, items: &[Value]) -> Found
     ensures { IfOk result (λ f. found f ≡ item_findings T.kind.findings 0 (items_view items.now)) }
 {
@@ -28,6 +29,7 @@ pub(crate) fn findings_of_items<T: Schema>(alloc: Global, items: &[Value]) -> Fo
 }
 
 /// What is found in the values of entries, each with its key before the path.
+#[tactic(auto, using(manifest_fault::proofs::FindingTrees::finding_steps))]
 fn findings_of_entries<T: Schema>(alloc: Global, entries: Entries<'_>) -> Found
     ensures { IfOk result
         (λ f. found f ≡ entry_findings T.kind.findings (entries_view entries.entry)) }
@@ -60,7 +62,7 @@ fn findings_of_rest<T: Schema>(alloc: Global, rest: Vec<Entry<'_>>) -> Found
 pub fn findings_of_rows<'t, T: Rowed>(
     alloc: Global,
     table: &'t Table,
-) -> Result<(Findings, Vec<Entry<'t>>), AllocError>
+) -> Result<(Findings<Finding>, Vec<Entry<'t>>), AllocError>
     ensures { IfOk result (λ r. (found r.0 ≡ findings_from 0 T.rows (table_view table.entry.now))
         × (rest_view r.1.items ≡ without (spelled T.rows) (table_view table.entry.now))
         × Ascend (rest_view r.1.items)) }
@@ -76,6 +78,24 @@ pub fn findings_of_rows<'t, T: Rowed>(
     Ok((out, walk.rest))
 }
 
+/// These findings, and then the keys of entries that nothing reads.
+///
+/// ```ignore
+/// let all = and_unused(alloc, found, walk.rest)?;
+/// ```
+#[tactic(auto, using(manifest_fault::proofs::FindingTrees::finding_steps))]
+pub fn and_unused(alloc: Global, so_far: Findings<Finding>, rest: Vec<Entry<'_>>) -> Found
+    ensures { IfOk result
+        (λ f. found f ≡ found so_far ++ unused_keys (rest_view rest.entry.items)) }
+{
+    let mut out = so_far;
+    for (key, value) in rest {
+        drop(value);
+        out = out.and_here(Finding::Unused(key.into_string(alloc)?))?;
+    }
+    Ok(out)
+}
+
 /// What is found in a table by the rows of a form, and the entries under its keys that no row has.
 ///
 /// ```ignore
@@ -84,7 +104,7 @@ pub fn findings_of_rows<'t, T: Rowed>(
 pub fn findings_of_closed<'t, T: Form>(
     alloc: Global,
     table: &'t Table,
-) -> Result<(Findings, Vec<Entry<'t>>), AllocError>
+) -> Result<(Findings<Finding>, Vec<Entry<'t>>), AllocError>
     ensures { IfOk result (λ r. (found r.0 ≡ row_findings T.rows (table_view table.entry.now))
         × (rest_view r.1.items ≡ left_over T.rows (table_view table.entry.now))) }
 {
@@ -120,7 +140,7 @@ pub fn findings_of_form<T: Form>(alloc: Global, table: &Table) -> Found
         (λ f. found f ≡ form_findings T.rows (table_data (table_view table.now))) }
 {
     let (found, rest) = findings_of_closed::<T>(alloc, table)?;
-    found.and_unused(alloc, rest)
+    and_unused(alloc, found, rest)
 }
 
 /// What is found in a value of a form that ends with the map of all other keys, whose values are read as an `X`: row by

@@ -6,9 +6,10 @@ ghost use Rattle.std.specs.Iterator.{YieldsFirstBy, item_count};
 ghost use Rattle.manifest_value.specs.Reading.{Gives, GivesUnder};
 ghost use Rattle.manifest_value.specs.Sources.{source_value, source_view, items_left};
 
-use crate::fault::{ReadFault, Step, fault_under_step};
 use crate::schema::Schema;
 use crate::source::Source;
+use manifest_fault::fault::fault_under_step;
+use manifest_fault::{ReadFault, Step};
 use std::alloc::Global;
 use std::{slice, vec};
 use toml::Value;

@@ -6,17 +6,12 @@
 pub mod closures;
 pub mod copies;
 pub mod entries;
-pub mod error;
-pub mod fault;
-pub mod finding_lists;
-pub mod findings;
 pub mod form;
 pub mod form_findings;
 mod items;
 pub mod maps;
 pub mod metadata;
 pub mod numbers;
-pub mod path_text;
 pub mod plain;
 pub mod raw_values;
 pub mod readers;
@@ -34,11 +29,11 @@ pub mod writers;
 
 pub use closures::{list_of, map_of};
 pub use copies::{Copied, copy_of};
-pub use error::{Error, ParseFault};
-pub use fault::{Cause, KeyPath, ReadFault, SchemaFault, Step};
-pub use finding_lists::Finding;
-pub use findings::{Choices, FindingNode, Findings};
 pub use form::{Form, Rowed};
+pub use manifest_fault::{
+    Cause, Choices, Error, Finding, FindingNode, Findings, Found, KeyPath, ParseFault, ReadFault,
+    SchemaFault, Step,
+};
 pub use metadata::{Metadata, Unread};
 pub use plain::Plain;
 pub use raw_values::{holds_float, raw};

@@ -6,16 +6,15 @@ ghost use Rattle.manifest_value.specs.Entries.{entries_content, reads_first};
 ghost use Rattle.manifest_value.specs.Reading.{Reads, Gives, GivesOr};
 ghost use Rattle.manifest_value.specs.Sources.{source_view, table_source, key_view, rest_view, entries_view};
 ghost use Rattle.manifest_value.specs.Walks.{Ascend};
-ghost use Rattle.manifest_schema.proofs.KindLaws.{map_sound};
+ghost use Rattle.manifest_schema.proofs.Values.KindLaws.{map_sound};
 
 use crate::entries::{Entries, Entry, Key};
-use crate::fault::{Cause, ReadFault};
-use crate::findings::{Findings, Found};
 use crate::form_findings::findings_of_map;
 use crate::schema::Schema;
 use crate::source::{Source, TableSource, source_under};
 use crate::well_formed::values_are_well_formed;
 use crate::writers::entries_by;
+use manifest_fault::{Cause, Findings, Found, ReadFault};
 use std::alloc::{AllocError, Global};
 use std::collections::BTreeMap;
 use toml::{Table, Value};

@@ -2,14 +2,14 @@
 ghost use Rattle.manifest_schema.specs.Prelude.{view, table_view, put_some, plain, tree_of, nothing, unread, written_some, nothing_sound, unread_sound};
 ghost use Rattle.std.specs.Prelude.{◌≡◌, ◌↔◌, IsTrue, IfOk, IfErr, OnOk, option_map, refl};
 ghost use Rattle.std.proofs.Common.{subst};
-ghost use Rattle.manifest_value.specs.Faults.{FaultIn, IsSchema};
+ghost use Rattle.manifest_fault.specs.Faults.{FaultIn, IsSchema};
 ghost use Rattle.manifest_value.specs.Reading.{written_as};
 
-use crate::fault::{Cause, ReadFault, fault_here};
-use crate::findings::{Findings, Found};
 use crate::rows::put_optional;
 use crate::schema::Schema;
 use crate::source::Source;
+use manifest_fault::fault::fault_here;
+use manifest_fault::{Cause, Findings, Found, ReadFault};
 use std::alloc::{AllocError, Global};
 use toml::{Table, Value};
 

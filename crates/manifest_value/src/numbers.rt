@@ -2,12 +2,12 @@
 
 ghost use Rattle.std.specs.Prelude.{ℤ, pos, negsuc};
 ghost use Rattle.manifest_schema.specs.Kinds.{whole};
-ghost use Rattle.manifest_schema.proofs.KindLaws.{whole_sound};
+ghost use Rattle.manifest_schema.proofs.Values.KindLaws.{whole_sound};
 
-use crate::fault::{Cause, ReadFault, fault_here};
-use crate::findings::{Findings, Found};
 use crate::schema::Schema;
 use crate::source::Source;
+use manifest_fault::fault::fault_here;
+use manifest_fault::{Cause, Findings, Found, ReadFault};
 use std::alloc::{AllocError, Global};
 use toml::Value;
 

@@ -2,7 +2,7 @@
 
 ghost use Rattle.manifest_schema.specs.Prelude.{Data, Members, table, Path, Cause, IsPlain, faulty};
 ghost use Rattle.std.specs.Prelude.{◌≡◌};
-ghost use Rattle.manifest_schema.proofs.RowLaws.{text_plain, texts_plain};
+ghost use Rattle.manifest_schema.proofs.Forms.RowLaws.{text_plain, texts_plain};
 
 use crate::schema::Schema;
 

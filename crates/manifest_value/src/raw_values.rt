@@ -1,14 +1,14 @@
 //! Values that are kept as they are.
 ghost use Rattle.manifest_schema.specs.Prelude.{Data, view, array_view, table_view, plain, plain_items, plain_members, float_findings, item_floats, entry_floats, raw as raw_kind};
 ghost use Rattle.std.specs.Prelude.{◌≡◌, not, IsTrue, IfOk};
-ghost use Rattle.manifest_schema.proofs.KindLaws.{raw_sound};
-ghost use Rattle.manifest_value.specs.Found.{found};
+ghost use Rattle.manifest_schema.proofs.Values.KindLaws.{raw_sound};
+ghost use Rattle.manifest_fault.specs.Found.{found};
 ghost use Rattle.manifest_value.specs.Reading.{Gives, GivesOr};
 
-use crate::fault::{Cause, ReadFault, Step, fault_here, fault_under_key, fault_under_step};
-use crate::findings::{Findings, Found};
 use crate::schema::Schema;
 use crate::source::Source;
+use manifest_fault::fault::{fault_here, fault_under_key, fault_under_step};
+use manifest_fault::{Cause, Findings, Found, ReadFault, Step};
 use std::alloc::{AllocError, Global};
 use toml::{Table, Value};
 
@@ -116,6 +116,7 @@ fn find_floats(alloc: Global, value: &Value) -> Found
 
 /// Each float in the items of an array, with the item's index before its path.
 #[cycle(all_places)]
+#[tactic(auto, using(manifest_fault::proofs::FindingTrees::finding_steps))]
 fn find_floats_in_items(alloc: Global, items: &Vec<Value>) -> Found
     ensures { IfOk result (λ f. found f ≡ item_floats 0 (array_view items.now)) }
 {
@@ -128,6 +129,7 @@ fn find_floats_in_items(alloc: Global, items: &Vec<Value>) -> Found
 
 /// Each float in the values of a table, with the entry's key before its path.
 #[cycle(all_places)]
+#[tactic(auto, using(manifest_fault::proofs::FindingTrees::finding_steps))]
 fn find_floats_in_members(alloc: Global, members: &Table) -> Found
     ensures { IfOk result (λ f. found f ≡ entry_floats (table_view members.now)) }
 {

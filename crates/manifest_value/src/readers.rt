@@ -3,14 +3,15 @@
 ghost use Rattle.manifest_schema.specs.Prelude.{table as table_data, view, table_view, get_member, at, clash, text, flag, whole, list_of, spellings_of};
 ghost use Rattle.std.specs.Prelude.{◌≡◌, map, IfOk, IfErr, Some, string_bytes, option_map, option_copied};
 ghost use Rattle.manifest_schema.specs.Pins.{clash_at};
-ghost use Rattle.manifest_value.specs.Faults.{FaultIn, IsSchema, no_table};
+ghost use Rattle.manifest_fault.specs.Faults.{FaultIn, IsSchema, no_table};
 ghost use Rattle.manifest_value.specs.Reading.{Gives};
 ghost use Rattle.manifest_value.specs.Walks.{value_in};
 
-use crate::fault::{Cause, ReadFault, fault_here};
 use crate::rows::at_key;
 use crate::schema::Schema;
 use crate::source::Source;
+use manifest_fault::fault::fault_here;
+use manifest_fault::{Cause, ReadFault};
 use std::alloc::Global;
 use toml::{Table, Value};
 

@@ -4,23 +4,25 @@
 
 ghost use Rattle.manifest_schema.specs.Prelude.{view, key, found_under, Spellings as Words, first, free_findings, required_findings, lenient_findings};
 ghost use Rattle.std.specs.Prelude.{◌≡◌, IfOk};
-ghost use Rattle.manifest_value.specs.Found.{found, Finds};
+ghost use Rattle.manifest_fault.specs.Found.{found, Finds};
 ghost use Rattle.manifest_value.specs.Sources.{row_view};
 
-use crate::fault::Cause;
-use crate::findings::{Findings, Found};
 use crate::form::Word;
 use crate::row_slots::RowSlot;
 use crate::schema::Schema;
+use manifest_fault::{Cause, Findings, Found};
 use std::alloc::Global;
 use toml::Value;
 
 /// What is found in a value that stands under a key: each finding has the key before its path.
+#[tactic(auto, using(manifest_fault::proofs::FindingTrees::finding_steps))]
 fn found_under<T: Schema>(alloc: Global, word: &str, value: &Value) -> Found
     ensures { IfOk result
         (λ f. found f ≡ found_under (key word.now) (T.kind.findings (view value.now))) }
 {
-    Findings::none(alloc).and_under(alloc, word, T::findings(alloc, value)?)
+    let inside = T::findings(alloc, value)?;
+    let found = Findings::none(alloc).and_under(alloc, word, inside)?;
+    Ok(found)
 }
 
 /// What is found of a row that may be absent: two spellings are the fault `TwoSpellings` under the first one, `key`; else

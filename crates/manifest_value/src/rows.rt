@@ -1,12 +1,13 @@
 //! Reading a value under a key, and writing the rows of a form.
 ghost use Rattle.manifest_schema.specs.Prelude.{view, table_view, list_of, at_value, under, key, put_some, written_some, written_unless, is_empty};
 ghost use Rattle.std.specs.Prelude.{◌≡◌, Some, map, OnOk, option_map};
-ghost use Rattle.manifest_value.specs.Faults.{FaultIn, cause_of};
+ghost use Rattle.manifest_fault.specs.Faults.{FaultIn, cause_of};
 ghost use Rattle.manifest_value.specs.Reading.{GivesUnder};
 
-use crate::fault::{Cause, ReadFault, fault_here, fault_under_key};
 use crate::schema::Schema;
 use crate::source::{Source, source_under};
+use manifest_fault::fault::{fault_here, fault_under_key};
+use manifest_fault::{Cause, ReadFault};
 use std::alloc::{AllocError, Global};
 use toml::{Table, Value};
 
@@ -16,7 +17,7 @@ use toml::{Table, Value};
 /// let fault = at_key(alloc, "name", Cause::Missing); // reported as `missing at name`
 /// ```
 #[cold]
-#[tactic(auto, using(crate::proofs::Under::fault_under))]
+#[tactic(auto, using(manifest_fault::proofs::Under::fault_under))]
 pub fn at_key(alloc: Global, word: &str, cause: Cause) -> ReadFault
     ensures { FaultIn (under (key word.now) (at_value (cause_of cause))) result }
 {

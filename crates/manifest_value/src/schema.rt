@@ -2,22 +2,22 @@
 
 ghost use Rattle.manifest_schema.specs.Prelude.{view, Kind, text, flag, list_of, IsSound};
 ghost use Rattle.std.specs.Prelude.{◌≡◌, ◌↔◌, ℕ, Bool, List, IsTrue, map, IfOk, IfErr, string_bytes};
-ghost use Rattle.manifest_schema.proofs.KindLaws.{text_sound, flag_sound, list_sound};
-ghost use Rattle.manifest_value.specs.Faults.{IsSchema};
-ghost use Rattle.manifest_value.specs.Found.{found};
+ghost use Rattle.manifest_schema.proofs.Values.KindLaws.{text_sound, flag_sound, list_sound};
+ghost use Rattle.manifest_fault.specs.Faults.{IsSchema};
+ghost use Rattle.manifest_fault.specs.Found.{found};
 ghost use Rattle.manifest_value.specs.Reading.{Gives, Answers};
-ghost use Rattle.manifest_value.specs.Refusals.{IsSchemaError};
+ghost use Rattle.manifest_fault.specs.Refusals.{IsSchemaError};
 ghost use Rattle.manifest_value.specs.Sources.{source_view};
 
-use crate::error::{Error, refusal};
-use crate::fault::{Cause, ReadFault, fault_here};
-use crate::findings::{Findings, Found};
 use crate::form_findings::findings_of_items;
 use crate::items::{Items, read_items};
 use crate::readers::{boolean, text};
 use crate::source::Source;
 use crate::well_formed::items_are_well_formed;
 use crate::writers::{write_list, write_text};
+use manifest_fault::error::refusal;
+use manifest_fault::fault::fault_here;
+use manifest_fault::{Cause, Error, Findings, Found, ReadFault};
 use std::alloc::{AllocError, Global};
 use toml::Value;
 

@@ -2,15 +2,16 @@
 
 ghost use Rattle.manifest_schema.specs.Prelude.{view, key, found_under};
 ghost use Rattle.std.specs.Prelude.{◌≡◌, IfOk, IfErr};
-ghost use Rattle.manifest_value.specs.Faults.{FaultIn, no_table};
-ghost use Rattle.manifest_value.specs.Found.{HasNoFault};
+ghost use Rattle.manifest_fault.specs.Faults.{FaultIn, no_table};
+ghost use Rattle.manifest_value.specs.FoundRows.{HasNoFault};
 ghost use Rattle.manifest_value.specs.Reading.{GivesUnder, data_of};
 ghost use Rattle.manifest_value.specs.Sources.{source_view, members_of, table_source, entries_view};
 ghost use Rattle.manifest_value.specs.Walks.{Ascend};
 
 use crate::entries::Entries;
-use crate::fault::{Cause, ReadFault, fault_here, fault_under_key};
 use crate::schema::Schema;
+use manifest_fault::fault::{fault_here, fault_under_key};
+use manifest_fault::{Cause, ReadFault};
 use std::alloc::Global;
 use toml::{Table, Value};
 

@@ -1,6 +1,7 @@
 //! Listings, as the library takes them.
 
 use super::listings::Listings;
+use super::numbers;
 use super::refusal::ListingError;
 
 /// A slice that is borrowed: `struct manifest_bytes`, `manifest_names` and `manifest_folders` of `bindings/c/cargo_manifest.h`.
@@ -34,9 +35,9 @@ pub(crate) struct Folder {
 
 fn number_of(error: ListingError) -> u8 {
     match error {
-        ListingError::NotFound => 1,
-        ListingError::OutOfMemory => 2,
-        ListingError::Other => 3,
+        ListingError::NotFound => numbers::NOT_FOUND,
+        ListingError::OutOfMemory => numbers::OUT_OF_MEMORY,
+        ListingError::Other => numbers::OTHER_FAULT,
     }
 }
 

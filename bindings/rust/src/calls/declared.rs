@@ -2,6 +2,7 @@
 
 use super::folders::{with_folders, Folder, Slice};
 use super::listings::Listings;
+use super::numbers;
 use super::refusal::{Cause, ListingError, Part, Refusal};
 use std::sync::OnceLock;
 
@@ -104,30 +105,33 @@ pub(crate) fn text_of(bytes: Vec<u8>) -> String {
 
 /// The error of an answer that gives no text.
 fn refused(answer: Answer, text: Vec<u8>) -> Refusal {
-    let part = if (16..32).contains(&answer.status) { Part::Root } else { Part::Manifest };
+    let of_root = numbers::OF_ROOT..2 * numbers::OF_ROOT;
+    let part = if of_root.contains(&answer.status) { Part::Root } else { Part::Manifest };
     match answer.status {
-        1 | 17 => Refusal::Toml { part, message: text_of(text), range: answer.start..answer.end },
-        2 | 18 => match Cause::of_number(answer.cause) {
+        numbers::NO_TOML | numbers::ROOT_NO_TOML => {
+            Refusal::Toml { part, message: text_of(text), range: answer.start..answer.end }
+        }
+        numbers::SCHEMA | numbers::ROOT_SCHEMA => match Cause::of_number(answer.cause) {
             Some(cause) => Refusal::Schema { part, cause, path: text_of(text) },
             None => is_broken(),
         },
-        3 => Refusal::Io(match answer.cause {
-            1 => ListingError::NotFound,
-            2 => ListingError::OutOfMemory,
+        numbers::IO => Refusal::Io(match answer.cause {
+            numbers::NOT_FOUND => ListingError::NotFound,
+            numbers::OUT_OF_MEMORY => ListingError::OutOfMemory,
             _ => ListingError::Other,
         }),
-        4 | 20 => Refusal::Utf8(part),
-        5 => Refusal::Other(text_of(text)),
-        6 => Refusal::Memory,
-        7 => Refusal::Date(text_of(text)),
-        9 => Refusal::NoWorkspace,
-        10 => Refusal::NotInWorkspace(text_of(text)),
-        11 => Refusal::InheritedInWorkspace(text_of(text)),
-        12 => Refusal::MixedLints,
-        13 => Refusal::ToolNamedWorkspace,
-        14 | 30 => Refusal::Untagged(part),
-        15 | 31 => Refusal::TooDeep(part),
-        32 => Refusal::TooLong,
+        numbers::NOT_UTF8 | numbers::ROOT_NOT_UTF8 => Refusal::Utf8(part),
+        numbers::OTHER => Refusal::Other(text_of(text)),
+        numbers::MEMORY => Refusal::Memory,
+        numbers::DATE => Refusal::Date(text_of(text)),
+        numbers::NO_WORKSPACE => Refusal::NoWorkspace,
+        numbers::NOT_IN_WORKSPACE => Refusal::NotInWorkspace(text_of(text)),
+        numbers::INHERITED_IN_WORKSPACE => Refusal::InheritedInWorkspace(text_of(text)),
+        numbers::MIXED_LINTS => Refusal::MixedLints,
+        numbers::TOOL_NAMED_WORKSPACE => Refusal::ToolNamedWorkspace,
+        numbers::UNTAGGED | numbers::ROOT_UNTAGGED => Refusal::Untagged(part),
+        numbers::TOO_DEEP | numbers::ROOT_TOO_DEEP => Refusal::TooDeep(part),
+        numbers::TOO_LONG => Refusal::TooLong,
         _ => is_broken(),
     }
 }
@@ -170,7 +174,7 @@ fn bytes_of(room: usize, run: impl Fn(*mut u8, usize) -> Answer) -> Result<Vec<u
         }
         out.truncate(answer.length);
         return match answer.status {
-            0 => Ok(out),
+            numbers::ACCEPTED => Ok(out),
             _ => Err(refused(answer, out)),
         };
     }

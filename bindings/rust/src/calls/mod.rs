@@ -21,6 +21,8 @@ mod folders;
 #[allow(unsafe_code)] // (it stands in the place of functions in C)
 pub(crate) mod heap;
 mod listings;
+#[allow(dead_code)] // (no call of this crate is refused with LISTINGS)
+mod numbers;
 mod refusal;
 pub(crate) mod tables;
 #[cfg(test)]

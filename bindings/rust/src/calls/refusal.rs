@@ -8,21 +8,22 @@ use std::ops::Range;
 #[derive(Clone, Copy, Debug, PartialEq, Eq, Hash)]
 #[non_exhaustive]
 pub enum Cause {
-    /// The value is of another kind.
+    // (made by scripts/keys --write)
+    /// The value is of another kind, as a number for a text.
     WrongKind,
-    /// A required key is absent.
+    /// A required key is absent; the path ends with it.
     Missing,
-    /// A table has a key by both of its spellings.
+    /// A table has a key by both spellings, as `default-features` and `default_features`.
     TwoSpellings,
-    /// The text is not one of the choice.
+    /// The text is none of those that may stand there, as `edition = "2020"`.
     NotAChoice,
-    /// The whole number is out of range.
+    /// The whole number is too large or too small.
     OutOfRange,
-    /// The boolean is not true.
+    /// A boolean that has to be true is false.
     NotTrue,
-    /// A float stands there.
+    /// A value that is kept as it is, as metadata, holds a float.
     HoldsFloat,
-    /// The metadata type refuses the value.
+    /// The type of the metadata refuses it; no call of the library has such a type.
     Metadata,
 }
 
@@ -30,6 +31,7 @@ impl Cause {
     /// The cause of a number, as the library returns it.
     pub(crate) fn of_number(number: u8) -> Option<Cause> {
         Some(match number {
+            // (made by scripts/keys --write)
             1 => Cause::WrongKind,
             2 => Cause::Missing,
             3 => Cause::TwoSpellings,
@@ -46,6 +48,7 @@ impl Cause {
 impl fmt::Display for Cause {
     fn fmt(&self, f: &mut fmt::Formatter<'_>) -> fmt::Result {
         f.write_str(match self {
+            // (made by scripts/keys --write)
             Cause::WrongKind => "wrong kind",
             Cause::Missing => "missing",
             Cause::TwoSpellings => "two spellings",

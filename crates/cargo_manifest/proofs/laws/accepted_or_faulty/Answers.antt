@@ -1,5 +1,5 @@
-use Rattle.manifest_schema.proofs.KindLaws.{tree_sound}
-use Rattle.manifest_schema.proofs.FoundLaws.{accepted_or_faulty}
+use Rattle.manifest_schema.proofs.Values.KindLaws.{tree_sound}
+use Rattle.manifest_schema.proofs.Findings.FoundLaws.{accepted_or_faulty}
 use Rattle.cargo_manifest.proofs.laws.accepted_or_faulty.Goals as goal
 
 pub returns : goal.returns

@@ -1,5 +1,5 @@
-use Rattle.manifest_schema.proofs.KindLaws.{tree_sound}
-use Rattle.manifest_schema.proofs.FoundLaws.{faulty_means_nothing}
+use Rattle.manifest_schema.proofs.Values.KindLaws.{tree_sound}
+use Rattle.manifest_schema.proofs.Findings.FoundLaws.{faulty_means_nothing}
 use Rattle.cargo_manifest.proofs.laws.faulty_means_nothing.Goals as goal
 
 pub returns : goal.returns

@@ -1,6 +1,6 @@
-use Rattle.manifest_schema.proofs.KindLaws.{tree_sound}
-use Rattle.manifest_schema.proofs.ManifestLaws.{manifest_sound}
-use Rattle.manifest_schema.proofs.OldLaws.{clean_of}
+use Rattle.manifest_schema.proofs.Values.KindLaws.{tree_sound}
+use Rattle.manifest_schema.proofs.Forms.ManifestLaws.{manifest_sound}
+use Rattle.manifest_schema.proofs.Meaning.OldLaws.{clean_of}
 use Rattle.cargo_manifest.proofs.laws.finds_nothing_written.Goals as goal
 
 pub returns-clause-form : goal.returns-clause-form

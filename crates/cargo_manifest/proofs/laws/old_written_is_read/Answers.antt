@@ -1,5 +1,5 @@
-use Rattle.manifest_schema.proofs.KindLaws.{tree_sound}
-use Rattle.manifest_schema.proofs.FormerLaws.{old_written_is_read}
+use Rattle.manifest_schema.proofs.Values.KindLaws.{tree_sound}
+use Rattle.manifest_schema.proofs.Meaning.FormerLaws.{old_written_is_read}
 use Rattle.cargo_manifest.proofs.laws.old_written_is_read.Goals as goal
 
 pub returns : goal.returns

@@ -1,5 +1,5 @@
-use Rattle.manifest_schema.proofs.KindLaws.{tree_sound}
-use Rattle.manifest_schema.proofs.MeaningLaws.{rewritten_twice_is_once}
+use Rattle.manifest_schema.proofs.Values.KindLaws.{tree_sound}
+use Rattle.manifest_schema.proofs.Meaning.MeaningLaws.{rewritten_twice_is_once}
 use Rattle.cargo_manifest.proofs.laws.rewritten_twice_is_once.Goals as goal
 
 pub returns : goal.returns

@@ -1,5 +1,5 @@
-use Rattle.manifest_schema.proofs.KindLaws.{tree_sound}
-use Rattle.manifest_schema.proofs.WrittenLaws.{rewritten_without_unused}
+use Rattle.manifest_schema.proofs.Values.KindLaws.{tree_sound}
+use Rattle.manifest_schema.proofs.Meaning.WrittenLaws.{rewritten_without_unused}
 use Rattle.cargo_manifest.proofs.laws.rewritten_without_unused.Goals as goal
 
 pub returns : goal.returns

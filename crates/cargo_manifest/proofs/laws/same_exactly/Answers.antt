@@ -1,5 +1,5 @@
-use Rattle.manifest_schema.proofs.KindLaws.{tree_sound}
-use Rattle.manifest_schema.proofs.MeaningLaws.{same_exactly}
+use Rattle.manifest_schema.proofs.Values.KindLaws.{tree_sound}
+use Rattle.manifest_schema.proofs.Meaning.MeaningLaws.{same_exactly}
 use Rattle.cargo_manifest.proofs.laws.same_exactly.Goals as goal
 
 pub returns : goal.returns

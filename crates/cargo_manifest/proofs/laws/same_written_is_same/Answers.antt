@@ -1,5 +1,5 @@
-use Rattle.manifest_schema.proofs.KindLaws.{tree_sound}
-use Rattle.manifest_schema.proofs.MeaningLaws.{same_written_is_same}
+use Rattle.manifest_schema.proofs.Values.KindLaws.{tree_sound}
+use Rattle.manifest_schema.proofs.Meaning.MeaningLaws.{same_written_is_same}
 use Rattle.cargo_manifest.proofs.laws.same_written_is_same.Goals as goal
 
 pub returns : goal.returns

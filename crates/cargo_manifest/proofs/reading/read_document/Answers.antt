@@ -1,5 +1,5 @@
 use Rattle.toml.specs.View.{table_view}
-use Rattle.manifest_schema.proofs.KindLaws.{tree_sound}
+use Rattle.manifest_schema.proofs.Values.KindLaws.{tree_sound}
 use Rattle.cargo_manifest.proofs.FaultLemmas.{refuses_table}
 use Rattle.cargo_manifest.proofs.reading.read_document.Goals as goal
 

@@ -1,6 +1,6 @@
 use Rattle.manifest_schema.specs.Prelude.{get_member, table_view, tree_of}
 use Rattle.std.proofs.Common.{codes}
-use Rattle.manifest_schema.proofs.KindLaws.{tree_sound}
+use Rattle.manifest_schema.proofs.Values.KindLaws.{tree_sound}
 use Rattle.cargo_manifest.proofs.FirstFaults.{first_of_package}
 use Rattle.cargo_manifest.proofs.reading.read_headless.Goals as goal
 

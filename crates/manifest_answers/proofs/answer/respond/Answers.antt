@@ -20,7 +20,7 @@ returns-clause-answers c =
           c.make-made.ensures.ok c.make-made.ensures.refused c.output_or_refusal-text.ensures.made
           c.output_or_refusal-text.ensures.refused;
       outcome = c.outcome-report.ensures;
-      hands = c.write_answer.ensures;
+      returned = c.write_answer.ensures;
     }
 
 pub returns-clause-dates : goal.returns-clause-dates

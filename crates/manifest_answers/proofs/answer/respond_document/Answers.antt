@@ -6,5 +6,5 @@ returns c = record {
   report = c.outcome-report.result;
   is_made = c.document_table-document.ensures;
   outcome = c.outcome-report.ensures;
-  hands = c.write_answer.ensures;
+  returned = c.write_answer.ensures;
 }

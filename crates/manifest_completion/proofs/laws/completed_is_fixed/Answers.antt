@@ -1,5 +1,5 @@
 use Rattle.manifest_schema.specs.Kinds.{tree_of}
-use Rattle.manifest_schema.proofs.KindLaws.{tree_sound}
+use Rattle.manifest_schema.proofs.Values.KindLaws.{tree_sound}
 use Rattle.manifest_completion.proofs.CompletedLaws.{completed_fixed}
 use Rattle.manifest_completion.proofs.laws.completed_is_fixed.Goals as goal
 

@@ -1,6 +1,6 @@
 use Rattle.std.proofs.Common.{◌≡◌, ◌++◌, map, drop}
 use Rattle.manifest_parts.specs.Records.{product_content}
-use Rattle.manifest_value.specs.Faults.{path_of}
+use Rattle.manifest_fault.specs.Faults.{path_of}
 use Rattle.manifest_completion.specs.Steps.{defaults_content}
 use Rattle.manifest_completion.specs.Unfound.{as_completed, without_path}
 use Rattle.manifest_completion.proofs.unfound.push_without_path.Given as goal

@@ -1,6 +1,6 @@
 use Rattle.manifest_schema.specs.Prelude.{string, table, no_members, member, detailed_rows}
 use Rattle.std.proofs.Common.{codes, rules, string_bytes, sym}
-use Rattle.manifest_schema.proofs.PartLaws.{detailed_sound}
+use Rattle.manifest_schema.proofs.Forms.PartLaws.{detailed_sound}
 use Rattle.manifest_inherit.specs.Resolved.{version_alone}
 use Rattle.manifest_inherit.proofs.dependency.version_alone.Goals as goal
 

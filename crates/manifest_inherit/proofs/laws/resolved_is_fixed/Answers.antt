@@ -1,5 +1,5 @@
 use Rattle.manifest_schema.specs.Prelude.{Data, Kind, tree_of}
-use Rattle.manifest_schema.proofs.KindLaws.{tree_sound}
+use Rattle.manifest_schema.proofs.Values.KindLaws.{tree_sound}
 use Rattle.manifest_completion.proofs.CompletedLaws.{completed_fixed}
 use Rattle.cargo_manifest.proofs.WellFormedLaws.{package_by_metadata, workspace_by_parts, manifest_by_parts}
 use Rattle.manifest_inherit.specs.Laws.{ResolvedIsWellFormed}

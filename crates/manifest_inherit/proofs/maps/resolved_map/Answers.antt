@@ -7,13 +7,11 @@ use Rattle.manifest_inherit.proofs.maps.resolved_map.Goals as goal
 pub map_of_list-requires : goal.map_of_list-requires
 map_of_list-requires g c =
     ascend_as (g.T.Resolvable.resolved (shared_by_map c.args.shared.now)) g.T.Resolvable.content c.in_ok-list.list.items
-    c.args.own.now.entries c.in_ok-list.ensures.ok.1
+    c.args.own.now.entries c.in_ok-list.ensures
     c.len-in_order.ensures.ordered
 
-pub returns-clause-ok : goal.returns-clause-ok
-returns-clause-ok g c =
-    let made = c.in_ok-map_of_list.field-0 in (
-      c.in_ok-list.ensures.ok.0,
-      same_content g.T.Resolvable.content made.entries c.in_ok-list.list.items
-          c.in_ok-map_of_list.ensures ∙ c.in_ok-list.ensures.ok.1,
-    )
+pub returns : goal.returns
+returns g c =
+    let made = c.in_ok-map_of_list.field-0 in
+    same_content g.T.Resolvable.content made.entries c.in_ok-list.list.items c.in_ok-map_of_list.ensures
+    ∙ c.in_ok-list.ensures

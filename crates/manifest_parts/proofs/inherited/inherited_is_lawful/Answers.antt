@@ -1,7 +1,7 @@
 use Rattle.manifest_schema.specs.Prelude.{Data, Kind, Inheritable, inherited, local, inherits, inh, good_inh, IsSound, IsPlain}
 use Rattle.std.proofs.Common.{◌≡◌, true}
-use Rattle.manifest_schema.proofs.KindLaws.{inh_sound}
-use Rattle.manifest_schema.proofs.OldLaws.{lawful_of}
+use Rattle.manifest_schema.proofs.Values.KindLaws.{inh_sound}
+use Rattle.manifest_schema.proofs.Meaning.OldLaws.{lawful_of}
 use Rattle.manifest_parts.proofs.inherited.inherited_is_lawful.Goals as goal
 
 -- each content of what may be inherited is well-formed

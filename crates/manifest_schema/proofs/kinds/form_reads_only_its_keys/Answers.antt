@@ -1,4 +1,4 @@
-use Rattle.manifest_schema.proofs.Pinned.{form_reads_only}
+use Rattle.manifest_schema.proofs.Findings.Pinned.{form_reads_only}
 use Rattle.manifest_schema.proofs.kinds.form_reads_only_its_keys.Goals as goal
 
 pub returns : goal.returns

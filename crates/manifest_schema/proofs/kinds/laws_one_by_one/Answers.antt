@@ -1,4 +1,4 @@
-use Rattle.manifest_schema.proofs.OldLaws.{total_of, tidy_of}
+use Rattle.manifest_schema.proofs.Meaning.OldLaws.{total_of, tidy_of}
 use Rattle.manifest_schema.proofs.kinds.laws_one_by_one.Goals as goal
 
 pub returns-clause-total : goal.returns-clause-total

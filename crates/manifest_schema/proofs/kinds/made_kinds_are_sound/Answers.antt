@@ -1,5 +1,5 @@
-use Rattle.manifest_schema.proofs.KindLaws.{list_sound, map_sound, inh_sound, tree_sound}
-use Rattle.manifest_schema.proofs.OldLaws.{inh_total}
+use Rattle.manifest_schema.proofs.Values.KindLaws.{list_sound, map_sound, inh_sound, tree_sound}
+use Rattle.manifest_schema.proofs.Meaning.OldLaws.{inh_total}
 use Rattle.manifest_schema.proofs.kinds.made_kinds_are_sound.Goals as goal
 
 pub returns-clause-list_is : goal.returns-clause-list_is

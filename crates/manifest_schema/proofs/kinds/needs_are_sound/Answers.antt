@@ -1,4 +1,4 @@
-use Rattle.manifest_schema.proofs.NeedLaws.{optional_sound, default_sound, lenient_optional_sound, lenient_default_sound, default_finds, lenient_default_finds}
+use Rattle.manifest_schema.proofs.Values.NeedLaws.{optional_sound, default_sound, lenient_optional_sound, lenient_default_sound, default_finds, lenient_default_finds}
 use Rattle.manifest_schema.proofs.kinds.needs_are_sound.Goals as goal
 
 pub returns-clause-optional_is : goal.returns-clause-optional_is

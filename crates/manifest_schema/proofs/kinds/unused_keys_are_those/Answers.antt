@@ -1,4 +1,4 @@
-use Rattle.manifest_schema.proofs.Pinned.{inherited_unused}
+use Rattle.manifest_schema.proofs.Findings.Pinned.{inherited_unused}
 use Rattle.manifest_schema.proofs.kinds.unused_keys_are_those.Goals as goal
 
 pub returns-clause-of_inherited : goal.returns-clause-of_inherited

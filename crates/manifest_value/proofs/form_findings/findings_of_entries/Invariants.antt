@@ -1,6 +1,6 @@
 use Rattle.std.proofs.Common.{◌≡◌, ◌++◌}
 use Rattle.manifest_schema.specs.Prelude.{entry_findings}
-use Rattle.manifest_value.specs.Found.{found}
+use Rattle.manifest_fault.specs.Found.{found}
 use Rattle.manifest_value.specs.Sources.{entries_view}
 use Rattle.manifest_value.proofs.form_findings.findings_of_entries.Given as goal
 

@@ -1,6 +1,6 @@
 use Rattle.std.proofs.Common.{◌≡◌, ◌++◌, drop}
 use Rattle.manifest_schema.specs.Prelude.{items_view, item_findings}
-use Rattle.manifest_value.specs.Found.{found}
+use Rattle.manifest_fault.specs.Found.{found}
 use Rattle.manifest_value.proofs.form_findings.findings_of_items.Given as goal
 
 -- what is found in the items so far, and in those that are to come

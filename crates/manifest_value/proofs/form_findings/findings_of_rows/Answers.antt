@@ -1,10 +1,12 @@
 use Rattle.manifest_schema.specs.Prelude.{table_view, without}
 use Rattle.std.proofs.Common.{◌≡◌, ◌++◌, suc, map, sym, ap, ◌∙◌, arith, add-one, append_assoc, append-nil, get_or}
 use Rattle.manifest_value.specs.FormRows.{many}
-use Rattle.manifest_value.specs.Found.{found, findings_at, findings_from}
+use Rattle.manifest_fault.specs.Found.{found}
+use Rattle.manifest_value.specs.FoundRows.{findings_at, findings_from}
 use Rattle.manifest_value.specs.Sources.{row_view}
 use Rattle.manifest_value.specs.Walks.{spellings_view, names_of, all_words, slots_at}
 use Rattle.manifest_value.proofs.FormLemmas.{as_many, as_many_slots, at_place, first_of, words_spelled}
+use Rattle.manifest_fault.proofs.FindingTrees.{found_and}
 use Rattle.manifest_value.proofs.FoundLemmas.{one_found, none_found}
 use Rattle.manifest_value.proofs.form_findings.findings_of_rows.Goals as goal
 
@@ -45,7 +47,7 @@ loop-i-preserved g c =
     let row = c.in_ok-row_findings.ensures words (first_of _ _) ∙ ap (λ s. findings_at i rows words (row_view s))
     c.index-slots-i.is in
     rw add-one
-    (ap (λ x. x ++ findings_from (suc i) rows ms) (c.in_ok-out.ensures ∙ ap (λ x. so_far ++ x) row)
+    (ap (λ x. x ++ findings_from (suc i) rows ms) (found_and _ _ _ c.in_ok-out.ensures ∙ ap (λ x. so_far ++ x) row)
     ∙ append_assoc so_far (findings_at i rows words _) (findings_from (suc i) rows ms)
     ∙ ap (λ x. so_far ++ x) (sym (one_found rows i ms _ _ _ _ name slot)) ∙ c.loop-i.invariant)
 

@@ -1,6 +1,7 @@
 use Rattle.std.proofs.Common.{◌≡◌, ◌++◌}
 use Rattle.manifest_schema.specs.Prelude.{table_view}
-use Rattle.manifest_value.specs.Found.{found, findings_from}
+use Rattle.manifest_fault.specs.Found.{found}
+use Rattle.manifest_value.specs.FoundRows.{findings_from}
 use Rattle.manifest_value.proofs.form_findings.findings_of_rows.Given as goal
 
 -- what is found of the rows so far, and of those that are to come

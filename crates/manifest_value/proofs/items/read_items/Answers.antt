@@ -1,7 +1,7 @@
 use Rattle.manifest_schema.specs.Prelude.{Data, Items, items_view, index, first_found, found_under, length-map}
 use Rattle.std.proofs.Common.{◌≡◌, length, map, ap, subst, sym, ◌∙◌, rules}
 use Rattle.manifest_value.specs.Sources.{source_view, items_left}
-use Rattle.manifest_value.specs.Faults.{FaultIn}
+use Rattle.manifest_fault.specs.Faults.{FaultIn}
 use Rattle.manifest_value.proofs.FirstLemmas.{first_item}
 use Rattle.manifest_value.proofs.ReadingLemmas.{reads_first_items, items_more, no_item_left}
 use Rattle.manifest_value.proofs.items.read_items.Goals as goal

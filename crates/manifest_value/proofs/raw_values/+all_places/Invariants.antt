@@ -1,6 +1,6 @@
 use Rattle.manifest_schema.specs.Prelude.{items_view, members_view, item_floats, entry_floats}
 use Rattle.std.proofs.Common.{◌≡◌, ◌++◌, drop}
-use Rattle.manifest_value.specs.Found.{found}
+use Rattle.manifest_fault.specs.Found.{found}
 use Rattle.manifest_value.proofs.raw_values.+all_places.Given as goal
 
 abbrev pub invariant-find_floats_in_items-loop-i : goal.invariant-find_floats_in_items-loop-i

@@ -1,6 +1,6 @@
 use Rattle.manifest_schema.specs.Prelude.{members_view, Value, plain_members, key, faults_of, entry_floats}
 use Rattle.std.proofs.Common.{arith, add-one, String, Global, string_bytes, ap, ◌∙◌}
-use Rattle.manifest_value.specs.Faults.{IsUnder}
+use Rattle.manifest_fault.specs.Faults.{IsUnder}
 use Rattle.manifest_value.proofs.FloatLemmas.{plain_left, plain_before, first_float_item, plain_entry_before, first_float_entry}
 use Rattle.manifest_value.proofs.raw_values.+places.Goals as goal
 

@@ -1,6 +1,6 @@
 use Rattle.std.proofs.Common.{◌≡◌, ap, None, map}
 use Rattle.std.specs.Prelude.{option_map}
-use Rattle.manifest_value.specs.Faults.{path_of}
+use Rattle.manifest_fault.specs.Faults.{path_of}
 use Rattle.toml.specs.View.{view}
 use Rattle.cargo_manifest.specs.Tables.{package_content}
 use Rattle.cargo_manifest.specs.Whole.{manifest_content}

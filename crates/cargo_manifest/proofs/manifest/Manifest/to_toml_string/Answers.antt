@@ -1,8 +1,8 @@
 use Rattle.manifest_schema.specs.Prelude.{Members, members_depth, table_view, tree_of, rewritten}
 use Rattle.std.proofs.Common.{◌≡◌, ◌≤◌, Some, string_bytes, subst}
 use Rattle.toml.specs.Parse.{parse_document}
-use Rattle.manifest_schema.proofs.KindLaws.{tree_sound}
-use Rattle.manifest_schema.proofs.MeaningLaws.{written_means_the_same}
+use Rattle.manifest_schema.proofs.Values.KindLaws.{tree_sound}
+use Rattle.manifest_schema.proofs.Meaning.MeaningLaws.{written_means_the_same}
 use Rattle.cargo_manifest.specs.Whole.{manifest_of}
 use Rattle.cargo_manifest.proofs.manifest.Manifest.to_toml_string.Goals as goal
 

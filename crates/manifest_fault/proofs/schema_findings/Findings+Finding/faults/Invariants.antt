@@ -1,0 +1,12 @@
+use Rattle.std.proofs.Common.{◌≡◌, ◌++◌, map}
+use Rattle.std.specs.Vec.Iter.{into_iter_items}
+use Rattle.manifest_schema.specs.Prelude.{faults_of}
+use Rattle.manifest_fault.specs.Placed.{place_of}
+use Rattle.manifest_fault.specs.Found.{fault_of, findings_of, found}
+use Rattle.manifest_fault.proofs.schema_findings.Findings+Finding.faults.Given as goal
+
+-- those so far, and those that are to come
+abbrev pub invariant-loop-path : goal.invariant-loop-path
+invariant-loop-path l =
+    map fault_of l.faults.items ++ faults_of (findings_of (map place_of (into_iter_items l.path-iterator))) ≡ faults_of
+    (found l.self)

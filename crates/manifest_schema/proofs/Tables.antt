@@ -1,0 +1,3 @@
+-- Tables: their order, and what is left out of them.
+pub mod TableLaws
+pub mod LeftOutLaws
