@@ -1,6 +1,6 @@
 """What the Rust crate answered on made inputs (tests/rust-answers of the repository), replayed on the package.
 
-The judge is scripts/answers, whose runs of a program become calls of the package here. It reads texts by tomllib.
+The judge is scripts/try/answers, whose runs of a program become calls of the package here. It reads texts by tomllib.
 """
 import importlib.machinery
 import importlib.util
@@ -15,7 +15,7 @@ from cargo_manifest import Cause, ManifestError, canonical, completed, completed
 
 from .places import TOP
 
-SCRIPTS = TOP / "scripts"
+SCRIPTS = TOP / "scripts" / "try"
 
 try:
     import tomllib
@@ -37,7 +37,7 @@ def answers_script() -> Any:
 
 
 answers = answers_script()
-runs = sys.modules["runs"]
+runs = sys.modules["shared.runs"]
 
 
 def said_by(call: Any, *words: Any) -> tuple[int, bytes, bytes]:
@@ -54,7 +54,7 @@ def said_by_both(text: Any, values: Any, *words: Any) -> tuple[int, bytes, bytes
     """What the call for a text says. The call for its table has to say the same by values, or to refuse alike."""
     said = said_by(text, *words)
     if said[0] == 0:
-        assert runs.told(values(*words)) == runs.told(tomllib.loads(said[1].decode("utf-8")))
+        assert runs.with_kinds(values(*words)) == runs.with_kinds(tomllib.loads(said[1].decode("utf-8")))
     else:
         assert said_by(values, *words) == said
     return said

@@ -1,5 +1,5 @@
-//! The sum by which the build script knows that the archive is not damaged. `scripts/packages` of the repository tries what the
-//! script says of a damaged archive and of other targets.
+//! The sum by which the build script knows that the archive is not damaged. `scripts/ship/packages` of the repository tries
+//! what the script says of a damaged archive and of other targets.
 
 #[allow(dead_code)]
 #[path = "../build.rs"]

@@ -2,8 +2,8 @@
 //! stack, which has to be enough for all of them, and with no more memory than `docs/LIBRARY.md` says.
 //!
 //! `MANIFEST_HOSTILE` says how many inputs there are, 2,000 where it is not set, `MANIFEST_HOSTILE_FROM` the number of the
-//! first, and `MANIFEST_HOSTILE_STACK` how many KiB the stack has; `scripts/hostile --library FOLDER` has 200,000 inputs. An
-//! input whose thread runs out of its stack is named as that thread.
+//! first, and `MANIFEST_HOSTILE_STACK` how many KiB the stack has; `scripts/try/hostile --library FOLDER` has 200,000
+//! inputs. An input whose thread runs out of its stack is named as that thread.
 
 mod inputs;
 
