@@ -407,7 +407,8 @@ def rowed_methods(form):
             "read_row_of(self, alloc, i, key, slot)",
         "row_findings(&self, alloc: Global, i: usize, key: Word, slot: &RowSlot<'_>) -> Found":
             "findings_of_row(self, alloc, i, key, slot)",
-        "put_row(&self, alloc: Global, i: usize, key: Word, out: &mut Table) -> RowPut": "put_row_of(self, alloc, i, key, out)",
+        "put_row<'a>(&'a self, alloc: Global, i: usize, key: Word, out: &mut Pairs<'a>) -> RowPut":
+            "put_row_of(self, alloc, i, key, out)",
         "row_is_well_formed(&self, i: usize) -> bool": "good_row_of(self, i)",
     }
     return [[f"fn {head} {{", f"    {form.macro}!({call})", "}"] for head, call in methods.items()]

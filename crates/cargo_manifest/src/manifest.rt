@@ -21,6 +21,7 @@ use manifest_value::{
     Form, Found, Metadata, Spellings, empty_of, findings_of_row, good_row_of, names_of_rows,
     put_row_of, read_row_of,
 };
+use manifest_written::Pairs;
 use std::alloc::{AllocError, Global};
 use toml::{Table, Value};
 
@@ -183,7 +184,7 @@ impl<P: Metadata, W: Metadata> Rowed for Manifest<P, W> {
         manifest!(findings_of_row(self, alloc, i, key, slot))
     }
 
-    fn put_row(&self, alloc: Global, i: usize, key: Word, out: &mut Table) -> RowPut {
+    fn put_row<'a>(&'a self, alloc: Global, i: usize, key: Word, out: &mut Pairs<'a>) -> RowPut {
         manifest!(put_row_of(self, alloc, i, key, out))
     }
 

@@ -18,6 +18,7 @@ use manifest_value::{
     Form, Found, Metadata, ReadFault, Spellings, TableSource, empty_of, findings_of_row,
     good_row_of, names_of_rows, put_row_of, read_row_of,
 };
+use manifest_written::Pairs;
 use std::alloc::Global;
 use toml::{Table, Value};
 
@@ -278,7 +279,7 @@ impl<M: Metadata> Rowed for Package<M> {
         package!(findings_of_row(self, alloc, i, key, slot))
     }
 
-    fn put_row(&self, alloc: Global, i: usize, key: Word, out: &mut Table) -> RowPut {
+    fn put_row<'a>(&'a self, alloc: Global, i: usize, key: Word, out: &mut Pairs<'a>) -> RowPut {
         package!(put_row_of(self, alloc, i, key, out))
     }
 

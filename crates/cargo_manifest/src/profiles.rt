@@ -13,16 +13,17 @@ use manifest_value::form::{
     RowPut, RowRead, Rowed, Word, put_rows, read_open, rows_are_well_formed,
 };
 use manifest_value::form_findings::findings_of_open;
-use manifest_value::maps::{entries_table, map_of_entries};
+use manifest_value::maps::{map_of_entries, map_written};
 use manifest_value::row_slots::RowSlot;
 use manifest_value::well_formed::{none_is_named, values_are_well_formed};
 use manifest_value::{
     Found, ReadFault, Schema, Source, Spellings, TableSource, findings_of_row, good_row_of,
     names_of_rows, put_row_of, read_row_of, table,
 };
+use manifest_written::{Pairs, Written};
 use std::alloc::{AllocError, Global};
 use std::collections::BTreeMap;
-use toml::{Table, Value};
+use toml::Value;
 
 /// The profiles of a manifest: the five that Cargo names, and those of all other names. No custom profile may have one
 /// of the five names. See the [Cargo reference](https://doc.rust-lang.org/cargo/reference/profiles.html).
@@ -119,7 +120,7 @@ impl Rowed for Profiles {
         profiles!(findings_of_row(self, alloc, i, key, slot))
     }
 
-    fn put_row(&self, alloc: Global, i: usize, key: Word, out: &mut Table) -> RowPut {
+    fn put_row<'a>(&'a self, alloc: Global, i: usize, key: Word, out: &mut Pairs<'a>) -> RowPut {
         profiles!(put_row_of(self, alloc, i, key, out))
     }
 
@@ -162,10 +163,11 @@ impl Schema for Profiles {
         findings_of_open::<Profiles, Profile>(alloc, value)
     }
 
-    fn to_value(&self, alloc: Global) -> Result<Value, AllocError> {
-        let mut out = entries_table(alloc, &self.custom)?;
+    #[tactic(auto, unfolding(manifest_schema::specs::PartForms::profiles_rows), using(manifest_written::proofs::WrittenLemmas::written_levels))]
+    fn written(&self, alloc: Global) -> Result<Written<'_>, AllocError> {
+        let mut out = map_written(alloc, &self.custom)?;
         put_rows(self, alloc, &mut out)?;
-        Ok(Value::Table(out))
+        Ok(Written::Table(out))
     }
 
     fn is_well_formed(&self) -> bool {

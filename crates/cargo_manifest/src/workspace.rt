@@ -15,8 +15,9 @@ use manifest_value::{
     Form, Found, Metadata, Spellings, empty_of, findings_of_row, good_row_of, names_of_rows,
     put_row_of, read_row_of,
 };
+use manifest_written::Pairs;
 use std::alloc::Global;
-use toml::{Table, Value};
+use toml::Value;
 
 /// The package fields that members can inherit from a workspace, each by `{ workspace = true }`. See the
 /// [Cargo reference](https://doc.rust-lang.org/cargo/reference/workspaces.html#the-package-table).
@@ -142,7 +143,7 @@ impl Rowed for WorkspacePackage {
         workspace_package!(findings_of_row(self, alloc, i, key, slot))
     }
 
-    fn put_row(&self, alloc: Global, i: usize, key: Word, out: &mut Table) -> RowPut {
+    fn put_row<'a>(&'a self, alloc: Global, i: usize, key: Word, out: &mut Pairs<'a>) -> RowPut {
         workspace_package!(put_row_of(self, alloc, i, key, out))
     }
 
@@ -272,7 +273,7 @@ impl<M: Metadata> Rowed for Workspace<M> {
         workspace!(findings_of_row(self, alloc, i, key, slot))
     }
 
-    fn put_row(&self, alloc: Global, i: usize, key: Word, out: &mut Table) -> RowPut {
+    fn put_row<'a>(&'a self, alloc: Global, i: usize, key: Word, out: &mut Pairs<'a>) -> RowPut {
         workspace!(put_row_of(self, alloc, i, key, out))
     }
 

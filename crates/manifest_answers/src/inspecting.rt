@@ -15,6 +15,7 @@ use crate::reporting::cause_number;
 use cargo_manifest::{
     Cause, Choices, Finding, FindingNode, Step, Unread, Value, inspect_with_metadata,
 };
+use manifest_written::Written;
 use std::alloc::{AllocError, Global};
 use toml::Table;
 
@@ -135,7 +136,7 @@ fn bytes_of_nodes(
         IsMade (AreWithin most tagged) (RefusesTagged most tagged) result }
 {
     let value = nodes_value(alloc, nodes)?;
-    tagged_bytes(alloc, &value, most)
+    tagged_bytes(alloc, &Written::Value(&value), most)
 }
 
 /// The tagged bytes of what is found in the table of a document, whose metadata is not looked at.

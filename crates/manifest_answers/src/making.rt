@@ -4,6 +4,7 @@ ghost use Rattle.manifest_schema.specs.Prelude.{table, view};
 ghost use Rattle.std.specs.Prelude.{◌≡◌, Err, IfOk, IfErr, OnOk, option_copied, option_map};
 ghost use Rattle.std.specs.Bool.{MatchBool};
 ghost use Rattle.manifest_bytes.specs.Encoded.{encoded};
+ghost use Rattle.manifest_written.specs.Written.{written_view};
 ghost use Rattle.cargo_manifest.specs.Whole.{manifest_content};
 ghost use Rattle.cargo_manifest.specs.Canonical.{rewritten};
 ghost use Rattle.manifest_inherit.specs.Finished.{root_of};
@@ -14,9 +15,10 @@ use crate::folders::{Folder, GivenFolders};
 use crate::reading::{Input, read, release};
 use crate::refusal::Refusal;
 use cargo_manifest::laws::stored_decides;
-use cargo_manifest::{Manifest, Schema, Value};
-use manifest_bytes::value_bytes;
+use cargo_manifest::{Manifest, Schema};
+use manifest_bytes::written_bytes;
 use manifest_inherit::{finish, inherits_at_most};
+use manifest_written::Written;
 use std::alloc::Global;
 
 /// What is asked for of a manifest.
@@ -165,12 +167,16 @@ fn text_of(alloc: Global, manifest: &Manifest, most: usize) -> Result<Vec<u8>, R
     }
 }
 
-/// The tagged bytes of a value; refused with `TooLong` where they are more than `most`.
-pub(crate) fn tagged_bytes(alloc: Global, value: &Value, most: usize) -> Result<Vec<u8>, Refusal>
-    ensures { let tagged = encoded (view value.now) in
+/// The tagged bytes of what is written; refused with `TooLong` where they are more than `most`.
+pub(crate) fn tagged_bytes(
+    alloc: Global,
+    written: &Written<'_>,
+    most: usize,
+) -> Result<Vec<u8>, Refusal>
+    ensures { let tagged = encoded (written_view written.now) in
         IsMade (AreWithin most tagged) (RefusesTagged most tagged) result }
 {
-    let bytes = value_bytes(alloc, value)?;
+    let bytes = written_bytes(alloc, written)?;
     if bytes.len() > most {
         return Err(Refusal::TooLong);
     }
@@ -182,8 +188,8 @@ fn table_of(alloc: Global, manifest: &Manifest, most: usize) -> Result<Vec<u8>, 
     ensures { let bytes = encoded (table (rewritten (manifest_content view view manifest.now))) in
         IsMade (AreWithin most bytes) (RefusesTagged most bytes) result }
 {
-    let value = manifest.to_value(alloc)?;
-    tagged_bytes(alloc, &value, most)
+    let written = manifest.written(alloc)?;
+    tagged_bytes(alloc, &written, most)
 }
 
 /// The canonical text of a manifest, or its table as tagged bytes, as `output` says; `TooLong` above `most` bytes.

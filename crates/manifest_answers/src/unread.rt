@@ -12,6 +12,7 @@ use crate::making::tagged_bytes;
 use crate::reading::{document, from_text, release};
 use crate::refusal::Refusal;
 use cargo_manifest::{Manifest, Schema, Unread, Value};
+use manifest_written::Written;
 use std::alloc::Global;
 
 /// The tagged bytes of the table of a manifest without metadata.
@@ -24,8 +25,8 @@ fn table_of_unread(
         (manifest_of unread unread (λ u. tt) (λ u. tt) manifest.now)) in
         IsMade (AreWithin most bytes) (RefusesTagged most bytes) result }
 {
-    let value = manifest.to_value(alloc)?;
-    tagged_bytes(alloc, &value, most)
+    let written = manifest.written(alloc)?;
+    tagged_bytes(alloc, &written, most)
 }
 
 /// The tagged bytes of the table of the manifest that the bytes of a `Cargo.toml` mean, whose metadata is not read.
@@ -51,5 +52,5 @@ pub(crate) fn document_table(alloc: Global, bytes: &[u8], most: usize) -> Result
         Ok(table) => Value::Table(table),
         Err(refused) => return Err(Refusal::Bytes(refused)),
     };
-    tagged_bytes(alloc, &value, most)
+    tagged_bytes(alloc, &Written::Value(&value), most)
 }

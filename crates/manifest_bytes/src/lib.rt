@@ -7,6 +7,8 @@ mod error;
 pub mod laws;
 mod reading;
 mod values;
+mod written;
 
 pub use error::DecodeError;
 pub use values::{value_bytes, value_of_bytes};
+pub use written::written_bytes;

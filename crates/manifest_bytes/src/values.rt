@@ -4,7 +4,7 @@ ghost use Rattle.std.specs.Prelude.{◌≡◌, ◌++◌, ◌∷◌, [], ◌<◌,
 ghost use Rattle.toml.specs.Data.{Data, depth};
 ghost use Rattle.toml.specs.View.{view, array_view, table_view};
 ghost use Rattle.manifest_bytes.specs.Numbers.{number_bytes};
-ghost use Rattle.manifest_bytes.specs.Encoded.{text_bytes, integer_bytes, part_bytes, date_bytes, second_bytes, time_bytes, offset_bytes, datetime_bytes, item_count, member_count, encoded, items_bytes, members_bytes};
+ghost use Rattle.manifest_bytes.specs.Encoded.{text_bytes, boolean_tag, integer_bytes, part_bytes, date_bytes, second_bytes, time_bytes, offset_bytes, datetime_bytes, item_count, member_count, encoded, items_bytes, members_bytes};
 ghost use Rattle.manifest_bytes.specs.declared.error.DecodeError.TheVariants.{TooDeep};
 ghost use Rattle.manifest_bytes.specs.Held.{FitsValue};
 ghost use Rattle.manifest_bytes.specs.Read.{ReadsWithin};
@@ -19,7 +19,7 @@ use toml_datetime::{Date, Datetime, Offset, Time};
 /// Appends a number as unsigned LEB128: groups of seven bits, the lowest first, with 128 added to each but the last.
 /// After an error `out` may hold a part of it, as after an error of any function here.
 #[tactic(auto, using(crate::proofs::NumberLemmas::number_steps))]
-fn push_number(out: &mut Vec<u8>, number: u64) -> Result<(), AllocError>
+pub(crate) fn push_number(out: &mut Vec<u8>, number: u64) -> Result<(), AllocError>
     ensures { OnOk result (out.new.items ≡ out.old.items ++ number_bytes number) }
 {
     let mut rest = number;
@@ -32,16 +32,32 @@ fn push_number(out: &mut Vec<u8>, number: u64) -> Result<(), AllocError>
 }
 
 /// Appends a string without a tag: its length in bytes, as a number, and its bytes.
-fn push_text(out: &mut Vec<u8>, text: &str) -> Result<(), AllocError>
+pub(crate) fn push_text(out: &mut Vec<u8>, text: &str) -> Result<(), AllocError>
     ensures { OnOk result (out.new.items ≡ out.old.items ++ text_bytes text.now) }
 {
     push_number(out, text.len() as u64)?;
     out.extend_from_slice(text.as_bytes())
 }
 
+/// Appends a string with its tag: the byte 1, its length and its bytes.
+pub(crate) fn push_string(out: &mut Vec<u8>, text: &str) -> Result<(), AllocError>
+    ensures { OnOk result (out.new.items ≡ out.old.items ++ 1 ∷ text_bytes text.now) }
+{
+    out.push(1)?;
+    push_text(out, text)
+}
+
+/// Appends a boolean, which is its tag alone: the byte 5 for true, 4 for false.
+pub(crate) fn push_boolean(out: &mut Vec<u8>, flag: bool) -> Result<(), AllocError>
+    ensures { OnOk result (out.new.items ≡ out.old.items ++ boolean_tag flag ∷ []) }
+{
+    out.push(if flag { 5 } else { 4 })?;
+    Ok(())
+}
+
 /// Appends an integer with its tag: the byte 2 and the number, or the byte 3 and -1 minus the number, where it is below
 /// 0; both as LEB128. After an error `out` may hold a part of it.
-fn push_integer(out: &mut Vec<u8>, number: i64) -> Result<(), AllocError>
+pub(crate) fn push_integer(out: &mut Vec<u8>, number: i64) -> Result<(), AllocError>
     ensures { OnOk result (out.new.items ≡ out.old.items ++ integer_bytes number) }
 {
     if number >= 0 {
@@ -160,23 +176,17 @@ fn push_datetime(out: &mut Vec<u8>, datetime: Datetime) -> Result<(), AllocError
 /// Appends a value: its tag and what stands after it (`docs/LIBRARY.md`, Tagged bytes). After an error `out` may hold a
 /// part of it.
 #[cycle(bytes)]
-fn push_value(out: &mut Vec<u8>, value: &Value) -> Result<(), AllocError>
+pub(crate) fn push_value(out: &mut Vec<u8>, value: &Value) -> Result<(), AllocError>
     ensures { OnOk result (out.new.items ≡ out.old.items ++ encoded (view value.now)) }
 {
     match value {
-        Value::String(text) => {
-            out.push(1)?;
-            push_text(out, text.as_str())
-        }
+        Value::String(text) => push_string(out, text.as_str()),
         Value::Integer(number) => push_integer(out, *number),
         Value::Float(number) => {
             out.push(9)?;
             push_number(out, f64_to_bits_with_nan(*number))
         }
-        Value::Boolean(flag) => {
-            out.push(if *flag { 5 } else { 4 })?;
-            Ok(())
-        }
+        Value::Boolean(flag) => push_boolean(out, *flag),
         Value::Datetime(datetime) => {
             out.push(6)?;
             push_datetime(out, *datetime)

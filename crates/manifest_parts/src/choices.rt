@@ -8,6 +8,7 @@ ghost use Rattle.manifest_parts.specs.Parts.{edition_content, resolver_content, 
 
 use manifest_fault::fault::fault_here;
 use manifest_value::{Cause, Choices, Findings, Found, Plain, ReadFault, Schema, Source};
+use manifest_written::Written;
 use std::alloc::{AllocError, Global};
 use toml::Value;
 
@@ -95,8 +96,8 @@ impl Schema for Edition {
         }
     }
 
-    fn to_value(&self, alloc: Global) -> Result<Value, AllocError> {
-        Value::string(alloc, self.as_str())
+    fn written(&self, _alloc: Global) -> Result<Written<'_>, AllocError> {
+        Ok(Written::Text(self.as_str()))
     }
 
     fn is_well_formed(&self) -> bool {
@@ -175,8 +176,8 @@ impl Schema for Resolver {
         }
     }
 
-    fn to_value(&self, alloc: Global) -> Result<Value, AllocError> {
-        Value::string(alloc, self.as_str())
+    fn written(&self, _alloc: Global) -> Result<Written<'_>, AllocError> {
+        Ok(Written::Text(self.as_str()))
     }
 
     fn is_well_formed(&self) -> bool {
@@ -259,8 +260,8 @@ impl Schema for LintLevel {
         }
     }
 
-    fn to_value(&self, alloc: Global) -> Result<Value, AllocError> {
-        Value::string(alloc, self.as_str())
+    fn written(&self, _alloc: Global) -> Result<Written<'_>, AllocError> {
+        Ok(Written::Text(self.as_str()))
     }
 
     fn is_well_formed(&self) -> bool {
@@ -352,8 +353,8 @@ impl Schema for MaintenanceStatus {
         }
     }
 
-    fn to_value(&self, alloc: Global) -> Result<Value, AllocError> {
-        Value::string(alloc, self.as_str())
+    fn written(&self, _alloc: Global) -> Result<Written<'_>, AllocError> {
+        Ok(Written::Text(self.as_str()))
     }
 
     fn is_well_formed(&self) -> bool {

@@ -14,6 +14,7 @@ use manifest_value::rows::put_row;
 use manifest_value::{
     Cause, Findings, Found, Plain, ReadFault, Schema, Source, TableSource, spelled, walk,
 };
+use manifest_written::Written;
 use std::alloc::{AllocError, Global};
 use toml::{Table, Value};
 
@@ -48,8 +49,8 @@ impl Schema for True {
         }
     }
 
-    fn to_value(&self, _alloc: Global) -> Result<Value, AllocError> {
-        Ok(Value::Boolean(true))
+    fn written(&self, _alloc: Global) -> Result<Written<'_>, AllocError> {
+        Ok(Written::Boolean(true))
     }
 
     fn is_well_formed(&self) -> bool {
@@ -145,15 +146,15 @@ impl<T: Plain> Schema for MaybeInherited<T> {
         }
     }
 
-    #[tactic(auto, unfolding(manifest_schema::specs::Slots::put_some))]
-    fn to_value(&self, alloc: Global) -> Result<Value, AllocError> {
+    #[tactic(auto, unfolding(manifest_schema::specs::Slots::put_some), using(manifest_written::proofs::WrittenLemmas::written_levels))]
+    fn written(&self, alloc: Global) -> Result<Written<'_>, AllocError> {
         match self {
             MaybeInherited::Inherited { workspace } => {
-                let mut out = Table::new(alloc);
+                let mut out = Vec::new(alloc);
                 put_row(alloc, &mut out, "workspace", workspace)?;
-                Ok(Value::Table(out))
+                Ok(Written::Table(out))
             }
-            MaybeInherited::Local(x) => x.to_value(alloc),
+            MaybeInherited::Local(x) => x.written(alloc),
         }
     }
 

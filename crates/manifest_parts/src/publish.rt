@@ -7,6 +7,7 @@ ghost use Rattle.manifest_schema.proofs.Forms.RowLaws.{text_or_flag_sound, text_
 ghost use Rattle.manifest_parts.specs.Parts.{text_or_flag_content, publish_content};
 
 use manifest_value::{Findings, Found, Plain, ReadFault, Schema, Source};
+use manifest_written::Written;
 use std::alloc::{AllocError, Global};
 use toml::Value;
 
@@ -41,10 +42,10 @@ impl Schema for StringOrBool {
         }
     }
 
-    fn to_value(&self, alloc: Global) -> Result<Value, AllocError> {
+    fn written(&self, _alloc: Global) -> Result<Written<'_>, AllocError> {
         match self {
-            StringOrBool::Bool(b) => Ok(Value::Boolean(*b)),
-            StringOrBool::String(s) => Value::string(alloc, s.as_str()),
+            StringOrBool::Bool(b) => Ok(Written::Boolean(*b)),
+            StringOrBool::String(s) => Ok(Written::Text(s.as_str())),
         }
     }
 
@@ -91,10 +92,10 @@ impl Schema for Publish {
         }
     }
 
-    fn to_value(&self, alloc: Global) -> Result<Value, AllocError> {
+    fn written(&self, alloc: Global) -> Result<Written<'_>, AllocError> {
         match self {
-            Publish::Flag(b) => Ok(Value::Boolean(*b)),
-            Publish::Registry(registries) => registries.to_value(alloc),
+            Publish::Flag(b) => Ok(Written::Boolean(*b)),
+            Publish::Registry(registries) => registries.written(alloc),
         }
     }
 

@@ -10,6 +10,7 @@ ghost use Rattle.manifest_parts.specs.Refusals.{RefusesStrip};
 
 use manifest_fault::fault::fault_here;
 use manifest_value::{Cause, Choices, Error, Findings, Found, ReadFault, Schema, Source};
+use manifest_written::Written;
 use std::alloc::{AllocError, Global};
 use toml::Value;
 
@@ -101,12 +102,12 @@ impl Schema for StripSetting {
         }
     }
 
-    fn to_value(&self, alloc: Global) -> Result<Value, AllocError> {
-        match self {
-            StripSetting::None => Ok(Value::Boolean(false)),
-            StripSetting::Debuginfo => Value::string(alloc, "debuginfo"),
-            StripSetting::Symbols => Ok(Value::Boolean(true)),
-        }
+    fn written(&self, _alloc: Global) -> Result<Written<'_>, AllocError> {
+        Ok(match self {
+            StripSetting::None => Written::Boolean(false),
+            StripSetting::Debuginfo => Written::Text("debuginfo"),
+            StripSetting::Symbols => Written::Boolean(true),
+        })
     }
 
     fn is_well_formed(&self) -> bool {

@@ -8,9 +8,10 @@ use cargo_manifest::{
 use manifest_completion::{CompletedTargets, DeclaredTargets, complete};
 use manifest_fault::error::refusal;
 use manifest_fault::fault::{fault_here, fault_under_key, fault_under_step};
-use manifest_value::maps::{entries_table, map_of_list};
+use manifest_value::maps::{map_of_list, map_written};
 use manifest_value::metadata::put_tree;
 use manifest_value::rows::{at_key, put_nonempty, put_optional, put_row, put_unless, read_under};
+use manifest_written::{Pairs, table_of};
 use std::alloc::{AllocError, Global};
 use std::collections::BTreeMap;
 use std::test::Fail;
@@ -65,44 +66,67 @@ fn values_under_a_key(rt: HostRuntime) -> Result<(), Fail> {
     assert_written(alloc, Ok(()), "{}")
 }
 
-/// Writes a row twice, and a number that is left out and one that is not.
-fn put_numbers(alloc: Global, table: &mut Table) -> Result<(), AllocError> {
-    put_row(alloc, table, "row", &true)?;
-    put_row(alloc, table, "row", &false)?;
-    put_unless(alloc, table, "unless", false, &1_u16)?;
-    put_unless(alloc, table, "skipped", true, &1_u16)
+/// Values of rows.
+#[derive(Drop)]
+struct RowValues {
+    yes: bool,
+    no: bool,
+    one: u16,
+    text: Option<String>,
+    no_text: Option<String>,
+    list: Vec<u16>,
+    no_list: Vec<u16>,
+    tree: Option<Value>,
+    no_tree: Option<Value>,
 }
 
-/// Writes a text, and none.
-fn put_texts(alloc: Global, table: &mut Table) -> Result<(), AllocError> {
-    let text = Some(String::from_str(alloc, "a")?);
-    put_optional(alloc, table, "optional", &text)?;
-    put_optional(alloc, table, "absent", &None::<String>)
+/// Those that the test writes.
+fn written_values(alloc: Global) -> Result<RowValues, Fail> {
+    Ok(RowValues {
+        yes: true,
+        no: false,
+        one: 1,
+        text: Some(String::from_str(alloc, "a")?),
+        no_text: None,
+        list: Vec::from_array(alloc, [65535])?,
+        no_list: Vec::new(alloc),
+        tree: Some(value(alloc, "{ a = [1] }")?),
+        no_tree: None,
+    })
 }
 
-/// Writes a list, and an empty one.
-fn put_lists(alloc: Global, table: &mut Table) -> Result<(), AllocError> {
-    put_nonempty(alloc, table, "empty", &Vec::<u16>::new(alloc))?;
-    let list = Vec::<u16>::from_array(alloc, [65535])?;
-    put_nonempty(alloc, table, "list", &list)
+/// Writes a row twice, a number that is left out and one that is not, a text, and none.
+fn put_scalars<'a>(
+    alloc: Global,
+    pairs: &mut Pairs<'a>,
+    values: &'a RowValues,
+) -> Result<(), AllocError> {
+    put_row(alloc, pairs, "row", &values.yes)?;
+    put_row(alloc, pairs, "row", &values.no)?;
+    put_unless(alloc, pairs, "unless", false, &values.one)?;
+    put_unless(alloc, pairs, "skipped", true, &values.one)?;
+    put_optional(alloc, pairs, "optional", &values.text)?;
+    put_optional(alloc, pairs, "absent", &values.no_text)
 }
 
-/// Writes a tree, and none.
-fn put_trees(alloc: Global, table: &mut Table) -> Result<(), Fail> {
-    let tree = Some(value(alloc, "{ a = [1] }")?);
-    put_tree(alloc, table, "tree", &tree)?;
-    put_tree(alloc, table, "no-tree", &None::<Value>)?;
-    Ok(())
+/// Writes a list and an empty one, a tree and none.
+fn put_trees<'a>(
+    alloc: Global,
+    pairs: &mut Pairs<'a>,
+    values: &'a RowValues,
+) -> Result<(), AllocError> {
+    put_nonempty(alloc, pairs, "empty", &values.no_list)?;
+    put_nonempty(alloc, pairs, "list", &values.list)?;
+    put_tree(alloc, pairs, "tree", &values.tree)?;
+    put_tree(alloc, pairs, "no-tree", &values.no_tree)
 }
 
 /// A table of rows that are written: one key twice, and four rows that are left out.
-fn written_rows(alloc: Global) -> Result<Table, Fail> {
-    let mut table = Table::new(alloc);
-    put_numbers(alloc, &mut table)?;
-    put_texts(alloc, &mut table)?;
-    put_lists(alloc, &mut table)?;
-    put_trees(alloc, &mut table)?;
-    Ok(table)
+fn written_rows(alloc: Global, values: &RowValues) -> Result<Table, AllocError> {
+    let mut pairs = Vec::new(alloc);
+    put_scalars(alloc, &mut pairs, values)?;
+    put_trees(alloc, &mut pairs, values)?;
+    table_of(alloc, pairs.as_slice())
 }
 
 #[test]
@@ -110,13 +134,15 @@ fn rows_that_are_written(rt: HostRuntime) -> Result<(), Fail> {
     let alloc = rt.alloc();
     let rows = "row = false\noptional = 'a'\nunless = 1\nlist = [65535]\ntree = { a = [1] }";
     let expected = toml_layout(alloc, rows)?;
-    let got = toml::table_to_string(alloc, &written_rows(alloc)?)?;
+    let got = toml::table_to_string(alloc, &written_rows(alloc, &written_values(alloc)?)?)?;
     assert_is(Ok(got), expected.as_str(), rows)
 }
 
 /// The text of the table of a map.
 fn map_text(alloc: Global, map: &BTreeMap<String, i8>) -> Result<String, Fail> {
-    Ok(toml::table_to_string(alloc, &entries_table(alloc, map)?)?)
+    let pairs = map_written(alloc, map)?;
+    let table = table_of(alloc, pairs.as_slice())?;
+    Ok(toml::table_to_string(alloc, &table)?)
 }
 
 #[test]

@@ -12,8 +12,9 @@ use manifest_value::{
     Cause, Findings, Form, Found, Metadata, ReadFault, Schema, Source, Spellings, findings_of_row,
     good_row_of, names_of_rows, put_row_of, read_row_of,
 };
+use manifest_written::{Pairs, Written};
 use std::alloc::{AllocError, Global};
-use toml::{Table, Value};
+use toml::Value;
 
 /// A whole number from 0 to 9.
 #[derive(Clone, Copy, Debug, PartialEq, Eq)]
@@ -50,8 +51,8 @@ impl Schema for Level {
         }
     }
 
-    fn to_value(&self, _alloc: Global) -> Result<Value, AllocError> {
-        Ok(Value::Integer(i64::from(self.number)))
+    fn written(&self, _alloc: Global) -> Result<Written<'_>, AllocError> {
+        Ok(Written::Integer(i64::from(self.number)))
     }
 
     fn is_well_formed(&self) -> bool {
@@ -104,7 +105,7 @@ impl Rowed for Score {
         score!(findings_of_row(self, alloc, i, key, slot))
     }
 
-    fn put_row(&self, alloc: Global, i: usize, key: Word, out: &mut Table) -> RowPut {
+    fn put_row<'a>(&'a self, alloc: Global, i: usize, key: Word, out: &mut Pairs<'a>) -> RowPut {
         score!(put_row_of(self, alloc, i, key, out))
     }
 

@@ -7,7 +7,7 @@ use Rattle.std.specs.List.Sorted.{IsStrictlySortedBy}
 abbrev pub texts : {X : Type 0} → List (String Global × X) → List (List ℕ)
 texts es = map (λ e. string_bytes e.0) es
 
-key_below : {X : Type 0} (first : String Global × X) (es : List (String Global × X)) (e : String Global × X)
+pub key_below : {X : Type 0} (first : String Global × X) (es : List (String Global × X)) (e : String Global × X)
     (more : List (String Global × X))
     → AllByRecursion (λ y. string_cmp first.0 y ≡ Less) (keys_of (es ++ e ∷ more)) → string_cmp first.0 e.0 ≡ Less
 key_below first [] e more h = h.0

@@ -1,11 +1,12 @@
 //! Maps whose keys are strings: made of entries in order, read from a table, and written as one.
-ghost use Rattle.manifest_schema.specs.Prelude.{keys_of, string_cmp, no_members, table as table_data, table_view, key as key_step, Entries as Contents, map_of, written_entries, found_under, entry_findings};
-ghost use Rattle.std.specs.Prelude.{◌≡◌, IfOk, string_bytes};
+ghost use Rattle.manifest_schema.specs.Prelude.{keys_of, string_cmp, no_members, table as table_data, key as key_step, Entries as Contents, map_of, written_entries, found_under, entry_findings};
+ghost use Rattle.std.specs.Prelude.{◌≡◌, IsTrue, IfOk, string_bytes};
 ghost use Rattle.std.specs.List.Sorted.{IsStrictlySortedBy};
 ghost use Rattle.manifest_value.specs.Entries.{entries_content, reads_first};
 ghost use Rattle.manifest_value.specs.Reading.{Reads, Gives, GivesOr};
 ghost use Rattle.manifest_value.specs.Sources.{source_view, table_source, key_view, rest_view, entries_view};
 ghost use Rattle.manifest_value.specs.Walks.{Ascend};
+ghost use Rattle.manifest_written.specs.Written.{pairs_view, pairs_ascend};
 ghost use Rattle.manifest_schema.proofs.Values.KindLaws.{map_sound};
 
 use crate::entries::{Entries, Entry, Key};
@@ -13,11 +14,11 @@ use crate::form_findings::findings_of_map;
 use crate::schema::Schema;
 use crate::source::{Source, TableSource, source_under};
 use crate::well_formed::values_are_well_formed;
-use crate::writers::entries_by;
 use manifest_fault::{Cause, Findings, Found, ReadFault};
+use manifest_written::{Pairs, Written};
 use std::alloc::{AllocError, Global};
 use std::collections::BTreeMap;
-use toml::{Table, Value};
+use toml::Value;
 
 /// The map of some entries whose keys ascend. It is made at once, with full nodes.
 ///
@@ -116,19 +117,24 @@ fn map_from<T: Schema>(
     read_map(alloc, room, table.entries())
 }
 
-/// The table that is written of a map: what is written of each value, under its key.
+/// What is written of a map: of each value, under its key. It fails only when out of memory.
 ///
 /// ```ignore
-/// let features: Table = entries_table(alloc, &map)?; // the keys of the map, each with what is written of its value
+/// let pairs = map_written(alloc, &map)?; // the keys of the map, each with what is written of its value
 /// ```
-pub fn entries_table<T: Schema>(
+pub fn map_written<'a, T: Schema>(
     alloc: Global,
-    map: &BTreeMap<String, T>,
-) -> Result<Table, AllocError>
-    ensures { IfOk result
-        (λ t. table_view t ≡ written_entries T.kind (entries_content T.content map.now.entries)) }
+    map: &'a BTreeMap<String, T>,
+) -> Result<Pairs<'a>, AllocError>
+    ensures is { IfOk result (λ ps. pairs_view ps.items
+        ≡ written_entries T.kind (entries_content T.content map.now.entries)) }
+    ensures ascend { IfOk result (λ ps. IsTrue (pairs_ascend ps.items)) }
 {
-    entries_by(alloc, map, &|x: &T| x.to_value(alloc))
+    let mut out = Vec::with_capacity(alloc, map.len())?;
+    for (key, x) in map.iter() {
+        out.push((key.as_str(), x.written(alloc)?))?;
+    }
+    Ok(out)
 }
 
 /// Read from a table, each value as a `T`, and written as one. A value that is no table is refused with `WrongKind`.
@@ -151,8 +157,9 @@ impl<T: Schema> Schema for BTreeMap<String, T> {
         }
     }
 
-    fn to_value(&self, alloc: Global) -> Result<Value, AllocError> {
-        Ok(Value::Table(entries_table(alloc, self)?))
+    #[tactic(auto, using(manifest_written::proofs::WrittenLemmas::written_levels))]
+    fn written(&self, alloc: Global) -> Result<Written<'_>, AllocError> {
+        Ok(Written::Table(map_written(alloc, self)?))
     }
 
     fn is_well_formed(&self) -> bool {

@@ -1,17 +1,20 @@
 //! Metadata of any type.
-ghost use Rattle.manifest_schema.specs.Prelude.{view, table_view, put_some, plain, tree_of, nothing, unread, written_some, nothing_sound, unread_sound};
+ghost use Rattle.manifest_schema.specs.Prelude.{view, put_some, plain, tree_of, nothing, unread, written_some, nothing_sound, unread_sound};
 ghost use Rattle.std.specs.Prelude.{◌≡◌, ◌↔◌, IsTrue, IfOk, IfErr, OnOk, option_map, refl};
 ghost use Rattle.std.proofs.Common.{subst};
 ghost use Rattle.manifest_fault.specs.Faults.{FaultIn, IsSchema};
 ghost use Rattle.manifest_value.specs.Reading.{written_as};
+ghost use Rattle.manifest_value.specs.Writing.{KeepsAscending};
+ghost use Rattle.manifest_written.specs.Written.{pairs_view};
 
 use crate::rows::put_optional;
 use crate::schema::Schema;
 use crate::source::Source;
 use manifest_fault::fault::fault_here;
 use manifest_fault::{Cause, Findings, Found, ReadFault};
+use manifest_written::{Pairs, Written};
 use std::alloc::{AllocError, Global};
-use toml::{Table, Value};
+use toml::Value;
 
 /// A type whose well-formed values are written without floats. Whether a value is well-formed is shown by the tree that
 /// is written of it: two values with the same tree are both well-formed, or neither is.
@@ -26,22 +29,23 @@ pub trait Metadata: Schema {
 /// Puts what is written of the metadata into the table, under the key `first`; nothing for `None`.
 ///
 /// ```ignore
-/// put_tree(alloc, &mut table, "metadata", &package.metadata)?;
+/// put_tree(alloc, &mut pairs, "metadata", &package.metadata)?;
 /// ```
 #[tactic(auto, unfolding(manifest_schema::specs::Slots::put_some))]
-pub fn put_tree<M: Metadata>(
+pub fn put_tree<'a, M: Metadata>(
     alloc: Global,
-    table: &mut Table,
+    pairs: &mut Pairs<'a>,
     first: &'static str,
-    value: &Option<M>,
+    value: &'a Option<M>,
 ) -> Result<(), AllocError>
-    ensures { OnOk result
-        (table_view table.new
+    ensures put { OnOk result
+        (pairs_view pairs.new.items
         ≡ put_some first.now
         (written_some (tree_of M.kind) (option_map (written_as M.kind M.content) value.now))
-        (table_view table.old)) }
+        (pairs_view pairs.old.items)) }
+    ensures ascend { KeepsAscending pairs.old.items pairs.new.items result }
 {
-    put_optional(alloc, table, first, value)
+    put_optional(alloc, pairs, first, value)
 }
 
 /// Metadata that may not be there: each value is refused, with `Cause::Metadata`, and never as out of memory
@@ -63,8 +67,9 @@ impl Schema for () {
         Findings::here(alloc, Cause::Metadata)
     }
 
-    fn to_value(&self, alloc: Global) -> Result<Value, AllocError> {
-        Ok(Value::Table(Table::new(alloc)))
+    #[tactic(auto, using(manifest_written::proofs::WrittenLemmas::written_levels))]
+    fn written(&self, alloc: Global) -> Result<Written<'_>, AllocError> {
+        Ok(Written::Table(Vec::new(alloc)))
     }
 
     fn is_well_formed(&self) -> bool {
@@ -116,8 +121,9 @@ impl Schema for Unread {
         Ok(Findings::none(alloc))
     }
 
-    fn to_value(&self, alloc: Global) -> Result<Value, AllocError> {
-        Ok(Value::Table(Table::new(alloc)))
+    #[tactic(auto, using(manifest_written::proofs::WrittenLemmas::written_levels))]
+    fn written(&self, alloc: Global) -> Result<Written<'_>, AllocError> {
+        Ok(Written::Table(Vec::new(alloc)))
     }
 
     fn is_well_formed(&self) -> bool {

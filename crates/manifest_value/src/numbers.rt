@@ -8,6 +8,7 @@ use crate::schema::Schema;
 use crate::source::Source;
 use manifest_fault::fault::fault_here;
 use manifest_fault::{Cause, Findings, Found, ReadFault};
+use manifest_written::Written;
 use std::alloc::{AllocError, Global};
 use toml::Value;
 
@@ -50,8 +51,8 @@ impl Schema for u16 {
         }
     }
 
-    fn to_value(&self, _alloc: Global) -> Result<Value, AllocError> {
-        Ok(Value::Integer(i64::from(*self)))
+    fn written(&self, _alloc: Global) -> Result<Written<'_>, AllocError> {
+        Ok(Written::Integer(i64::from(*self)))
     }
 
     fn is_well_formed(&self) -> bool {
@@ -102,8 +103,8 @@ impl Schema for i8 {
         }
     }
 
-    fn to_value(&self, _alloc: Global) -> Result<Value, AllocError> {
-        Ok(Value::Integer(i64::from(*self)))
+    fn written(&self, _alloc: Global) -> Result<Written<'_>, AllocError> {
+        Ok(Written::Integer(i64::from(*self)))
     }
 
     fn is_well_formed(&self) -> bool {

@@ -9,6 +9,7 @@ use crate::schema::Schema;
 use crate::source::Source;
 use manifest_fault::fault::{fault_here, fault_under_key, fault_under_step};
 use manifest_fault::{Cause, Findings, Found, ReadFault, Step};
+use manifest_written::Written;
 use std::alloc::{AllocError, Global};
 use toml::{Table, Value};
 
@@ -176,8 +177,8 @@ impl Schema for Value {
         find_floats(alloc, value)
     }
 
-    fn to_value(&self, _alloc: Global) -> Result<Value, AllocError> {
-        self.clone()
+    fn written(&self, _alloc: Global) -> Result<Written<'_>, AllocError> {
+        Ok(Written::Value(self))
     }
 
     fn is_well_formed(&self) -> bool {

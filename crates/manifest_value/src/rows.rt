@@ -1,15 +1,18 @@
 //! Reading a value under a key, and writing the rows of a form.
-ghost use Rattle.manifest_schema.specs.Prelude.{view, table_view, list_of, at_value, under, key, put_some, written_some, written_unless, is_empty};
+ghost use Rattle.manifest_schema.specs.Prelude.{view, list_of, at_value, under, key, put_some, written_some, written_unless, is_empty};
 ghost use Rattle.std.specs.Prelude.{◌≡◌, Some, map, OnOk, option_map};
 ghost use Rattle.manifest_fault.specs.Faults.{FaultIn, cause_of};
 ghost use Rattle.manifest_value.specs.Reading.{GivesUnder};
+ghost use Rattle.manifest_value.specs.Writing.{KeepsAscending};
+ghost use Rattle.manifest_written.specs.Written.{pairs_view};
 
 use crate::schema::Schema;
 use crate::source::{Source, source_under};
 use manifest_fault::fault::{fault_here, fault_under_key};
 use manifest_fault::{Cause, ReadFault};
+use manifest_written::{Pairs, put_entry};
 use std::alloc::{AllocError, Global};
-use toml::{Table, Value};
+use toml::Value;
 
 /// The fault of this cause at a key of the table: its path is the key. `Memory` where there is no memory for the key.
 ///
@@ -36,44 +39,46 @@ pub fn read_under<T: Schema>(alloc: Global, value: &Value, word: &str) -> Result
     source_under(alloc, Source::Borrowed(value), word)
 }
 
-/// Puts what is written of the value into the table under the key `first`, in place of what stands there.
+/// Puts what is written of the value among the entries of a table under the key `first`, in place of what stands there.
 ///
 /// ```ignore
-/// put_row(alloc, &mut table, "name", &package.name)?;
+/// put_row(alloc, &mut pairs, "name", &package.name)?;
 /// ```
-pub fn put_row<T: Schema>(
+#[tactic(auto, unfolding(manifest_schema::specs::Slots::put_some))]
+pub fn put_row<'a, T: Schema>(
     alloc: Global,
-    table: &mut Table,
+    pairs: &mut Pairs<'a>,
     first: &'static str,
-    value: &T,
+    value: &'a T,
 ) -> Result<(), AllocError>
-    ensures { OnOk result
-        (table_view table.new
-        ≡ put_some first.now (Some (T.kind.written (T.content value.now))) (table_view table.old)) }
+    ensures put { OnOk result
+        (pairs_view pairs.new.items
+        ≡ put_some first.now (Some (T.kind.written (T.content value.now))) (pairs_view pairs.old.items)) }
+    ensures ascend { KeepsAscending pairs.old.items pairs.new.items result }
 {
-    let _old = table.insert(String::from_str(alloc, first)?, value.to_value(alloc)?)?;
-    Ok(())
+    put_entry(pairs, first, value.written(alloc)?)
 }
 
 /// Puts what is written of the value in an option into the table, as [`put_row`] does; nothing for `None`.
 ///
 /// ```ignore
-/// put_optional(alloc, &mut table, "version", &package.version)?;
+/// put_optional(alloc, &mut pairs, "version", &package.version)?;
 /// ```
 #[tactic(auto, unfolding(manifest_schema::specs::Slots::put_some))]
-pub fn put_optional<T: Schema>(
+pub fn put_optional<'a, T: Schema>(
     alloc: Global,
-    table: &mut Table,
+    pairs: &mut Pairs<'a>,
     first: &'static str,
-    value: &Option<T>,
+    value: &'a Option<T>,
 ) -> Result<(), AllocError>
-    ensures { OnOk result
-        (table_view table.new
+    ensures put { OnOk result
+        (pairs_view pairs.new.items
         ≡ put_some first.now (written_some T.kind (option_map T.content value.now))
-        (table_view table.old)) }
+        (pairs_view pairs.old.items)) }
+    ensures ascend { KeepsAscending pairs.old.items pairs.new.items result }
 {
     match value {
-        Some(x) => put_row(alloc, table, first, x),
+        Some(x) => put_row(alloc, pairs, first, x),
         None => Ok(()),
     }
 }
@@ -82,42 +87,44 @@ pub fn put_optional<T: Schema>(
 /// value is the default, which is not written.
 ///
 /// ```ignore
-/// put_unless(alloc, &mut table, "test", product.test, &product.test)?; // only false is put
+/// put_unless(alloc, &mut pairs, "test", product.test, &product.test)?; // only false is put
 /// ```
 #[tactic(auto, unfolding(manifest_schema::specs::Slots::put_some))]
-pub fn put_unless<T: Schema>(
+pub fn put_unless<'a, T: Schema>(
     alloc: Global,
-    table: &mut Table,
+    pairs: &mut Pairs<'a>,
     first: &'static str,
     skipped: bool,
-    value: &T,
+    value: &'a T,
 ) -> Result<(), AllocError>
-    ensures { OnOk result
-        (table_view table.new
+    ensures put { OnOk result
+        (pairs_view pairs.new.items
         ≡ put_some first.now (written_unless T.kind skipped (T.content value.now))
-        (table_view table.old)) }
+        (pairs_view pairs.old.items)) }
+    ensures ascend { KeepsAscending pairs.old.items pairs.new.items result }
 {
     if skipped {
         return Ok(());
     }
-    put_row(alloc, table, first, value)
+    put_row(alloc, pairs, first, value)
 }
 
 /// Puts what is written of a list into the table, as [`put_row`] does, unless the list is empty.
 ///
 /// ```ignore
-/// put_nonempty(alloc, &mut table, "bin", &manifest.bin)?;
+/// put_nonempty(alloc, &mut pairs, "bin", &manifest.bin)?;
 /// ```
-pub fn put_nonempty<T: Schema>(
+pub fn put_nonempty<'a, T: Schema>(
     alloc: Global,
-    table: &mut Table,
+    pairs: &mut Pairs<'a>,
     first: &'static str,
-    list: &Vec<T>,
+    list: &'a Vec<T>,
 ) -> Result<(), AllocError>
-    ensures { let xs = map T.content list.now.items in
-        OnOk result (table_view table.new
+    ensures put { let xs = map T.content list.now.items in
+        OnOk result (pairs_view pairs.new.items
         ≡ put_some first.now (written_unless (list_of T.kind) (is_empty xs) xs)
-        (table_view table.old)) }
+        (pairs_view pairs.old.items)) }
+    ensures ascend { KeepsAscending pairs.old.items pairs.new.items result }
 {
-    put_unless(alloc, table, first, list.as_slice().is_empty(), list)
+    put_unless(alloc, pairs, first, list.as_slice().is_empty(), list)
 }

@@ -8,16 +8,18 @@ ghost use Rattle.manifest_fault.specs.Found.{found};
 ghost use Rattle.manifest_value.specs.Reading.{Gives, Answers};
 ghost use Rattle.manifest_fault.specs.Refusals.{IsSchemaError};
 ghost use Rattle.manifest_value.specs.Sources.{source_view};
+ghost use Rattle.manifest_written.specs.Written.{written_view, ascends};
 
 use crate::form_findings::findings_of_items;
 use crate::items::{Items, read_items};
 use crate::readers::{boolean, text};
 use crate::source::Source;
 use crate::well_formed::items_are_well_formed;
-use crate::writers::{write_list, write_text};
+use crate::writers::list_written;
 use manifest_fault::error::refusal;
 use manifest_fault::fault::fault_here;
 use manifest_fault::{Cause, Error, Findings, Found, ReadFault};
+use manifest_written::{Written, value_of};
 use std::alloc::{AllocError, Global};
 use toml::Value;
 
@@ -71,9 +73,26 @@ pub trait Schema: Sized + Drop {
     fn findings(alloc: Global, value: &Value) -> Found
         ensures { IfOk result (λ f. found f ≡ kind.findings (view value.now)) };
 
-    /// The value that is written of `self`, by the kind. It fails only when out of memory.
+    /// What is written of `self`, by the kind: a tree that borrows its texts from `self`, and in which the keys of each
+    /// table ascend. It fails only when out of memory.
+    ///
+    /// ```ignore
+    /// Ok(Written::Text(self.as_str()))
+    /// ```
+    fn written(&self, alloc: Global) -> Result<Written<'_>, AllocError>
+        ensures is { IfOk result (λ w. written_view w ≡ kind.written (content self.now)) }
+        ensures ascend { IfOk result (λ w. IsTrue (ascends w)) };
+
+    /// The value that is written of `self`, by the kind, with copies of its texts. It fails only when out of memory.
+    ///
+    /// ```ignore
+    /// let value = Edition::E2021.to_value(alloc)?; // `'2021'`
+    /// ```
     fn to_value(&self, alloc: Global) -> Result<Value, AllocError>
-        ensures { IfOk result (λ v. view v ≡ kind.written (content self.now)) };
+        ensures { IfOk result (λ v. view v ≡ kind.written (content self.now)) }
+    {
+        value_of(alloc, &self.written(alloc)?)
+    }
 
     /// Whether the value is well-formed: then what is written of it is read back as the same.
     fn is_well_formed(&self) -> bool
@@ -106,8 +125,8 @@ impl Schema for String {
         }
     }
 
-    fn to_value(&self, alloc: Global) -> Result<Value, AllocError> {
-        write_text(alloc, self.as_str())
+    fn written(&self, _alloc: Global) -> Result<Written<'_>, AllocError> {
+        Ok(Written::Text(self.as_str()))
     }
 
     fn is_well_formed(&self) -> bool {
@@ -140,8 +159,8 @@ impl Schema for bool {
         }
     }
 
-    fn to_value(&self, _alloc: Global) -> Result<Value, AllocError> {
-        Ok(Value::Boolean(*self))
+    fn written(&self, _alloc: Global) -> Result<Written<'_>, AllocError> {
+        Ok(Written::Boolean(*self))
     }
 
     fn is_well_formed(&self) -> bool {
@@ -178,8 +197,9 @@ impl<T: Schema> Schema for Vec<T> {
         }
     }
 
-    fn to_value(&self, alloc: Global) -> Result<Value, AllocError> {
-        write_list(alloc, self.as_slice(), |x| x.to_value(alloc))
+    #[tactic(auto, using(manifest_written::proofs::WrittenLemmas::written_levels))]
+    fn written(&self, alloc: Global) -> Result<Written<'_>, AllocError> {
+        Ok(Written::List(list_written(alloc, self.as_slice())?))
     }
 
     fn is_well_formed(&self) -> bool {

@@ -1,10 +1,13 @@
 //! Writers of texts, and of lists and maps whose values a given writer writes.
 
-ghost use Rattle.manifest_schema.specs.Prelude.{values, FnReturnsAt, Contains, string, view, text, list_of};
-ghost use Rattle.std.specs.Prelude.{◌≡◌, map, IfOk, Ok, string_bytes};
+ghost use Rattle.manifest_schema.specs.Prelude.{values, FnReturnsAt, Contains, string, view, text, list_of, written_items};
+ghost use Rattle.std.specs.Prelude.{◌≡◌, map, IsTrue, IfOk, Ok, string_bytes};
 ghost use Rattle.manifest_value.specs.Calls.{EntriesGiven, ListWritten, MapWritten};
+ghost use Rattle.manifest_written.specs.Written.{list_view, list_ascends};
 
 use crate::closures::call_at;
+use crate::schema::Schema;
+use manifest_written::Written;
 use std::alloc::{AllocError, Global};
 use std::collections::BTreeMap;
 use toml::{Table, Value};
@@ -57,6 +60,22 @@ pub fn write_list<T, F: Fn(&T) -> Result<Value, AllocError> + Drop>(
         out.push(call_at(&write, x)?)?;
     }
     Ok(Value::Array(out))
+}
+
+/// What is written of each item of a list, in order. It fails only when out of memory.
+pub(crate) fn list_written<'a, T: Schema>(
+    alloc: Global,
+    items: &'a [T],
+) -> Result<Vec<Written<'a>>, AllocError>
+    ensures is { IfOk result
+        (λ ws. list_view ws.items ≡ written_items T.kind (map T.content items.now)) }
+    ensures ascend { IfOk result (λ ws. IsTrue (list_ascends ws.items)) }
+{
+    let mut out = Vec::with_capacity(alloc, items.len())?;
+    for x in items {
+        out.push(x.written(alloc)?)?;
+    }
+    Ok(out)
 }
 
 /// A new table with the keys of a map, each with what `write` makes of the map's value. Fails only when out of memory,

@@ -1,0 +1,2 @@
+pub use Rattle.manifest_schema.specs.Prelude
+pub mod Written
