@@ -1,7 +1,7 @@
 //! Completing a manifest: which folders are asked for, and the proved call.
 
-use crate::calls::{tables, ListingError, Listings, Refusal};
-use crate::codec::{Aside, Encode, Members, Writer};
+use crate::calls::{is_broken, tables, ListingError, Listings, Refusal};
+use crate::codec::{Aside, Encode, Form, Members, Reader, Writer};
 use crate::error::refused_table;
 use crate::reading::{decode, encode};
 use crate::{AbstractFilesystem, Error, Filesystem, Manifest, Package, Product, StringOrBool, Value};
@@ -56,17 +56,17 @@ impl<PackageMetadata> Manifest<PackageMetadata> {
         let asks_for_build = matches!(package.build, None | Some(StringOrBool::Bool(true)));
         let table = Declared { manifest: self, package }.table()?;
         let mut asked = Asked { fs, listings: Listings::new(), error: None };
-        let src = asked.ask("src", |error| error.kind() != io::ErrorKind::NotFound);
-        if self.lib.as_ref().is_some_and(|library| library.path.is_none()) && !src.contains("lib.rs") {
+        let has_library = asked.src();
+        if self.lib.as_ref().is_some_and(|library| library.path.is_none()) && !has_library {
             library_is_found(&table, &asked)?;
         }
         asked.targets();
         if asks_for_build {
-            asked.ask(".", |_| true);
+            asked.root();
         }
         let whole = if cfg!(debug_assertions) { encode(self, Aside::default()).ok() } else { None };
         match tables::completed(&table, &asked.listings) {
-            Ok(completed) => self.put_targets(&completed),
+            Ok(completed) => Completed::decode(&completed).unwrap_or_else(|| is_broken()).put_into(self),
             Err(refusal) => return Err(asked.refused(refusal)),
         }
         if let Some(Ok(whole)) = whole.map(|whole| tables::completed(&whole, &asked.listings)) {
@@ -75,22 +75,67 @@ impl<PackageMetadata> Manifest<PackageMetadata> {
         }
         Ok(())
     }
-
-    /// Puts the targets and the build script of a completed table in the place of the manifest's own.
-    fn put_targets(&mut self, table: &[u8]) {
-        let (completed, _) = decode::<PackageMetadata, Value>(table);
-        if let (Some(new), Some(old)) = (completed.package, &mut self.package) {
-            old.build = new.build;
-        }
-        self.lib = completed.lib;
-        self.bin = completed.bin;
-        self.example = completed.example;
-        self.test = completed.test;
-        self.bench = completed.bench;
-    }
 }
 
 /// What completion makes: the build script, the library and the lists of targets.
+#[derive(Default)]
+struct Completed {
+    build: Option<StringOrBool>,
+    lib: Option<Product>,
+    bin: Vec<Product>,
+    example: Vec<Product>,
+    test: Vec<Product>,
+    bench: Vec<Product>,
+}
+
+impl Completed {
+    /// That of a table which the library has completed. What else stands in it is passed over.
+    fn decode(table: &[u8]) -> Option<Completed> {
+        let mut completed = Completed::default();
+        let reader = &mut Reader::of_answer(table);
+        let mut keys = reader.table()?;
+        while let Some(key) = keys.next(reader)? {
+            match key {
+                "package" => completed.build = build_of_package(reader)?,
+                "lib" => completed.lib = Form::decode(reader)?,
+                "bin" => completed.bin = Form::decode(reader)?,
+                "example" => completed.example = Form::decode(reader)?,
+                "test" => completed.test = Form::decode(reader)?,
+                "bench" => completed.bench = Form::decode(reader)?,
+                _ => reader.skip()?,
+            }
+        }
+        reader.is_at_end().then_some(completed)
+    }
+
+    /// Puts it in the place of the manifest's own.
+    fn put_into<P, W>(self, manifest: &mut Manifest<P, W>) {
+        let Completed { build, lib, bin, example, test, bench } = self;
+        if let Some(package) = &mut manifest.package {
+            package.build = build;
+        }
+        manifest.lib = lib;
+        manifest.bin = bin;
+        manifest.example = example;
+        manifest.test = test;
+        manifest.bench = bench;
+    }
+}
+
+/// The build script of a package whose table is next.
+fn build_of_package(reader: &mut Reader<'_>) -> Option<Option<StringOrBool>> {
+    let mut build = None;
+    let mut keys = reader.table()?;
+    while let Some(key) = keys.next(reader)? {
+        match key {
+            "build" => build = Form::decode(reader)?,
+            _ => reader.skip()?,
+        }
+    }
+    Some(build)
+}
+
+/// What completion makes, of a manifest that has it.
 fn targets<P, W>(manifest: &Manifest<P, W>) -> (Option<&StringOrBool>, Option<&Product>, [&[Product]; 4]) {
     let Manifest { package, lib, bin, example, test, bench, .. } = manifest;
     let build = package.as_ref().and_then(|package| package.build.as_ref());
@@ -188,31 +233,48 @@ struct Asked<'a, FS> {
 }
 
 impl<FS: AbstractFilesystem> Asked<'_, FS> {
-    /// Asks for the names in a folder, unless one has refused.
-    fn ask(&mut self, path: &str, refuses: impl Fn(&io::Error) -> bool) -> BTreeSet<Box<str>> {
+    /// The names in a folder, unless one has refused, or does.
+    fn names(&mut self, path: &str, refuses: impl Fn(&io::Error) -> bool) -> Option<BTreeSet<Box<str>>> {
         if self.error.is_some() {
-            return BTreeSet::new();
+            return None;
         }
         match self.fs.file_names_in(path) {
-            Ok(names) => {
-                self.listings.put(path, names.iter().map(|name| &**name));
-                names
-            }
+            Ok(names) => Some(names),
             Err(error) => {
                 self.listings.put_error(path, ListingError::from(error.kind()));
                 self.error = refuses(&error).then_some(error);
-                BTreeSet::new()
+                None
             }
         }
+    }
+
+    /// Asks for `src`, and returns whether a library stands there where Cargo looks for it.
+    fn src(&mut self) -> bool {
+        let Some(names) = self.names("src", |error| error.kind() != io::ErrorKind::NotFound) else { return false };
+        let has_library = names.contains("lib.rs");
+        self.listings.put_names("src".into(), names);
+        has_library
     }
 
     /// Asks for the folders of targets, and for each of their entries.
     fn targets(&mut self) {
         let is_out_of_memory = |error: &io::Error| error.kind() == io::ErrorKind::OutOfMemory;
         for folder in ["src/bin", "examples", "tests", "benches"] {
-            for name in self.ask(folder, is_out_of_memory) {
-                self.ask(&format!("{folder}/{name}"), is_out_of_memory);
+            let Some(names) = self.names(folder, is_out_of_memory) else { continue };
+            for name in &names {
+                let path = format!("{folder}/{name}");
+                if let Some(entries) = self.names(&path, is_out_of_memory) {
+                    self.listings.put_names(path, entries);
+                }
             }
+            self.listings.put_names(folder.into(), names);
+        }
+    }
+
+    /// Asks for the folder of the manifest.
+    fn root(&mut self) {
+        if let Some(names) = self.names(".", |_| true) {
+            self.listings.put_names(".".into(), names);
         }
     }
 

@@ -148,7 +148,7 @@ impl<'a> Reader<'a> {
     }
 
     /// Steps over a value.
-    fn skip(&mut self) -> Option<()> {
+    pub(crate) fn skip(&mut self) -> Option<()> {
         match self.peek()? {
             STRING => {
                 self.byte()?;

@@ -43,15 +43,16 @@ fn number_of(error: ListingError) -> u8 {
 
 /// Runs with the listings as folders. What they point to lives as long as the run.
 pub(crate) fn with_folders<T>(listings: &Listings, run: impl FnOnce(&[Folder]) -> T) -> T {
-    let entries = || listings.entries();
-    let names: Vec<Vec<Slice<u8>>> =
-        entries().map(|(_, listed)| listed.iter().flatten().map(|name| Slice::of(name.as_bytes())).collect()).collect();
-    let folders: Vec<Folder> = entries()
-        .zip(&names)
-        .map(|((path, listed), names)| Folder {
-            path: Slice::of(path.as_bytes()),
-            names: Slice::of(names),
-            fault: listed.as_ref().map_or_else(|fault| number_of(*fault), |_| 0),
+    let mut names = Vec::with_capacity(listings.len());
+    names.extend(listings.entries().flat_map(|(_, listed)| listed).flatten().map(|name| Slice::of(name.as_bytes())));
+    let mut left = names.as_slice();
+    let folders: Vec<Folder> = listings
+        .entries()
+        .map(|(path, listed)| {
+            let (count, fault) = listed.as_ref().map_or_else(|fault| (0, number_of(*fault)), |names| (names.len(), 0));
+            let (own, others) = left.split_at(count);
+            left = others;
+            Folder { path: Slice::of(path.as_bytes()), names: Slice::of(own), fault }
         })
         .collect();
     run(&folders)

@@ -7,7 +7,7 @@ use std::io;
 use std::path::Path;
 
 /// What was found in a folder.
-type Listed = Result<BTreeSet<String>, ListingError>;
+type Listed = Result<BTreeSet<Box<str>>, ListingError>;
 
 /// What the folders of a manifest hold, each by its path from the folder of the manifest, with `/` between its parts, as
 /// `src/bin`; that folder itself is `.`. A path that is not among them is not there.
@@ -35,8 +35,13 @@ impl Listings {
 
     /// Puts the names of a folder, in the place of what was put at its path before.
     pub fn put<N: Into<String>>(&mut self, path: impl Into<String>, names: impl IntoIterator<Item = N>) {
-        let names = names.into_iter().map(Into::into).collect();
-        self.by_path.insert(path.into(), Ok(names));
+        let names = names.into_iter().map(|name| name.into().into_boxed_str());
+        self.put_names(path.into(), names.collect());
+    }
+
+    /// The same, of the names as they are kept.
+    pub(crate) fn put_names(&mut self, path: String, names: BTreeSet<Box<str>>) {
+        self.by_path.insert(path, Ok(names));
     }
 
     /// Puts the error of a folder, in the place of what was put at its path before.
@@ -49,10 +54,10 @@ impl Listings {
         let mut all = Listings::new();
         let mut ask = |path: &str| {
             let listed: Listed = match list(path) {
-                Ok(names) => Ok(names.into_iter().collect()),
+                Ok(names) => Ok(names.into_iter().map(String::into_boxed_str).collect()),
                 Err(fault) => Err(fault.kind().into()),
             };
-            let names: Vec<String> = listed.iter().flatten().cloned().collect();
+            let names: Vec<Box<str>> = listed.iter().flatten().cloned().collect();
             all.by_path.insert(path.into(), listed);
             names
         };
