@@ -1,6 +1,6 @@
 //! How deep a text nests tables and arrays, counted from its bytes before it is parsed.
 
-ghost use Rattle.std.specs.Prelude.{◌≡◌, Some, None, option_map, if◌then◌else◌};
+ghost use Rattle.std.specs.Prelude.{◌≡◌, ◌≤◌, length, Some, None, option_map, if◌then◌else◌};
 ghost use Rattle.std.specs.Bool.{OnFalse};
 ghost use Rattle.manifest_nesting.specs.Nesting as spec;
 
@@ -257,14 +257,28 @@ fn is_mark(byte: u8) -> bool
     (byte == b'[') | (byte == b'{') | (byte == b'.')
 }
 
+/// How many bytes of a piece are brackets that open, or dots. (The count is a byte as they are, so that a processor adds
+/// many at a time.)
+#[inline(always)]
+fn marks_of(piece: &[u8]) -> u8
+    requires { length piece.now ≤ 255 }
+    ensures { result ≡ spec.marks piece.now }
+{
+    let mut marks: u8 = 0;
+    for byte in piece {
+        marks += u8::from(is_mark(*byte));
+    }
+    marks
+}
+
 /// Whether so few bytes of a text are brackets that open, or dots, that it cannot lead deeper than a limit, wherever they
 /// stand.
 fn has_few_marks(text: &[u8]) -> bool
     ensures { result ≡ spec.has_few_marks text.now }
 {
     let mut marks: usize = 0;
-    for byte in text {
-        marks += usize::from(is_mark(*byte));
+    for piece in text.chunks(255) {
+        marks += usize::from(marks_of(piece));
     }
     marks <= DOTTED_LIMIT
 }
