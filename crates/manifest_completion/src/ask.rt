@@ -173,7 +173,8 @@ fn ask_folder_unless<FS: AbstractFilesystem>(
     folder: TargetFolder,
 ) -> Result<FolderAnswers, AllocError>
     ensures { IfOk result (λ answers. FolderIsAnswered
-        (λ path answer. stopped ≡ false → FS.allows fs.now path answer) (folder_text folder) answers) }
+        (λ path answer. stopped ≡ false → FS.allows fs.now path answer) (folder_text folder)
+        answers) }
 {
     if stopped {
         return Ok(FolderAnswers::of_unasked_folder(alloc));

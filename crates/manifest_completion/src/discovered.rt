@@ -49,7 +49,8 @@ fn push_discovered_in_entry(
 ) -> Result<(), AllocError>
     ensures { OnOk result
         (all_discovered_content discovered.new.items
-        ≡ all_discovered_content discovered.old.items ++ discovered_in_entry folder.now name.now (answer_of answer.now)) }
+        ≡ all_discovered_content discovered.old.items
+            ++ discovered_in_entry folder.now name.now (answer_of answer.now)) }
 {
     if let Some(stem) = stem(name) {
         discovered.push(FoundTarget {
@@ -75,7 +76,8 @@ fn discovered_in_folder(
     folder: &str,
     answers: &FolderAnswers,
 ) -> Result<Vec<FoundTarget>, AllocError>
-    ensures { IfOk result (λ v. all_discovered_content v.items ≡ folder_paired folder.now answers.now) }
+    ensures { IfOk result
+        (λ v. all_discovered_content v.items ≡ folder_paired folder.now answers.now) }
 {
     let mut discovered = Vec::new(alloc);
     let Ok(names) = &answers.own else {

@@ -157,7 +157,8 @@ pub fn only_one_item()
 /// Without `package` and `workspace` the only fault is that of the package, under `project` where the table has it.
 #[tactic(auto, unfolding(crate::specs::ManifestForms::package_rows, crate::specs::ManifestForms::manifest_rows))]
 pub fn only_an_old_fault()
-    ensures project { OnlyFault (manifest_faulty raw raw (one_entry (codes "project") (table no_members)))
+    ensures project { OnlyFault
+        (manifest_faulty raw raw (one_entry (codes "project") (table no_members)))
         (key (codes "project") ∷ at_key (codes "name")) missing }
     ensures top { OnlyFault (manifest_faulty raw raw no_members) (at_key (codes "name")) missing }
 {}

@@ -35,7 +35,7 @@ impl Key<'_> {
     /// one.
     ///
     /// ```ignore
-    /// let name = Key::Lent("serde").into_string(alloc)?; // "serde"
+    /// let name = Key::Borrowed("serde").into_string(alloc)?; // "serde"
     /// ```
     #[inline(always)]
     pub fn into_string(self, alloc: Global) -> Result<String, AllocError>

@@ -53,7 +53,8 @@ pub fn put_row<'a, T: Schema>(
 ) -> Result<(), AllocError>
     ensures put { OnOk result
         (pairs_view pairs.new.items
-        ≡ put_some first.now (Some (T.kind.written (T.content value.now))) (pairs_view pairs.old.items)) }
+        ≡ put_some first.now (Some (T.kind.written (T.content value.now)))
+            (pairs_view pairs.old.items)) }
     ensures ascend { KeepsAscending pairs.old.items pairs.new.items result }
 {
     put_entry(pairs, first, value.written(alloc)?)

@@ -50,7 +50,7 @@ impl<'t> Source<'t> {
     /// A value that is no table is refused at itself with `WrongKind`, and an owned one is dropped.
     ///
     /// ```ignore
-    /// let table = Source::Lent(&value).into_table(alloc)?;
+    /// let table = Source::Borrowed(&value).into_table(alloc)?;
     /// ```
     #[inline(always)]
     pub fn into_table(self, alloc: Global) -> Result<TableSource<'t>, ReadFault>

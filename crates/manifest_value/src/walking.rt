@@ -86,7 +86,7 @@ fn fill_slot<'t>(slots: &mut Vec<RowSlot<'t>>, i: usize, spelling: &'static str,
 ///
 /// ```ignore
 /// let rows = spelled!["name", "proc-macro" | "proc_macro"];
-/// let walk = walk(alloc, TableSource::Lent(table), &rows)?;
+/// let walk = walk(alloc, TableSource::Borrowed(table), &rows)?;
 /// let is_there = matches!(walk.slots[0], RowSlot::One { .. });
 /// ```
 pub fn walk<'t>(
