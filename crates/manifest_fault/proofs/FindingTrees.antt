@@ -1,16 +1,16 @@
 -- What is found as a tree: each node, at a path, and what the schema finds so, also leniently.
 use Rattle.manifest_schema.specs.Prelude.{Path, Step, fault, ignored, unused, found_under, leniently}
 use Rattle.manifest_schema.specs.Findings.{Finding}
-use Rattle.std.proofs.Common.{◌≡◌, List, [], ◌∷◌, ◌++◌, map, refl, ap, ap₂, ◌∙◌, append_assoc, append-nil, Vec, Global, rules}
+use Rattle.std.proofs.Common.{◌≡◌, List, [], ◌∷◌, ◌++◌, map, refl, ap, ap₂, ◌∙◌, append_assoc, Vec, Global, rules}
 use Rattle.std.specs.Prelude.{flat_map, option_map}
 use Rattle.std.proofs.lemmas.Grind.{common_steps}
 use Rattle.std.proofs.lemmas.List.{map-append}
 use Rattle.std.proofs.lemmas.List.Folds.{flat_map-map}
 use Rattle.manifest_fault.specs.Faults.{step_of}
-use Rattle.manifest_fault.specs.Placed.{placed_here, placed_within, placed_below, first_of, placed_in, placed_among}
+use Rattle.manifest_fault.specs.Placed.{placed_within, placed_below, first_of, placed_in, placed_among}
 use Rattle.manifest_fault.specs.Found.{finding_at, findings_of}
 use Rattle.manifest_fault.specs.declared.fault.Step.{Step as CodeStep}
-use Rattle.manifest_fault.specs.declared.findings.FindingNode.{FindingNode, Here, Within, the_lemmas}
+use Rattle.manifest_fault.specs.declared.findings.FindingNode.{FindingNode, Within, the_lemmas}
 use Rattle.manifest_fault.specs.declared.schema_findings.Finding.{Finding as CodeFinding}
 use Rattle.manifest_fault.specs.declared.schema_findings.Finding.TheVariants.{Fault, Ignored, Unused}
 

@@ -1,8 +1,8 @@
 -- What the code finds in a value, as the definitions see it, and what is found row by row.
-use Rattle.manifest_schema.specs.Prelude.{Members, Spellings, Slot, at, without, Rows, no_more, others, ◌⨾◌, entry_findings, fault, ignored, unused, Text, Path, key, Cause as SchemaCause}
+use Rattle.manifest_schema.specs.Prelude.{fault, ignored, unused, Text, Path, key, Cause as SchemaCause}
 use Rattle.manifest_schema.specs.Findings.{Finding as PathFinding}
 use Rattle.manifest_schema.specs.OneFault.{fault_here}
-use Rattle.std.specs.Prelude.{◌≡◌, ℕ, zero, suc, List, [], ◌∷◌, ◌++◌, map, string_bytes}
+use Rattle.std.specs.Prelude.{◌≡◌, List, [], ◌∷◌, ◌++◌, map, string_bytes}
 use Rattle.std.specs.Borrow.{Bor}
 use Rattle.manifest_fault.specs.Faults.{path_of, cause_of}
 use Rattle.manifest_fault.specs.declared.fault.SchemaFault.{SchemaFault}

@@ -13,7 +13,7 @@ pub use Rattle.std.proofs.lemmas.Map.Text.{btree_map_updates_str, is_eq-slice_cm
 pub use Rattle.std.proofs.lemmas.Option.{none-some, same_Some}
 pub use Rattle.std.proofs.lemmas.Result.{IfErr-weaker, IfOk-weaker, on_ok_weaker}
 pub use Rattle.std.proofs.lemmas.Slice.Eq.{bytes_eq-Decides}
-pub use Rattle.std.specs.BTreeMap.{BTreeMap, IsFromIterResult, get_by, get_by_text, insert_entry, values}
+pub use Rattle.std.specs.BTreeMap.{BTreeMap, get_by, get_by_text, insert_entry, values}
 pub use Rattle.std.specs.BTreeSet.{BTreeSet}
 pub use Rattle.std.specs.Borrow.{Bor}
 pub use Rattle.std.specs.Cmp.Derive.{both_true}

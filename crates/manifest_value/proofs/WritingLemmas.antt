@@ -1,13 +1,13 @@
 -- Lemmas on what is written of a list, of a map and of a row.
-use Rattle.manifest_schema.specs.Prelude.{Text, put, put_some, Kind, written_items, written_entries, string_cmp, slice_cmp, keys_of}
-use Rattle.std.proofs.Common.{◌≡◌, ℕ, ◌+◌, ◌<◌, List, [], ◌∷◌, ◌++◌, length, take, map, get_or, true, Less, Bor, String, Global, Option, Some, string_bytes, nat_cmp, refl, sym, ap, ◌∙◌, subst, drop, arith}
+use Rattle.manifest_schema.specs.Prelude.{Kind, written_items, written_entries, string_cmp, keys_of}
+use Rattle.std.proofs.Common.{◌≡◌, ℕ, ◌+◌, ◌<◌, List, [], ◌∷◌, ◌++◌, length, take, map, get_or, String, Global, string_bytes, refl, sym, ap, ◌∙◌}
 use Rattle.std.specs.List.Sorted.{IsStrictlySortedBy}
-use Rattle.toml.specs.Data.{item, member, push_item}
-use Rattle.manifest_written.specs.Written.{written_view, list_view, pairs_view, ascends, pairs_ascend}
+use Rattle.toml.specs.Data.{item, push_item}
+use Rattle.manifest_written.specs.Written.{written_view, list_view, pairs_view}
 use Rattle.manifest_written.specs.declared.written.Written.{Written}
-use Rattle.manifest_written.proofs.WrittenLemmas.{Pair, IsAbove, first_more, items_pushed, pairs_ascend_last}
+use Rattle.manifest_written.proofs.WrittenLemmas.{Pair, IsAbove, first_more, items_pushed}
 use Rattle.manifest_value.specs.Entries.{entries_content}
-use Rattle.manifest_value.proofs.EntryLemmas.{texts, key_below}
+use Rattle.manifest_value.proofs.EntryLemmas.{key_below}
 
 module _ {A X : Type 0} (K : Kind A) (content : X → A) where
   kind_pushed : (xs : List X) (x : X) → written_items K (map content (xs ++ x ∷ []))

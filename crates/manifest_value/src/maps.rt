@@ -1,8 +1,8 @@
 //! Maps whose keys are strings: made of entries in order, read from a table, and written as one.
-ghost use Rattle.manifest_schema.specs.Prelude.{keys_of, string_cmp, no_members, table as table_data, key as key_step, Entries as Contents, map_of, written_entries, found_under, entry_findings};
+ghost use Rattle.manifest_schema.specs.Prelude.{keys_of, string_cmp, table as table_data, key as key_step, Entries as Contents, map_of, written_entries, found_under};
 ghost use Rattle.std.specs.Prelude.{◌≡◌, IsTrue, IfOk, string_bytes};
 ghost use Rattle.std.specs.List.Sorted.{IsStrictlySortedBy};
-ghost use Rattle.manifest_value.specs.Entries.{entries_content, reads_first};
+ghost use Rattle.manifest_value.specs.Entries.{entries_content};
 ghost use Rattle.manifest_value.specs.Reading.{Reads, Gives, GivesOr};
 ghost use Rattle.manifest_value.specs.Sources.{source_view, table_source, key_view, rest_view, entries_view};
 ghost use Rattle.manifest_value.specs.Walks.{Ascend};
@@ -20,7 +20,7 @@ use std::alloc::{AllocError, Global};
 use std::collections::BTreeMap;
 use toml::Value;
 
-/// The map of some entries whose keys ascend. It is made at once, with full nodes.
+/// The map of some entries whose keys ascend.
 ///
 /// ```ignore
 /// let map = map_of_list(alloc, list)?; // the entries of the list
@@ -30,10 +30,13 @@ pub fn map_of_list<X: Drop>(
     all: Vec<(String, X)>,
 ) -> Result<BTreeMap<String, X>, AllocError>
     requires { IsStrictlySortedBy string_cmp (keys_of all.items) }
-    ensures { IfOk result (λ m. entries_content (λ x. x) m.entries
-        ≡ entries_content (λ x. x) all.items) }
+    ensures { IfOk result (λ m. m.entries ≡ all.items) }
 {
-    BTreeMap::from_iter(alloc, all)
+    let mut map = BTreeMap::new(alloc);
+    for (key, x) in all {
+        drop(map.insert(key, x)?);
+    }
+    Ok(map)
 }
 
 /// Reads an entry: its key as a string of its own, and its value; a fault of the value gets the key before its path.
@@ -52,38 +55,23 @@ fn read_entry<T: Schema>(
     Ok((name, x))
 }
 
-/// Reads entries in their order into a list of room for `room` entries, and stops at the first fault.
-fn list_of_entries<T: Schema>(
-    alloc: Global,
-    room: usize,
-    entries: Entries<'_>,
-) -> Result<Vec<(String, T)>, ReadFault>
-    ensures { let ms = entries_view entries.entry in
-        GivesOr (λ v. reads_first T.kind ms (entries_content T.content v.items) no_members)
-        (entry_findings T.kind.findings ms) result }
-{
-    let mut all = Vec::with_capacity(alloc, room)?;
-    for (key, source) in entries {
-        match read_entry(alloc, key, source) {
-            Ok(entry) => all.push(entry)?,
-            Err(fault) => return Err(fault),
-        }
-    }
-    Ok(all)
-}
-
 /// Reads entries whose keys ascend into a map, each value as a `T`; stops at the first fault.
 fn read_map<T: Schema>(
     alloc: Global,
-    room: usize,
     entries: Entries<'_>,
 ) -> Result<BTreeMap<String, T>, ReadFault>
     requires { Ascend (entries_view entries) }
     ensures { let d = table_data (entries_view entries.entry) in
         Gives (map_of T.kind) (λ m. entries_content T.content m.entries) d result }
 {
-    let all = list_of_entries(alloc, room, entries)?;
-    Ok(map_of_list(alloc, all)?)
+    let mut map = BTreeMap::new(alloc);
+    for (key, source) in entries {
+        match read_entry(alloc, key, source) {
+            Ok((name, x)) => drop(map.insert(name, x)?),
+            Err(fault) => return Err(fault),
+        }
+    }
+    Ok(map)
 }
 
 /// The map of entries whose keys ascend, each value of one kind. The fault of the first entry that does not fit is
@@ -101,7 +89,7 @@ pub fn map_of_entries<T: Schema>(
     ensures { let d = table_data (rest_view rest.entry.items) in
         Gives (map_of T.kind) (λ m. entries_content T.content m.entries) d result }
 {
-    read_map(alloc, rest.len(), Entries::Rest(rest.into_iter()))
+    read_map(alloc, Entries::Rest(rest.into_iter()))
 }
 
 /// Reads a table as a map: each value as a `T`, under its key. Refuses with the fault of the first entry that has one,
@@ -113,8 +101,7 @@ fn map_from<T: Schema>(
     ensures { let d = table_source table.entry in
         Gives (map_of T.kind) (λ m. entries_content T.content m.entries) d result }
 {
-    let room = table.table().len();
-    read_map(alloc, room, table.entries())
+    read_map(alloc, table.entries())
 }
 
 /// What is written of a map: of each value, under its key. It fails only when out of memory.

@@ -1,11 +1,11 @@
 -- Lemmas on what is written.
-use Rattle.manifest_schema.specs.Prelude.{Data, string, integer, boolean, array, table, Members, no_members, member, Text, put, view, Value, slice_cmp, match_ordering, nat_list_cmp_total, ordering_reverse, and_parts, insert_entry, string_cmp, items_view, members_view}
-use Rattle.std.proofs.Common.{◌≡◌, ℕ, ◌+◌, ◌<◌, ◌≤◌, ℤ, Bool, true, ◌&&◌, List, [], ◌∷◌, ◌++◌, length, take, drop, map, get_or, Ordering, Less, Equal, Greater, Vec, String, Global, Bor, string_bytes, nat_cmp, subst, refl, sym, ap, ◌∙◌, rules}
+use Rattle.manifest_schema.specs.Prelude.{string, integer, boolean, array, table, member, Text, put, view, Value, slice_cmp, match_ordering, nat_list_cmp_total, ordering_reverse, and_parts, insert_entry, string_cmp, items_view, members_view}
+use Rattle.std.proofs.Common.{◌≡◌, ℕ, ◌+◌, ◌<◌, ℤ, Bool, true, ◌&&◌, List, [], ◌∷◌, ◌++◌, length, take, drop, map, get_or, Ordering, Less, Equal, Greater, Vec, String, Global, Bor, string_bytes, nat_cmp, subst, refl, sym, ap, ◌∙◌, rules}
 use Rattle.std.proofs.lemmas.List.{drop_more, take_more, take-append-drop}
 use Rattle.toml.specs.Data.{item, push_item}
 use Rattle.toml.proofs.Blanks.{below_from}
 use Rattle.toml.proofs.Views.{items_view-push}
-use Rattle.manifest_written.specs.Written.{written_view, list_view, pairs_view, is_below, keys_ascend, all_hold, ascends, list_ascends, pairs_ascend}
+use Rattle.manifest_written.specs.Written.{written_view, list_view, pairs_view, is_below, ascends, list_ascends, pairs_ascend}
 use Rattle.manifest_written.specs.declared.written.Written.{Written, Text as TextCase, Integer, Boolean, List as ListCase, Table as TableCase, Value as ValueCase, the_lemmas}
 
 -- AN ENTRY that is written, and one that is made

@@ -1,6 +1,5 @@
 use Rattle.std.proofs.Common.{ap, ◌∙◌, arith}
 use Rattle.std.proofs.lemmas.Grind.{common_steps}
-use Rattle.manifest_fault.specs.Faults.{step_of}
 use Rattle.manifest_fault.specs.Placed.{placed_in}
 use Rattle.manifest_fault.proofs.FindingTrees.{within, first_under}
 use Rattle.manifest_fault.proofs.findings.+first.Goals as goal

@@ -1,5 +1,5 @@
-use Rattle.std.proofs.Common.{◌∙◌}
-use Rattle.manifest_value.proofs.CollectLemmas.{same_content}
+use Rattle.std.proofs.Common.{ap, ◌∙◌}
+use Rattle.manifest_value.specs.Entries.{entries_content}
 use Rattle.manifest_inherit.specs.ForProofs.{shared_by_map}
 use Rattle.manifest_inherit.proofs.EntryLemmas.{ascend_as}
 use Rattle.manifest_inherit.proofs.maps.resolved_map.Goals as goal
@@ -12,6 +12,4 @@ map_of_list-requires g c =
 
 pub returns : goal.returns
 returns g c =
-    let made = c.in_ok-map_of_list.field-0 in
-    same_content g.T.Resolvable.content made.entries c.in_ok-list.list.items c.in_ok-map_of_list.ensures
-    ∙ c.in_ok-list.ensures
+    ap (entries_content g.T.Resolvable.content) c.in_ok-map_of_list.ensures ∙ c.in_ok-list.ensures

@@ -1,8 +1,8 @@
 use Rattle.manifest_schema.specs.Prelude.{keys_of, string_cmp}
-use Rattle.std.proofs.Common.{rules, ◌≡◌, [], ◌∷◌, ◌++◌, String, Global, Bor, List, ℕ, string_bytes, sym, ap, ◌∙◌, subst, append_assoc, append-nil, true}
+use Rattle.std.proofs.Common.{◌≡◌, [], ◌∷◌, ◌++◌, String, Global, string_bytes, sym, ap, ◌∙◌, subst, append_assoc, append-nil}
 use Rattle.std.specs.List.Sorted.{IsStrictlySortedBy}
 use Rattle.manifest_schema.specs.Prelude.{written_entries}
-use Rattle.manifest_written.specs.Written.{pairs_view, pairs_ascend}
+use Rattle.manifest_written.specs.Written.{pairs_ascend}
 use Rattle.manifest_written.proofs.WrittenLemmas.{Pair, IsAbove, pairs_ascend_last}
 use Rattle.manifest_value.specs.Entries.{entries_content}
 use Rattle.manifest_value.proofs.WritingLemmas.{AreOf, entries_last, next_above, view_of_entries}

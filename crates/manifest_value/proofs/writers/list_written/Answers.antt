@@ -1,4 +1,4 @@
-use Rattle.std.proofs.Common.{rules, ◌≡◌, ap, ◌∙◌, subst, sym, true, map}
+use Rattle.std.proofs.Common.{rules, ap, ◌∙◌, map}
 use Rattle.std.proofs.lemmas.List.{take_all}
 use Rattle.manifest_schema.specs.Prelude.{written_items}
 use Rattle.manifest_written.specs.Written.{list_view, list_ascends}
