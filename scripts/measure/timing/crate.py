@@ -12,7 +12,6 @@ from statistics import median
 from shared.crates import toml_of
 from shared.repository import CRATES, TOP, below, crates_of
 
-from . import picture
 from .manifests import LARGE, SIZES, manifest
 from .programs import HERE, built_by_cargo, check_valgrind, instructions, peak, stop, times
 from .tables import NAMES, STEPS, beyond, head, over, row, shown
@@ -141,13 +140,29 @@ def print_row(name, each, unit):
     row(name, *(shown(figure, unit) for figure in each), *ratio)
 
 
+def lines():
+    """The rows of reading, writing and completing: each with its name, its input and its step."""
+    yield from ((f"{name}: {what}", size, step) for size, name in NAMES.items() for step, what in STEPS.items())
+    yield from ((f"completion, {name}", count, "completion") for count, name in FOUND.items())
+
+
+def print_ratios(figures):
+    """The least times with what is freed kept, and the ratios to the Rust crate: these, with what is freed given back, and by
+    instructions."""
+    head("Microseconds, and ratios", "step", "ours", "Rust crate", "ours / Rust", "given back", "by instructions")
+    for name, size, step in lines():
+        both = [figures.time("kept", program, size, step) for program in PROGRAMS]
+        given = [figures.time("given", program, size, step) for program in PROGRAMS]
+        counts = [figures.instructions(None, program, size, step) for program in PROGRAMS]
+        ratios = [over(*pair) for pair in (both, given, counts)]
+        row(name, *(shown(figure and figure[:1], 1e3) for figure in both), *(shown(ratio and ratio[:1]) for ratio in ratios))
+
+
 def print_table(figures, title, of, setting, unit):
     """A table of reading, writing and completing. What follows from the rows of one program stands below them."""
     names = [PROGRAMS[program] for program in figures.programs]
     head(title, "step", *names, *(["ours / Rust"] if len(names) == 2 else []))
-    lines = [(f"{name}: {what}", size, step) for size, name in NAMES.items() for step, what in STEPS.items()]
-    lines += [(f"completion, {name}", count, "completion") for count, name in FOUND.items()]
-    for name, size, step in lines:
+    for name, size, step in lines():
         print_row(name, [of(setting, program, size, step) for program in figures.programs], unit)
     empty = [""] * (len(names) == 2)
     for size, name in NAMES.items():
@@ -159,7 +174,9 @@ def print_table(figures, title, of, setting, unit):
 
 
 def print_all(figures, counts):
-    """All tables."""
+    """All tables, and first the one that docs/SPEED.md has."""
+    if len(figures.programs) == 2:
+        print_ratios(figures)
     for setting, title in TITLES.items():
         print_table(figures, f"Microseconds, {title}", figures.time, setting, 1e3)
     if counts:
@@ -193,5 +210,3 @@ def measure(words):
             if words.instructions:
                 count_instructions(figures, name, program, inputs)
     print_all(figures, words.instructions)
-    if words.svg:
-        picture.write(words.svg, picture.curves(lambda *of: figures.time("kept", *of)[0] / 1e3, figures.programs))

@@ -15,7 +15,6 @@ PACKAGE = "[package]\nname = 'many'\n"
 NAMES = {"small": "41 bytes", "typical": "typical", "large": "5,000 dependencies of four forms"}
 # each of these takes part in a turn for this many seconds
 LEAST = 0.02
-TURNS = 41
 NO_LIMIT = 2**62
 
 
@@ -35,24 +34,25 @@ def inputs():
         yield f"{count:,} faults below a long key", entries(f"[target.{'k' * 50_000}.dependencies]\n", count, "1")
 
 
-def time_of(call, text, times):
-    """The mean time of this many calls, in microseconds."""
+def time_of(call, texts, times):
+    """The mean time of this many calls on each text, in microseconds."""
     start = time.perf_counter()
     for _ in range(times):
-        call(text)
-    return (time.perf_counter() - start) / times * 1e6
+        for text in texts:
+            call(text)
+    return (time.perf_counter() - start) / times / len(texts) * 1e6
 
 
-def figures(text, calls):
-    """Of each call the least time and the middle one, taken by turns."""
-    often = [max(1, int(LEAST * 1e6 / time_of(call, text, 1))) for call in calls]
-    turns = [[time_of(call, text, times) for call, times in zip(calls, often)] for _ in range(TURNS)]
-    return [(min(taken), statistics.median(taken)) for taken in zip(*turns)]
+def figures(texts, calls, turns):
+    """Of each call the least time and the middle one, taken by turns, on one of these texts in the mean."""
+    often = [max(1, int(LEAST * 1e6 / time_of(call, texts, 1) / len(texts))) for call in calls]
+    taken = [[time_of(call, texts, times) for call, times in zip(calls, often)] for _ in range(turns)]
+    return [(min(times), statistics.median(times)) for times in zip(*taken)]
 
 
 def measure(words):
     """Measures, and prints a row for each manifest."""
-    library = python_package(built_files(words.folder), "cargo_manifest._library")
+    library = python_package(built_files(words.built), "cargo_manifest._library")
 
     def table(text):
         library.manifest_run(library.Request(bytes=(text, len(text)), most=NO_LIMIT, output=1), None, 0)
@@ -62,5 +62,5 @@ def measure(words):
 
     head("Microseconds", "manifest", "`manifest_table`", "`manifest_findings`", "ratio")
     for name, text in inputs():
-        reading, finding = figures(text, (table, findings))
+        reading, finding = figures([text], (table, findings), words.turns)
         row(name, shown(reading, digits=1), shown(finding, digits=1), shown(over(finding, reading)))

@@ -1,24 +1,24 @@
-"""`scripts/measure/speed library`: the typed Rust crate and the library under it, and another crate, the original or cargo_toml,
-all called in one process, over one malloc. docs/SPEED.md says how the figures are to be read."""
-import os
-import subprocess
+"""`scripts/measure/speed library`: the typed Rust crate and the library under it, and others, the original or cargo_toml, each in
+one process with it, over one malloc. docs/SPEED.md says how the figures are to be read."""
 import tempfile
+import tomllib
 from pathlib import Path
 
 from shared.archive import archive_alone
 from shared.commands import built_files
 from shared.crates import toml_of
 from shared.repository import BINDINGS, NAME, X86, manifest_of
-from shared.runs import make, stored
+from shared.runs import stored
 
-from .manifests import LARGE, SIZES, manifest
-from .programs import built_by_cargo, check_valgrind, instructions, peak, stop, times
+from .manifests import LARGE, SIZES, by_size, manifest, of_folder
+from .programs import built_by_cargo, check_valgrind, instructions, on_one_processor, peak, stop, times
 from .tables import beyond, head, over, row, shown
 
 # the steps, where {} is the name of the other crate
 STEPS = {
     "typed": "typed: `from_slice`",
     "typed-text": "typed: with `to_toml_string`",
+    "document": "library: `toml` alone, `manifest_document`",
     "table": "library: the table alone, `manifest_table`",
     "canonical": "library: `canonical`",
     "original": "{}: `from_slice`",
@@ -26,112 +26,135 @@ STEPS = {
 }
 RATIOS = {
     "typed / {}": ("typed", "original"),
-    "typed / {}, with the text": ("typed-text", "original-text"),
+    "typed with the text / {} with the text": ("typed-text", "original-text"),
     "`canonical` / {} with the text": ("canonical", "original-text"),
+    "typed / `toml` alone": ("typed", "document"),
 }
-WRITING = ("typed-text", "canonical", "original-text")
-COUNTED = ("typed", "original", "typed-text", "original-text", "table")
+COUNTED = ("typed", "original", "typed-text", "original-text", "table", "document")
 PEAKS = {
     "nothing": "the text alone",
+    "document": "and the call `manifest_document`, without room for the document",
     "table": "and the call `manifest_table`, without room for the table",
     "typed": "and `from_slice` of the typed crate",
     "original": "and `from_slice` of {}",
 }
+# what is done with all manifests of a folder: our step, and that of the other crate
+DONE = {
+    "completing, `complete_from_path`": ("typed-completed", "original-completed"),
+    "writing, `to_toml_string`": ("typed-written", "original-written"),
+    "reading and writing, `canonical`": ("canonical", "original-text"),
+}
 
 
 def put_inputs(room):
-    """The inputs, by what they are called: three manifests, and the stored texts that both read, each in a file of a folder."""
-    files = {size: room / f"{size}.toml" for size in SIZES}
-    for size, file in files.items():
-        file.write_bytes(manifest(SIZES[size]))
-    (room / "stored").mkdir()
-    refused = {case["manifest"] for case in stored("otherwise.jsonl") if "refused" in case}
-    for number, case in enumerate(stored("manifests.jsonl"), 1):
-        if "refused" not in case and number not in refused:
-            (room / "stored" / f"{number:03}.toml").write_text(case["input"], encoding="utf-8", newline="")
-    texts = [file.stat().st_size for file in (room / "stored").iterdir()]
-    named = {f"{file.stat().st_size:,} bytes": file for file in files.values()}
-    return {**named, f"{sum(texts) // len(texts)} bytes in the mean of {len(texts)} texts": room / "stored"}
+    """The inputs, by what they are called: three manifests, and the stored texts, each in a file."""
+    inputs = {}
+    for size, word in SIZES.items():
+        file = room / f"{size}.toml"
+        file.write_bytes(manifest(word))
+        inputs[f"{file.stat().st_size:,} bytes"] = [file]
+    texts = [case["input"] for case in stored("manifests.jsonl") if "refused" not in case]
+    inputs["mean of {} stored texts"] = [room / f"{number:03}.toml" for number in range(len(texts))]
+    for file, text in zip(inputs["mean of {} stored texts"], texts):
+        file.write_text(text, encoding="utf-8", newline="")
+    return inputs
 
 
-def put_manifests(room, texts):
-    """A folder with a folder for each manifest of TEXTS, with its files."""
-    files = ["Cargo.toml", "src/lib.rs", "src/main.rs"]
-    if texts == "usual":
-        cases = stored("usual.jsonl")
-    else:
-        found = sorted(Path(texts).glob("*.toml"))
-        cases = [{"manifest": file.read_text(encoding="utf-8"), "files": files} for file in found]
-    for number, case in enumerate(cases, 1):
-        make(room / f"{number:05}", case)
-    return room
+def built(room, crate, archive):
+    """The program over a crate, and what that is called."""
+    other = manifest_of(crate)["package"]["name"]
+    dependencies = {
+        "original": f'{{ package = "{other}", path = "{crate}" }}',
+        "proved": f'{{ package = "cargo-manifest-proved", path = "{BINDINGS / "rust"}" }}',
+        "toml": f'"{toml_of(crate)}"',
+    }
+    program = built_by_cargo(room, "library.rs", dependencies, crate, {"MANIFEST_FFI": str(archive.parent)})
+    packages = tomllib.loads((program.parents[2] / "Cargo.lock").read_text(encoding="utf-8"))["package"]
+    toml = next(package["version"].partition("+")[0] for package in packages if package["name"] == "toml")
+    return f"`{other}`, `toml` {toml}", program
 
 
-def print_manifests(program, folder):
-    """The table of manifests, taken on one processor, so that neither is taken to another one in between."""
-    one = {max(os.sched_getaffinity(0))}
-    subprocess.run([program, "manifests", folder], check=True, preexec_fn=lambda: os.sched_setaffinity(0, one))
+def taken(program, turns, steps, files):
+    """Of each step the least time and the middle one on one file in the mean, and on how many files it was taken."""
+    return times(program, "time", turns, ",".join(steps), *files)
 
 
-def print_times(program, inputs, other):
-    """The times of each step on each input, the ratios, and how long the texts are that are written."""
-    taken = [times(program, "time", file) for file in inputs.values()]
-    figures = [{step: figure for step, (figure, _) in found.items()} for found in taken]
-    head("Microseconds", "step", *inputs)
-    for step, name in STEPS.items():
-        row(name.format(other), *(shown(of[step], 1e3) if step in of else "" for of in figures))
-    for name, (ours, theirs) in RATIOS.items():
-        row(name.format(other), *(shown(over(of[ours], of[theirs])) if ours in of else "" for of in figures))
-    head("Bytes written", "step", *inputs)
-    for step in WRITING:
-        row(STEPS[step].format(other), *(f"{found[step][1]:,}" if step in found else "" for found in taken))
+def print_inputs(name, program, inputs, turns):
+    """The times of each step on each input, and the ratios. What was taken on some of the texts alone is left out."""
+    of_inputs = [taken(program, turns, STEPS, files) for files in inputs.values()]
+    counts = [found["typed"][1] for found in of_inputs]
+    figures = [{step: figure for step, (figure, on) in found.items() if on == count} for found, count in zip(of_inputs, counts)]
+    head("Microseconds", "step", *(title.format(count) for title, count in zip(inputs, counts)))
+    for step, title in STEPS.items():
+        row(title.format(name), *(shown(of[step], 1e3) if step in of else "" for of in figures))
+    for title, (ours, theirs) in RATIOS.items():
+        row(title.format(name), *(shown(over(of[ours], of[theirs])) if {ours, theirs} <= of.keys() else "" for of in figures))
 
 
-def print_peaks(program, file, other):
-    """The peak of memory after each of PEAKS, and what it is over the text alone, as a ratio to others."""
+def print_peaks(name, program, file):
+    """The peak of memory after each of PEAKS, and the ratio of the typed crate's to others."""
     peaks = {step: (peak(program, step, file),) for step in PEAKS}
-    head(f"Peak of memory, in MB, of {file.stat().st_size:,} bytes", "step", "MB")
-    for step, name in PEAKS.items():
-        row(name.format(other), shown(peaks[step], 1e6))
-    above = {step: beyond(figure, peaks["nothing"]) for step, figure in peaks.items()}
-    for step, name in ("table", "`manifest_table`"), ("original", other):
-        row(f"typed / {name}, both beyond the text alone", shown(over(above["typed"], above[step])))
+    head(f"Peak of memory, in MB, of {file.stat().st_size:,} bytes", "step", "MB", "typed / this", "both beyond the text alone")
+    for step, title in PEAKS.items():
+        above = [beyond(peaks[of], peaks["nothing"]) for of in ("typed", step)]
+        ratios = [] if step == "nothing" else [shown(over(peaks["typed"], peaks[step])), shown(over(*above))]
+        row(title.format(name), shown(peaks[step], 1e6), *(ratios or ["", ""]))
 
 
-def print_instructions(program, inputs, other):
-    """The instructions of one call of each step of COUNTED, on each input that is a file."""
-    files = {name: file for name, file in inputs.items() if file.is_file()}
+def print_instructions(name, program, inputs):
+    """The instructions of one call of each step of COUNTED, on each input that is one file."""
+    files = {title: files[0] for title, files in inputs.items() if len(files) == 1}
     counts = [{step: (instructions(program, step, file),) for step in COUNTED} for file in files.values()]
     head("Thousands of instructions, of one call", "step", *files)
     for step in COUNTED:
-        row(STEPS[step].format(other), *(shown(of[step], 1e3) for of in counts))
-    row(f"typed / {other}", *(shown(over(of["typed"], of["original"])) for of in counts))
+        row(STEPS[step].format(name), *(shown(of[step], 1e3) for of in counts))
+    row(f"typed / {name}", *(shown(over(of["typed"], of["original"])) for of in counts))
+
+
+def figure(found, step, files, ours=None):
+    """The least time of a step, with the ratio of ours to it, and on how many files where it was not taken on all."""
+    if step not in found:
+        return "-"
+    notes = [f"{found[ours][0][0] / found[step][0][0]:.2f}"] if ours else []
+    notes += [f"of {found[step][1]}"] if found[step][1] < len(files) else []
+    return f"{found[step][0][0] / 1e3:,.1f}" + (f" ({', '.join(notes)})" if notes else "")
+
+
+def print_manifests(programs, files, turns):
+    """The tables of the manifests of a folder: reading by classes, and what else is done with all of them."""
+    head("Microseconds of `from_slice`", "bytes", "manifests", "this crate", *programs, "`toml` of the toolchain alone")
+    for name, of in by_size(files):
+        first, *_ = found = [taken(program, turns, ("typed", "original", "document"), of) for program in programs.values()]
+        others = [figure(one, "original", of, "typed") for one in found]
+        row(name, str(len(of)), figure(first, "typed", of), *others, figure(first, "document", of, "typed"))
+    head("Microseconds, of all of them", "step", "this crate", *programs)
+    steps = ["typed", "faults", *(step for both in DONE.values() for step in both)]
+    first, *_ = found = [taken(program, turns, steps, files) for program in programs.values()]
+    for name, (ours, theirs) in DONE.items():
+        row(name, figure(first, ours, files), *(figure(one, theirs, files, ours) for one in found))
+    row("finding every fault, `faults`", figure(first, "faults", files), *[""] * len(programs))
+    print(f"\n`faults` takes {first['faults'][0][0] / first['typed'][0][0]:.2f} of `from_slice`.")
 
 
 def measure(words):
     """Measures, and prints what was measured."""
-    crate, folder = words.crate.resolve(), built_files(words.folder)
+    folder = built_files(words.built)
     if words.instructions:
         check_valgrind()
     if not (folder / X86 / NAME).is_file():
         stop(f"there is no archive {folder / X86 / NAME}")
-    other = manifest_of(crate)["package"]["name"]
     with tempfile.TemporaryDirectory() as name:
         room = Path(name)
         archive = archive_alone(room, folder)
-        dependencies = {
-            "original": f'{{ package = "{other}", path = "{crate}" }}',
-            "proved": f'{{ package = "cargo-manifest-proved", path = "{BINDINGS / "rust"}" }}',
-            "toml": f'"{toml_of(crate)}"',
-        }
-        program = built_by_cargo(room, "library.rs", dependencies, crate, {"MANIFEST_FFI": str(archive.parent)})
+        programs = dict(built(room / str(number), crate.resolve(), archive) for number, crate in enumerate(words.crate))
+        on_one_processor()
         if words.manifests:
-            print_manifests(program, put_manifests(room / "manifests", words.manifests))
+            print_manifests(programs, of_folder(words.manifests, room / "manifests"), words.turns)
             return
-        inputs = put_inputs(room)
-        print_times(program, inputs, other)
-        large = room / "large of all.toml"
+        inputs, large = put_inputs(room), room / "large of all.toml"
         large.write_bytes(manifest(LARGE))
-        print_peaks(program, large, other)
-        if words.instructions:
-            print_instructions(program, inputs, other)
+        for name, program in programs.items():
+            print_inputs(name, program, inputs, words.turns)
+            print_peaks(name, program, large)
+            if words.instructions:
+                print_instructions(name, program, inputs)

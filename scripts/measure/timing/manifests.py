@@ -1,8 +1,14 @@
-"""The manifests that are measured: the same text each time."""
+"""The manifests that are measured: those that are made are the same text each time, and others are in a folder."""
+from math import inf
+from pathlib import Path
+
+from shared.runs import make, stored
 
 # the sizes that are timed, each with the word of its manifest; and the word of the one whose memory is looked at
 SIZES = {"small": "small", "typical": "typical", "large": "5000"}
 LARGE = "200700"
+# the classes of the manifests of a folder, each with how many bytes they are below
+CLASSES = {"below 300": 300, "300 to 600": 600, "600 to 1,200": 1_200, "1,200 to 2,500": 2_500, "2,500 and more": inf}
 SMALL = '[package]\nname = "foo"\nversion = "1.0.0"\n'
 # a dependency, by turns: a version, a table with a version, one with a path, and one that is inherited from the workspace
 FORMS = (
@@ -142,3 +148,25 @@ def many(count):
 def manifest(word):
     """The bytes of the manifest of a word: `small`, with a name and a version, `typical`, or a number of dependencies."""
     return {"small": lambda: SMALL, "typical": typical}.get(word, lambda: many(int(word)))().encode()
+
+
+def of_folder(texts, room):
+    """The manifests of a folder, or the usual ones of the stored: each in a folder of its own in `room`, with its files."""
+    files = ["Cargo.toml", "src/lib.rs", "src/main.rs"]
+    if texts == "usual":
+        cases = stored("usual.jsonl")
+    else:
+        found = sorted(Path(texts).glob("*.toml"))
+        cases = [{"manifest": file.read_text(encoding="utf-8"), "files": files} for file in found]
+    return [make(room / f"{number:05}", case) for number, case in enumerate(cases, 1)]
+
+
+def by_size(files):
+    """The files of each class that has any, and all of them."""
+    least = 0
+    for name, most in CLASSES.items():
+        of = [file for file in files if least <= file.stat().st_size < most]
+        least = most
+        if of:
+            yield name, of
+    yield "all", files

@@ -31,6 +31,11 @@ def built_by_cargo(room, source, dependencies, crate, settings):
     return place / "target" / "release" / "speed"
 
 
+def on_one_processor():
+    """Stays on one processor, and whatever it runs with it, so that nothing is taken to another one in between."""
+    os.sched_setaffinity(0, {max(os.sched_getaffinity(0))})
+
+
 def answered(program, *words, **settings):
     """The lines that a program answers, each by its words."""
     said = subprocess.run([program, *map(str, words)], env={**os.environ, **settings}, stdout=subprocess.PIPE, text=True)
