@@ -1,101 +1,86 @@
-"""`scripts/measure/speed picture`: the time that manifests take to be read, and to be read and written, over their size, as an
-SVG. A point is a least time with what is freed kept, to the hundredth of a microsecond, as the tables have it. The same times
-give the same bytes."""
-import re
-from math import ceil, floor, log10
+"""`scripts/measure/speed picture`: how long manifests take to be read, by their sizes, as an SVG: a group of bars for each row of
+the first table of a document but its last one, with a bar for each of its columns of times. The dark part of our bar is what the
+last column has. The same table gives the same bytes."""
+from math import ceil
+from xml.sax.saxutils import escape
 
 from shared.repository import TOP as REPOSITORY
 from shared.tries import finish, told
 
-from .manifests import SIZES, manifest
-from .tables import NAMES, STEPS
-
 DOCS = REPOSITORY / "docs"
-TITLE = "Reading and writing a manifest: time over size"
-# how long the manifests are; of each program its name, its colour and how round its marks are; of each step its dashes, and
-# whether its marks are filled
-BYTES = {size: len(manifest(word)) for size, word in SIZES.items()}
-PROGRAMS = {"ours": ("ours", "#0072b2", 3.5), "Rust": ("Rust crate", "#d55e00", 0)}
-DRAWN = {"from_slice": ("none", True), "text": ("7 4", False)}
-WIDTH, HEIGHT, LEFT, TOP, RIGHT, BOTTOM = 720, 500, 84, 72, 700, 440
+TITLE = "Reading a real manifest by a Rust program: microseconds, by its bytes"
+LOOK = """\
+.page { fill: #ffffff } text { fill: #222222 } line { stroke: #d8d8d8 }
+.c0 { fill: #56a5dc } .floor { fill: #0a5f96 } .c1 { fill: #d55e00 } .c2 { fill: #eda93f } .c3 { fill: #8c8c8c }
+@media (prefers-color-scheme: dark) { .page { fill: #0d1117 } text { fill: #dddddd } line { stroke: #333a44 } }"""
+WIDTH, LEFT, RIGHT, TOP, BOTTOM = 720, 44, 708, 92, 300
+BAR, SPACE = 27, 2
 
 
-def of_document(text):
-    """The curves of a document: of each row the first that has its name, which is the one of the first table."""
-    def least(program, size, step):
-        cells = re.search(rf"^\| {NAMES[size]}: {STEPS[step]} \|(.*)$", text, re.M)[1].split("|")
-        return float(cells[list(PROGRAMS).index(program)].split()[0].replace(",", ""))
+def table(text):
+    """The first table of a document: the names of its columns of times, and its rows but the last, each with its name, how many
+    manifests it is of, and its times."""
+    def number(cell):
+        return float(cell.split()[0].replace(",", ""))
 
-    return curves(least, PROGRAMS)
-
-
-def curves(least, programs):
-    """The points of each step and program: bytes and microseconds."""
-    return {
-        (step, program): [(count, round(least(program, size, step), 2)) for size, count in BYTES.items()]
-        for step in DRAWN
-        for program in programs
-    }
+    lines = text[text.index("\n|") + 1 :].partition("\n\n")[0].splitlines()
+    head, _, *rows = ([cell.strip().replace("`", "") for cell in line.strip("|").split("|")] for line in lines)
+    return head[2:], [(name, count, [number(cell) for cell in cells]) for name, count, *cells in rows[:-1]]
 
 
-def axis(values, start, end):
-    """Where a value lies on a logarithmic axis with room for these, and the powers of ten on it."""
-    low, high = log10(min(values) / 2), log10(max(values) * 2)
-    powers = [10**power for power in range(ceil(low), floor(high) + 1)]
-    return (lambda value: round(start + (log10(value) - low) / (high - low) * (end - start), 1)), powers
+def rect(x, top, width, bottom, look):
+    return f'<rect x="{x:g}" y="{top:g}" width="{width:g}" height="{round(bottom - top, 1):g}" class="{look}"/>'
 
 
-def line(x1, y1, x2, y2, look):
-    return f'<line x1="{x1}" y1="{y1}" x2="{x2}" y2="{y2}" {look}/>'
+def words(x, y, text, anchor="middle", size=12):
+    return f'<text x="{x:g}" y="{y:g}" text-anchor="{anchor}" font-size="{size}">{escape(text)}</text>'
 
 
-def words(x, y, text, anchor="middle", look=""):
-    return f'<text x="{x:g}" y="{y:g}" text-anchor="{anchor}"{look}>{text}</text>'
+def picture(text):
+    """The SVG of a document's first table."""
+    (*names, floor), rows = table(text)
+    most = ceil(max(time for _, _, times in rows for time in times) / 50) * 50
 
+    def up(time):
+        return round(BOTTOM - time / most * (BOTTOM - TOP), 1)
 
-def picture(drawn):
-    """The SVG of some curves."""
-    across, sizes = axis(BYTES.values(), LEFT, RIGHT)
-    up, times = axis([time for points in drawn.values() for _, time in points], BOTTOM, TOP)
-    grid, dots, middle = 'stroke="#cccccc"', 'stroke="#888888" stroke-dasharray="2 4"', (TOP + BOTTOM) // 2
     parts = [
-        f'<svg xmlns="http://www.w3.org/2000/svg" viewBox="0 0 {WIDTH} {HEIGHT}" width="{WIDTH}" height="{HEIGHT}" '
-        'role="img" font-family="sans-serif" font-size="13" fill="#222222">',
-        f'<title>{TITLE}</title>\n<rect width="{WIDTH}" height="{HEIGHT}" fill="#ffffff"/>',
-        words(WIDTH / 2, 28, TITLE, look=' font-size="17"'),
-        words((LEFT + RIGHT) / 2, BOTTOM + 44, "size of the manifest, in bytes"),
-        words(22, middle, "microseconds", look=f' transform="rotate(-90 22 {middle})"'),
+        f'<svg xmlns="http://www.w3.org/2000/svg" viewBox="0 0 {WIDTH} {BOTTOM + 48}" width="{WIDTH}" height="{BOTTOM + 48}" '
+        'role="img" font-family="sans-serif">',
+        f"<title>{TITLE}</title>\n<style>\n{LOOK}\n</style>",
+        rect(0, 0, WIDTH, BOTTOM + 48, "page"),
+        words(WIDTH / 2, 24, TITLE, size=16),
     ]
-    for size in sizes:
-        parts += [line(across(size), TOP, across(size), BOTTOM, grid), words(across(size), BOTTOM + 20, f"{size:,}")]
-    for time in times:
-        parts += [line(LEFT, up(time), RIGHT, up(time), grid), words(LEFT - 8, up(time) + 4.5, f"{time:,}", "end")]
-    for size in BYTES.values():
-        parts += [line(across(size), TOP, across(size), BOTTOM, dots), words(across(size), TOP - 9, f"{size:,} bytes")]
-    parts.append(f'<path d="M{LEFT} {TOP}V{BOTTOM}H{RIGHT}V{TOP}Z" fill="none" stroke="#222222"/>')
-    parts.append(f'<rect x="{LEFT + 52}" y="{TOP + 14}" width="276" height="{22 * len(drawn) + 6}" fill="#ffffff"/>')
-    for row, ((step, program), points) in enumerate(drawn.items()):
-        (name, colour, radius), (dashes, is_filled) = PROGRAMS[program], DRAWN[step]
-        name, left, top = f"{name}: {STEPS[step]}", LEFT + 60, TOP + 28 + 22 * row
-        look = f'fill="none" stroke="{colour}" stroke-width="2" stroke-dasharray="{dashes}"'
-        parts.append(f'<polyline points="{" ".join(f"{across(size)},{up(time)}" for size, time in points)}" {look}/>')
-        parts += [line(left, top, left + 44, top, look), words(left + 54, top + 4.5, name, "start")]
-        marks = [(across(size), up(time), f"{name}, {size:,} bytes: {time:,.2f} microseconds") for size, time in points]
-        look = f'fill="{colour if is_filled else "#ffffff"}" stroke="{colour}" stroke-width="2"'
-        for x, y, title in [*marks, (left + 22, top, name)]:
-            place = f'x="{x - 3.5:g}" y="{y - 3.5:g}" width="7" height="7" rx="{radius}"'
-            parts.append(f"<rect {place} {look}><title>{title}</title></rect>")
+    # what each colour is, in two rows
+    looks = {"c0": names[0], "floor": f"of that, {floor}", **{f"c{n}": name for n, name in enumerate(names[1:], 1)}}
+    for number, (look, name) in enumerate(looks.items()):
+        x, y = LEFT + 240 * (number % 3), 50 + 20 * (number // 3)
+        parts += [rect(x, y - 10, 14, y + 2, look), words(x + 20, y, name, "start")]
+    for time in range(0, most + 1, 50):
+        parts.append(f'<line x1="{LEFT}" y1="{up(time):g}" x2="{RIGHT}" y2="{up(time):g}"/>')
+        parts.append(words(LEFT - 6, up(time) + 4, f"{time}", "end", 11))
+    group = (RIGHT - LEFT) / len(rows)
+    for number, (name, count, times) in enumerate(rows):
+        middle = round(LEFT + group * (number + 0.5), 1)
+        for bar, time in enumerate(times[:-1]):
+            x = middle + (bar - len(names) / 2) * (BAR + SPACE)
+            parts.append(rect(x, up(time), BAR, BOTTOM, f"c{bar}"))
+            parts.append(words(x + BAR / 2, up(time) - 4, f"{time:.{int(time < 100)}f}", size=10))
+            if bar == 0:
+                parts.append(rect(x, up(times[-1]), BAR, BOTTOM, "floor"))
+        manifests = "1 manifest" if count == "1" else f"{count} manifests"
+        parts += [words(middle, BOTTOM + 18, name), words(middle, BOTTOM + 34, manifests, size=11)]
     return "\n".join([*parts, "</svg>\n"])
 
 
-def write(file, drawn):
-    """Writes the picture of some curves."""
-    file.write_text(picture(drawn), encoding="utf-8")
+def write(file, text):
+    """Writes the picture of a document."""
+    file.write_text(picture(text), encoding="utf-8")
 
 
 def check():
     """Counts whether docs/speed.svg is, byte for byte, what docs/SPEED.md gives."""
-    due = picture(of_document((DOCS / "SPEED.md").read_text(encoding="utf-8")))
+    due = picture((DOCS / "SPEED.md").read_text(encoding="utf-8"))
     is_due = (DOCS / "speed.svg").read_bytes() == due.encode()
     told("docs/speed.svg", None if is_due else "scripts/measure/speed picture docs/SPEED.md docs/speed.svg makes another one")
     finish()
