@@ -147,15 +147,15 @@ def lines():
 
 
 def print_ratios(figures):
-    """The least times with what is freed kept, and the ratios to the Rust crate: these, with what is freed given back, and by
-    instructions."""
+    """Of the steps that both have, the least times with what is freed kept, and the ratios to the Rust crate: these, with what is
+    freed given back, and by instructions."""
     head("Microseconds, and ratios", "step", "ours", "Rust crate", "ours / Rust", "given back", "by instructions")
     for name, size, step in lines():
-        both = [figures.time("kept", program, size, step) for program in PROGRAMS]
-        given = [figures.time("given", program, size, step) for program in PROGRAMS]
-        counts = [figures.instructions(None, program, size, step) for program in PROGRAMS]
-        ratios = [over(*pair) for pair in (both, given, counts)]
-        row(name, *(shown(figure and figure[:1], 1e3) for figure in both), *(shown(ratio and ratio[:1]) for ratio in ratios))
+        ways = (figures.time, "kept"), (figures.time, "given"), (figures.instructions, None)
+        kept, *others = ([of(way, program, size, step) for program in PROGRAMS] for of, way in ways)
+        if None not in kept:
+            ratios = [over(*pair) for pair in (kept, *others)]
+            row(name, *(shown(figure[:1], 1e3) for figure in kept), *(shown(ratio and ratio[:1]) for ratio in ratios))
 
 
 def print_table(figures, title, of, setting, unit):

@@ -26,7 +26,6 @@ STEPS = {
 }
 RATIOS = {
     "typed / {}": ("typed", "original"),
-    "typed with the text / {} with the text": ("typed-text", "original-text"),
     "`canonical` / {} with the text": ("canonical", "original-text"),
     "typed / `toml` alone": ("typed", "document"),
 }
