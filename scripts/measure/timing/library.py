@@ -12,7 +12,7 @@ from shared.runs import stored
 
 from .manifests import LARGE, SIZES, by_size, manifest, of_folder
 from .programs import built_by_cargo, check_valgrind, instructions, on_one_processor, peak, stop, times
-from .tables import beyond, head, over, row, shown
+from .tables import head, over, row, shown
 
 # the steps, where {} is the name of the other crate
 STEPS = {
@@ -31,11 +31,10 @@ RATIOS = {
 }
 COUNTED = ("typed", "original", "typed-text", "original-text", "table", "document")
 PEAKS = {
-    "nothing": "the text alone",
-    "document": "and the call `manifest_document`, without room for the document",
-    "table": "and the call `manifest_table`, without room for the table",
-    "typed": "and `from_slice` of the typed crate",
-    "original": "and `from_slice` of {}",
+    "nothing": "nothing: the text alone",
+    "document": "`toml` of the toolchain alone, `manifest_document`",
+    "table": "the library's call alone, `manifest_table`",
+    "typed": "this crate, `from_slice`",
 }
 # what is done with all manifests of a folder: our step, and that of the other crate
 DONE = {
@@ -90,14 +89,15 @@ def print_inputs(name, program, inputs, turns):
         row(title.format(name), *(shown(over(of[ours], of[theirs])) if {ours, theirs} <= of.keys() else "" for of in figures))
 
 
-def print_peaks(name, program, file):
-    """The peak of memory after each of PEAKS, and the ratio of the typed crate's to others."""
-    peaks = {step: (peak(program, step, file),) for step in PEAKS}
-    head(f"Peak of memory, in MB, of {file.stat().st_size:,} bytes", "step", "MB", "typed / this", "both beyond the text alone")
-    for step, title in PEAKS.items():
-        above = [beyond(peaks[of], peaks["nothing"]) for of in ("typed", step)]
-        ratios = [] if step == "nothing" else [shown(over(peaks["typed"], peaks[step])), shown(over(*above))]
-        row(title.format(name), shown(peaks[step], 1e6), *(ratios or ["", ""]))
+def print_peaks(programs, file):
+    """The peak of memory of a process that takes a step of ours once, or reads by another crate, and the ratio of ours to it."""
+    first, *_ = programs.values()
+    peaks = {title: peak(first, step, file) for step, title in PEAKS.items()}
+    peaks |= {name: peak(program, "original", file) for name, program in programs.items()}
+    head(f"Peak of memory, of {file.stat().st_size:,} bytes", "what reads it", "MB", "this crate over it")
+    for title, most in peaks.items():
+        ratio = "" if title == PEAKS["nothing"] else f"{peaks[PEAKS['typed']] / most:.2f}"
+        row(title, f"{most / 1e6:,.0f}", ratio)
 
 
 def print_instructions(name, program, inputs):
@@ -154,6 +154,6 @@ def measure(words):
         large.write_bytes(manifest(LARGE))
         for name, program in programs.items():
             print_inputs(name, program, inputs, words.turns)
-            print_peaks(name, program, large)
             if words.instructions:
                 print_instructions(name, program, inputs)
+        print_peaks(programs, large)

@@ -20,6 +20,7 @@ BAR, SPACE = 27, 2
 def table(text):
     """The first table of a document: the names of its columns of times, and its rows but the last, each with its name, how many
     manifests it is of, and its times."""
+
     def number(cell):
         return float(cell.split()[0].replace(",", ""))
 
