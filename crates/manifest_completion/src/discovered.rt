@@ -50,7 +50,7 @@ fn push_discovered_in_entry(
     ensures { OnOk result
         (all_discovered_content discovered.new.items
         ≡ all_discovered_content discovered.old.items
-            ++ discovered_in_entry folder.now name.now (answer_of answer.now)) }
+        ++ discovered_in_entry folder.now name.now (answer_of answer.now)) }
 {
     if let Some(stem) = stem(name) {
         discovered.push(FoundTarget {

@@ -54,7 +54,7 @@ pub fn put_row<'a, T: Schema>(
     ensures put { OnOk result
         (pairs_view pairs.new.items
         ≡ put_some first.now (Some (T.kind.written (T.content value.now)))
-            (pairs_view pairs.old.items)) }
+        (pairs_view pairs.old.items)) }
     ensures ascend { KeepsAscending pairs.old.items pairs.new.items result }
 {
     put_entry(pairs, first, value.written(alloc)?)
