@@ -13,7 +13,7 @@ fn written_of(alloc: Global, read: &Result<Manifest, Error>) -> Result<Written, 
 }
 
 /// The same for a manifest that is needed no more.
-fn written(alloc: Global, read: Result<Manifest, Error>) -> Result<Written, AllocError> {
+pub fn written(alloc: Global, read: Result<Manifest, Error>) -> Result<Written, AllocError> {
     let written = written_of(alloc, &read);
     drop(read);
     written

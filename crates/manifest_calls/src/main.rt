@@ -30,6 +30,7 @@ mod folders;
 mod inheritance;
 mod queries;
 mod readers;
+mod retried;
 mod tables;
 mod values;
 
@@ -75,6 +76,7 @@ fn answer(alloc: Global, call: &Call<'_>) -> anyhow::Result<String> {
         "refusals" => inheritance::refusals(alloc, first, second),
         "find" => findings::answer(alloc, first),
         "clone" => copies::clone_of_manifest(alloc, first),
+        "retry" => retried::answer(alloc, call.argument, first, second),
         _ => answer_of_value(alloc, call),
     }
 }
