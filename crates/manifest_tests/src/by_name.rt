@@ -1,11 +1,6 @@
-//! The calls that take memory and that no other test names: faults, rows that are written, and targets that are
-//! completed.
+//! The calls that take memory and that no other test names: faults, rows that are written, and maps.
 use crate::answers::{answer_of, assert_is, assert_written, error_text, toml_layout, value};
-use crate::folders::listings;
-use cargo_manifest::{
-    Cause, Edition, MaybeInherited, Product, ReadFault, Schema, Step, StringOrBool,
-};
-use manifest_completion::{CompletedTargets, DeclaredTargets, complete};
+use cargo_manifest::{Cause, ReadFault, Schema, Step};
 use manifest_fault::error::refusal;
 use manifest_fault::fault::{fault_here, fault_under_key, fault_under_step};
 use manifest_value::maps::{map_of_list, map_written};
@@ -45,7 +40,10 @@ fn faults_under_steps(rt: HostRuntime) -> Result<(), Fail> {
 
 /// What is written of the value of a text, read as a `T` under a key, or the text of its refusal.
 fn answer_under<T: Schema>(alloc: Global, text: &str) -> Result<String, Fail> {
-    match read_under::<T>(alloc, &value(alloc, text)?, "k") {
+    let value = value(alloc, text)?;
+    let read = read_under::<T>(alloc, &value, "k");
+    drop(value);
+    match read {
         Ok(x) => answer_of(alloc, Ok(x)),
         Err(fault) => fault_text(alloc, fault),
     }
@@ -129,13 +127,19 @@ fn written_rows(alloc: Global, values: &RowValues) -> Result<Table, AllocError> 
     table_of(alloc, pairs.as_slice())
 }
 
+/// The text of that table.
+fn text_of_rows(alloc: Global) -> Result<String, Fail> {
+    let values = written_values(alloc)?;
+    let table = written_rows(alloc, &values);
+    drop(values);
+    Ok(toml::table_to_string(alloc, &table?)?)
+}
+
 #[test]
 fn rows_that_are_written(rt: HostRuntime) -> Result<(), Fail> {
-    let alloc = rt.alloc();
     let rows = "row = false\noptional = 'a'\nunless = 1\nlist = [65535]\ntree = { a = [1] }";
-    let expected = toml_layout(alloc, rows)?;
-    let got = toml::table_to_string(alloc, &written_rows(alloc, &written_values(alloc)?)?)?;
-    assert_is(Ok(got), expected.as_str(), rows)
+    let expected = toml_layout(rt.alloc(), rows)?;
+    assert_is(text_of_rows(rt.alloc()), expected.as_str(), rows)
 }
 
 /// The text of the table of a map.
@@ -145,74 +149,20 @@ fn map_text(alloc: Global, map: &BTreeMap<String, i8>) -> Result<String, Fail> {
     Ok(toml::table_to_string(alloc, &table)?)
 }
 
+/// A map of two entries.
+fn levels(alloc: Global) -> Result<BTreeMap<String, i8>, Fail> {
+    let mut levels = BTreeMap::new(alloc);
+    levels.insert(String::from_str(alloc, "b")?, 127)?;
+    levels.insert(String::from_str(alloc, "a")?, -128)?;
+    Ok(levels)
+}
+
 #[test]
 fn maps_that_are_written(rt: HostRuntime) -> Result<(), Fail> {
     let alloc = rt.alloc();
-    let mut levels: BTreeMap<String, i8> = BTreeMap::new(alloc);
-    assert_is(map_text(alloc, &levels), "", "no entry")?;
-    levels.insert(String::from_str(alloc, "b")?, 127)?;
-    levels.insert(String::from_str(alloc, "a")?, -128)?;
-    assert_is(
-        map_text(alloc, &levels),
-        "a = -128\nb = 127\n",
-        "two entries",
-    )?;
-    let none: BTreeMap<String, i8> = map_of_list(alloc, Vec::new(alloc))?;
-    assert_is(map_text(alloc, &none), "", "a map of no list")
-}
-
-/// What has to be there.
-fn value_or_fail<T: Schema>(value: Option<T>) -> Result<T, Fail> {
-    match value {
-        Some(x) => Ok(x),
-        None => Err(Fail::from("a target is not there")),
-    }
-}
-
-/// Asserts what a package's targets are completed to.
-fn assert_targets(alloc: Global, completed: CompletedTargets) -> Result<(), Fail> {
-    let CompletedTargets {
-        build,
-        lib,
-        bin,
-        example,
-        test,
-        bench,
-    } = completed;
-    assert_written(alloc, value_or_fail(build), "'build.rs'")?;
-    let expected =
-        "{ name = 'a_b', path = 'src/lib.rs', edition = '2021', required-features = [], crate-type = ['lib'] }";
-    assert_written(alloc, value_or_fail(lib), expected)?;
-    let expected =
-        "[{ name = 'c', path = 'src/bin/c.rs', edition = '2021', required-features = [] }]";
-    assert_written(alloc, Ok(bin), expected)?;
-    let expected =
-        "[{ edition = '2015', required-features = [], crate-type = ['bin'] }, { name = 'e', path = 'examples/e.rs', edition = '2021', required-features = [], crate-type = ['bin'] }]";
-    assert_written(alloc, Ok(example), expected)?;
-    assert_written(alloc, Ok(test), "[]")?;
-    assert_written(alloc, Ok(bench), "[]")
-}
-
-#[test]
-fn targets_of_a_package(rt: HostRuntime) -> Result<(), Fail> {
-    let alloc = rt.alloc();
-    let folders = "src|lib.rs;src/bin|c.rs;examples|e.rs;tests|t.rs;.|build.rs";
-    let examples = Vec::from_array(alloc, [Product::default(alloc)])?;
-    let declared = DeclaredTargets {
-        name: "a-b",
-        edition: &Some(MaybeInherited::Local(Edition::E2021)),
-        autolib: None,
-        autobins: None,
-        autoexamples: None,
-        autotests: Some(false),
-        autobenches: None,
-        build: &Some(StringOrBool::Bool(true)),
-        lib: &None,
-        bin: &[],
-        example: examples.as_slice(),
-        test: &[],
-        bench: &[],
-    };
-    let completed = complete(alloc, &listings(alloc, folders)?, &declared)?;
-    assert_targets(alloc, completed)
+    assert_is(map_text(alloc, &BTreeMap::new(alloc)), "", "no entry")?;
+    let text = map_text(alloc, &levels(alloc)?);
+    assert_is(text, "a = -128\nb = 127\n", "two entries")?;
+    let text = map_text(alloc, &map_of_list(alloc, Vec::new(alloc))?);
+    assert_is(text, "", "a map of no list")
 }

@@ -1,27 +1,48 @@
-//! A folder of a manifest that is not there, the flags of a manifest while it is changed, and legacy mode.
-use crate::answers::PACKAGE;
+//! A folder of a manifest that is not there, the flags of a manifest while it is changed, legacy mode, and the targets
+//! of a package.
+use crate::answers::{PACKAGE, assert_is, expected_answer, text_of_value};
 use crate::folders::listings;
-use cargo_manifest::{Edition, Error, Manifest, MaybeInherited, Package, Product, True, Value};
-use manifest_completion::is_legacy;
+use cargo_manifest::{
+    Edition, Error, Manifest, MaybeInherited, Package, Product, Schema, StringOrBool, True, Value,
+};
+use manifest_completion::{CompletedTargets, DeclaredTargets, complete, is_legacy};
 use std::alloc::Global;
 use std::io::ErrorKind;
 use std::test::Fail;
 
-/// Whether completing the package of a document over listings is refused for a folder that is not there.
-fn is_not_found(alloc: Global, document: &str, folders: &str) -> Result<bool, Fail> {
+/// The kind with which a completion is refused because of a filesystem.
+fn kind_of(completed: Result<(), Error>) -> Option<ErrorKind> {
+    match completed {
+        Err(Error::Io(fault)) => Some(fault.kind()),
+        _ => None,
+    }
+}
+
+/// How completing a manifest over listings is refused.
+fn refusal_over(
+    alloc: Global,
+    manifest: &mut Manifest,
+    folders: &str,
+) -> Result<Option<ErrorKind>, Fail> {
     let listings = listings(alloc, folders)?;
+    Ok(kind_of(manifest.complete_from_abstract_filesystem(alloc, &listings)))
+}
+
+/// How completing the package of a document over listings is refused.
+fn refusal_of(alloc: Global, document: &str, folders: &str) -> Result<Option<ErrorKind>, Fail> {
     let mut manifest = Manifest::from_str(alloc, document)?;
-    let answer = manifest.complete_from_abstract_filesystem(alloc, &listings);
+    let refusal = refusal_over(alloc, &mut manifest, folders);
     drop(manifest);
-    Ok(matches!(&answer, Err(Error::Io(fault)) if fault.kind() == ErrorKind::NotFound))
+    refusal
 }
 
 #[test]
 fn a_folder_of_the_manifest_that_is_not_there(rt: HostRuntime) -> Result<(), Fail> {
-    for document in [PACKAGE, "[package]\nname = 'p'\nedition = '2021'"] {
-        assert!(rt; is_not_found(rt.alloc(), document, "elsewhere")?);
-    }
-    assert!(rt; !is_not_found(rt.alloc(), PACKAGE, ".")?);
+    let not_there = Some(ErrorKind::NotFound);
+    let of_2021 = "[package]\nname = 'p'\nedition = '2021'";
+    assert!(rt; refusal_of(rt.alloc(), PACKAGE, "elsewhere")? == not_there);
+    assert!(rt; refusal_of(rt.alloc(), of_2021, "elsewhere")? == not_there);
+    assert!(rt; refusal_of(rt.alloc(), PACKAGE, ".")? == None);
     Ok(())
 }
 
@@ -103,4 +124,59 @@ fn the_old_way(rt: HostRuntime) -> Result<(), Fail> {
     assert!(rt; !is_legacy(&Some(MaybeInherited::Local(Edition::E2021))));
     assert!(rt; !is_legacy(&Some(MaybeInherited::Inherited { workspace: True })));
     Ok(())
+}
+
+/// What has to be there.
+fn value_or_fail<T>(value: &Option<T>) -> Result<&T, Fail> {
+    match value {
+        Some(x) => Ok(x),
+        None => Err(Fail::from("a target is not there")),
+    }
+}
+
+/// Asserts what is written of a value: the value of this text.
+fn assert_value<T: Schema>(alloc: Global, x: &T, text: &str) -> Result<(), Fail> {
+    let written = x.to_value(alloc)?;
+    let expected = expected_answer(alloc, Ok(text))?;
+    assert_is(text_of_value(alloc, written), expected.as_str(), text)
+}
+
+/// Asserts what a package's targets are completed to.
+fn assert_targets(alloc: Global, completed: &CompletedTargets) -> Result<(), Fail> {
+    assert_value(alloc, value_or_fail(&completed.build)?, "'build.rs'")?;
+    let expected =
+        "{ name = 'a_b', path = 'src/lib.rs', edition = '2021', required-features = [], crate-type = ['lib'] }";
+    assert_value(alloc, value_or_fail(&completed.lib)?, expected)?;
+    let expected =
+        "[{ name = 'c', path = 'src/bin/c.rs', edition = '2021', required-features = [] }]";
+    assert_value(alloc, &completed.bin, expected)?;
+    let expected =
+        "[{ edition = '2015', required-features = [], crate-type = ['bin'] }, { name = 'e', path = 'examples/e.rs', edition = '2021', required-features = [], crate-type = ['bin'] }]";
+    assert_value(alloc, &completed.example, expected)?;
+    assert_value(alloc, &completed.test, "[]")?;
+    assert_value(alloc, &completed.bench, "[]")
+}
+
+#[test]
+fn targets_of_a_package(rt: HostRuntime) -> Result<(), Fail> {
+    let alloc = rt.alloc();
+    let folders = "src|lib.rs;src/bin|c.rs;examples|e.rs;tests|t.rs;.|build.rs";
+    let examples = Vec::from_array(alloc, [Product::default(alloc)])?;
+    let declared = DeclaredTargets {
+        name: "a-b",
+        edition: &Some(MaybeInherited::Local(Edition::E2021)),
+        autolib: None,
+        autobins: None,
+        autoexamples: None,
+        autotests: Some(false),
+        autobenches: None,
+        build: &Some(StringOrBool::Bool(true)),
+        lib: &None,
+        bin: &[],
+        example: examples.as_slice(),
+        test: &[],
+        bench: &[],
+    };
+    let completed = complete(alloc, &listings(alloc, folders)?, &declared)?;
+    assert_targets(alloc, &completed)
 }

@@ -3,6 +3,7 @@ use crate::answers::{assert_is, error_text};
 use cargo_manifest::{Cause, Error, Manifest, ParseFault, SchemaFault};
 use manifest_value::text;
 use std::alloc::{AllocError, Global};
+use std::fmt::Display;
 use std::io;
 use std::io::ErrorKind;
 use std::process::Abort;
@@ -83,27 +84,34 @@ const AUTHORS: &[u8] = b"[package]\nname = 'p'\nauthors = ['a', 1]";
 /// The error's text for this document.
 const AUTHORS_FAULT: &str = "wrong kind at package.authors[1]";
 
+/// Asserts how a value is displayed.
+fn assert_displayed<T: Display>(alloc: Global, x: &T, expected: &str) -> Result<(), Fail> {
+    let text = format!(in alloc; "{x}")?;
+    assert_is(Ok(text), expected, expected)
+}
+
+/// Asserts that a copy is equal to the fault, and how it and its parts are displayed.
+fn assert_same_fault(
+    rt: &impl Abort,
+    alloc: Global,
+    fault: &SchemaFault,
+    copy: &SchemaFault,
+) -> Result<(), Fail> {
+    assert!(rt; copy.path.steps.len() == 3);
+    assert!(rt; copy.path == fault.path && copy.cause == fault.cause);
+    assert_displayed(alloc, copy, AUTHORS_FAULT)?;
+    assert_displayed(alloc, fault, AUTHORS_FAULT)?;
+    assert_displayed(alloc, &fault.cause, "wrong kind")?;
+    assert_displayed(alloc, &fault.path, "package.authors[1]")
+}
+
 #[test]
 fn faults_and_their_texts(rt: HostRuntime) -> Result<(), Fail> {
     let error = refusal(rt.alloc(), AUTHORS)?;
+    assert_displayed(rt.alloc(), &error, AUTHORS_FAULT)?;
     let fault = schema_fault(&error)?;
     let copy = fault.clone(rt.alloc())?;
-    assert_eq!(rt; copy.path.steps.len(), 3);
-    assert!(rt;
-        copy.path == fault.path && copy.cause == fault.cause,
-        "a copy"
-    );
-    let (cause, path) = (&fault.cause, &fault.path);
-    for (text, expected) in [
-        (format!(in rt.alloc(); "{copy}")?, AUTHORS_FAULT),
-        (format!(in rt.alloc(); "{error}")?, AUTHORS_FAULT),
-        (format!(in rt.alloc(); "{fault}")?, AUTHORS_FAULT),
-        (format!(in rt.alloc(); "{cause}")?, "wrong kind"),
-        (format!(in rt.alloc(); "{path}")?, "package.authors[1]"),
-    ] {
-        assert_is(Ok(text), expected, expected)?;
-    }
-    Ok(())
+    assert_same_fault(&rt, rt.alloc(), fault, &copy)
 }
 
 /// A text in a list, and then a value that is no text: `?` passes on a reader's fault, and out-of-memory errors of

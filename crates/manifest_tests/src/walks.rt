@@ -1,5 +1,6 @@
 //! A walk over a table, and the readers of its rows, by their names.
 use crate::answers::{assert_is, error_text};
+use cargo_manifest::ReadFault;
 use manifest_fault::error::refusal;
 use manifest_value::entries::Key;
 use manifest_value::maps::map_of_entries;
@@ -72,42 +73,70 @@ fn a_key_that_is_shared_or_taken(rt: HostRuntime) -> Result<(), Fail> {
     Ok(())
 }
 
+/// The text that a source has.
+fn text_of_source(alloc: Global, source: Source<'_>) -> Result<String, Fail> {
+    match String::read(alloc, source) {
+        Ok(text) => Ok(text),
+        Err(_) => Err(Fail::from("refused")),
+    }
+}
+
+/// Whether the value of a source is a text.
+fn is_text(source: Source<'_>) -> bool {
+    matches!(source.value(), Value::String(_))
+}
+
+/// Whether a flag is read of a source.
+fn reads_true(alloc: Global) -> bool {
+    matches!(
+        bool::read(alloc, Source::Owned(Value::Boolean(true))),
+        Ok(true)
+    )
+}
+
+/// How a source is refused that is no table.
+fn refusal_of_source(alloc: Global, source: Source<'_>) -> Result<String, Fail> {
+    match source.into_table(alloc) {
+        Ok(_) => Err(Fail::from("accepted")),
+        Err(fault) => Ok(error_text(alloc, &refusal(fault))?),
+    }
+}
+
+/// How many entries the table of a source has, and whether it is owned.
+fn table_of_source(alloc: Global, source: Source<'_>) -> Result<(usize, bool), Fail> {
+    match source.into_table(alloc) {
+        Ok(found) => Ok((found.table().len(), matches!(found, TableSource::Owned(_)))),
+        Err(_) => Err(Fail::from("no table")),
+    }
+}
+
 #[test]
 fn sources_that_are_taken_or_shared(rt: HostRuntime) -> Result<(), Fail> {
     let alloc = rt.alloc();
     let value = Value::string(alloc, "serde")?;
-    assert!(rt; matches!(Source::Borrowed(&value).value(), Value::String(_)));
-    for name in [
-        String::read(alloc, Source::Borrowed(&value)),
-        String::read(alloc, Source::Owned(value.clone()?)),
-    ] {
-        match name {
-            Ok(name) => assert_eq!(rt; name.as_str(), "serde"),
-            Err(_) => assert!(rt; false),
-        }
-    }
-    assert!(rt;
-        matches!(
-            bool::read(alloc, Source::Owned(Value::Boolean(true))),
-            Ok(true)
-        )
-    );
-    let reported = match Source::Owned(value).into_table(alloc) {
-        Ok(_) => String::from_str(alloc, "accepted")?,
-        Err(fault) => error_text(alloc, &refusal(fault))?,
-    };
-    assert_is(Ok(reported), "wrong kind at (top)", "a text")?;
+    assert!(rt; is_text(Source::Borrowed(&value)));
+    assert_is(
+        text_of_source(alloc, Source::Borrowed(&value)),
+        "serde",
+        "borrowed",
+    )?;
+    assert_is(
+        text_of_source(alloc, Source::Owned(value.clone()?)),
+        "serde",
+        "owned",
+    )?;
+    let refused = refusal_of_source(alloc, Source::Owned(value));
+    assert_is(refused, "wrong kind at (top)", "a text")?;
+    assert!(rt; reads_true(alloc));
+    Ok(())
+}
+
+#[test]
+fn tables_that_are_taken_or_shared(rt: HostRuntime) -> Result<(), Fail> {
+    let alloc = rt.alloc();
     let table = Value::Table(toml::table_from_str(alloc, ENTRIES)?);
-    match Source::Borrowed(&table).into_table(alloc) {
-        Ok(found) => assert_eq!(rt; found.table().len(), 4),
-        Err(_) => assert!(rt; false),
-    }
-    assert!(rt;
-        matches!(
-            Source::Owned(table).into_table(alloc),
-            Ok(TableSource::Owned(_))
-        )
-    );
+    assert!(rt; table_of_source(alloc, Source::Borrowed(&table))? == (4, false));
+    assert!(rt; table_of_source(alloc, Source::Owned(table))? == (4, true));
     Ok(())
 }
 
@@ -125,46 +154,81 @@ fn slot_of(value: Value) -> RowSlot<'static> {
     }
 }
 
-#[test]
-fn each_reader_reads_its_row(rt: HostRuntime) -> Result<(), Fail> {
-    let alloc = rt.alloc();
+/// Whether a row was read.
+fn is_read(read: Result<(), ReadFault>) -> bool {
+    match read {
+        Ok(()) => true,
+        Err(_) => false,
+    }
+}
+
+/// Whether a row that has to be there is read.
+fn reads_required(alloc: Global) -> bool {
     let mut flag = false;
     let mut there = slot_of(Value::Boolean(true));
-    assert!(rt; read_required(alloc, "a", &mut there, &mut flag).is_ok());
-    assert!(rt; flag);
+    is_read(read_required(alloc, "a", &mut there, &mut flag)) & flag
+}
+
+/// Whether a row that may be absent is read.
+fn reads_optional(alloc: Global) -> bool {
     let mut place: Option<bool> = None;
     let mut there = slot_of(Value::Boolean(true));
-    assert!(rt; read_optional(alloc, "a", &mut there, &mut place).is_ok());
-    assert_eq!(rt; place, Some(true));
+    is_read(read_optional(alloc, "a", &mut there, &mut place)) & (place == Some(true))
+}
+
+/// Whether a row that has a default is read where it is there.
+fn reads_default(alloc: Global) -> bool {
+    let mut flag = true;
     let mut there = slot_of(Value::Boolean(false));
-    assert!(rt; read_default(alloc, "a", &mut there, &mut flag, true).is_ok());
-    assert!(rt; !flag);
+    is_read(read_default(alloc, "a", &mut there, &mut flag, true)) & !flag
+}
+
+/// The value of a row that is kept as it is.
+fn tree_of_row(alloc: Global) -> Option<Value> {
     let mut tree: Option<Value> = None;
     let mut there = slot_of(Value::Integer(6));
-    assert!(rt; read_tree(alloc, "a", &mut there, &mut tree).is_ok());
-    assert!(rt; matches!(tree, Some(Value::Integer(6))));
+    let read = is_read(read_tree(alloc, "a", &mut there, &mut tree));
+    if read { tree } else { None }
+}
+
+#[test]
+fn each_reader_reads_its_row(rt: HostRuntime) -> Result<(), Fail> {
+    assert!(rt; reads_required(rt.alloc()));
+    assert!(rt; reads_optional(rt.alloc()));
+    assert!(rt; reads_default(rt.alloc()));
+    assert!(rt; matches!(tree_of_row(rt.alloc()), Some(Value::Integer(6))));
     Ok(())
 }
 
-/// A lenient reader passes over what does not fit, and a missing row is refused and leaves its place.
-#[test]
-fn rows_that_do_not_fit_or_are_missing(rt: HostRuntime) -> Result<(), Fail> {
-    let alloc = rt.alloc();
+/// Whether a row that is passed over where it does not fit leaves nothing in its place.
+fn passes_over(alloc: Global) -> bool {
     let mut place: Option<bool> = Some(true);
     let mut unfit = slot_of(Value::Integer(1));
-    assert!(rt; read_lenient(alloc, &mut unfit, &mut place).is_ok());
-    assert_eq!(rt; place, None);
+    is_read(read_lenient(alloc, &mut unfit, &mut place)) & (place == None)
+}
+
+/// Whether a row that does not fit is given its default.
+fn gives_default(alloc: Global) -> bool {
     let mut flag = false;
     let mut unfit = slot_of(Value::Integer(1));
-    assert!(rt; read_lenient_default(alloc, &mut unfit, &mut flag, true).is_ok());
-    assert!(rt; flag);
+    is_read(read_lenient_default(alloc, &mut unfit, &mut flag, true)) & flag
+}
+
+/// How a missing row is refused, which leaves its place.
+fn refusal_of_missing(alloc: Global) -> Result<String, Fail> {
+    let mut flag = true;
     let mut missing = RowSlot::Absent;
-    let reported = match read_required(alloc, "a", &mut missing, &mut flag) {
-        Ok(()) => String::from_str(alloc, "accepted")?,
-        Err(fault) => error_text(alloc, &refusal(fault))?,
-    };
-    assert!(rt; flag);
-    assert_is(Ok(reported), "missing at a", "nothing")
+    match read_required(alloc, "a", &mut missing, &mut flag) {
+        Err(fault) if flag => Ok(error_text(alloc, &refusal(fault))?),
+        _ => Err(Fail::from("accepted, or its place is changed")),
+    }
+}
+
+#[test]
+fn rows_that_do_not_fit_or_are_missing(rt: HostRuntime) -> Result<(), Fail> {
+    assert!(rt; passes_over(rt.alloc()));
+    assert!(rt; gives_default(rt.alloc()));
+    assert_is(refusal_of_missing(rt.alloc()), "missing at a", "nothing")
 }
 
 #[test]
