@@ -1,0 +1,9 @@
+pub mod Changes
+pub mod Finding
+pub mod Headers
+pub mod Keys
+pub mod Laws
+pub mod Lines
+pub mod Paths
+pub mod Places
+pub mod Splices

@@ -1,0 +1,76 @@
+-- Places of several values in one text, shown by one other text, with a number in each of them.
+use Rattle.std.specs.Prelude.{◌≡◌, ◌≢◌, ℕ, suc, pos, neg_ℤ, ◌≤◌, ◌^◌, [], ◌∷◌, ◌++◌, codes, List, length, Option, Some, MatchOption, decimal, ⊤}
+use Rattle.toml.specs.Data.{Data, integer}
+use Rattle.toml.specs.Parse.{parse_value}
+use Rattle.manifest_places.specs.Paths.{Text, Path, path_of, document, value_at}
+use Rattle.manifest_places.specs.Changes.{ChangeAt, set, with_changes}
+use Rattle.manifest_places.specs.Splices.{Splice, range_of, IsRange, spliced, Ascend, IsSpliced}
+use Rattle.manifest_places.specs.declared.places.Place.{Place as CodePlace}
+
+-- a path, and a range of bytes in a text
+pub record Place : Type 0 where
+  pub path : Path
+  pub from : ℕ
+  pub to : ℕ
+
+abbrev pub place_of : CodePlace → Place
+place_of p = record { path = path_of p.path.items; from = p.from; to = p.to }
+
+-- the first of the numbers that stand in places
+abbrev pub first_number : ℕ
+first_number = 1000000000
+
+-- so many numbers there are at most
+abbrev pub most_numbers : ℕ
+most_numbers = 2 ^ 32
+
+-- The numbers from -n down in the places: the first has -n, the second -n - 1, and so on. They have a sign, since a
+-- `+` before a place would make a number without one of its own a number still.
+abbrev pub numbers_put : ℕ → List Place → List Splice
+numbers_put n [] = []
+numbers_put n (p ∷ ps) =
+    record { from = p.from; to = p.to; put = codes "-" ++ decimal n } ∷ numbers_put (suc n) ps
+
+-- the same numbers as values at the paths
+abbrev pub numbers_set : ℕ → List Place → List ChangeAt
+numbers_set n [] = []
+numbers_set n (p ∷ ps) = (p.path, set (integer (neg_ℤ (pos n)))) ∷ numbers_set (suc n) ps
+
+-- The range alone reads as the old value at the path, which is not the number -n, and the new one there is -n.
+abbrev pub IsNumbered : Text → Data → Data → ℕ → Place → Type 0
+IsNumbered text old new n p =
+    (d : Data) × IsRange text p.from p.to × (parse_value (range_of text p.from p.to) ≡ Some d)
+    × (value_at p.path old ≡ Some d) × (d ≢ integer (neg_ℤ (pos n)))
+    × (value_at p.path new ≡ Some (integer (neg_ℤ (pos n))))
+
+-- so each of the places, with the numbers from -n down
+abbrev pub AreNumbered : Text → Data → Data → ℕ → List Place → Type 0
+AreNumbered text old new n [] = ⊤
+AreNumbered text old new n (p ∷ ps) = IsNumbered text old new n p × AreNumbered text old new (suc n) ps
+
+-- The ranges ascend and are the places of the values at the paths, all at once: each range alone reads as the value
+-- at its path, and with a number of its own in each of them the text is the same document with these numbers at
+-- these paths.
+pub record ArePlaces (text : Text) (places : List Place) : Type 0 where
+  pub few : length places ≤ most_numbers
+  pub old : Data
+  pub new : Data
+  pub is_document : document text ≡ Some old
+  pub ascend : Ascend text 0 (numbers_put first_number places)
+  pub is_new : document (spliced text 0 (numbers_put first_number places)) ≡ Some new
+  pub changed : with_changes (numbers_set first_number places) old ≡ Some new
+  pub numbered : AreNumbered text old new first_number places
+
+-- The new text is the old one but for these ranges, and its document is the old one with these changes.
+pub record IsEdited (text : Text) (splices : List Splice) (changes : List ChangeAt) (new : Text) : Type 0 where
+  pub before : Data
+  pub after : Data
+  pub is_document : document text ≡ Some before
+  pub is_spliced : IsSpliced text splices new
+  pub is_changed : document new ≡ Some after
+  pub changed : with_changes changes before ≡ Some after
+
+-- that text, where there is one
+abbrev pub Edits : Text → List Splice → List ChangeAt → Option Text → Type 0
+Edits text splices changes made =
+    MatchOption made ((new : Text) → IsEdited text splices changes new → ⊥) (IsEdited text splices changes)

@@ -1,0 +1,27 @@
+//! Where in the bytes of a TOML text the values, keys and headers of its document stand, and a text with some of them
+//! changed and all else as it was. Begin with `src/places.rt`, the places of values, and `src/changes.rt`, what a change
+//! makes of a document.
+#![tactic(auto)]
+
+mod changes;
+mod compare;
+mod finding;
+mod headers;
+mod keys;
+pub mod laws;
+mod lines;
+mod places;
+mod reading;
+mod splices;
+mod step;
+mod walk;
+
+pub use changes::{Change, ChangeAt, with_change, with_changes};
+pub use compare::same_value;
+pub use finding::{Places, Round, places_of};
+pub use headers::are_headers;
+pub use keys::{KeyParts, Span, is_key};
+pub use lines::{Position, position_of, positions_of};
+pub use places::{Place, are_places, edited, value_at};
+pub use splices::{Splice, spliced};
+pub use step::Step;
