@@ -1,0 +1,7 @@
+//! Tests that are code, of places: texts of every layout, with what is found in them.
+#![tactic(auto)]
+
+#[cfg(test)]
+mod found;
+#[cfg(test)]
+mod positions;
