@@ -1,4 +1,5 @@
 pub mod Changes
+pub mod Edits
 pub mod Finding
 pub mod Headers
 pub mod Keys

@@ -167,7 +167,7 @@ fn key_before(alloc: Global, text: &str) -> Result<Option<Key>, AllocError>
 }
 
 /// Whether the parts of the key are these steps.
-fn is_key_of(key: &Key, steps: &[Step]) -> bool
+pub(crate) fn is_key_of(key: &Key, steps: &[Step]) -> bool
     ensures { IsTrue result → key_steps (key_view key.now) ≡ path_of steps.now }
 {
     match steps.split_last() {

@@ -5,12 +5,15 @@
 
 mod changes;
 mod compare;
+mod edits;
 mod finding;
 mod headers;
 mod keys;
 pub mod laws;
+mod layout;
 mod lines;
 mod places;
+mod planning;
 mod reading;
 mod splices;
 mod step;
@@ -18,6 +21,7 @@ mod walk;
 
 pub use changes::{Change, ChangeAt, with_change, with_changes};
 pub use compare::same_value;
+pub use edits::{Edit, EditError, with_edits};
 pub use finding::{Places, Round, places_of};
 pub use headers::are_headers;
 pub use keys::{KeyParts, Span, is_key};

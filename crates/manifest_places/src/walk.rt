@@ -5,7 +5,7 @@ ghost use Rattle.std.specs.Prelude.{◌<◌, ◌≤◌, length, IfOk};
 ghost use Rattle.toml_parser.specs.Reading.{Shortens};
 
 use crate::keys::Span;
-use crate::step::Step;
+use crate::step::{Step, copied};
 use std::alloc::Global;
 use std::collections::BTreeMap;
 use toml_parser::text::{byte_at, first, skip, skip_blank, skip_ws};
@@ -144,6 +144,69 @@ fn header_path(
 }
 
 impl Survey {
+    /// The value at the path.
+    pub(crate) fn value(&self, path: &[Step]) -> Option<&FoundValue> {
+        for found in &self.values {
+            if found.path.as_slice() == path {
+                return Some(found);
+            }
+        }
+        None
+    }
+
+    /// A value at the path or below it, whose key goes through the last step of the path.
+    pub(crate) fn key(&self, path: &[Step]) -> Option<&FoundValue> {
+        for found in &self.values {
+            if goes_through(found, path) {
+                return Some(found);
+            }
+        }
+        None
+    }
+
+    /// Where the text begins, behind a byte order mark.
+    pub(crate) fn begin(&self, text: &str) -> usize {
+        text.len().saturating_sub(skip_bom(text).len())
+    }
+
+    /// What stands behind the header of this table, up to the next one.
+    pub(crate) fn section(&self, text: &str, table: &[Step]) -> Option<Span> {
+        let mut from = None;
+        if table.is_empty() {
+            from = Some(self.begin(text));
+        }
+        for header in &self.headers {
+            if let Some(start) = from {
+                return Some(Span {
+                    from: start,
+                    to: header.header.from,
+                });
+            }
+            if header.path.as_slice() == table {
+                from = Some(header.header.to);
+            }
+        }
+        match from {
+            Some(start) => Some(Span {
+                from: start,
+                to: self.total,
+            }),
+            None => None,
+        }
+    }
+
+    /// Where the last of the values ends that stand in this range, each in so many others.
+    pub(crate) fn last_end(&self, level: usize, range: Span) -> Option<usize> {
+        let mut end = None;
+        for found in &self.values {
+            let value = found.value;
+            if found.level == level && value.from >= range.from && value.to <= range.to {
+                end = Some(value.to);
+            }
+        }
+        end
+    }
+
     /// The index of the last item of the array of tables with this name, or of a new one.
     fn item(&mut self, alloc: Global, name: &str, new: bool) -> Result<Option<usize>, ParseError> {
         if let Some(count) = self.counts.get_mut(name) {
@@ -174,6 +237,16 @@ impl Survey {
             spans.push(self.span(part.from, part.to))?;
         }
         Ok(spans)
+    }
+}
+
+/// Whether the value is at the path or below it, and its key goes through the last step of the path.
+fn goes_through(found: &FoundValue, path: &[Step]) -> bool {
+    match found.path.as_slice().get(..path.len()) {
+        Some(front) => {
+            front == path && found.parts.len() > found.path.len().saturating_sub(path.len())
+        }
+        None => false,
     }
 }
 
@@ -226,19 +299,6 @@ fn extended(alloc: Global, path: &[Step], parts: &[Part]) -> Result<Vec<Step>, P
     let mut steps = copied(alloc, path)?;
     for part in parts {
         steps.push(Step::Key(String::from_str(alloc, part.text.as_str())?))?;
-    }
-    Ok(steps)
-}
-
-/// The same steps.
-fn copied(alloc: Global, path: &[Step]) -> Result<Vec<Step>, ParseError> {
-    let mut steps = Vec::new(alloc);
-    for step in path {
-        let copy = match step {
-            Step::Key(key) => Step::Key(String::from_str(alloc, key.as_str())?),
-            Step::Index(index) => Step::Index(*index),
-        };
-        steps.push(copy)?;
     }
     Ok(steps)
 }

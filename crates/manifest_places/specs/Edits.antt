@@ -1,0 +1,148 @@
+-- Edits of a text: each replaces one range of it and makes one change of its document.
+use Rattle.std.specs.Prelude.{◌≡◌, ℕ, ◌+◌, ◌-◌, ◌≤◌, ◌==◌, Bool, true, ◌&&◌, ◌||◌, nat_le, if◌then◌else◌, [], ◌∷◌, ◌++◌, List, length, take, map, flat_map, reverse, count_by, slice_get, slice_index, Option, Some, None, option_map, option_to_list, string_bytes, All, IsPermutation}
+use Rattle.std.specs.List.{list_all}
+use Rattle.toml.specs.Data.{Data}
+use Rattle.toml.specs.Parse.{parse_value}
+use Rattle.toml_parser.specs.Lexical.{is_ws}
+use Rattle.manifest_places.specs.Paths.{Text, Step, Path, key, index, path_of}
+use Rattle.manifest_places.specs.Changes.{Change, ChangeAt, set, insert, remove, rename, remove_item, change_at_of}
+use Rattle.manifest_places.specs.Splices.{Splice, splice_of, range_of}
+use Rattle.manifest_places.specs.Places.{Place, place_of, ArePlaces, IsEdited}
+use Rattle.manifest_places.specs.Keys.{Span, whole_key, key_steps, IsKey}
+use Rattle.manifest_places.specs.declared.edits.Edit.{Edit as CodeEdit}
+use Rattle.manifest_places.specs.declared.edits.Edit.TheVariants.{Set, Insert, Remove, Rename}
+use Rattle.manifest_places.specs.declared.planning.Plan.{Plan as CodePlan}
+
+-- what is to be done: another value at a path, a new entry of the table at a path, nothing more at a path, and another
+-- key for what is at a path
+pub data Edit : Type 0 where
+  set_value : Path → Text → Edit
+  insert_entry : Path → Text → Text → Edit
+  remove_value : Path → Edit
+  rename_key : Path → Text → Edit
+
+abbrev pub edit_of : CodeEdit → Edit
+edit_of (Set p v) = set_value (path_of p.items) (string_bytes v)
+edit_of (Insert p k v) = insert_entry (path_of p.items) (string_bytes k) (string_bytes v)
+edit_of (Remove p) = remove_value (path_of p.items)
+edit_of (Rename p k) = rename_key (path_of p.items) (string_bytes k)
+
+-- how an edit is made: the value that it is about, if it is about one, what is replaced, and what changes
+pub record Plan : Type 0 where
+  pub edit : Edit
+  pub places : List Place
+  pub splice : Splice
+  pub change : ChangeAt
+
+abbrev pub plan_of : CodePlan → Plan
+plan_of p = record {
+  edit = edit_of p.edit;
+  places = option_to_list (option_map place_of p.place);
+  splice = splice_of p.splice;
+  change = change_at_of p.change;
+}
+
+-- the parts of plans
+abbrev pub edit_in : Plan → Edit
+edit_in p = p.edit
+
+abbrev pub places_in : Plan → List Place
+places_in p = p.places
+
+abbrev pub splice_in : Plan → Splice
+splice_in p = p.splice
+
+abbrev pub change_in : Plan → ChangeAt
+change_in p = p.change
+
+-- what takes out the entry or the item that a step leads to
+abbrev pub removed_by : Step → Change
+removed_by (key k) = remove k
+removed_by (index i) = remove_item i
+
+-- the change takes out what is at the path
+abbrev pub Removes : Path → ChangeAt → Type 0
+Removes p c = (front : Path) × (last : Step) × (p ≡ front ++ last ∷ []) × (c ≡ (front, removed_by last))
+
+-- the change gives what is at the path this key
+abbrev pub Renames : Path → Text → ChangeAt → Type 0
+Renames p l c = (front : Path) × (k : Text) × (p ≡ front ++ key k ∷ []) × (c ≡ (front, rename k l))
+
+-- where an entry or an item begins: at its key, or at its value
+abbrev pub start_of : Place → List Span → ℕ
+start_of p [] = p.from
+start_of p (s ∷ ss) = s.from
+
+-- white space and line ends, and commas
+abbrev pub is_blank : ℕ → Bool
+is_blank b = (is_ws b || b == 10) || b == 13
+
+abbrev pub is_blank_or_comma : ℕ → Bool
+is_blank_or_comma b = is_blank b || b == 44
+
+abbrev pub feeds : Text → ℕ
+feeds text = count_by (λ b. b == 10) text
+
+abbrev pub commas : Text → ℕ
+commas text = count_by (λ b. b == 44) text
+
+-- together there is one at most
+abbrev pub one_at_most : ℕ → ℕ → Bool
+one_at_most a b = if a == 0 then nat_le b 1 else (a == 1 && b == 0)
+
+-- What is taken out before and behind an entry is the rest of its line: blanks before, no line feed behind but at the
+-- end, and one line feed at most.
+abbrev pub ends_once : Text → Bool
+ends_once trail = feeds trail == 0 || slice_index trail (length trail - 1) == 10
+
+abbrev pub is_line : Text → Text → Bool
+is_line lead trail =
+    (list_all is_blank lead && ends_once trail) && one_at_most (feeds lead) (feeds trail)
+
+-- It is blanks and one comma at most.
+abbrev pub is_gap : Text → Text → Bool
+is_gap lead trail =
+    (list_all is_blank_or_comma lead && list_all is_blank_or_comma trail)
+    && one_at_most (commas lead) (commas trail)
+
+-- the range takes out the value and its key, with the rest of their line, or with one comma
+abbrev pub TakesOut : Text → Place → List Span → Splice → Type 0
+TakesOut text p parts s =
+    (s.put ≡ []) × (s.from ≤ start_of p parts) × (p.to ≤ s.to)
+    × ((is_line (range_of text s.from (start_of p parts)) (range_of text p.to s.to)
+    || is_gap (range_of text s.from (start_of p parts)) (range_of text p.to s.to)) ≡ true)
+
+-- the range is the part of a key that leads to the path p, on the way to the value at this place
+abbrev pub IsPartOf : Path → Place → List Span → Span → Type 0
+IsPartOf p place parts part =
+    (j : ℕ) × (more : Path) × (place.path ≡ p ++ more) × (slice_get parts j ≡ Some part)
+    × (length parts ≡ j + length more + 1)
+
+-- How each edit is made. A value is replaced by the value's own range; an entry is put in, and nothing is taken out; a
+-- value is taken out with its key and the rest of its line, or with one comma; of a key one part is replaced.
+abbrev pub IsPlanned : Text → Edit → List Place → Splice → ChangeAt → Type 0
+IsPlanned text (set_value p value) places s c =
+    (place : Place) × (e : Data) × (places ≡ place ∷ []) × (place.path ≡ p) × (parse_value value ≡ Some e)
+    × (s ≡ record { from = place.from; to = place.to; put = value }) × (c ≡ (p, set e))
+IsPlanned text (insert_entry p k value) places s c =
+    (e : Data) × (places ≡ []) × (parse_value value ≡ Some e) × (s.from ≡ s.to) × (c ≡ (p, insert k e))
+IsPlanned text (remove_value p) places s c =
+    (place : Place) × (parts : List Span) × (places ≡ place ∷ []) × (place.path ≡ p) × IsKey text place parts
+    × TakesOut text place parts s × Removes p c
+IsPlanned text (rename_key p k) places s c =
+    (place : Place) × (parts : List Span) × (part : Span) × (places ≡ place ∷ []) × IsKey text place parts
+    × IsPartOf p place parts part × (s.from ≡ part.from) × (s.to ≡ part.to)
+    × (option_map key_steps (whole_key s.put) ≡ Some (key k ∷ [])) × Renames p k c
+
+abbrev pub IsPlan : Text → Plan → Type 0
+IsPlan text p = IsPlanned text p.edit p.places p.splice p.change
+
+-- The new text is made by these edits, all of them: there is a plan for each, in the order of the text; the places of
+-- the values that they are about are places; and the new text is the old one but for what the plans replace, and its
+-- document the old one with the changes, made from the last to the first. So indexes count in the old text.
+pub record IsEdit (text : Text) (edits : List Edit) (new : Text) : Type 0 where
+  pub plans : List Plan
+  pub each : IsPermutation edits (map edit_in plans)
+  pub planned : All (IsPlan text) plans
+  pub there : ArePlaces text (flat_map places_in plans)
+  pub edited : IsEdited text (map splice_in plans) (reverse (map change_in plans)) new
