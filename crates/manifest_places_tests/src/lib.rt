@@ -2,6 +2,8 @@
 #![tactic(auto)]
 
 #[cfg(test)]
+mod edited;
+#[cfg(test)]
 mod found;
 #[cfg(test)]
 mod positions;
