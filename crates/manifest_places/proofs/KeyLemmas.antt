@@ -11,7 +11,8 @@ pub no_key : (text : Text) → read_key text ≡ None → key_before text ≡ No
 unfolding key_equals
 no_key text none = rw none refl
 
-pub no_sign : (text behind : Text) (k : Key) → read_key text ≡ Some (k, behind) → (first behind == 61) ≡ false → key_before text ≡ None
+pub no_sign : (text behind : Text) (k : Key) → read_key text ≡ Some (k, behind) → (first behind == 61) ≡ false
+    → key_before text ≡ None
 unfolding key_equals
 no_sign text behind k read sign = rw (read, sign) refl
 

@@ -46,10 +46,12 @@ end_last xs b =
       | inl fed ↦ rw (feeds_last xs b, line_fed xs b fed, fed)
       | inr plain ↦
           let still : feeds (xs ++ b ∷ []) ≡ feeds xs = rw (feeds_last xs b, plain) (omega arith) in
-          rw (still, line_plain xs b plain, length_last (last_line xs) b, characters_last (last_line xs) b, units_last (last_line xs) b, plain)
+          rw (still, line_plain xs b plain, length_last (last_line xs) b, characters_last
+              (last_line xs) b, units_last (last_line xs) b, plain)
     ]
 
-pub position_more : (text : Text) (i d : ℕ) → i < length text → offset_position text (i + 1) ≡ end_after (offset_position text i) (get_or text i d)
+pub position_more : (text : Text) (i d : ℕ) → i < length text
+    → offset_position text (i + 1) ≡ end_after (offset_position text i) (get_or text i d)
 position_more text i d lt = ap end_of (take_more text i d lt) ∙ end_last (take i text) (get_or text i d)
 
 -- offsets that ascend are within the text

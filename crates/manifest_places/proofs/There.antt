@@ -11,24 +11,29 @@ pub Made : (Data → Option Data) → Option Data → Type 0
 Made f found = (d : Data) × (e : Data) × (f d ≡ Some e) × (found ≡ Some e)
 
 -- what holds of each value that g makes holds of this one
-pub from_map : {A B : Type 0} (g : A → B) (o : Option A) (R : B → Type 0) → ((a : A) → o ≡ Some a → R (g a)) → (b : B) → option_map g o ≡ Some b → R b
+pub from_map : {A B : Type 0} (g : A → B) (o : Option A) (R : B → Type 0) → ((a : A) → o ≡ Some a → R (g a))
+    → (b : B) → option_map g o ≡ Some b → R b
 from_map g None R next b h = absurd (none-some b h)
 from_map g (Some a) R next b h = subst R (same_Some (g a) b h) (next a refl)
 
 pick : (o : Ordering) (k l : Text) (f : Data → Option Data) (d : Data) (ms ms' : Members)
     → ((more : Members) → change_member k f ms ≡ Some more → Made f (get_member k more))
     → slice_cmp nat_cmp k l ≡ o
-    → cond (is_eq o) (option_map (λ e. member l e ms) (f d)) (option_map (λ more. member l d more) (change_member k f ms)) ≡ Some ms'
+    → cond (is_eq o) (option_map (λ e. member l e ms) (f d))
+        (option_map (λ more. member l d more) (change_member k f ms)) ≡ Some ms'
     → Made f (get_member k ms')
 unfolding Made
 pick Equal k l f d ms ms' more is h =
     from_map (λ e. member l e ms) (f d) (λ x. Made f (get_member k x)) (λ e made. (d, e, made, rw is refl)) ms' h
 pick Less k l f d ms ms' more is h =
-    from_map (λ rest. member l d rest) (change_member k f ms) (λ x. Made f (get_member k x)) (λ rest made. rw is (more rest made)) ms' h
+    from_map (λ rest. member l d rest) (change_member k f ms) (λ x. Made f (get_member k x))
+        (λ rest made. rw is (more rest made)) ms' h
 pick Greater k l f d ms ms' more is h =
-    from_map (λ rest. member l d rest) (change_member k f ms) (λ x. Made f (get_member k x)) (λ rest made. rw is (more rest made)) ms' h
+    from_map (λ rest. member l d rest) (change_member k f ms) (λ x. Made f (get_member k x))
+        (λ rest made. rw is (more rest made)) ms' h
 
-made_member : (k : Text) (f : Data → Option Data) (ms ms' : Members) → change_member k f ms ≡ Some ms' → Made f (get_member k ms')
+made_member : (k : Text) (f : Data → Option Data) (ms ms' : Members) → change_member k f ms ≡ Some ms'
+    → Made f (get_member k ms')
 made_member k f no_members ms' h = absurd (none-some ms' h)
 made_member k f (member l d ms) ms' h = pick (slice_cmp nat_cmp k l) k l f d ms ms' (made_member k f ms) refl h
 
@@ -51,7 +56,8 @@ unfolding Made
 there [] f d d' h = (d, d', h, refl)
 there (key k ∷ p) f (table ms) d' h =
     from_map table (change_member k (changed_at p f) ms) (λ x. Made f (value_at (key k ∷ p) x))
-    (λ more made. through (value_at p) (changed_at p f) f (get_member k more) (made_member k (changed_at p f) ms more made) (there p f)) d' h
+    (λ more made. through (value_at p) (changed_at p f) f (get_member k more)
+        (made_member k (changed_at p f) ms more made) (there p f)) d' h
 there (key k ∷ p) f (array ds) d' h = absurd (none-some d' h)
 there (key k ∷ p) f (string x) d' h = absurd (none-some d' h)
 there (key k ∷ p) f (integer x) d' h = absurd (none-some d' h)
@@ -60,7 +66,8 @@ there (key k ∷ p) f (boolean x) d' h = absurd (none-some d' h)
 there (key k ∷ p) f (datetime x) d' h = absurd (none-some d' h)
 there (index i ∷ p) f (array ds) d' h =
     from_map array (change_item i (changed_at p f) ds) (λ x. Made f (value_at (index i ∷ p) x))
-    (λ more made. through (value_at p) (changed_at p f) f (get_item i more) (made_item i (changed_at p f) ds more made) (there p f)) d' h
+    (λ more made. through (value_at p) (changed_at p f) f (get_item i more)
+        (made_item i (changed_at p f) ds more made) (there p f)) d' h
 there (index i ∷ p) f (table ms) d' h = absurd (none-some d' h)
 there (index i ∷ p) f (string x) d' h = absurd (none-some d' h)
 there (index i ∷ p) f (integer x) d' h = absurd (none-some d' h)

@@ -58,7 +58,8 @@ without_member k (member l d ms) =
 abbrev pub put_member : Text → Data → Members → Members
 put_member k e no_members = member k e no_members
 put_member k e (member l d ms) =
-    match_ordering (slice_cmp nat_cmp k l) (member k e (member l d ms)) (member l e ms) (member l d (put_member k e ms))
+    match_ordering (slice_cmp nat_cmp k l) (member k e (member l d ms)) (member l e ms)
+    (member l d (put_member k e ms))
 
 -- the entries with one more; there was none at this key
 abbrev pub with_member : Text → Data → Members → Option Members

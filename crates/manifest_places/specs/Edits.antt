@@ -62,7 +62,8 @@ removed_by (index i) = remove_item i
 
 -- the change takes out what is at the path
 abbrev pub Removes : Path → ChangeAt → Type 0
-Removes p c = (front : Path) × (last : Step) × (p ≡ front ++ last ∷ []) × (c ≡ (front, removed_by last))
+Removes p c =
+    (front : Path) × (last : Step) × (p ≡ front ++ last ∷ []) × (c ≡ (front, removed_by last))
 
 -- the change gives what is at the path this key
 abbrev pub Renames : Path → Text → ChangeAt → Type 0
@@ -122,16 +123,17 @@ IsPartOf p place parts part =
 -- value is taken out with its key and the rest of its line, or with one comma; of a key one part is replaced.
 abbrev pub IsPlanned : Text → Edit → List Place → Splice → ChangeAt → Type 0
 IsPlanned text (set_value p value) places s c =
-    (place : Place) × (e : Data) × (places ≡ place ∷ []) × (place.path ≡ p) × (parse_value value ≡ Some e)
-    × (s ≡ record { from = place.from; to = place.to; put = value }) × (c ≡ (p, set e))
+    (place : Place) × (e : Data) × (places ≡ place ∷ []) × (place.path ≡ p)
+    × (parse_value value ≡ Some e) × (s ≡ record { from = place.from; to = place.to; put = value }) × (c ≡ (p, set e))
 IsPlanned text (insert_entry p k value) places s c =
-    (e : Data) × (places ≡ []) × (parse_value value ≡ Some e) × (s.from ≡ s.to) × (c ≡ (p, insert k e))
+    (e : Data) × (places ≡ []) × (parse_value value ≡ Some e) × (s.from ≡ s.to)
+    × (c ≡ (p, insert k e))
 IsPlanned text (remove_value p) places s c =
-    (place : Place) × (parts : List Span) × (places ≡ place ∷ []) × (place.path ≡ p) × IsKey text place parts
-    × TakesOut text place parts s × Removes p c
+    (place : Place) × (parts : List Span) × (places ≡ place ∷ []) × (place.path ≡ p)
+    × IsKey text place parts × TakesOut text place parts s × Removes p c
 IsPlanned text (rename_key p k) places s c =
-    (place : Place) × (parts : List Span) × (part : Span) × (places ≡ place ∷ []) × IsKey text place parts
-    × IsPartOf p place parts part × (s.from ≡ part.from) × (s.to ≡ part.to)
+    (place : Place) × (parts : List Span) × (part : Span) × (places ≡ place ∷ [])
+    × IsKey text place parts × IsPartOf p place parts part × (s.from ≡ part.from) × (s.to ≡ part.to)
     × (option_map key_steps (whole_key s.put) ≡ Some (key k ∷ [])) × Renames p k c
 
 abbrev pub IsPlan : Text → Plan → Type 0

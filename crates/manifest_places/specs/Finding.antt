@@ -17,7 +17,8 @@ abbrev pub places_in : Round → List Place
 places_in r = map place_of r.places.items
 
 abbrev pub IsRound : Text → Round → Type 0
-IsRound text r = ArePlaces text (places_in r) × AreKeys text (places_in r) (map parts_of r.keys.items)
+IsRound text r =
+    ArePlaces text (places_in r) × AreKeys text (places_in r) (map parts_of r.keys.items)
 
 abbrev pub AreRounds : Text → List Round → Type 0
 AreRounds text [] = ⊤

@@ -19,7 +19,8 @@ between_brackets header = range_of header (brackets header) (length header - bra
 -- a key between single or double brackets
 abbrev pub IsHeader : Text → Type 0
 IsHeader header =
-    IsRange header (brackets header) (length header - brackets header) × (slice_index header 0 ≡ left_bracket)
+    IsRange header (brackets header) (length header - brackets header)
+    × (slice_index header 0 ≡ left_bracket)
     × (slice_index header (length header - 1) ≡ right_bracket)
     × (slice_index header (length header - brackets header) ≡ right_bracket)
     × IsSome (whole_key (skip_ws (between_brackets header)))
@@ -27,8 +28,11 @@ IsHeader header =
 -- the pairs with the keys from n on, each in a new line behind a header
 abbrev pub pairs_put : ℕ → List Place → List Splice
 pairs_put n [] = []
-pairs_put n (p ∷ ps) =
-    record { from = p.to; to = p.to; put = codes "\n" ++ (decimal n ++ codes "=true") } ∷ pairs_put (suc n) ps
+pairs_put n (p ∷ ps) = record {
+  from = p.to;
+  to = p.to;
+  put = codes "\n" ++ (decimal n ++ codes "=true");
+} ∷ pairs_put (suc n) ps
 
 -- the same as new entries of the tables at the paths
 abbrev pub pairs_set : ℕ → List Place → List ChangeAt

@@ -14,7 +14,8 @@ whole_key text = option_and_then (λ k. if length k.1 == 0 then Some k.0 else No
 
 -- the key that a text is, alone but for `=` and white space after it
 abbrev pub key_before : Text → Option Key
-key_before text = option_and_then (λ k. if length k.1 == 0 then Some k.0 else None) (key_equals text)
+key_before text =
+    option_and_then (λ k. if length k.1 == 0 then Some k.0 else None) (key_equals text)
 
 -- the steps that the parts of a key are
 abbrev pub key_steps : Key → Path
@@ -33,8 +34,10 @@ span_of s = record { from = s.from; to = s.to }
 -- space.
 abbrev pub IsPart : Text → ℕ → Span → Path → Type 0
 IsPart text v s steps =
-    IsRange text s.from v × (option_map key_steps (key_before (range_of text s.from v)) ≡ Some steps)
-    × IsRange text s.from s.to × (option_map key_steps (whole_key (range_of text s.from s.to)) ≡ Some (take 1 steps))
+    IsRange text s.from v
+    × (option_map key_steps (key_before (range_of text s.from v)) ≡ Some steps)
+    × IsRange text s.from s.to
+    × (option_map key_steps (whole_key (range_of text s.from s.to)) ≡ Some (take 1 steps))
     × (is_ws (slice_index text (s.to - 1)) ≡ false)
 
 -- the ranges are the parts of a key of these steps, one by one
@@ -61,7 +64,8 @@ last_steps spans p = drop (length p - length spans) p
 -- and its steps are the last ones of the path. An item of an array has no key, and no parts.
 abbrev pub IsKey : Text → Place → List Span → Type 0
 IsKey text p spans =
-    (length spans ≤ length p.path) × BeginsKey text spans × AreParts text p.from spans (last_steps spans p.path)
+    (length spans ≤ length p.path) × BeginsKey text spans
+    × AreParts text p.from spans (last_steps spans p.path)
 
 -- the ranges of each place are the parts of its key
 abbrev pub AreKeys : Text → List Place → List (List Span) → Type 0

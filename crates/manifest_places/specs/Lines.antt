@@ -19,7 +19,8 @@ begins b = if nat_lt b 128 then 1 else (if nat_lt b 192 then 0 else 1)
 
 -- and how many units of UTF-16 they have: two for a character of four bytes
 abbrev pub begins_units : ℕ → ℕ
-begins_units b = if nat_lt b 128 then 1 else (if nat_lt b 192 then 0 else (if nat_lt b 240 then 1 else 2))
+begins_units b =
+    if nat_lt b 128 then 1 else (if nat_lt b 192 then 0 else (if nat_lt b 240 then 1 else 2))
 
 -- how many characters a text has
 abbrev pub characters : Text → ℕ
@@ -52,11 +53,17 @@ abbrev pub offset_position : Text → ℕ → Position
 offset_position text n = end_of (take n text)
 
 abbrev pub position_of : CodePosition → Position
-position_of p = record { line = p.line; bytes = p.bytes; characters = p.characters; units = p.units }
+position_of p = record {
+  line = p.line;
+  bytes = p.bytes;
+  characters = p.characters;
+  units = p.units;
+}
 
 -- where the offset n is, if the text is so long
 abbrev pub IsPosition : Text → ℕ → Option CodePosition → Type 0
-IsPosition text n found = MatchOption found (length text + 1 ≤ n) (λ p. position_of p ≡ offset_position text n)
+IsPosition text n found =
+    MatchOption found (length text + 1 ≤ n) (λ p. position_of p ≡ offset_position text n)
 
 -- the offsets ascend from n on, and each is in the text or at its end
 abbrev pub OffsetsAscend : Text → ℕ → List ℕ → Type 0
@@ -66,7 +73,8 @@ OffsetsAscend text n (m ∷ more) = (n ≤ m) × OffsetsAscend text m more
 -- where each of the offsets is, if they ascend
 abbrev pub ArePositions : Text → List ℕ → Option (List CodePosition) → Type 0
 ArePositions text ns found =
-    MatchOption found (¬ OffsetsAscend text 0 ns) (λ ps. map position_of ps ≡ map (offset_position text) ns)
+    MatchOption found (¬ OffsetsAscend text 0 ns)
+    (λ ps. map position_of ps ≡ map (offset_position text) ns)
 
 -- a position and one more byte
 abbrev pub end_after : Position → ℕ → Position

@@ -46,7 +46,8 @@ IsNumbered text old new n p =
 -- so each of the places, with the numbers from -n down
 abbrev pub AreNumbered : Text → Data → Data → ℕ → List Place → Type 0
 AreNumbered text old new n [] = ⊤
-AreNumbered text old new n (p ∷ ps) = IsNumbered text old new n p × AreNumbered text old new (suc n) ps
+AreNumbered text old new n (p ∷ ps) =
+    IsNumbered text old new n p × AreNumbered text old new (suc n) ps
 
 -- The ranges ascend and are the places of the values at the paths, all at once: each range alone reads as the value
 -- at its path, and with a number of its own in each of them the text is the same document with these numbers at
@@ -62,15 +63,16 @@ pub record ArePlaces (text : Text) (places : List Place) : Type 0 where
   pub numbered : AreNumbered text old new first_number places
 
 -- The new text is the old one but for these ranges, and its document is the old one with these changes.
-pub record IsEdited (text : Text) (splices : List Splice) (changes : List ChangeAt) (new : Text) : Type 0 where
+pub record IsEdited (text : Text) (splices : List Splice) (cs : List ChangeAt) (new : Text)
+    : Type 0 where
   pub before : Data
   pub after : Data
   pub is_document : document text ≡ Some before
   pub is_spliced : IsSpliced text splices new
   pub is_changed : document new ≡ Some after
-  pub changed : with_changes changes before ≡ Some after
+  pub changed : with_changes cs before ≡ Some after
 
 -- that text, where there is one
 abbrev pub Edits : Text → List Splice → List ChangeAt → Option Text → Type 0
-Edits text splices changes made =
-    MatchOption made ((new : Text) → IsEdited text splices changes new → ⊥) (IsEdited text splices changes)
+Edits text splices cs made =
+    MatchOption made ((new : Text) → IsEdited text splices cs new → ⊥) (IsEdited text splices cs)

@@ -44,7 +44,8 @@ pub struct ChangeAt {
 /// ```
 pub fn with_changes(value: Value, changes: Vec<ChangeAt>) -> Result<Option<Value>, AllocError>
     ensures { IfOk result
-        (λ made. option_map view made ≡ spec.with_changes (map change_at_of changes.items) (view value)) }
+        (λ made. option_map view made
+        ≡ spec.with_changes (map change_at_of changes.items) (view value)) }
 {
     let mut now = value;
     for change in changes {
@@ -190,7 +191,8 @@ fn change_item(
 
 /// The value after the change.
 fn with_change_here(value: Value, change: Change) -> Result<Option<Value>, AllocError>
-    ensures { IfOk result (λ made. option_map view made ≡ spec.changed (change_of change) (view value)) }
+    ensures { IfOk result
+        (λ made. option_map view made ≡ spec.changed (change_of change) (view value)) }
 {
     match change {
         Change::Set(new) => Ok(Some(new)),

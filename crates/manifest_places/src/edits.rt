@@ -9,6 +9,7 @@ ghost use Rattle.manifest_places.specs.Edits.{edit_of, plan_of, edit_in, places_
 use crate::changes::ChangeAt;
 use crate::places::{Place, are_places, edited};
 use crate::planning::{Plan, planned};
+use crate::reading::document_of;
 use crate::splices::Splice;
 use crate::step::Step;
 use crate::walk::walk;
@@ -35,8 +36,8 @@ pub enum EditError {
     NotADocument,
     /// What was given as a value is none alone.
     NotAValue,
-    /// Nothing that can be edited is written at the path: nothing is there, or a table or an array that is written by headers
-    /// or by dotted keys.
+    /// Nothing that can be edited is written at the path: nothing is there, or a table or an array that is written by
+    /// headers or by dotted keys.
     NoPlace,
     /// Two edits touch the same place, or one lies within what another one replaces.
     Overlap,
@@ -60,8 +61,9 @@ impl<T: Drop> From<AllocFailed<T>> for EditError {
     }
 }
 
-/// The text with all of these edits, or the reason why they cannot be made; then none is made. Paths and indexes are those
-/// of the document as it was given. However many edits there are, it reads the text three times and the new text once.
+/// The text with all of these edits, or the reason why they cannot be made; then none is made. Paths and indexes are
+/// those of the document as it was given. However many edits there are, it reads the text four times and the new text
+/// once: to find the places, with their check, and for the edits.
 ///
 /// ```ignore
 /// let path = vec![in alloc; Step::Key(String::from_str(alloc, "a")?)]?;
@@ -104,7 +106,7 @@ fn made(alloc: Global, text: &str, plans: Vec<Plan>) -> Result<String, EditError
 {
     let parts = parted(alloc, plans)?;
     if !are_places(alloc, text, parts.places.as_slice())? {
-        return Err(EditError::Overlap);
+        return Err(reason(alloc, text)?);
     }
     let Parts {
         splices,
@@ -115,6 +117,14 @@ fn made(alloc: Global, text: &str, plans: Vec<Plan>) -> Result<String, EditError
     match edited(alloc, text, splices.as_slice(), changes)? {
         Some(new) => Ok(new),
         None => Err(EditError::Refused),
+    }
+}
+
+/// Why the places of the edited values are none.
+fn reason(alloc: Global, text: &str) -> Result<EditError, AllocError> {
+    match document_of(alloc, text)? {
+        Some(_) => Ok(EditError::Overlap),
+        None => Ok(EditError::NotADocument),
     }
 }
 

@@ -31,9 +31,10 @@ pub struct Places {
     pub headers: Vec<Place>,
 }
 
-/// The places of all values, keys and headers of the text, or `None` where the text is no document. It reads the text once
-/// to find them, three times for the values that stand in no other one, less for each further round, and twice for the
-/// headers. (It is also `None` where what was found is not what it should be, which is not known to happen.)
+/// The places of all values, keys and headers of the text, or `None` where the text is no document. It reads the text
+/// once to find them, at most three times for each round, and twice for the headers. (It is also `None` where what was
+/// found is not what it should be, which is not known to happen but where a key under a header is a number from
+/// 1000000000 on.)
 ///
 /// ```ignore
 /// let places = places_of(alloc, "[a]\nb = [1, 2]\n")?; // the array, its two items, and the header

@@ -16,8 +16,9 @@ use std::alloc::{AllocError, Global};
 use toml::Value;
 use toml_parser::text::{byte_at, first, skip_ws};
 
-/// Whether the text is a document, the ranges ascend, and each of them is the header that opens the table at its path. It
-/// reads the text, and the text with a pair behind each header.
+/// Whether the text is a document, the ranges ascend, and each of them is the header that opens the table at its path.
+/// It reads the text, and the text with a pair behind each header, whose key is a number from 1000000000 on: where the
+/// table of a header has that key already, the answer is no.
 ///
 /// ```ignore
 /// let path = vec![in alloc; Step::Key(String::from_str(alloc, "a")?)]?;

@@ -30,8 +30,8 @@ pub struct KeyParts {
     pub parts: Vec<Span>,
 }
 
-/// Whether the ranges are the parts of the key before the value at this place, all of them. It reads no more of the text
-/// than the key. Once the place is checked, the whole key is the range from the first part to the last one; and the
+/// Whether the ranges are the parts of the key before the value at this place, all of them. It reads no more of the
+/// text than the key. Once the place is checked, the whole key is the range from the first part to the last one; and the
 /// range to the end of an earlier part is the key of the table that the key goes through there.
 ///
 /// ```ignore
@@ -40,10 +40,14 @@ pub struct KeyParts {
 /// let good = is_key(alloc, "a.b = 1", &place, &parts)?; // true
 /// ```
 pub fn is_key(alloc: Global, text: &str, place: &Place, parts: &[Span]) -> Result<bool, AllocError>
-    ensures { IfOk result (λ good. IsTrue good → IsKey text.now (place_of place.now) (map span_of parts.now)) }
+    ensures { IfOk result
+        (λ good. IsTrue good → IsKey text.now (place_of place.now) (map span_of parts.now)) }
 {
     let path = place.path.as_slice();
-    if parts.len() > path.len() || !begins_key(text, parts) {
+    if parts.len() > path.len() {
+        return Ok(false);
+    }
+    if !begins_key(text, parts) {
         return Ok(false);
     }
     let (_base, steps) = path.split_at(path.len() - parts.len());
@@ -87,7 +91,8 @@ fn are_parts(
     steps: &[Step],
 ) -> Result<bool, AllocError>
     ensures { IfOk result
-        (λ good. IsTrue good → AreParts text.now value_from (map span_of parts.now) (path_of steps.now)) }
+        (λ good. IsTrue good
+        → AreParts text.now value_from (map span_of parts.now) (path_of steps.now)) }
 {
     match parts.split_first() {
         None => Ok(steps.is_empty()),
@@ -112,7 +117,8 @@ fn is_part(
     part: &Span,
     steps: &[Step],
 ) -> Result<bool, AllocError>
-    ensures { IfOk result (λ good. IsTrue good → IsPart text.now value_from (span_of part.now) (path_of steps.now)) }
+    ensures { IfOk result
+        (λ good. IsTrue good → IsPart text.now value_from (span_of part.now) (path_of steps.now)) }
 {
     let Some(before) = part_of(text, part.from, value_from) else {
         return Ok(false);

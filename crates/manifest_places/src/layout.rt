@@ -1,5 +1,5 @@
-//! Where a text is edited: what is taken out with an entry, where an entry is put in, and how a key is written. Nothing is
-//! promised of it: `planning.rt` and `edits.rt` have it checked.
+//! Where a text is edited: what is taken out with an entry, where an entry is put in, and how a key is written. Nothing
+//! is promised of it: `planning.rt` and `edits.rt` have it checked.
 
 use crate::keys::Span;
 use crate::step::Step;
@@ -16,8 +16,8 @@ pub(crate) struct Insertion {
     pub put: String,
 }
 
-/// What is taken out with an entry that begins and ends here: the rest of its line, if it has one of its own, and else one
-/// comma.
+/// What is taken out with an entry that begins and ends here: the rest of its line, if it has one of its own, and else
+/// one comma.
 pub(crate) fn entry_range(text: &str, start: usize, end: usize, own_line: bool) -> Span {
     if own_line {
         line_range(text, start, end)

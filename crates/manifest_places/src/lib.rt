@@ -1,6 +1,6 @@
-//! Where in the bytes of a TOML text the values, keys and headers of its document stand, and a text with some of them
-//! changed and all else as it was. Begin with `src/places.rt`, the places of values, and `src/changes.rt`, what a change
-//! makes of a document.
+//! Where in the bytes of a TOML text the values, keys and headers of its document stand, their lines and columns, and
+//! edits of a text that keep all else as it was. Begin with `src/places.rt`, the places of values, `src/finding.rt`,
+//! which finds all of them, and `src/edits.rt`.
 #![tactic(auto)]
 
 mod changes;

@@ -34,8 +34,8 @@ pub fn position_of(text: &str, offset: usize) -> Option<Position>
     Some(advanced(text, START, 0, offset))
 }
 
-/// The line and the columns of each of these offsets, in one pass over the text, or `None` where the offsets do not ascend
-/// or one is over the end.
+/// The line and the columns of each of these offsets, in one pass over the text, or `None` where the offsets do not
+/// ascend or one is over the end.
 ///
 /// ```ignore
 /// let positions = positions_of(alloc, text, &[from, to])?;
@@ -45,7 +45,8 @@ pub fn positions_of(
     text: &str,
     offsets: &[usize],
 ) -> Result<Option<Vec<Position>>, AllocError>
-    ensures { IfOk result (λ found. ArePositions text.now offsets.now (option_map (λ ps. ps.items) found)) }
+    ensures { IfOk result
+        (λ found. ArePositions text.now offsets.now (option_map (λ ps. ps.items) found)) }
 {
     let mut positions = Vec::with_capacity(alloc, offsets.len())?;
     let mut now = START;

@@ -1,5 +1,5 @@
-//! Places of several values in one text, checked by reading the text once more; and a text with several changes, checked
-//! in the same way.
+//! Places of several values in one text, checked by reading the text once more; and a text with several changes,
+//! checked in the same way.
 
 ghost use Rattle.std.specs.Prelude.{◌≡◌, ◌↔◌, ◌∷◌, [], ◌≤◌, ◌<◌, ◌+◌, ◌^◌, ◌++◌, codes, neg_ℤ, pos, length, IsTrue, IfOk, option_map, map, string_bytes, decimal};
 ghost use Rattle.toml.specs.Data.{integer};
@@ -35,9 +35,9 @@ pub(crate) const FIRST_NUMBER: u64 = 1_000_000_000;
 /// So many numbers there are at most.
 pub(crate) const MOST_NUMBERS: usize = 1 << 32;
 
-/// Whether the text is a document, the ranges ascend, and each of them is the place of the value at its path. It reads the
-/// text, each range alone, and the text with a number in each range. A place within another one is none beside it: pass
-/// them in two calls.
+/// Whether the text is a document, the ranges ascend, and each of them is the place of the value at its path. It reads
+/// the text, each range alone, and the text with a number in each range. A place within another one is none beside it:
+/// pass them in two calls.
 ///
 /// ```ignore
 /// // `a` of the text `a = 1`, written as its value
@@ -70,8 +70,8 @@ pub fn are_places(alloc: Global, text: &str, places: &[Place]) -> Result<bool, A
     Ok(good)
 }
 
-/// The text with these texts in these ranges, or `None` where the text is no document, the ranges do not ascend, or what
-/// it makes is not the document of the text with these changes. However many changes there are, it reads the text and
+/// The text with these texts in these ranges, or `None` where the text is no document, the ranges do not ascend, or
+/// what it makes is not the document of the text with these changes. However many changes there are, it reads the text and
 /// the new text once.
 ///
 /// ```ignore
@@ -230,7 +230,8 @@ fn is_number(value: &Value, number: u64) -> bool
 /// let edition = value_at(&document, path.as_slice());
 /// ```
 pub fn value_at<'v>(value: &'v Value, path: &[Step]) -> Option<&'v Value>
-    ensures { option_map (λ v. view v.now) result ≡ paths.value_at (path_of path.now) (view value.now) }
+    ensures { option_map (λ v. view v.now) result
+        ≡ paths.value_at (path_of path.now) (view value.now) }
 {
     let mut now = value;
     for step in path {

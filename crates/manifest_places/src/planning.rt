@@ -69,7 +69,8 @@ fn set_plan(
     path: Vec<Step>,
     value: String,
 ) -> Result<Plan, EditError>
-    ensures edit { IfOk result (λ p. (plan_of p).edit ≡ set_value (path_of path.items) (string_bytes value)) }
+    ensures edit { IfOk result (λ p. (plan_of p).edit
+        ≡ set_value (path_of path.items) (string_bytes value)) }
     ensures plan { IfOk result (λ p. IsPlan text.now (plan_of p)) }
 {
     let Some(found) = survey.value(path.as_slice()) else {
@@ -185,7 +186,8 @@ fn rename_plan(
     path: Vec<Step>,
     key: String,
 ) -> Result<Plan, EditError>
-    ensures edit { IfOk result (λ p. (plan_of p).edit ≡ rename_key (path_of path.items) (string_bytes key)) }
+    ensures edit { IfOk result (λ p. (plan_of p).edit
+        ≡ rename_key (path_of path.items) (string_bytes key)) }
     ensures plan { IfOk result (λ p. IsPlan text.now (plan_of p)) }
 {
     let Some(found) = survey.key(path.as_slice()) else {
@@ -267,7 +269,8 @@ fn change_at(alloc: Global, path: &[Step], change: Change) -> Result<ChangeAt, A
 
 /// The change that takes out what is at the path, or `None` where the path is empty.
 fn removal_at(alloc: Global, path: &[Step]) -> Result<Option<ChangeAt>, AllocError>
-    ensures { IfOk result (λ made. IfSome made (λ c. spec.Removes (path_of path.now) (change_at_of c))) }
+    ensures { IfOk result
+        (λ made. IfSome made (λ c. spec.Removes (path_of path.now) (change_at_of c))) }
 {
     match path.split_last() {
         None => Ok(None),
@@ -322,7 +325,8 @@ fn start_of(place: &Place, parts: &[Span]) -> usize
 fn takes_out(text: &str, start: usize, end: usize, taken: Span) -> bool
     ensures { IsTrue result → (taken.from ≤ start) × (end ≤ taken.to)
         × ((spec.is_line (range_of text.now taken.from start) (range_of text.now end taken.to)
-        || spec.is_gap (range_of text.now taken.from start) (range_of text.now end taken.to)) ≡ true) }
+            || spec.is_gap (range_of text.now taken.from start)
+                (range_of text.now end taken.to)) ≡ true) }
 {
     if taken.from > start || end > taken.to {
         return false;

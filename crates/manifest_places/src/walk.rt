@@ -1,5 +1,5 @@
-//! Finds the values, keys and headers of a text in one walk over it. Nothing is promised of what it finds: `finding.rt` has
-//! it checked.
+//! Finds the values, keys and headers of a text in one walk over it. Nothing is promised of what it finds: `finding.rt`
+//! has it checked.
 
 ghost use Rattle.std.specs.Prelude.{◌<◌, ◌≤◌, length, IfOk};
 ghost use Rattle.toml_parser.specs.Reading.{Shortens};

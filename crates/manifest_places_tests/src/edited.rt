@@ -17,6 +17,7 @@ const ROWS: &[(&str, &[Row], &str)] = &[
     ("a = 1\n", &[("set", "b", "", "2")], "NoPlace"),
     ("[a]\n", &[("set", "a", "", "2")], "NoPlace"),
     ("a = \n", &[("set", "a", "", "2")], "NotADocument"),
+    ("a = 1\na = 2\n", &[("set", "a", "", "3")], "NotADocument"),
     ("a = [1]\n", &[("set", "a", "", "2"), ("set", "a.#0", "", "3")], "Overlap"),
     ("a = 1\n", &[("insert", "", "b", "2")], "a = 1\nb = 2\n"),
     ("a = 1", &[("insert", "", "b c", "2")], "a = 1\n\"b c\" = 2"),

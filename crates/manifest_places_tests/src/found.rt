@@ -1,5 +1,5 @@
-//! What is found in texts of every layout: each value with its path, its range and the parts of its key, in rounds, and each
-//! header.
+//! What is found in texts of every layout: each value with its path, its range and the parts of its key, in rounds, and
+//! each header.
 use manifest_places::{KeyParts, Place, Places, Step, places_of};
 use std::alloc::Global;
 use std::fmt::Write;

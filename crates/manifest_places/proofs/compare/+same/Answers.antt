@@ -13,5 +13,6 @@ same_length (x ∷ xs) (y ∷ ys) h = let tail : items_view xs ≡ items_view ys
 pub same_items-returns-then-a-b : goal.same_items-returns-then-a-b
 same_items-returns-then-a-b t c = (
   (λ h. absurd (false≢true h)),
-  (λ same. let alike : length c.args.a.now ≡ length c.args.b.now = same_length c.args.a.now c.args.b.now same in absurd (omega arith)),
+  (λ same. let alike : length c.args.a.now
+      ≡ length c.args.b.now = same_length c.args.a.now c.args.b.now same in absurd (omega arith)),
 )

@@ -7,7 +7,8 @@ use Rattle.manifest_places.specs.Places.{Place, place_of, ArePlaces, IsEdited}
 use Rattle.manifest_places.specs.Edits.{plan_of, edit_in, splice_in}
 use Rattle.manifest_places.proofs.edits.made.Goals as goal
 
-map_back : {A B : Type 0} (f : A → B) (xs acc : List A) → map f (reverse_aux xs acc) ≡ reverse_aux (map f xs) (map f acc)
+map_back : {A B : Type 0} (f : A → B) (xs acc : List A)
+    → map f (reverse_aux xs acc) ≡ reverse_aux (map f xs) (map f acc)
 map_back f [] acc = refl
 map_back f (x ∷ xs) acc = map_back f xs (x ∷ acc)
 
@@ -19,7 +20,8 @@ returns-in-Some c =
     let At : List Place → Type 0 = λ ps. ArePlaces text ps in
     let places = ap (map place_of) c.as_slice.ensures.value ∙ c.in_ok-parts.ensures.places in
     let splices = ap (map splice_of) c.as_slice-2.ensures.value ∙ c.in_ok-parts.ensures.splices in
-    let back = ap (map change_at_of) c.reverse.ensures.items ∙ map_back change_at_of c.in_ok-parts.parts.changes.items [] ∙ ap reverse c.in_ok-parts.ensures.changes in
+    let back = ap (map change_at_of) c.reverse.ensures.items
+        ∙ map_back change_at_of c.in_ok-parts.parts.changes.items [] ∙ ap reverse c.in_ok-parts.ensures.changes in
     let By : List Splice → Type 0 = λ ss. IsEdited text ss (map change_at_of c.reverse.new.self.items) new in
     let Of : List ChangeAt → Type 0 = λ cs. IsEdited text (map splice_in plans) cs new in
     let made = rw c.in-Some.is at c.in_ok-new.ensures in

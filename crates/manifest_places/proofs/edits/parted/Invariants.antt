@@ -8,6 +8,9 @@ use Rattle.manifest_places.proofs.edits.parted.Given as goal
 
 abbrev pub invariant-loop-plan : goal.invariant-loop-plan
 invariant-loop-plan l =
-    (map place_of l.places.items ++ flat_map places_in (map plan_of (into_iter_items l.plan-iterator)) ≡ flat_map places_in (map plan_of l.fn.plans.items))
-    × (map splice_of l.splices.items ++ map splice_in (map plan_of (into_iter_items l.plan-iterator)) ≡ map splice_in (map plan_of l.fn.plans.items))
-    × (map change_at_of l.changes.items ++ map change_in (map plan_of (into_iter_items l.plan-iterator)) ≡ map change_in (map plan_of l.fn.plans.items))
+    (map place_of l.places.items ++ flat_map places_in (map plan_of (into_iter_items l.plan-iterator))
+        ≡ flat_map places_in (map plan_of l.fn.plans.items))
+    × (map splice_of l.splices.items ++ map splice_in (map plan_of (into_iter_items l.plan-iterator))
+        ≡ map splice_in (map plan_of l.fn.plans.items))
+    × (map change_at_of l.changes.items ++ map change_in (map plan_of (into_iter_items l.plan-iterator))
+        ≡ map change_in (map plan_of l.fn.plans.items))

@@ -6,4 +6,5 @@ use Rattle.manifest_places.proofs.edits.plans_of.Given as goal
 abbrev pub invariant-loop-edit : goal.invariant-loop-edit
 invariant-loop-edit l =
     All (IsPlan l.text) (map plan_of l.plans.items)
-    × (map edit_in (map plan_of l.plans.items) ++ map edit_of (into_iter_items l.edit-iterator) ≡ map edit_of l.fn.edits.items)
+    × (map edit_in (map plan_of l.plans.items) ++ map edit_of (into_iter_items l.edit-iterator)
+        ≡ map edit_of l.fn.edits.items)

@@ -7,4 +7,5 @@ use Rattle.manifest_places.proofs.headers.pairs_of.Given as goal
 abbrev pub invariant-loop-place : goal.invariant-loop-place
 invariant-loop-place l =
     (l.number ≡ first_number + l.place-index)
-    × (map splice_of l.pairs.items ++ pairs_put l.number (map place_of (drop l.place-index l.places)) ≡ pairs_put first_number (map place_of l.places))
+    × (map splice_of l.pairs.items ++ pairs_put l.number (map place_of (drop l.place-index l.places))
+        ≡ pairs_put first_number (map place_of l.places))

@@ -14,7 +14,8 @@ returns-then-not-is_ws c =
     let same : byte ≡ get_or text i 0 = ap (λ t. get_or t i 0) c.as_bytes-text_bytes.ensures.value in
     let plain : is_ws (get_or text i 0) ≡ false = ap is_ws (sym same) ∙ sym c.is_ws.ensures ∙ c.if-not-is_ws.true in
     let solid = solid_before text i 0 lt ∙ ap (λ b. cond b (last_solid 0 (take i text)) (get_or text i 0)) plain in
-    let is : last_solid 0 (take c.args.offset text) ≡ byte = c.loop-end.invariant.1 ∙ ap (λ n. last_solid 0 (take n text)) more ∙ solid ∙ sym same in
+    let is : last_solid 0 (take c.args.offset text) ≡ byte = c.loop-end.invariant.1
+        ∙ ap (λ n. last_solid 0 (take n text)) more ∙ solid ∙ sym same in
     ((λ t. is ∙ eqb-true byte 46 t), (λ e. eq-eqb byte 46 (sym is ∙ e)))
 
 pub loop-end-preserved : goal.loop-end-preserved

@@ -16,14 +16,16 @@ pub returns-then-is_empty : goal.returns-then-is_empty
 returns-then-is_empty c =
     let sign : (first c.in-Ok.rest.now == 61) ≡ true = grind (arith, common_steps) in
     let same = ap (λ t. length t == 0) (c.skip_ws.ensures.rest ∙ ap skip_ws c.skip.ensures.rest) in
-    let none : (length (skip_ws (drop 1 c.in-Ok.rest.now)) == 0) ≡ true = sym same ∙ sym c.is_empty.ensures ∙ c.if-is_empty.true in
+    let none : (length (skip_ws (drop 1 c.in-Ok.rest.now)) == 0) ≡ true = sym same ∙ sym c.is_empty.ensures
+        ∙ c.if-is_empty.true in
     sym (key_alone c.args.text.now c.in-Ok.rest.now (key_view c.in-Ok.key) c.in-Ok.ensures.value sign none)
 
 pub returns-else-is_empty : goal.returns-else-is_empty
 returns-else-is_empty c =
     let sign : (first c.in-Ok.rest.now == 61) ≡ true = grind (arith, common_steps) in
     let same = ap (λ t. length t == 0) (c.skip_ws.ensures.rest ∙ ap skip_ws c.skip.ensures.rest) in
-    let more : (length (skip_ws (drop 1 c.in-Ok.rest.now)) == 0) ≡ false = sym same ∙ sym c.is_empty.ensures ∙ c.if-is_empty.false in
+    let more : (length (skip_ws (drop 1 c.in-Ok.rest.now)) == 0) ≡ false = sym same ∙ sym c.is_empty.ensures
+        ∙ c.if-is_empty.false in
     sym (more_behind c.args.text.now c.in-Ok.rest.now (key_view c.in-Ok.key) c.in-Ok.ensures.value sign more)
 
 pub returns-in-Err-At : goal.returns-in-Err-At

@@ -10,4 +10,5 @@ returns-then-offset-text c =
     let i = c.loop-offset.offset-index in
     let lt : i < length offsets = omega arith in
     let past : length text < get_or offsets i 0 = omega arith in
-    λ ascend. none_past_end text c.loop-offset.at (get_or offsets i 0) (drop (i + 1) offsets) past (rw (drop_more offsets i 0 lt) at (c.loop-offset.invariant.4.1 ascend))
+    λ ascend. none_past_end text c.loop-offset.at (get_or offsets i 0) (drop (i + 1) offsets) past
+        (rw (drop_more offsets i 0 lt) at (c.loop-offset.invariant.4.1 ascend))

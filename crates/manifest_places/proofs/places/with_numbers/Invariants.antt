@@ -7,4 +7,5 @@ use Rattle.manifest_places.proofs.places.with_numbers.Given as goal
 abbrev pub invariant-loop-place : goal.invariant-loop-place
 invariant-loop-place l =
     (l.number ≡ first_number + l.place-index)
-    × (with_changes (numbers_set l.number (map place_of (drop l.place-index l.places))) (view l.now) ≡ with_changes (numbers_set first_number (map place_of l.places)) (view l.fn.value))
+    × (with_changes (numbers_set l.number (map place_of (drop l.place-index l.places))) (view l.now)
+        ≡ with_changes (numbers_set first_number (map place_of l.places)) (view l.fn.value))

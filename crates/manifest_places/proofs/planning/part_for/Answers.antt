@@ -4,7 +4,8 @@ use Rattle.manifest_places.specs.Paths.{step_of, path_of}
 use Rattle.manifest_places.specs.Keys.{span_of}
 use Rattle.manifest_places.proofs.planning.part_for.Goals as goal
 
-first_at : {A B : Type 0} (f : A → B) (ys : List A) (x : A) (more : List A) → slice_get (map f (ys ++ x ∷ more)) (length ys) ≡ Some (f x)
+first_at : {A B : Type 0} (f : A → B) (ys : List A) (x : A) (more : List A)
+    → slice_get (map f (ys ++ x ∷ more)) (length ys) ≡ Some (f x)
 first_at f [] x more = refl
 first_at f (y ∷ ys) x more = first_at f ys x more
 
@@ -15,9 +16,12 @@ returns-in-Some c =
     let front = c.split_at.result.0.now in
     let behind = c.split_at.result.1.now in
     let part = c.in-Some.part.now in
-    let all : parts ≡ before ++ part ∷ c.in-Some._parts_behind.now = c.split_at-2.ensures.by_index.0 ∙ ap (λ t. before ++ t) c.in-Some.ensures.cases.0 in
-    let there = ap (λ t. slice_get (map span_of t) (length before)) all ∙ first_at span_of before part c.in-Some._parts_behind.now in
+    let all : parts ≡ before ++ part ∷ c.in-Some._parts_behind.now = c.split_at-2.ensures.by_index.0
+        ∙ ap (λ t. before ++ t) c.in-Some.ensures.cases.0 in
+    let there = ap (λ t. slice_get (map span_of t) (length before)) all
+        ∙ first_at span_of before part c.in-Some._parts_behind.now in
     let same : path_of front ≡ path_of c.args.path.now = c.if-not-same_steps.ensures refl in
-    let whole = ap path_of (sym c.as_slice-whole.ensures.value ∙ c.split_at.ensures.by_index.0) ∙ map-append step_of front behind ∙ ap (λ t. t ++ path_of behind) same in
+    let whole = ap path_of (sym c.as_slice-whole.ensures.value ∙ c.split_at.ensures.by_index.0)
+        ∙ map-append step_of front behind ∙ ap (λ t. t ++ path_of behind) same in
     let many : length parts ≡ length before + length behind + 1 = omega arith in
     (length before, path_of behind, whole, there, rw (length-map parts span_of, length-map behind step_of) many)

@@ -12,7 +12,9 @@ returns c =
     let parts = map span_of c.as_slice-parts.result.now in
     let splice = c.in_ok-splice.ensures in
     let Out : ℕ → ℕ → ℕ → Type 0 = λ a s b.
-    (a ≤ s) × (place.to ≤ b) × ((is_line (range_of text a s) (range_of text place.to b) || is_gap (range_of text a s) (range_of text place.to b)) ≡ true) in
+    (a ≤ s) × (place.to ≤ b)
+        × ((is_line (range_of text a s) (range_of text place.to b) || is_gap (range_of text a s)
+        (range_of text place.to b)) ≡ true) in
     let start = c.start_of-start.result in
     let taken = c.entry_range-taken.result in
     let From : ℕ → Type 0 = λ a. Out a start taken.to in

@@ -10,10 +10,13 @@ returns-in_ok-made-in-Key c =
     let last = c.in-Some.last.now in
     let name = string_bytes c.in-Key.key in
     let made : change_at_of c.in_ok-made-in-Key.made ≡ (path_of front, rename name c.args.name.now) =
-    c.in_ok-made-in-Key.ensures ∙ ap (λ k. (path_of front, rename k (string_bytes c.in_ok-new-in-Key.new))) (c.in_ok-old-in-Key.ensures.ok ∙ c.as_str.ensures.value)
+    c.in_ok-made-in-Key.ensures
+        ∙ ap (λ k. (path_of front, rename k (string_bytes c.in_ok-new-in-Key.new)))
+        (c.in_ok-old-in-Key.ensures.ok ∙ c.as_str.ensures.value)
     ∙ ap (λ k. (path_of front, rename name k)) c.in_ok-new-in-Key.ensures.ok in (
       path_of front,
       name,
-      ap path_of c.in-Some.ensures.cases.0 ∙ map-append step_of front (last ∷ []) ∙ ap (λ s. path_of front ++ step_of s ∷ []) c.in-Key.is,
+      ap path_of c.in-Some.ensures.cases.0 ∙ map-append step_of front (last ∷ [])
+          ∙ ap (λ s. path_of front ++ step_of s ∷ []) c.in-Key.is,
       made,
     )
