@@ -1,0 +1,11 @@
+use Rattle.std.proofs.Common.{◌≡◌, ◌+◌, ◌++◌, drop, map}
+use Rattle.manifest_places.specs.Splices.{splice_of}
+use Rattle.manifest_places.specs.Places.{place_of, first_number}
+use Rattle.manifest_places.specs.Headers.{pairs_put}
+use Rattle.manifest_places.proofs.headers.pairs_of.Given as goal
+
+abbrev pub invariant-loop-place : goal.invariant-loop-place
+invariant-loop-place l =
+    (l.number ≡ first_number + l.place-index)
+    × (map splice_of l.pairs.items ++ pairs_put l.number (map place_of (drop l.place-index l.places))
+    ≡ pairs_put first_number (map place_of l.places))

@@ -1,0 +1,12 @@
+pub mod Changes
+pub mod Edits
+pub mod Finding
+pub mod Headers
+pub mod Keys
+pub mod Laws
+pub mod Lines
+pub mod Located
+pub mod Paths
+pub mod Places
+pub mod Splices
+pub mod Findings
