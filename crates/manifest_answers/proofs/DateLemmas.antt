@@ -24,9 +24,11 @@ use Rattle.manifest_answers.specs.declared.making.Output.TheVariants.{CanonicalT
 use Rattle.manifest_answers.specs.declared.refusal.InputError.{InputError}
 use Rattle.manifest_answers.specs.declared.refusal.InputError.TheVariants as unread
 use Rattle.manifest_answers.specs.declared.refusal.Refusal.{Refusal}
-use Rattle.manifest_answers.specs.declared.refusal.Refusal.TheVariants.{Bytes, Root, Finishing, Printing}
+use Rattle.manifest_places.specs.declared.edits.EditError.{EditError}
+use Rattle.manifest_places.specs.declared.edits.EditError.TheVariants as unedited
+use Rattle.manifest_answers.specs.declared.refusal.Refusal.TheVariants.{Bytes, Root, Finishing, Printing, Edits}
 use Rattle.manifest_answers.specs.declared.reporting.Report.{Report}
-use Rattle.manifest_answers.specs.Report.{ReportsError, ReportsInput, TellsUnresolved, ReportsResolving, ReportsFinishing, ReportsPrinting, Reports}
+use Rattle.manifest_answers.specs.Report.{ReportsError, ReportsInput, TellsUnresolved, ReportsResolving, ReportsFinishing, ReportsPrinting, ReportsEdits, Reports}
 use Rattle.manifest_answers.specs.Made.{CompletesStored, Makes, RefusesRoot, RefusesToMake, RefusesOutput, Gives, OrOutput, IsMade}
 use Rattle.manifest_answers.specs.Answered.{Outcome}
 
@@ -63,6 +65,12 @@ finishing_is_not_seven : (e : FinishError) (t : Report) → ReportsFinishing e t
 finishing_is_not_seven (unfinished.Manifest e) t h seven = error_is_not_seven false e t h seven
 finishing_is_not_seven (unfinished.Resolve e) t h seven = resolving_is_not_seven e t h seven
 finishing_is_not_seven _ t h seven = omega (arith, h.0)
+
+edits_are_not_seven : (e : EditError) (t : Report) → ReportsEdits e t → t.status ≡ 7 → ⊥
+edits_are_not_seven unedited.NotAValue t h seven = omega (arith, h.0)
+edits_are_not_seven unedited.NoPlace t h seven = omega (arith, h.0)
+edits_are_not_seven unedited.Overlap t h seven = omega (arith, h.0)
+edits_are_not_seven _ t h seven = omega (arith, h.0)
 
 -- only what a manifest is asked for is refused as printed, and none that keeps valid date-times for one
 not_of_root : (root : Option (List ℕ)) (e : Error) → RefusesRoot Toml root (Printing e) → ⊥
@@ -104,6 +112,7 @@ module _ (output : Output) (most : ℕ) (bytes : List ℕ) (root : Option (List 
   refusal_is_not_seven (Root e) t r h seven = input_is_not_seven true e t h seven
   refusal_is_not_seven (Finishing e) t r h seven = finishing_is_not_seven e t h seven
   refusal_is_not_seven (Printing e) t r h seven = printing_is_not_seven e t r h seven
+  refusal_is_not_seven (Edits e) t r h seven = edits_are_not_seven e t h seven
   refusal_is_not_seven _ t r h seven = omega (arith, h.0)
 
   -- of texts nothing is reported by 7

@@ -9,7 +9,7 @@ use Rattle.manifest_completion.proofs.IndexLemmas.{bytes_eq-sym}
 use Rattle.manifest_answers.specs.declared.folders.Folder.{Folder}
 use Rattle.manifest_answers.specs.declared.folders.Listed.{Listed}
 use Rattle.manifest_answers.specs.declared.refusal.Refusal.{Refusal}
-use Rattle.manifest_answers.specs.declared.refusal.Refusal.TheVariants.{Bytes, Root, Listings, Finishing, Printing, TooLong, Memory}
+use Rattle.manifest_answers.specs.declared.refusal.Refusal.TheVariants.{Bytes, Root, Listings, Finishing, Printing, TooLong, Edits, NotText, Offsets, Memory}
 use Rattle.manifest_answers.specs.Made.{RefusesUnless}
 use Rattle.manifest_answers.specs.Given.{texts, AreInOrder, AreNames, AreListings, goes_before, folder_answer, folder_at, listed_answer, listed_at}
 
@@ -100,3 +100,6 @@ refuses_more P Q (Root e) w h = absurd h
 refuses_more P Q (Finishing e) w h = absurd h
 refuses_more P Q (Printing e) w h = absurd h
 refuses_more P Q TooLong w h = absurd h
+refuses_more P Q (Edits e) w h = absurd h
+refuses_more P Q NotText w h = absurd h
+refuses_more P Q Offsets w h = absurd h

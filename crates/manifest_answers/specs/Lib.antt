@@ -10,3 +10,6 @@ pub mod Read
 pub mod Made
 pub mod Unread
 pub mod Inspected
+pub mod Placed
+pub mod Positions
+pub mod Edited

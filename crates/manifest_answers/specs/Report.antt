@@ -18,7 +18,9 @@ use Rattle.manifest_inherit.specs.declared.error.FinishError.{FinishError}
 use Rattle.manifest_inherit.specs.declared.error.FinishError.TheVariants as unfinished
 use Rattle.manifest_answers.specs.declared.refusal.InputError.{InputError}
 use Rattle.manifest_answers.specs.declared.refusal.InputError.TheVariants as unread
-use Rattle.manifest_answers.specs.declared.refusal.Refusal.TheVariants.{Bytes, Root, Listings, Finishing, Printing, TooLong, Memory}
+use Rattle.manifest_places.specs.declared.edits.EditError.{EditError}
+use Rattle.manifest_places.specs.declared.edits.EditError.TheVariants as unedited
+use Rattle.manifest_answers.specs.declared.refusal.Refusal.TheVariants.{Bytes, Root, Listings, Finishing, Printing, TooLong, Edits, NotText, Offsets, Memory}
 use Rattle.manifest_answers.specs.declared.reporting.Report.{Report}
 
 -- THE NUMBER of a cause
@@ -129,6 +131,18 @@ ReportsFinishing (unfinished.Manifest e) t = ReportsError false e t
 ReportsFinishing unfinished.NoWorkspace t = IsReport t 9 0 []
 ReportsFinishing (unfinished.Resolve e) t = ReportsResolving e t
 
+-- why edits are not made
+abbrev pub ReportsEdits : EditError → Report → Type 0
+-- NOT_A_VALUE: what an edit puts in is not one value of TOML and nothing else
+ReportsEdits unedited.NotAValue t = IsReport t 33 0 []
+-- NO_PLACE: nothing that this edit can change is written at its path
+ReportsEdits unedited.NoPlace t = IsReport t 34 0 []
+-- OVERLAP: two edits touch one place, or one lies within what another one replaces
+ReportsEdits unedited.Overlap t = IsReport t 35 0 []
+-- NOT_EDITED: the new text would not be the document with these changes, as where a new key is
+-- there already
+ReportsEdits _ t = IsReport t 36 0 []
+
 -- EACH REFUSAL
 abbrev pub Reports : Refusal → Report → Type 0
 Reports (Bytes e) t = ReportsInput false e t
@@ -140,4 +154,9 @@ Reports (Finishing e) t = ReportsFinishing e t
 Reports (Printing e) t = ReportsPrinting e t
 -- TOO_LONG: what is asked for could take more bytes than `most`, or what is inherited does
 Reports TooLong t = IsReport t 32 0 []
+Reports (Edits e) t = ReportsEdits e t
+-- NOT_TEXT: a key or a text of an edit is not UTF-8
+Reports NotText t = IsReport t 37 0 []
+-- OFFSETS: the offsets do not ascend, or one is over the end of the bytes
+Reports Offsets t = IsReport t 38 0 []
 Reports (Memory e) t = ReportsMemory t

@@ -7,10 +7,16 @@ ghost use Rattle.manifest_answers.specs.Requested.{input_of, output_of, AnswersR
 ghost use Rattle.manifest_answers.specs.Made.{Makes, RefusesToMake};
 ghost use Rattle.manifest_answers.specs.Unread.{GivesUnread, RefusesUnread, GivesDocument, RefusesDocument};
 ghost use Rattle.manifest_answers.specs.Inspected.{GivesFindings, RefusesFindings};
+ghost use Rattle.manifest_answers.specs.Placed.{GivesPlacedFindings, RefusesPlacedFindings};
+ghost use Rattle.manifest_answers.specs.Positions.{GivesPositions, RefusesPositions};
+ghost use Rattle.manifest_answers.specs.Edited.{wants_replacements, GivesEdited, RefusesToEdit};
 
+use crate::editing::{GivenEdit, edited_bytes};
 use crate::folders::Folder;
 use crate::inspecting::document_findings;
 use crate::making::{Output, make, output_or_refusal};
+use crate::placing::placed_findings;
+use crate::positions::positions;
 use crate::reading::Input;
 use crate::refusal::Refusal;
 use crate::reporting::{Report, report_of, with_text};
@@ -222,5 +228,61 @@ pub fn respond_findings(alloc: Global, bytes: &[u8], most: usize, out: &mut [u8]
 {
     let findings = document_findings(alloc, bytes, most);
     let report = outcome(alloc, findings);
+    write_answer(&report, out)
+}
+
+/// Answers a call for what is found in a TOML document and where in its text that stands, in the way of [`respond`].
+///
+/// ```ignore
+/// let answer = respond_placed_findings(alloc, b"name = 1", usize::MAX, &mut out); // `[[..], [[[7, 8], [0, 4], []]]]`
+/// ```
+pub fn respond_placed_findings(alloc: Global, bytes: &[u8], most: usize, out: &mut [u8]) -> Answer
+    ensures { IsAnswered (GivesPlacedFindings most bytes.now)
+        (RefusesPlacedFindings most bytes.now) out.old out.new result }
+{
+    let findings = placed_findings(alloc, bytes, most);
+    let report = outcome(alloc, findings);
+    write_answer(&report, out)
+}
+
+/// Answers a call for the lines and the columns of offsets in a text, in the way of [`respond`].
+///
+/// ```ignore
+/// let answer = respond_positions(alloc, b"a = 1\nb", &[6], usize::MAX, &mut out); // `[[2, 0, 0, 0]]`
+/// ```
+pub fn respond_positions(
+    alloc: Global,
+    bytes: &[u8],
+    offsets: &[usize],
+    most: usize,
+    out: &mut [u8],
+) -> Answer
+    ensures { IsAnswered (GivesPositions most bytes.now offsets.now)
+        (RefusesPositions most bytes.now offsets.now) out.old out.new result }
+{
+    let found = positions(alloc, bytes, offsets, most);
+    let report = outcome(alloc, found);
+    write_answer(&report, out)
+}
+
+/// Answers a call for a text with edits, or for what they replace in it, in the way of [`respond`].
+///
+/// ```ignore
+/// let answer = respond_edited(alloc, b"a = 1 # one", &edits, 0, usize::MAX, &mut out); // as `a = 2 # one`
+/// ```
+pub fn respond_edited(
+    alloc: Global,
+    bytes: &[u8],
+    edits: &[GivenEdit<'_>],
+    as_replacements: u8,
+    most: usize,
+    out: &mut [u8],
+) -> Answer
+    ensures { IsAnswered (GivesEdited most (wants_replacements as_replacements) bytes.now edits.now)
+        (RefusesToEdit most (wants_replacements as_replacements) bytes.now edits.now)
+        out.old out.new result }
+{
+    let edited = edited_bytes(alloc, bytes, edits, as_replacements != 0, most);
+    let report = outcome(alloc, edited);
     write_answer(&report, out)
 }

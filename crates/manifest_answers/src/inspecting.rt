@@ -20,7 +20,7 @@ use std::alloc::{AllocError, Global};
 use toml::Table;
 
 /// An array of two values.
-fn pair(alloc: Global, first: Value, second: Value) -> Result<Value, AllocError>
+pub(crate) fn pair(alloc: Global, first: Value, second: Value) -> Result<Value, AllocError>
     ensures { IfOk result (λ v. view v ≡ pair_data (view first) (view second)) }
 {
     let mut values = Vec::new(alloc);
@@ -30,7 +30,12 @@ fn pair(alloc: Global, first: Value, second: Value) -> Result<Value, AllocError>
 }
 
 /// An array of three values.
-fn triple(alloc: Global, first: Value, second: Value, third: Value) -> Result<Value, AllocError>
+pub(crate) fn triple(
+    alloc: Global,
+    first: Value,
+    second: Value,
+    third: Value,
+) -> Result<Value, AllocError>
     ensures { IfOk result (λ v. view v ≡ triple_data (view first) (view second) (view third)) }
 {
     let mut values = Vec::new(alloc);
@@ -41,7 +46,7 @@ fn triple(alloc: Global, first: Value, second: Value, third: Value) -> Result<Va
 }
 
 /// An index as the number of a value. The largest number stands for each index above it, which no list has.
-fn index_number(index: usize) -> i64
+pub(crate) fn index_number(index: usize) -> i64
     ensures { result ≡ index_number index }
 {
     if index < 9223372036854775807 {
@@ -116,7 +121,10 @@ fn node_value(alloc: Global, node: &FindingNode<Finding>) -> Result<Value, Alloc
 
 /// Nodes as a value: the array of them, in their order.
 #[cycle(trees)]
-fn nodes_value(alloc: Global, nodes: &[FindingNode<Finding>]) -> Result<Value, AllocError>
+pub(crate) fn nodes_value(
+    alloc: Global,
+    nodes: &[FindingNode<Finding>],
+) -> Result<Value, AllocError>
     ensures { IfOk result (λ v. view v ≡ nodes_data nodes.now) }
 {
     let mut all = Vec::new(alloc);

@@ -5,18 +5,22 @@
 #![tactic(auto)]
 
 mod answer;
+mod editing;
 mod folders;
 mod inspecting;
 mod making;
+mod placing;
+mod positions;
 mod reading;
 mod refusal;
 mod reporting;
 mod unread;
 
 pub use answer::{
-    Answer, Asked, Request, respond, respond_document, respond_findings, respond_request,
-    respond_unread,
+    Answer, Asked, Request, respond, respond_document, respond_edited, respond_findings,
+    respond_placed_findings, respond_positions, respond_request, respond_unread,
 };
+pub use editing::{GivenEdit, GivenStep};
 pub use folders::Folder;
 pub use making::Output;
 pub use reading::Input;

@@ -2,6 +2,7 @@
 
 use cargo_manifest::Error;
 use manifest_inherit::FinishError;
+use manifest_places::EditError;
 use std::alloc::{AllocError, AllocFailed};
 
 /// Why bytes are no manifest.
@@ -52,6 +53,12 @@ pub enum Refusal {
     Printing(Error),
     /// What is asked for takes more bytes than the caller allows.
     TooLong,
+    /// The edits of the text are not made.
+    Edits(EditError),
+    /// A key or a text of an edit is not UTF-8.
+    NotText,
+    /// The offsets do not ascend in the text.
+    Offsets,
     /// No memory was left.
     Memory(AllocError),
 }

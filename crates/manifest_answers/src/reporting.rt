@@ -4,11 +4,12 @@
 ghost use Rattle.std.specs.Prelude.{◌≡◌, ◌≤◌, ◌⊎◌, IsUtf8, string_bytes};
 ghost use Rattle.std.specs.IoError.{error_kind};
 ghost use Rattle.manifest_fault.specs.Faults.{cause_of};
-ghost use Rattle.manifest_answers.specs.Report.{cause_number, kind_number, at_root, IsReport, ReportsMemory, ReportsToml, ReportsSchema, ReportsError, ReportsInput, TellsUnresolved, ReportsResolving, ReportsFinishing, ReportsPrinting, Reports};
+ghost use Rattle.manifest_answers.specs.Report.{cause_number, kind_number, at_root, IsReport, ReportsMemory, ReportsToml, ReportsSchema, ReportsError, ReportsInput, TellsUnresolved, ReportsResolving, ReportsFinishing, ReportsPrinting, ReportsEdits, Reports};
 
 use crate::refusal::{InputError, Refusal};
 use cargo_manifest::{Cause, Error, ParseFault, SchemaFault};
 use manifest_inherit::{FinishError, Refusal as Unresolved, ResolveError};
+use manifest_places::EditError;
 use std::alloc::{AllocError, Global};
 use std::io;
 use std::io::ErrorKind;
@@ -206,6 +207,19 @@ fn tell_printing(alloc: Global, error: Error) -> Report
     }
 }
 
+/// The report of why edits are not made: status 33 to 36.
+fn tell_edits(alloc: Global, error: EditError) -> Report
+    ensures report { ReportsEdits error result }
+    ensures utf8 { IsUtf8 result.text.items }
+{
+    match error {
+        EditError::NotAValue => with_text(33, 0, Vec::new(alloc)),
+        EditError::NoPlace => with_text(34, 0, Vec::new(alloc)),
+        EditError::Overlap => with_text(35, 0, Vec::new(alloc)),
+        _ => with_text(36, 0, Vec::new(alloc)),
+    }
+}
+
 /// The report of a refusal, by its kind: status, cause, positions and text. Instead it may be that of out of memory,
 /// where there is none for its text.
 pub(crate) fn report_of(alloc: Global, refusal: Refusal) -> Report
@@ -219,6 +233,9 @@ pub(crate) fn report_of(alloc: Global, refusal: Refusal) -> Report
         Refusal::Finishing(error) => tell_finishing(alloc, error),
         Refusal::Printing(error) => tell_printing(alloc, error),
         Refusal::TooLong => with_text(32, 0, Vec::new(alloc)),
+        Refusal::Edits(error) => tell_edits(alloc, error),
+        Refusal::NotText => with_text(37, 0, Vec::new(alloc)),
+        Refusal::Offsets => with_text(38, 0, Vec::new(alloc)),
         Refusal::Memory(refused) => memory(alloc, refused),
     }
 }

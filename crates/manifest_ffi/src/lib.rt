@@ -11,9 +11,13 @@ ghost use Rattle.manifest_answers.specs.Answered.{IsAnswered};
 ghost use Rattle.manifest_answers.specs.Requested.{AnswersRequest};
 ghost use Rattle.manifest_answers.specs.Unread.{GivesUnread, RefusesUnread, GivesDocument, RefusesDocument};
 ghost use Rattle.manifest_answers.specs.Inspected.{GivesFindings, RefusesFindings};
+ghost use Rattle.manifest_answers.specs.Placed.{GivesPlacedFindings, RefusesPlacedFindings};
+ghost use Rattle.manifest_answers.specs.Positions.{GivesPositions, RefusesPositions};
+ghost use Rattle.manifest_answers.specs.Edited.{wants_replacements, GivesEdited, RefusesToEdit};
 
 use manifest_answers::{
-    Answer, Request, respond_document, respond_findings, respond_request, respond_unread,
+    Answer, GivenEdit, Request, respond_document, respond_edited, respond_findings,
+    respond_placed_findings, respond_positions, respond_request, respond_unread,
 };
 use std::alloc::Global;
 
@@ -96,6 +100,71 @@ pub extern "C" fn manifest_findings(
         out.old out.new result }
 {
     respond_findings(alloc, bytes, most, out)
+}
+
+/// Reads bytes as a TOML document, and writes what is found in it as [`manifest_findings`] does, and where in the bytes
+/// that stands: the tagged bytes of an array of two, the tree of the findings and an array that has for each finding, in
+/// their order, the ranges of its value, of its key and of its header. (That array is empty where nothing is found, and
+/// where the places of the text are not found, which no test has seen.) Refuses as [`manifest_findings`] does.
+///
+/// ```ignore
+/// // `[[[3, 'name', [[0, 1]]]], [[[7, 8], [0, 4], []]]]`
+/// let answer = manifest_placed_findings(alloc, b"name = 1", usize::MAX, &mut out);
+/// ```
+#[unsafe(no_mangle)]
+pub extern "C" fn manifest_placed_findings(
+    alloc: Global,
+    bytes: &[u8],
+    most: usize,
+    out: &mut [u8],
+) -> Answer
+    ensures { IsAnswered (GivesPlacedFindings most bytes.now)
+        (RefusesPlacedFindings most bytes.now) out.old out.new result }
+{
+    respond_placed_findings(alloc, bytes, most, out)
+}
+
+/// Writes of each offset in a text, which ascend, its line, from 1 on, and how many bytes, characters and units of UTF-16
+/// stand before it in that line: the tagged bytes of an array of arrays of these four.
+///
+/// ```ignore
+/// let answer = manifest_positions(alloc, b"a = 1\nb", &[6], usize::MAX, &mut out); // `[[2, 0, 0, 0]]`
+/// ```
+#[unsafe(no_mangle)]
+pub extern "C" fn manifest_positions(
+    alloc: Global,
+    bytes: &[u8],
+    offsets: &[usize],
+    most: usize,
+    out: &mut [u8],
+) -> Answer
+    ensures { IsAnswered (GivesPositions most bytes.now offsets.now)
+        (RefusesPositions most bytes.now offsets.now) out.old out.new result }
+{
+    respond_positions(alloc, bytes, offsets, most, out)
+}
+
+/// Makes edits of a TOML text that keep all else as it is, and writes the new text; or where `as_replacements` is not 0
+/// the tagged bytes of what they replace in the old one, an array of arrays of where a range begins, where it ends, and
+/// the text that takes its place. All edits are made or none; paths and indexes are those of the document as it is given.
+///
+/// ```ignore
+/// let answer = manifest_edited(alloc, b"a = 1 # one", &edits, 0, usize::MAX, &mut out); // as `a = 2 # one`
+/// ```
+#[unsafe(no_mangle)]
+pub extern "C" fn manifest_edited(
+    alloc: Global,
+    bytes: &[u8],
+    edits: &[GivenEdit<'_>],
+    as_replacements: u8,
+    most: usize,
+    out: &mut [u8],
+) -> Answer
+    ensures { IsAnswered (GivesEdited most (wants_replacements as_replacements) bytes.now edits.now)
+        (RefusesToEdit most (wants_replacements as_replacements) bytes.now edits.now)
+        out.old out.new result }
+{
+    respond_edited(alloc, bytes, edits, as_replacements, most, out)
 }
 
 /// The version of these calls and of the tagged bytes. A program compares it with the one that it was written for.
