@@ -577,6 +577,12 @@ static void print_layout(void)
            offsetof(struct manifest_names, length));
     printf("folders: %zu, at %zu, length %zu\n", sizeof(struct manifest_folders), offsetof(struct manifest_folders, at),
            offsetof(struct manifest_folders, length));
+    printf("path: %zu, at %zu, length %zu\n", sizeof(struct manifest_path), offsetof(struct manifest_path, at),
+           offsetof(struct manifest_path, length));
+    printf("step: %zu, key %zu, index %zu, is_index %zu\n", sizeof(struct manifest_step), offsetof(struct manifest_step, key),
+           offsetof(struct manifest_step, index), offsetof(struct manifest_step, is_index));
+    printf("edit: %zu, path %zu, text %zu, kind %zu\n", sizeof(struct manifest_edit), offsetof(struct manifest_edit, path),
+           offsetof(struct manifest_edit, text), offsetof(struct manifest_edit, kind));
     printf("request: %zu, bytes %zu, root %zu, folders %zu, most %zu, input %zu, output %zu, has_root %zu, has_folders %zu\n",
            sizeof(struct manifest_request), offsetof(struct manifest_request, bytes), offsetof(struct manifest_request, root),
            offsetof(struct manifest_request, folders), offsetof(struct manifest_request, most),

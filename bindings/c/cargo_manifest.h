@@ -50,8 +50,9 @@
    limits of its own: 80 arrays and inline tables in one another, and 80 parts of a key. What is over these is refused as no
    TOML. Each text that the library writes of a table at most 80 deep is read again.
 
-   A call takes at most 111 KiB of stack on all inputs that were tried, so a thread with 128 KiB makes each call, which is
-   what musl gives its threads if nothing is said.
+   A call takes at most 111 KiB of stack on all inputs that were tried, so a thread with 128 KiB makes it, which is what musl
+   gives its threads if nothing is said. Where a place or an edit is looked for below 126 keys in one another,
+   `manifest_placed_findings` and `manifest_edited` take 136 KiB: a thread with 160 KiB makes each call.
 
    A call has at most 768 bytes of memory at once for each byte that is passed in (a name of a folder counts as 16 more), and
    64 for each byte of `most`, on all inputs that were tried.
@@ -133,7 +134,19 @@ enum manifest_status {
     MANIFEST_ROOT_UNTAGGED = 30,
     MANIFEST_ROOT_TOO_DEEP = 31,
     /* what is asked for could take more bytes than `most`, or what is inherited does */
-    MANIFEST_TOO_LONG = 32
+    MANIFEST_TOO_LONG = 32,
+    /* what an edit puts in is not one value of TOML and nothing else */
+    MANIFEST_NOT_A_VALUE = 33,
+    /* nothing that this edit can change is written at its path */
+    MANIFEST_NO_PLACE = 34,
+    /* two edits touch one place, or one lies within what another one replaces */
+    MANIFEST_OVERLAP = 35,
+    /* the new text would not be the document with these changes, as where a new key is there already */
+    MANIFEST_NOT_EDITED = 36,
+    /* a key or a text of an edit is not UTF-8 */
+    MANIFEST_NOT_TEXT = 37,
+    /* the offsets do not ascend, or one is over the end of the bytes */
+    MANIFEST_OFFSETS = 38
 };
 
 /* How deep arrays and tables may stand in one another, the whole table not counted: see LIMITS. */
@@ -302,6 +315,72 @@ enum manifest_found {
    7 1 7 3 2 3 1 7 `package` 7 2 7 3 2 3 1 4 `name` 7 1 7 2 2 0 2 1 7 2 2 2 1 6 `edtion`. */
 struct manifest_answer manifest_findings(const uint8_t *bytes, size_t bytes_length, size_t most, uint8_t *out,
                                          size_t out_length);
+
+/* The same, with the place of each finding: a tagged array of two, of which the first is that of manifest_findings. The second
+   is an array that has for each finding, in their order, an array of three ranges, each of which is an array of two offsets of
+   bytes, where it begins and where it ends, or the empty array for none:
+
+      the value      where it has a place: a table or an array of tables that is written by headers or dotted keys has none
+      its key        the whole key, of a dotted one too; of a table that a dotted key goes through, the key up to that part.
+                     An item of an array has none, nor has a table that is written by headers
+      its header     that under which the value stands, and none at the top of the text; of a table that is written by headers
+                     the one that opens it, or else the first one that goes through it
+
+   Of a key that is missing they are those of the table in which it belongs; of a key that nothing reads, those of that key. The
+   second array is empty where nothing is found. (It would be so too where the places of a text could not be found, which was
+   never seen.) That each place is right is proved: with another value in it the text is the document with that value at the path.
+   `name = 1` is 7 2, the bytes of its findings, and 7 1 7 3 7 2 2 7 2 8 7 2 2 0 2 4 7 0. */
+struct manifest_answer manifest_placed_findings(const uint8_t *bytes, size_t bytes_length, size_t most, uint8_t *out,
+                                                size_t out_length);
+
+/* The lines and the columns of offsets in a UTF-8 text, which ascend and of which none is over its end: a tagged array that has
+   for each offset an array of four numbers: its line, from 1 on, and how many bytes, characters and units of UTF-16 stand before
+   it in that line. A line ends after a line feed, and nowhere else. It is one pass over the text, however many offsets there are. */
+struct manifest_answer manifest_positions(const uint8_t *bytes, size_t bytes_length, const size_t *offsets,
+                                          size_t offsets_length, size_t most, uint8_t *out, size_t out_length);
+
+/* One step of a key path: an index of an array, from 0 on, where is_index is not 0, and else a key, which is UTF-8 and without
+   quotes. (The key of an index counts nothing, and has to be UTF-8 all the same.) */
+struct manifest_step {
+    struct manifest_bytes key;
+    size_t index;
+    uint8_t is_index;
+};
+
+/* Borrowed steps. */
+struct manifest_path {
+    const struct manifest_step *at;
+    size_t length;
+};
+
+/* What is done to a text: each number but 0, 1 and 2 is MANIFEST_RENAME. */
+enum manifest_kind {
+    MANIFEST_SET = 0,    /* the text is a value of TOML, which takes the place of the value at the path */
+    MANIFEST_INSERT = 1, /* the text is a value of TOML; the path ends with a new key, or with the index after the last item of an
+                            array */
+    MANIFEST_REMOVE = 2, /* nothing more at the path: the entry goes with the rest of its line, or with one comma */
+    MANIFEST_RENAME = 3  /* the text is another key, without quotes, for what is at the path */
+};
+
+/* An edit. */
+struct manifest_edit {
+    struct manifest_path path;
+    struct manifest_bytes text;
+    uint8_t kind; /* one of enum manifest_kind */
+};
+
+/* The text of a TOML document, whatever it means, with all of these edits: comments, order and layout stay, and the new text is
+   that of the document with these changes and no others, which is proved. Where as_replacements is not 0, what they replace in the
+   old text, as an editor takes it: a tagged array of arrays of three, where a range begins, where it ends, and the text that takes
+   its place; they ascend and do not overlap. Either all edits are made or none. Paths and indexes are those of the document as it
+   is given.
+
+   A new key stands after the table's own entries, before the comments of the next header; where the table has no header, it gets
+   one at the end of the text. Refused as MANIFEST_NO_PLACE is a path at which nothing is, and a table or an array of tables that is
+   written by headers or by dotted keys, where it would have to be replaced, removed or, but for its key, renamed as a whole. */
+struct manifest_answer manifest_edited(const uint8_t *bytes, size_t bytes_length, const struct manifest_edit *edits,
+                                       size_t edits_length, uint8_t as_replacements, size_t most, uint8_t *out,
+                                       size_t out_length);
 
 /* The calls of earlier versions, each by the request that it is. */
 static inline struct manifest_request manifest_request_of(const uint8_t *bytes, size_t bytes_length, uint8_t input,
@@ -489,6 +568,13 @@ MANIFEST_CHECK(request, sizeof(struct manifest_request) == 64 && offsetof(struct
                             && offsetof(struct manifest_request, output) == 57
                             && offsetof(struct manifest_request, has_root) == 58
                             && offsetof(struct manifest_request, has_folders) == 59);
+MANIFEST_CHECK(step, sizeof(struct manifest_step) == 32 && offsetof(struct manifest_step, key) == 0
+                         && offsetof(struct manifest_step, index) == 16
+                         && offsetof(struct manifest_step, is_index) == 24);
+MANIFEST_CHECK(path, sizeof(struct manifest_path) == 16 && offsetof(struct manifest_path, at) == 0
+                         && offsetof(struct manifest_path, length) == 8);
+MANIFEST_CHECK(edit, sizeof(struct manifest_edit) == 40 && offsetof(struct manifest_edit, path) == 0
+                         && offsetof(struct manifest_edit, text) == 16 && offsetof(struct manifest_edit, kind) == 32);
 MANIFEST_CHECK(tried, sizeof(struct rattle_tried) == 16 && offsetof(struct rattle_tried, is_there) == 0
                           && offsetof(struct rattle_tried, block) == 8);
 #undef MANIFEST_CHECK

@@ -1,0 +1,103 @@
+/* Edits, places and positions, called as a program in C does; each answer is compared with the one that is written here. */
+#include "cargo_manifest.h"
+
+#include <stdio.h>
+#include <string.h>
+
+#define TEXT(text) {(const uint8_t *)(text), sizeof(text) - 1}
+#define KEY(key) {TEXT(key), 0, 0}
+#define INDEX(index) {{NULL, 0}, index, 1}
+#define COUNT_OF(type, ...) (sizeof((const type[]){__VA_ARGS__}) / sizeof(type))
+#define PATH(...) {(const struct manifest_step[]){__VA_ARGS__}, COUNT_OF(struct manifest_step, __VA_ARGS__)}
+#define EDITS(...) (const struct manifest_edit[]){__VA_ARGS__}, COUNT_OF(struct manifest_edit, __VA_ARGS__)
+#define SET(text, ...) {PATH(__VA_ARGS__), TEXT(text), MANIFEST_SET}
+#define INSERT(text, ...) {PATH(__VA_ARGS__), TEXT(text), MANIFEST_INSERT}
+#define REMOVE(...) {PATH(__VA_ARGS__), {NULL, 0}, MANIFEST_REMOVE}
+#define RENAME(text, ...) {PATH(__VA_ARGS__), TEXT(text), MANIFEST_RENAME}
+
+#define MANIFEST "[package]\nname = 'a' # its name\n\n# what it needs\n[dependencies]\nlog = '0.4'\n"
+#define CUT "a\xc3"
+
+/* A text, edits of it, and the text that they make or the status with which they are refused. */
+static const struct edits {
+    const char *text;
+    const struct manifest_edit *edits;
+    size_t edits_length;
+    int status;
+    const char *wanted;
+} EDITS_OF[] = {
+    {MANIFEST, EDITS(SET("'b'", KEY("package"), KEY("name"))), 0,
+     "[package]\nname = 'b' # its name\n\n# what it needs\n[dependencies]\nlog = '0.4'\n"},
+    {MANIFEST,
+     EDITS(RENAME("tracing", KEY("dependencies"), KEY("log")), INSERT("'2021'", KEY("package"), KEY("edition"))), 0,
+     "[package]\nname = 'a' # its name\nedition = '2021'\n\n# what it needs\n[dependencies]\ntracing = '0.4'\n"},
+    {MANIFEST, EDITS(REMOVE(KEY("dependencies"), KEY("log"))), 0,
+     "[package]\nname = 'a' # its name\n\n# what it needs\n[dependencies]\n"},
+    {"a = [1, 2]\n", EDITS(SET("3", KEY("a"), INDEX(1))), 0, "a = [1, 3]\n"},
+    {"a = 1\n", NULL, 0, 0, "a = 1\n"},
+    {"a = \n", EDITS(SET("2", KEY("a"))), MANIFEST_NO_TOML, NULL},
+    {"a = 1\n", EDITS(SET("2 # x", KEY("a"))), MANIFEST_NOT_A_VALUE, ""},
+    {"a = 1\n", EDITS(SET("2", KEY("b"))), MANIFEST_NO_PLACE, ""},
+    {"a = [1]\n", EDITS(SET("2", KEY("a")), SET("3", KEY("a"), INDEX(0))), MANIFEST_OVERLAP, ""},
+    {"a = 1\nb = 2\n", EDITS(RENAME("b", KEY("a"))), MANIFEST_NOT_EDITED, ""},
+    {"a = 1\n", EDITS(SET(CUT, KEY("a"))), MANIFEST_NOT_TEXT, ""},
+    {"a = 1\n", EDITS(REMOVE(KEY(CUT))), MANIFEST_NOT_TEXT, ""},
+    {"\xff", EDITS(REMOVE(KEY("a"))), MANIFEST_NOT_UTF8, ""},
+};
+
+static int passed, failed;
+
+static void count(int is_right, const char *what, size_t number)
+{
+    if (is_right) {
+        passed++;
+    } else {
+        failed++;
+        printf("%s %zu: wrong\n", what, number);
+    }
+}
+
+/* Whether the answer is this status with these bytes, or, where there are none, with any. */
+static int is_answer(struct manifest_answer answer, const uint8_t *out, int status, const char *wanted, size_t length)
+{
+    if (answer.status != status || answer.cause != 0)
+        return 0;
+    return !wanted || (answer.length == length && !memcmp(out, wanted, length));
+}
+
+#define HAS(answer, text) is_answer(answer, out, MANIFEST_ACCEPTED, text, sizeof(text) - 1)
+
+int main(void)
+{
+    uint8_t out[4096];
+    for (size_t i = 0; i < sizeof EDITS_OF / sizeof *EDITS_OF; i++) {
+        const struct edits *row = &EDITS_OF[i];
+        struct manifest_answer answer = manifest_edited((const uint8_t *)row->text, strlen(row->text), row->edits,
+                                                        row->edits_length, 0, SIZE_MAX, out, sizeof out);
+        count(is_answer(answer, out, row->status, row->wanted, row->wanted ? strlen(row->wanted) : 0), "edits", i + 1);
+    }
+    const struct manifest_edit set[] = {SET("300", KEY("a"))};
+    const uint8_t *one = (const uint8_t *)"a = 1 # one";
+    /* [[4, 5, '300']] */
+    count(HAS(manifest_edited(one, 11, set, 1, 1, SIZE_MAX, out, sizeof out), "\7\1\7\3\2\4\2\5\1\3" "300"), "replaced", 1);
+    count(HAS(manifest_edited(one, 11, set, 1, 0, 13, out, sizeof out), "a = 300 # one"), "most", 1);
+    count(manifest_edited(one, 11, set, 1, 0, 12, out, sizeof out).status == MANIFEST_TOO_LONG, "most", 2);
+    count(manifest_edited(one, 11, set, 1, 0, SIZE_MAX, NULL, 0).length == 13, "room", 1);
+
+    /* [[[3, 'name', [[0, 1]]]], [[[7, 8], [0, 4], []]]] */
+    count(HAS(manifest_placed_findings((const uint8_t *)"name = 1", 8, SIZE_MAX, out, sizeof out),
+              "\7\2\7\1\7\3\2\3\1\4name\7\1\7\2\2\0\2\1\7\1\7\3\7\2\2\7\2\10\7\2\2\0\2\4\7\0"), "placed", 1);
+    count(HAS(manifest_placed_findings((const uint8_t *)"name = 'a'", 10, SIZE_MAX, out, sizeof out), "\7\2\7\0\7\0"),
+          "placed", 2);
+
+    const size_t offsets[] = {4, 6, 9};
+    const uint8_t *lines = (const uint8_t *)"a = 1\n\xc3\xa9 = 2";
+    /* [[1, 4, 4, 4], [2, 0, 0, 0], [2, 3, 2, 2]] */
+    count(HAS(manifest_positions(lines, 12, offsets, 3, SIZE_MAX, out, sizeof out),
+              "\7\3\7\4\2\1\2\4\2\4\2\4\7\4\2\2\2\0\2\0\2\0\7\4\2\2\2\3\2\2\2\2"), "positions", 1);
+    count(manifest_positions(lines, 8, offsets, 3, SIZE_MAX, out, sizeof out).status == MANIFEST_OFFSETS, "positions", 2);
+    const size_t back[] = {6, 4};
+    count(manifest_positions(lines, 12, back, 2, SIZE_MAX, out, sizeof out).status == MANIFEST_OFFSETS, "positions", 3);
+    printf("%d passed, %d failed\n", passed, failed);
+    return failed != 0;
+}
