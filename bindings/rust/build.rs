@@ -11,8 +11,15 @@ use std::process;
 const ARCHIVE: &str = "libcargo_manifest.a";
 
 /// The calls that this crate makes.
-const CALLS: [&str; 5] =
-    ["manifest_document", "manifest_findings", "manifest_run", "manifest_table_without_metadata", "manifest_version"];
+const CALLS: [&str; 7] = [
+    "manifest_document",
+    "manifest_edited",
+    "manifest_placed_findings",
+    "manifest_positions",
+    "manifest_run",
+    "manifest_table_without_metadata",
+    "manifest_version",
+];
 
 /// The first 32 bits of the fractional parts of the cube roots of the first 64 primes.
 #[rustfmt::skip]

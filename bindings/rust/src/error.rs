@@ -194,7 +194,7 @@ impl From<Misfit> for ParseError {
 }
 
 /// The line and the column of a place, both from 1 on.
-fn line_column(bytes: &[u8], place: usize) -> (usize, usize) {
+pub(crate) fn line_column(bytes: &[u8], place: usize) -> (usize, usize) {
     let before = bytes.get(..place).unwrap_or(bytes);
     let line = before.iter().filter(|byte| **byte == b'\n').count() + 1;
     let start = before.iter().rposition(|byte| *byte == b'\n').map_or(0, |end| end + 1);

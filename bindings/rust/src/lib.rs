@@ -144,8 +144,9 @@
 //! limits of its own: 80 arrays and inline tables in one another, and 80 parts of a key. What is over these is refused as no
 //! TOML. Each text that the library writes of a table at most 80 deep is read again.
 //!
-//! A call takes at most 111 KiB of stack on all inputs that were tried, so a thread with 128 KiB makes each call, which is
-//! what musl gives its threads if nothing is said.
+//! A call takes at most 111 KiB of stack on all inputs that were tried, so a thread with 128 KiB makes it, which is what
+//! musl gives its threads if nothing is said. Where a place or an edit is looked for below 126 keys in one another,
+//! `manifest_placed_findings` and `manifest_edited` take 136 KiB: a thread with 160 KiB makes each call.
 //!
 //! A call has at most 768 bytes of memory at once for each byte that is passed in (a name of a folder counts as 16 more),
 //! and 64 for each byte of `most`, on all inputs that were tried.
@@ -180,6 +181,7 @@ pub mod calls;
 mod codec;
 mod completing;
 mod dependency;
+mod edits;
 mod error;
 mod filesystem;
 mod found;
@@ -212,12 +214,13 @@ pub mod from_cargo_manifest {}
 mod readme {}
 
 pub use badge::{Badge, Badges, Maintenance, MaintenanceStatus};
-pub use calls::Cause;
+pub use calls::{edited, positions, replacements, Cause};
 pub use codec::Step;
 pub use dependency::{Dependency, DependencyDetail, InheritedDependencyDetail, Target};
+pub use edits::{Edit, Position, Replacement};
 pub use error::{Error, ParseError};
 pub use filesystem::{AbstractFilesystem, Filesystem};
-pub use found::{faults, ignored, unused_keys, CargoKey, CargoSupport, Fault, Finding, KeyPath, UnusedKey};
+pub use found::{faults, ignored, unused_keys, CargoKey, CargoSupport, Fault, Finding, KeyPath, Place, UnusedKey};
 pub use inherited::{MaybeInherited, True};
 pub use lint::{Lint, LintConfig, LintLevel, MaybeInheritedLintsSet};
 pub use manifest::Manifest;

@@ -3,7 +3,9 @@
 mod stored;
 
 use cargo_manifest::calls::{findings, AtMost, Part, Refusal};
-use cargo_manifest::{faults, ignored, unused_keys, Cause, Error, Fault, Finding, KeyPath, Manifest, Step, UnusedKey};
+use cargo_manifest::{
+    faults, ignored, unused_keys, Cause, Error, Fault, Finding, KeyPath, Manifest, Place, Step, UnusedKey,
+};
 
 /// Documents, and what is found in them, line by line.
 const DOCUMENTS: &[(&str, &str)] = &[
@@ -128,29 +130,32 @@ fn path(steps: &[&str]) -> KeyPath {
 
 /// A key that Cargo does not know either.
 fn unused(steps: &[&str]) -> UnusedKey {
-    UnusedKey { path: path(steps), in_cargo: None }
+    UnusedKey { path: path(steps), in_cargo: None, place: Place::default() }
 }
 
 fn fault(steps: &[&str], cause: Cause, choices: &[&str]) -> Fault {
-    Fault { path: path(steps), cause, choices: choices.iter().map(ToString::to_string).collect() }
+    let choices = choices.iter().map(ToString::to_string).collect();
+    Fault { path: path(steps), cause, choices, place: Place::default() }
+}
+
+/// Faults without their places.
+fn without_places(faults: Vec<Fault>) -> Vec<Fault> {
+    faults.into_iter().map(|fault| Fault { place: Place::default(), ..fault }).collect()
 }
 
 #[test]
 fn each_part_of_a_finding() {
     let text = b"package.name = 'p'\npackage.authors = [true]\nx.y = 1\n[badges]\ngitlab = 1\n";
     let wrong = |steps: &[&str]| fault(steps, Cause::WrongKind, &[]);
-    let all = findings(text).unwrap();
-    assert_eq!(
-        all,
-        [
-            Finding::Fault(wrong(&["package", "authors", "0"])),
-            Finding::Ignored(wrong(&["badges", "gitlab"])),
-            Finding::Unused(unused(&["x"])),
-        ]
-    );
-    assert_eq!(faults(text).unwrap(), [wrong(&["package", "authors", "0"])]);
-    assert_eq!(ignored(text).unwrap(), [wrong(&["badges", "gitlab"])]);
-    assert_eq!(unused_keys(text).unwrap(), [unused(&["x"])]);
+    let at = |value, key, header| Place { value, key, header };
+    let author = Fault { place: at(Some(38..42), None, None), ..wrong(&["package", "authors", "0"]) };
+    let badge = Fault { place: at(Some(70..71), Some(61..67), Some(52..60)), ..wrong(&["badges", "gitlab"]) };
+    let key = UnusedKey { place: at(None, Some(44..45), None), ..unused(&["x"]) };
+    let all = [Finding::Fault(author.clone()), Finding::Ignored(badge.clone()), Finding::Unused(key.clone())];
+    assert_eq!(findings(text).unwrap(), all);
+    assert_eq!(faults(text).unwrap(), [author]);
+    assert_eq!(ignored(text).unwrap(), [badge]);
+    assert_eq!(unused_keys(text).unwrap(), [key]);
     assert_eq!(path(&[]).to_string(), "(top)");
 }
 
@@ -171,11 +176,12 @@ fn a_text_that_is_not_a_choice_has_the_choices() {
         (&["lints", "rust", "b", "level"], &levels),
     ];
     let wanted = wanted.map(|(steps, choices)| fault(steps, Cause::NotAChoice, choices));
-    assert_eq!(faults(text).unwrap(), wanted);
+    assert_eq!(without_places(faults(text).unwrap()), wanted);
     let words =
         ["none", "actively-developed", "passively-maintained", "as-is", "experimental", "looking-for-maintainer"];
     let status = [&words[..], &["deprecated"]].concat();
-    assert_eq!(ignored(text).unwrap(), [fault(&["badges", "maintenance", "status"], Cause::NotAChoice, &status)]);
+    let wanted = fault(&["badges", "maintenance", "status"], Cause::NotAChoice, &status);
+    assert_eq!(without_places(ignored(text).unwrap()), [wanted]);
 }
 
 /// What is found takes no more than some times the document, however long the keys above it are, and however many.
@@ -184,7 +190,7 @@ fn what_is_found_is_no_longer_than_some_times_the_document() {
     let long = "k".repeat(20_000);
     let many: String = (0..20_000).map(|number| format!("a{number} = 1\n")).collect();
     let text = format!("package.name = 'p'\n[target.{long}]\n{many}");
-    let found = AtMost(2 * text.len()).findings(text.as_bytes()).unwrap();
+    let found = AtMost(5 * text.len()).findings(text.as_bytes()).unwrap();
     let keys = unused_keys(text.as_bytes()).unwrap();
     assert_eq!((found.len(), keys.len()), (20_000, 20_000));
     let keys: Vec<_> = keys.into_iter().map(|key| key.path).collect();
@@ -194,7 +200,7 @@ fn what_is_found_is_no_longer_than_some_times_the_document() {
     let floats = "0.5, ".repeat(20_000);
     let text =
         format!("[package]\nname = 'p'\n[profile.a.package{}]\na{} = [{floats}]", ".a".repeat(75), ".a".repeat(23));
-    let found = AtMost(4 * text.len()).findings(text.as_bytes()).unwrap();
+    let found = AtMost(10 * text.len()).findings(text.as_bytes()).unwrap();
     assert_eq!((found.len(), faults(text.as_bytes()).unwrap().len()), (20_000, 20_000));
     let Some(Finding::Fault(last)) = found.last() else { panic!() };
     assert_eq!((last.path.steps().len(), last.cause), (103, Cause::HoldsFloat));
@@ -217,9 +223,9 @@ fn what_is_no_document_is_refused() {
 
 #[test]
 fn the_bound_is_that_on_the_tagged_bytes() {
-    // 7 1 7 3 2 3 1 4 `name` 7 1 7 2 2 0 2 2
-    assert_eq!(AtMost(20).findings(b""), findings(b""));
-    assert_eq!(AtMost(19).findings(b""), Err(Refusal::TooLong));
+    // 7 2 7 1 7 3 2 3 1 4 `name` 7 1 7 2 2 0 2 2 7 1 7 3 7 0 7 0 7 0
+    assert_eq!(AtMost(32).findings(b""), findings(b""));
+    assert_eq!(AtMost(31).findings(b""), Err(Refusal::TooLong));
     let many: String = (0..1_000).map(|number| format!("{number} = 1\n")).collect();
     assert_eq!(unused_keys(format!("name = 'p'\n{many}").as_bytes()).unwrap().len(), 1_000);
 }

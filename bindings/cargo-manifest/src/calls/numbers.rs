@@ -24,6 +24,12 @@ pub(super) const ROOT_NOT_UTF8: u8 = 20;
 pub(super) const ROOT_UNTAGGED: u8 = 30;
 pub(super) const ROOT_TOO_DEEP: u8 = 31;
 pub(super) const TOO_LONG: u8 = 32;
+pub(super) const NOT_A_VALUE: u8 = 33;
+pub(super) const NO_PLACE: u8 = 34;
+pub(super) const OVERLAP: u8 = 35;
+pub(super) const NOT_EDITED: u8 = 36;
+pub(super) const NOT_TEXT: u8 = 37;
+pub(super) const OFFSETS: u8 = 38;
 // the faults of a folder, which are the causes of IO
 pub(super) const NOT_FOUND: u8 = 1;
 pub(super) const OUT_OF_MEMORY: u8 = 2;

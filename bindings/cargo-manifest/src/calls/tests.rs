@@ -1,6 +1,7 @@
 //! What only this crate sees: memory for the answer, memory that is refused, and how the declarations lie in memory.
 
 use super::declared::{manifest_run, room_for, room_for_table, Answer, Input, Output, Request, ANY};
+use super::editing::{GivenEdit, GivenStep};
 use super::folders::{Folder, Slice};
 use super::heap::refusals::{blocks, with_refused};
 use super::{
@@ -147,10 +148,25 @@ fn layout() {
         ("bytes", size_of::<Slice<u8>>()),
         ("names", size_of::<Slice<Slice<u8>>>()),
         ("folders", size_of::<Slice<Folder>>()),
+        ("path", size_of::<Slice<GivenStep>>()),
     ];
     for (name, size) in slices {
         println!("{name}: {size}, at {}, length {}", offset_of!(Slice<u8>, at), offset_of!(Slice<u8>, length));
     }
+    println!(
+        "step: {}, key {}, index {}, is_index {}",
+        size_of::<GivenStep>(),
+        offset_of!(GivenStep, key),
+        offset_of!(GivenStep, index),
+        offset_of!(GivenStep, is_index),
+    );
+    println!(
+        "edit: {}, path {}, text {}, kind {}",
+        size_of::<GivenEdit>(),
+        offset_of!(GivenEdit, path),
+        offset_of!(GivenEdit, text),
+        offset_of!(GivenEdit, kind),
+    );
     println!(
         "request: {}, bytes {}, root {}, folders {}, most {}, input {}, output {}, has_root {}, has_folders {}",
         size_of::<Request>(),

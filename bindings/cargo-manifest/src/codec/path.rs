@@ -9,6 +9,24 @@ pub enum Step {
     Index(usize),
 }
 
+impl From<&str> for Step {
+    fn from(key: &str) -> Step {
+        Step::Key(key.to_owned())
+    }
+}
+
+impl From<String> for Step {
+    fn from(key: String) -> Step {
+        Step::Key(key)
+    }
+}
+
+impl From<usize> for Step {
+    fn from(index: usize) -> Step {
+        Step::Index(index)
+    }
+}
+
 /// The steps of a key path. There are none where the text is no key path.
 pub(crate) fn steps(path: &str) -> Vec<Step> {
     let mut steps = Vec::new();

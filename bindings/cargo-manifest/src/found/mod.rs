@@ -1,6 +1,7 @@
 //! What is found in a document: its faults, what is ignored, and the keys that nothing reads.
 
 mod path;
+mod place;
 #[cfg(test)]
 mod tests;
 mod tree;
@@ -8,11 +9,13 @@ mod unused;
 
 use crate::calls::{self, is_broken, Cause};
 use crate::codec::Step;
-use crate::error::refused;
+use crate::error::{line_column, refused};
 use crate::message::{expected_at, message, none_of};
 use crate::Error;
 pub use path::KeyPath;
+pub use place::Place;
 use std::fmt;
+use std::ops::Range;
 use std::sync::Arc;
 pub use unused::{CargoKey, CargoSupport, UnusedKey};
 
@@ -32,6 +35,30 @@ pub struct Fault {
     pub cause: Cause,
     /// The texts that are allowed there, where the cause is [`Cause::NotAChoice`]; none else. Faults share them.
     pub choices: Arc<[String]>,
+    /// Where in the text.
+    pub place: Place,
+}
+
+impl Fault {
+    /// Where in the bytes that stands which does not fit: the value, or where it has no place its key, or else its header. Of
+    /// a key that is missing it is the table in which it belongs; none where that is the whole text.
+    ///
+    /// ```
+    /// let text = "[package]\nname = 'a'\nedition = '2020'";
+    /// let fault = &cargo_manifest::faults(text.as_bytes())?[0];
+    /// assert_eq!(fault.span().map(|span| &text[span]), Some("'2020'"));
+    /// assert_eq!(fault.line_column(text.as_bytes()), Some((3, 11)));
+    /// # Ok::<(), cargo_manifest::Error>(())
+    /// ```
+    pub fn span(&self) -> Option<Range<usize>> {
+        self.place.span()
+    }
+
+    /// The line and the column, both from 1 on, at which [`span`](Fault::span) begins in these bytes, which are those that were
+    /// read. A column is a character.
+    pub fn line_column(&self, bytes: &[u8]) -> Option<(usize, usize)> {
+        self.span().map(|span| line_column(bytes, span.start))
+    }
 }
 
 impl fmt::Display for Fault {
@@ -55,6 +82,23 @@ pub enum Finding {
     Ignored(Fault),
     /// A key that nothing reads, as a misspelled one. Nothing below it is looked at.
     Unused(UnusedKey),
+}
+
+impl Finding {
+    /// Where in the text.
+    pub fn place(&self) -> &Place {
+        match self {
+            Finding::Fault(fault) | Finding::Ignored(fault) => &fault.place,
+            Finding::Unused(key) => &key.place,
+        }
+    }
+
+    fn place_mut(&mut self) -> &mut Place {
+        match self {
+            Finding::Fault(fault) | Finding::Ignored(fault) => &mut fault.place,
+            Finding::Unused(key) => &mut key.place,
+        }
+    }
 }
 
 impl fmt::Display for Finding {

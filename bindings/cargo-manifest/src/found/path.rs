@@ -89,6 +89,20 @@ impl FromIterator<Step> for KeyPath {
     }
 }
 
+/// The path of these keys or steps, the outermost first.
+///
+/// ```
+/// use cargo_manifest::{KeyPath, Step};
+///
+/// assert_eq!(KeyPath::from(["package", "edition"]).to_string(), "package.edition");
+/// assert_eq!(KeyPath::from([Step::from("bin"), Step::from(0), Step::from("name")]).to_string(), "bin[0].name");
+/// ```
+impl<T: Into<Step>, const N: usize> From<[T; N]> for KeyPath {
+    fn from(steps: [T; N]) -> KeyPath {
+        steps.into_iter().map(Into::into).collect()
+    }
+}
+
 /// By their steps, the outermost first.
 impl Ord for KeyPath {
     fn cmp(&self, other: &KeyPath) -> Ordering {

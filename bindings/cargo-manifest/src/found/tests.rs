@@ -1,7 +1,8 @@
 //! Trees of what is found, written here once more as `docs/LIBRARY.md` says it, and paths that share their steps.
 
 use super::tree::decoded;
-use super::{Fault, Finding, KeyPath, UnusedKey};
+use super::{Fault, Finding, KeyPath, Place, UnusedKey};
+use crate::calls;
 use crate::codec::Step;
 use crate::value::tests::{bytes_of, Random};
 use crate::value::Value;
@@ -42,9 +43,14 @@ fn tree() -> Value {
     array([below("package", package), below("lib", lib), below("badges", badges), unused(""), fault(0, 7)])
 }
 
+/// The bytes of a tree, of which no finding has a place.
+fn without_places(tree: &Value) -> Vec<u8> {
+    bytes_of(&array([tree.clone(), array([])]))
+}
+
 /// The findings of a tree.
 fn found(tree: &Value) -> Vec<Finding> {
-    decoded(&bytes_of(tree)).expect("a tree")
+    decoded(&without_places(tree)).expect("a tree")
 }
 
 fn key(key: &str) -> Step {
@@ -53,7 +59,7 @@ fn key(key: &str) -> Step {
 
 fn fault_at(steps: impl IntoIterator<Item = Step>, cause: Cause, choices: &[&str]) -> Fault {
     let choices = choices.iter().map(ToString::to_string).collect();
-    Fault { path: steps.into_iter().collect(), cause, choices }
+    Fault { path: steps.into_iter().collect(), cause, choices, place: Place::default() }
 }
 
 #[test]
@@ -79,15 +85,47 @@ fn a_tree_is_read_in_its_order() {
 #[test]
 fn the_example_of_the_page() {
     let bytes =
-        b"\x07\x01\x07\x03\x02\x03\x01\x07package\x07\x02\x07\x03\x02\x03\x01\x04name\x07\x01\x07\x02\x02\x00\x02\x01\
-                  \x07\x02\x02\x02\x01\x06edtion";
-    let lines: Vec<_> = decoded(bytes).expect("a tree").iter().map(ToString::to_string).collect();
+        b"\x07\x02\x07\x01\x07\x03\x02\x03\x01\x07package\x07\x02\x07\x03\x02\x03\x01\x04name\x07\x01\x07\x02\x02\x00\x02\x01\
+                  \x07\x02\x02\x02\x01\x06edtion\
+                  \x07\x02\
+                  \x07\x03\x07\x02\x02\x11\x02\x12\x07\x02\x02\x0a\x02\x0e\x07\x02\x02\x00\x02\x09\
+                  \x07\x03\x07\x02\x02\x1c\x02\x22\x07\x02\x02\x13\x02\x19\x07\x02\x02\x00\x02\x09";
+    let text = "[package]\nname = 1\nedtion = '2021'";
+    let found = decoded(bytes).expect("a tree");
+    let lines: Vec<_> = found.iter().map(ToString::to_string).collect();
     assert_eq!(lines, ["invalid type for `package.name`: expected a string", "unused manifest key: package.edtion"]);
+    let ranges = |place: &Place| [&place.value, &place.key, &place.header].map(|range| &text[range.clone().unwrap()]);
+    assert_eq!(ranges(found[0].place()), ["1", "name", "[package]"]);
+    assert_eq!(ranges(found[1].place()), ["'2021'", "edtion", "[package]"]);
+    assert_eq!(calls::findings(text.as_bytes()), Ok(found));
+}
+
+/// There is a place for each finding or none at all, and each has three ranges.
+#[test]
+fn places_that_are_none_are_refused() {
+    let none = || array([]);
+    let range = || array([1.into(), 2.into()]);
+    let place = |value: &Value| array([value.clone(), range(), none()]);
+    let read = |places: Vec<Value>| decoded(&bytes_of(&array([array([fault(0, 1), unused("a")]), array(places)])));
+    let found = read(vec![place(&range()), place(&none())]).expect("two places");
+    assert_eq!(found[0].place(), &Place { value: Some(1..2), key: Some(1..2), header: None });
+    assert_eq!(found[1].place(), &Place { value: None, key: Some(1..2), header: None });
+    assert_eq!(read(vec![]).map(|found| found[0].place().clone()), Some(Place::default()));
+    let number = || Value::from(1);
+    let wrong = [number(), array([number()]), array([number(), number(), number()]), array([number(), (-1).into()])];
+    for value in wrong {
+        assert_eq!(read(vec![place(&range()), place(&value)]), None, "{value:?}");
+    }
+    assert_eq!(read(vec![place(&range())]), None);
+    assert_eq!(read(vec![place(&range()), place(&range()), place(&range())]), None);
+    assert_eq!(read(vec![place(&range()), array([range(), range()])]), None);
+    assert_eq!(decoded(&bytes_of(&array([array([])]))), None);
+    assert_eq!(decoded(&bytes_of(&array([array([]), array([]), array([])]))), None);
 }
 
 #[test]
 fn bytes_that_are_no_tree_are_refused() {
-    let bytes = bytes_of(&tree());
+    let bytes = without_places(&tree());
     for end in 0..bytes.len() {
         assert_eq!(decoded(&bytes[..end]), None, "{end}");
     }
@@ -119,17 +157,18 @@ fn bytes_that_are_no_tree_are_refused() {
         below("a", [number]),
     ];
     for part in parts {
-        assert_eq!(decoded(&bytes_of(&array([part.clone()]))), None, "{part:?}");
+        assert_eq!(decoded(&without_places(&array([part.clone()]))), None, "{part:?}");
     }
     assert_eq!(decoded(&bytes_of(&"a".into())), None);
+    assert_eq!(decoded(&without_places(&"a".into())), None);
     // (no room is made for more than there is)
-    assert_eq!(decoded(&[&[7][..], &[255; 9], &[1]].concat()), None);
-    assert_eq!(decoded(&[&[7, 1, 7, 3, 2, 0, 2, 4, 7][..], &[255; 9], &[1]].concat()), None);
+    assert_eq!(decoded(&[&[7, 2, 7][..], &[255; 9], &[1]].concat()), None);
+    assert_eq!(decoded(&[&[7, 2, 7, 1, 7, 3, 2, 0, 2, 4, 7][..], &[255; 9], &[1]].concat()), None);
 }
 
 #[test]
 fn damaged_bytes_are_refused_or_a_tree() {
-    let bytes = bytes_of(&tree());
+    let bytes = without_places(&tree());
     let mut random = Random(0x0f1e_2d3c_4b5a_6978);
     let read = |bytes: &[u8]| decoded(bytes).is_some_and(|found| !format!("{found:?}").is_empty());
     let damaged = (0..20_000).map(|_| {
@@ -171,9 +210,9 @@ fn what_is_shared_is_kept_once() {
 #[test]
 fn a_deep_tree_is_read_and_dropped_on_a_small_stack() {
     let run = || {
-        let mut bytes = vec![7, 1];
+        let mut bytes = vec![7, 2, 7, 1];
         (0..100_000).for_each(|_| bytes.extend([7, 3, 2, 3, 1, 1, b'a', 7, 2, 7, 2, 2, 0, 2, 1]));
-        bytes.extend([7, 2, 2, 2, 1, 1, b'b']);
+        bytes.extend([7, 2, 2, 2, 1, 1, b'b', 7, 0]);
         let mut found = decoded(&bytes).expect("a tree");
         let Some(Finding::Unused(UnusedKey { path, .. })) = found.pop() else { panic!() };
         assert_eq!((found.len(), path.steps().len()), (100_000, 100_001));

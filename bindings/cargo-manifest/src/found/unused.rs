@@ -1,9 +1,11 @@
 //! The keys that nothing reads, and what Cargo makes of those that it knows.
 
-use super::KeyPath;
+use super::{KeyPath, Place};
 use crate::codec::{path_text, Step};
+use crate::error::line_column;
 use crate::message::expected_at;
 use std::fmt;
+use std::ops::Range;
 
 /// A key that nothing reads: a manifest does not hold it, and it is not written.
 ///
@@ -26,11 +28,33 @@ pub struct UnusedKey {
     pub path: KeyPath,
     /// What Cargo makes of it, if Cargo knows it.
     pub in_cargo: Option<CargoKey>,
+    /// Where in the text.
+    pub place: Place,
 }
 
 impl UnusedKey {
     pub(super) fn new(path: KeyPath) -> UnusedKey {
-        UnusedKey { in_cargo: in_cargo(&path), path }
+        UnusedKey { in_cargo: in_cargo(&path), path, place: Place::default() }
+    }
+
+    /// Where in the bytes the key stands, and where it has no place of its own, as a table that is written by a header, that
+    /// header.
+    ///
+    /// ```
+    /// let text = "package.name = 'a'\npackage.edtion = '2021'";
+    /// let key = &cargo_manifest::unused_keys(text.as_bytes())?[0];
+    /// assert_eq!(key.span().map(|span| &text[span]), Some("package.edtion"));
+    /// assert_eq!(key.line_column(text.as_bytes()), Some((2, 1)));
+    /// # Ok::<(), cargo_manifest::Error>(())
+    /// ```
+    pub fn span(&self) -> Option<Range<usize>> {
+        self.place.key.clone().or_else(|| self.place.span())
+    }
+
+    /// The line and the column, both from 1 on, at which [`span`](UnusedKey::span) begins in these bytes, which are those that
+    /// were read. A column is a character.
+    pub fn line_column(&self, bytes: &[u8]) -> Option<(usize, usize)> {
+        self.span().map(|span| line_column(bytes, span.start))
     }
 }
 

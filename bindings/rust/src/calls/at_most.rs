@@ -1,11 +1,15 @@
 //! The calls with a bound on what they answer.
 
-use super::declared::{complete, manifest_findings, of_text, read, resolve, resolve_and_complete, text_of, Output};
+use super::declared::{
+    self, complete, edit, manifest_placed_findings, of_text, read, resolve, resolve_and_complete, text_of, Output,
+};
+use super::editing::{positions_of, replacements_of};
 use super::listings::Listings;
 use super::refusal::Refusal;
 use super::value_of;
 use crate::found::{findings_of, Finding};
 use crate::value::Value;
+use crate::{Edit, Position, Replacement};
 
 /// The calls of this module, none of which returns more than a given number of bytes: what could take more is
 /// [`Refusal::TooLong`]: a text before it is made, tagged bytes when they are measured.
@@ -67,6 +71,21 @@ impl AtMost {
 
     /// [`findings`](super::findings) in at most this many tagged bytes.
     pub fn findings(self, bytes: &[u8]) -> Result<Vec<Finding>, Refusal> {
-        of_text(manifest_findings, bytes, self.0).map(findings_of)
+        of_text(manifest_placed_findings, bytes, self.0).map(findings_of)
+    }
+
+    /// [`edited`](super::edited) in at most this many bytes.
+    pub fn edited(self, text: &str, edits: &[Edit]) -> Result<String, Refusal> {
+        edit(text.as_bytes(), edits, false, self.0).map(text_of)
+    }
+
+    /// [`replacements`](super::replacements) in at most this many tagged bytes.
+    pub fn replacements(self, text: &str, edits: &[Edit]) -> Result<Vec<Replacement>, Refusal> {
+        edit(text.as_bytes(), edits, true, self.0).map(|bytes| replacements_of(&bytes))
+    }
+
+    /// [`positions`](super::positions) in at most this many tagged bytes.
+    pub fn positions(self, text: &str, offsets: &[usize]) -> Result<Vec<Position>, Refusal> {
+        declared::positions(text.as_bytes(), offsets, self.0).map(|bytes| positions_of(&bytes))
     }
 }

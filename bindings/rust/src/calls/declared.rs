@@ -1,9 +1,11 @@
 //! The declarations of the library, and its calls with memory for their text.
 
+use super::editing::{with_edits, GivenEdit};
 use super::folders::{with_folders, Folder, Slice};
 use super::listings::Listings;
 use super::numbers;
 use super::refusal::{Cause, ListingError, Part, Refusal};
+use crate::Edit;
 use std::sync::OnceLock;
 
 /// What a call answers: `struct manifest_answer` of `bindings/c/cargo_manifest.h`.
@@ -55,6 +57,25 @@ impl Request {
 extern "C" {
     fn manifest_version() -> u32;
     pub(crate) fn manifest_run(request: Request, out: *mut u8, out_length: usize) -> Answer;
+    fn manifest_positions(
+        bytes: *const u8,
+        bytes_length: usize,
+        offsets: *const usize,
+        offsets_length: usize,
+        most: usize,
+        out: *mut u8,
+        out_length: usize,
+    ) -> Answer;
+    fn manifest_edited(
+        bytes: *const u8,
+        bytes_length: usize,
+        edits: *const GivenEdit,
+        edits_length: usize,
+        as_replacements: u8,
+        most: usize,
+        out: *mut u8,
+        out_length: usize,
+    ) -> Answer;
 }
 
 /// Declares calls of a text alone.
@@ -72,7 +93,7 @@ macro_rules! declared {
     };
 }
 
-declared! { manifest_table_without_metadata manifest_document manifest_findings }
+declared! { manifest_table_without_metadata manifest_document manifest_placed_findings }
 
 /// What the bytes of a request are.
 #[derive(Clone, Copy)]
@@ -132,6 +153,11 @@ fn refused(answer: Answer, text: Vec<u8>) -> Refusal {
         numbers::UNTAGGED | numbers::ROOT_UNTAGGED => Refusal::Untagged(part),
         numbers::TOO_DEEP | numbers::ROOT_TOO_DEEP => Refusal::TooDeep(part),
         numbers::TOO_LONG => Refusal::TooLong,
+        numbers::NOT_A_VALUE => Refusal::NotAValue,
+        numbers::NO_PLACE => Refusal::NoPlace,
+        numbers::OVERLAP => Refusal::Overlap,
+        numbers::NOT_EDITED => Refusal::NotEdited,
+        numbers::OFFSETS => Refusal::Offsets,
         _ => is_broken(),
     }
 }
@@ -251,6 +277,26 @@ pub(crate) fn of_text(call: OnSlice, bytes: &[u8], most: usize) -> Result<Vec<u8
     bytes_of(room_for(bytes.len(), 0).min(most), |out, room| {
         // SAFETY: both pointers are of slices that live through the call and do not overlap, with their lengths.
         unsafe { call(bytes.as_ptr(), bytes.len(), most, out, room) }
+    })
+}
+
+/// The positions of offsets, which ascend, in at most this many tagged bytes.
+pub(crate) fn positions(bytes: &[u8], offsets: &[usize], most: usize) -> Result<Vec<u8>, Refusal> {
+    bytes_of(room_for(0, offsets.len()).min(most), |out, room| {
+        // SAFETY: the three pointers are of slices that live through the call, of which `out` overlaps none, with their lengths.
+        unsafe { manifest_positions(bytes.as_ptr(), bytes.len(), offsets.as_ptr(), offsets.len(), most, out, room) }
+    })
+}
+
+/// The text with these edits, or the tagged bytes of what they replace in it.
+pub(crate) fn edit(bytes: &[u8], edits: &[Edit], as_replacements: bool, most: usize) -> Result<Vec<u8>, Refusal> {
+    let texts: usize = edits.iter().map(|edit| edit.parts().1.len()).sum();
+    with_edits(edits, |given| {
+        bytes_of(room_for(bytes.len().saturating_add(texts), edits.len()).min(most), |out, room| {
+            let (edits, count, as_replacements) = (given.as_ptr(), given.len(), u8::from(as_replacements));
+            // SAFETY: as in `positions`; so are the slices that the edits hold.
+            unsafe { manifest_edited(bytes.as_ptr(), bytes.len(), edits, count, as_replacements, most, out, room) }
+        })
     })
 }
 

@@ -16,6 +16,7 @@ mod at_most;
 // (a call of the library takes pointers and lengths, and no compiler sees that they fit: at each call stands why they do)
 #[allow(unsafe_code)]
 mod declared;
+mod editing;
 mod folders;
 #[cfg(test)]
 #[allow(unsafe_code)] // (it stands in the place of functions in C)
@@ -31,6 +32,7 @@ mod tests;
 
 use crate::found::Finding;
 use crate::value::{decoded, Value};
+use crate::{Edit, Position, Replacement};
 pub use at_most::AtMost;
 pub(crate) use declared::is_broken;
 use declared::ANY;
@@ -120,4 +122,57 @@ pub fn resolved_completed_table(bytes: &[u8], root: &[u8], listings: &Listings) 
 /// ```
 pub fn findings(bytes: &[u8]) -> Result<Vec<Finding>, Refusal> {
     AtMost(ANY).findings(bytes)
+}
+
+/// The text with all of these edits, in which nothing else is changed: comments, order and layout stay. It is the text of the
+/// document with these changes and no others, which is proved. Either all edits are made or none; paths and indexes are those of
+/// the document as it is given.
+///
+/// An error is what is no TOML or nests too deep; [`Refusal::NotAValue`], [`Refusal::NoPlace`], [`Refusal::Overlap`] and
+/// [`Refusal::NotEdited`] say why edits cannot be made.
+///
+/// ```
+/// use cargo_manifest::{edited, Edit};
+///
+/// let text = "[package]\nname = 'a' # its name\nedition = '2018'\n\n# what it needs\n[dependencies]\nlog = '0.4'\n";
+/// let edits = [
+///     Edit::set(["package", "edition"], "'2021'"),
+///     Edit::insert(["package", "license"], "'MIT'"),
+///     Edit::rename(["dependencies", "log"], "tracing"),
+/// ];
+/// assert_eq!(
+///     edited(text, &edits)?,
+///     "[package]\nname = 'a' # its name\nedition = '2021'\nlicense = 'MIT'\n\n# what it needs\n[dependencies]\n\
+///      tracing = '0.4'\n"
+/// );
+/// # Ok::<(), cargo_manifest::calls::Refusal>(())
+/// ```
+pub fn edited(text: &str, edits: &[Edit]) -> Result<String, Refusal> {
+    AtMost(ANY).edited(text, edits)
+}
+
+/// What [`edited`] replaces in the text, as an editor takes it: ranges of bytes that ascend and do not overlap.
+///
+/// ```
+/// use cargo_manifest::{replacements, Edit, Replacement};
+///
+/// let replaced = replacements("a = 1 # one\n", &[Edit::set(["a"], "2")])?;
+/// assert_eq!(replaced, [Replacement { range: 4..5, text: "2".into() }]);
+/// # Ok::<(), cargo_manifest::calls::Refusal>(())
+/// ```
+pub fn replacements(text: &str, edits: &[Edit]) -> Result<Vec<Replacement>, Refusal> {
+    AtMost(ANY).replacements(text, edits)
+}
+
+/// The line and the columns of each of these offsets of bytes, in one pass over the text. An error is [`Refusal::Offsets`] where
+/// they do not ascend, or one is over the end of the text.
+///
+/// ```
+/// let positions = cargo_manifest::positions("a = 1\nb = '\u{e9}'", &[4, 13])?;
+/// assert_eq!((positions[0].line, positions[0].characters), (1, 4));
+/// assert_eq!((positions[1].line, positions[1].bytes, positions[1].characters), (2, 7, 6));
+/// # Ok::<(), cargo_manifest::calls::Refusal>(())
+/// ```
+pub fn positions(text: &str, offsets: &[usize]) -> Result<Vec<Position>, Refusal> {
+    AtMost(ANY).positions(text, offsets)
 }

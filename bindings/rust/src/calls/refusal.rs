@@ -164,6 +164,16 @@ pub enum Refusal {
     TooDeep(Part),
     /// What is asked for could take more bytes than [`AtMost`](super::AtMost) allows.
     TooLong,
+    /// What an edit puts in is not one value of TOML and nothing else.
+    NotAValue,
+    /// Nothing that an edit can change is written at its path.
+    NoPlace,
+    /// Two edits touch one place, or one lies within what another one replaces.
+    Overlap,
+    /// The new text would not be the document with these changes, as where a new key is there already.
+    NotEdited,
+    /// The offsets do not ascend, or one is over the end of the text.
+    Offsets,
 }
 
 impl fmt::Display for Refusal {
@@ -183,6 +193,11 @@ impl fmt::Display for Refusal {
             Refusal::Untagged(part) => write!(f, "{part}untagged"),
             Refusal::TooDeep(part) => write!(f, "{part}too deep"),
             Refusal::TooLong => f.write_str("too long"),
+            Refusal::NotAValue => f.write_str("not a value"),
+            Refusal::NoPlace => f.write_str("no place"),
+            Refusal::Overlap => f.write_str("overlap"),
+            Refusal::NotEdited => f.write_str("not edited"),
+            Refusal::Offsets => f.write_str("offsets"),
         }
     }
 }

@@ -15,7 +15,7 @@ mod writer;
 
 pub(crate) use containers::integer;
 pub(crate) use expected::Expected;
-pub(crate) use reader::{Keys, Reader, ARRAY, DATETIME, FALSE, FLOAT, FROM_ZERO, STRING, TABLE, TRUE};
+pub(crate) use reader::{Keys, Reader, ARRAY, DATETIME, FALSE, FLOAT, STRING, TABLE, TRUE};
 pub(crate) use record::{others_of, record, row};
 pub(crate) use words::words;
 pub(crate) use writer::{AsideOf, Members, Writer};

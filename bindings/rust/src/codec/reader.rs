@@ -113,6 +113,17 @@ impl<'a> Reader<'a> {
         self.str()
     }
 
+    /// A whole number from 0 on, whose tag is next.
+    pub(crate) fn whole_number(&mut self) -> Option<u64> {
+        self.tag(FROM_ZERO)?;
+        self.number()
+    }
+
+    /// The same as an index or as an offset of bytes.
+    pub(crate) fn offset(&mut self) -> Option<usize> {
+        self.whole_number()?.try_into().ok()
+    }
+
     /// How many values the array has whose tag is next; they stand after it.
     pub(crate) fn array(&mut self) -> Option<u64> {
         self.tag(ARRAY)?;
