@@ -13,8 +13,11 @@ meanwhile.
 from ._calls import canonical, completed, completed_table, resolved, resolved_completed
 from ._calls import resolved_completed_table, resolved_table, table
 from ._cause import Cause
+from ._edits import Edit, Replacement, edited, replacements
 from ._error import ManifestError
 from ._faults import Fault, faults, ignored, unused_keys
+from ._places import Span
+from ._positions import Position, positions
 from ._unused import CargoKey, UnusedKey
 
 __version__ = "0.2.0"
@@ -22,15 +25,22 @@ __version__ = "0.2.0"
 __all__ = [
     "CargoKey",
     "Cause",
+    "Edit",
     "Fault",
     "ManifestError",
+    "Position",
+    "Replacement",
+    "Span",
     "UnusedKey",
     "__version__",
     "canonical",
     "completed",
     "completed_table",
+    "edited",
     "faults",
     "ignored",
+    "positions",
+    "replacements",
     "resolved",
     "resolved_completed",
     "resolved_completed_table",

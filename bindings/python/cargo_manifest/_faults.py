@@ -6,15 +6,17 @@ from typing import Any, Optional, cast
 
 from ._answer import answered
 from ._cause import Cause
-from ._library import manifest_findings
+from ._library import manifest_placed_findings
 from ._messages import said_of
-from ._parts import FAULT, IGNORED, UNUSED, Choices, Found, found_in
+from ._parts import FAULT, IGNORED, UNUSED, Choices, Found, placed_in
 from ._paths import KeyPath, Link, Step, link_of, path_of
+from ._places import Located, packed
+from ._positions import positions_of
 from ._texts import Text, bytes_of
 from ._unused import UnusedKey
 
 
-class Fault:
+class Fault(Located):
     """A value, or its absence, that does not fit. Its text is one line.
 
     - `path`: the keys and indexes that lead to it from the top of the text, as `("package", "authors", 0)`. What is
@@ -22,6 +24,17 @@ class Fault:
       below one key shares the steps to it.
     - `cause`: why, a `Cause`, which equals its words, as `"wrong kind"`.
     - `choices`: the texts that may stand there, where the cause is `Cause.NOT_A_CHOICE`; else `()`.
+
+    Where it stands, as a call found it; of what is missing, where the table stands in which it belongs. Each is None where
+    there is no such place. Faults that differ in their places alone are equal.
+
+    - `span`: the range of the value, a `Span` of bytes, those of a `str` of its UTF-8; of a table that headers or dotted keys
+      make, which has none, that of its key, or else that of its header.
+    - `key_span`: the key before the value, the whole of a dotted one; of a table that a dotted key goes through, that key up
+      to the part that leads there.
+    - `header_span`: the header that it stands under; of a table with a header of its own, that header; of a table that headers
+      go through, the first of these; of an array of tables, the header of its first item.
+    - `line`, `column`: where `span` begins, from 1; the column counts characters.
 
     >>> fault = Fault(("package", "edition"), Cause.NOT_A_CHOICE, ("2015", "2018", "2021", "2024"))
     >>> print(fault)
@@ -39,12 +52,14 @@ class Fault:
         self._link = link_of(path)
         self._cause = cause
         self._choices = tuple(choices)
+        self._place = b""
 
     @classmethod
-    def _of(cls, found: Found) -> Fault:
-        """The fault that is found, whose path is not made."""
+    def _of(cls, found: Found, place: bytes) -> Fault:
+        """The fault that is found at a place, whose path is not made."""
         fault = cls.__new__(cls)
         fault._link, fault._cause, fault._choices = found.link, cast(Cause, found.cause), found.choices
+        fault._place = place
         return fault
 
     @property
@@ -77,13 +92,22 @@ class Fault:
         return f"Fault(path={self.path!r}, cause={self.cause!r}, choices={self.choices!r})"
 
     def __reduce__(self) -> tuple[Any, ...]:
-        return type(self), self._parts()
+        return type(self), self._parts(), (None, {"_place": self._place})
 
 
-def _found(manifest: Text, most: Optional[int], wanted: int) -> Iterator[Found]:
-    """What is found of this kind."""
-    held = answered(manifest_findings, most, bytes_of(manifest, "manifest"))
-    return (each for each in found_in(held) if each.what == wanted)
+def _found(manifest: Text, most: Optional[int], wanted: int) -> Iterator[tuple[Found, bytes]]:
+    """What is found of this kind, each with its place."""
+    text = bytes_of(manifest, "manifest")
+    found = placed_in(answered(manifest_placed_findings, most, text), wanted)
+    starts = sorted({span.start for span in (ranges.first() for _, ranges in found) if span is not None})
+    positions = dict(zip(starts, positions_of(text, starts))) if starts else {}
+    for each, ranges in found:
+        span = ranges.first()
+        if span is None:
+            yield each, packed(ranges)
+        else:
+            position = positions[span.start]
+            yield each, packed(ranges, position.line, position.characters + 1)
 
 
 def faults(manifest: Text, *, most: Optional[int] = None) -> list[Fault]:
@@ -95,7 +119,7 @@ def faults(manifest: Text, *, most: Optional[int] = None) -> list[Fault]:
     Metadata is not looked at: a float in it is no fault, though `canonical` and `table` refuse it unless they are asked to
     leave metadata out.
 
-    `manifest` is as in `canonical`. `most` is how many bytes the library may take to pass on what it finds.
+    `manifest` is as in `canonical`. `most` is how many bytes the library may take to pass on what it finds, and where.
 
     Raises what `canonical` does of a text that is no TOML or nests too deep, and of what is found in more bytes than
     `most`; a fault is what is returned, and raises nothing.
@@ -105,10 +129,10 @@ def faults(manifest: Text, *, most: Optional[int] = None) -> list[Fault]:
     invalid type for `package.name`: expected a string
     `package.edition` is none of `2015`, `2018`, `2021`, `2024`
     invalid type for `package.authors[1]`: expected a string
-    >>> fault.path
-    ('package', 'authors', 1)
+    >>> fault.path, fault.line, fault.column, fault.span, fault.header_span
+    (('package', 'authors', 1), 4, 17, Span(start=52, end=56), Span(start=0, end=9))
     """
-    return [Fault._of(each) for each in _found(manifest, most, FAULT)]
+    return [Fault._of(each, place) for each, place in _found(manifest, most, FAULT)]
 
 
 def ignored(manifest: Text, *, most: Optional[int] = None) -> list[Fault]:
@@ -119,7 +143,7 @@ def ignored(manifest: Text, *, most: Optional[int] = None) -> list[Fault]:
     >>> [str(each) for each in ignored("package.name = 'a'\nbadges.gitlab = 1")]
     ['invalid type for `badges.gitlab`: expected a table']
     """
-    return [Fault._of(each) for each in _found(manifest, most, IGNORED)]
+    return [Fault._of(each, place) for each, place in _found(manifest, most, IGNORED)]
 
 
 def unused_keys(manifest: Text, *, most: Optional[int] = None) -> list[UnusedKey]:
@@ -130,7 +154,10 @@ def unused_keys(manifest: Text, *, most: Optional[int] = None) -> list[UnusedKey
 
     Takes what `faults` takes, and raises what `faults` does.
 
-    >>> unused_keys("[package]\nname = 'a'\nedtion = '2021'\n[dependecies]\nb = '1'")
+    >>> keys = unused_keys("[package]\nname = 'a'\nedtion = '2021'\n[dependecies]\nb = '1'")
+    >>> keys
     [UnusedKey(path=('package', 'edtion')), UnusedKey(path=('dependecies',))]
+    >>> [(key.line, key.key_span) for key in keys]
+    [(3, Span(start=21, end=27)), (4, None)]
     """
-    return [UnusedKey._of(each.link) for each in _found(manifest, most, UNUSED)]
+    return [UnusedKey._of(each.link, place) for each, place in _found(manifest, most, UNUSED)]

@@ -2,7 +2,7 @@
 from __future__ import annotations
 
 import ctypes
-from pathlib import Path
+import pathlib
 from typing import Any, Callable
 
 from ._found import NAME, VARIABLE, is_for_this_machine, library_file
@@ -65,7 +65,26 @@ class Request(ctypes.Structure):
     ]
 
 
+class Step(ctypes.Structure):
+    """`struct manifest_step`."""
+
+    _fields_ = [("key", Bytes), ("index", ctypes.c_size_t), ("is_index", ctypes.c_uint8)]
+
+
+class Path(ctypes.Structure):
+    """`struct manifest_path`."""
+
+    _fields_ = [("at", ctypes.POINTER(Step)), ("length", ctypes.c_size_t)]
+
+
+class Edit(ctypes.Structure):
+    """`struct manifest_edit`."""
+
+    _fields_ = [("path", Path), ("text", Bytes), ("kind", ctypes.c_uint8)]
+
+
 Call = Callable[..., Answer]
+
 
 def broken() -> RuntimeError:
     """What is raised of an answer that the library never gives."""
@@ -77,7 +96,7 @@ def _loaded() -> ctypes.CDLL:
     advice = f"name a {NAME} that is built for this machine by the environment variable {VARIABLE}"
     if not is_for_this_machine():
         raise ImportError(f"the library that comes with cargo_manifest is for Linux on x86-64 and on arm64 alone: {advice}")
-    file = library_file(Path(__file__).resolve().parent)
+    file = library_file(pathlib.Path(__file__).resolve().parent)
     try:
         return ctypes.CDLL(str(file))
     except OSError as fault:
@@ -102,7 +121,7 @@ def compare_versions(library: ctypes.CDLL) -> None:
 
 
 def _declared(library: ctypes.CDLL, name: str, *takes: Any) -> Call:
-    """A call that takes these, and after them the memory for its text."""
+    """A call that takes these, and after them the memory for its answer."""
     try:
         call = library[name]
     except AttributeError as fault:
@@ -112,10 +131,16 @@ def _declared(library: ctypes.CDLL, name: str, *takes: Any) -> Call:
     return call
 
 
-# a text, and the most bytes that may come of it
-_TEXT = (ctypes.c_char_p, ctypes.c_size_t, ctypes.c_size_t)
+_TEXT = (ctypes.c_char_p, ctypes.c_size_t)
+# the most bytes that an answer may have
+_MOST = ctypes.c_size_t
+_OFFSETS = (ctypes.POINTER(ctypes.c_size_t), ctypes.c_size_t)
+_EDITS = (ctypes.POINTER(Edit), ctypes.c_size_t)
 _LIBRARY = _loaded()
 compare_versions(_LIBRARY)
 manifest_run = _declared(_LIBRARY, "manifest_run", Request)
-manifest_findings = _declared(_LIBRARY, "manifest_findings", *_TEXT)
-manifest_table_without_metadata = _declared(_LIBRARY, "manifest_table_without_metadata", *_TEXT)
+manifest_findings = _declared(_LIBRARY, "manifest_findings", *_TEXT, _MOST)
+manifest_placed_findings = _declared(_LIBRARY, "manifest_placed_findings", *_TEXT, _MOST)
+manifest_positions = _declared(_LIBRARY, "manifest_positions", *_TEXT, *_OFFSETS, _MOST)
+manifest_edited = _declared(_LIBRARY, "manifest_edited", *_TEXT, *_EDITS, ctypes.c_uint8, _MOST)
+manifest_table_without_metadata = _declared(_LIBRARY, "manifest_table_without_metadata", *_TEXT, _MOST)

@@ -21,6 +21,10 @@ _SENTENCES = {
     Cause.MIXED_LINTS: "`lints` cannot have lints of its own next to `workspace = true`",
     Cause.TOOL_NAMED_WORKSPACE: "`lints` is inherited from a workspace with lints of a tool named `workspace`",
     Cause.DATE_WITHOUT_TEXT: "a date-time cannot be written",
+    Cause.NOT_A_VALUE: "an edit puts in what is not one value of TOML",
+    Cause.NO_PLACE: "at the path of an edit there is nothing that it can change",
+    Cause.OVERLAP: "two edits touch the same place",
+    Cause.NOT_EDITED: "the new text would not be the document with the edits, as where a new key is there already",
 }
 
 # the same for one that has the name of a key

@@ -25,6 +25,12 @@ ROOT_NOT_UTF8 = 20
 ROOT_UNTAGGED = 30
 ROOT_TOO_DEEP = 31
 TOO_LONG = 32
+NOT_A_VALUE = 33
+NO_PLACE = 34
+OVERLAP = 35
+NOT_EDITED = 36
+NOT_TEXT = 37
+OFFSETS = 38
 # the faults of a folder, which are the causes of IO
 NOT_FOUND = 1
 OUT_OF_MEMORY = 2

@@ -63,6 +63,11 @@ class Reader:
         if self.byte() != tag:
             raise broken()
 
+    def whole_number(self) -> int:
+        """A number, by its tag."""
+        self.tag(NUMBER)
+        return self.number()
+
     def array(self) -> int:
         """How many values an array has, by its tag and its length. They are read next."""
         self.tag(ARRAY)

@@ -40,6 +40,11 @@ _PLAIN: dict[int, tuple[Cause, Part]] = {
     _numbers.TOO_DEEP: (Cause.TOO_DEEP, "manifest"),
     _numbers.ROOT_TOO_DEEP: (Cause.TOO_DEEP, "root"),
     _numbers.TOO_LONG: (Cause.TOO_LONG, "manifest"),
+    _numbers.NOT_A_VALUE: (Cause.NOT_A_VALUE, "manifest"),
+    _numbers.NO_PLACE: (Cause.NO_PLACE, "manifest"),
+    _numbers.OVERLAP: (Cause.OVERLAP, "manifest"),
+    _numbers.NOT_EDITED: (Cause.NOT_EDITED, "manifest"),
+    _numbers.NOT_TEXT: (Cause.NOT_UTF8, "manifest"),
 }
 
 

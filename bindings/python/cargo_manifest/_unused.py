@@ -6,6 +6,7 @@ from typing import Any, Literal, NamedTuple, Optional
 
 from ._expected import expected_at
 from ._paths import KeyPath, Link, Step, link_of, path_of, text_of
+from ._places import Located
 
 Support = Literal["stable", "deprecated", "unstable", "ignored", "refused"]
 
@@ -69,11 +70,12 @@ def _in_cargo(path: KeyPath) -> Optional[CargoKey]:
     return KNOWN.get((str(form), "", str(key))) or KNOWN.get((str(form), within, str(key)))
 
 
-class UnusedKey:
+class UnusedKey(Located):
     """A key that nothing reads: it may be misspelled, or one that only Cargo knows. Its text is that of Cargo's warning.
 
     - `path`: the keys and indexes that lead to it, as `("package", "edtion")`. The tuple is made each time.
     - `in_cargo`: a `CargoKey`, if Cargo knows it; else None.
+    - `span`, `key_span`, `header_span`, `line`, `column`: where it stands, as a `Fault` has them.
 
     >>> key = UnusedKey(("lints", "rust", "unexpected_cfgs", "check-cfg"))
     >>> print(key)
@@ -87,12 +89,13 @@ class UnusedKey:
 
     def __init__(self, path: Iterable[Step]) -> None:
         self._link = link_of(path)
+        self._place = b""
 
     @classmethod
-    def _of(cls, link: Optional[Link]) -> UnusedKey:
-        """The key of a link, whose path is not made."""
+    def _of(cls, link: Optional[Link], place: bytes) -> UnusedKey:
+        """The key of a link, whose path is not made, at a place."""
         key = cls.__new__(cls)
-        key._link = link
+        key._link, key._place = link, place
         return key
 
     @property
@@ -119,4 +122,4 @@ class UnusedKey:
         return f"UnusedKey(path={self.path!r})"
 
     def __reduce__(self) -> tuple[Any, ...]:
-        return type(self), (self.path,)
+        return type(self), (self.path,), (None, {"_place": self._place})

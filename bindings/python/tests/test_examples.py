@@ -8,13 +8,14 @@ import unittest
 from pathlib import Path
 
 import cargo_manifest
-from cargo_manifest import _calls, _error, _faults
+from cargo_manifest import _calls, _edits, _error, _faults, _places, _positions
 
 from .places import PROJECT, make_files
 
 
 CALLS = ("canonical", "completed", "resolved", "resolved_completed", "table")
 FINDERS = ("faults", "ignored", "unused_keys")
+OF_TEXTS = ("edited", "positions", "replacements")
 
 
 class Readme(unittest.TestCase):
@@ -41,7 +42,7 @@ class Documented(unittest.TestCase):
     def test_each_public_name_has_a_doc_comment(self) -> None:
         for name in cargo_manifest.__all__:
             self.assertTrue(getattr(cargo_manifest, name).__doc__, name)
-        for call in CALLS + FINDERS:
+        for call in CALLS + FINDERS + OF_TEXTS:
             self.assertIn(">>> ", getattr(cargo_manifest, call).__doc__)
             self.assertRegex(getattr(cargo_manifest, call).__doc__, "[Rr]aises ")
 
@@ -53,6 +54,6 @@ class Documented(unittest.TestCase):
 
 
 def load_tests(loader: unittest.TestLoader, tests: unittest.TestSuite, pattern: str) -> unittest.TestSuite:
-    for module in (cargo_manifest, _calls, _error, _faults):
+    for module in (cargo_manifest, _calls, _edits, _error, _faults, _places, _positions):
         tests.addTests(doctest.DocTestSuite(module))
     return tests

@@ -8,8 +8,10 @@ from pathlib import Path
 from typing import Any, Union
 
 from cargo_manifest import Cause, Fault, ManifestError, UnusedKey, canonical, faults, ignored, table, unused_keys
-from cargo_manifest._parts import FAULT, IGNORED, UNUSED, found_in
+from cargo_manifest._parts import FAULT, IGNORED, UNUSED, found_in, placed_in
 from cargo_manifest._paths import path_of
+from cargo_manifest._places import Ranges, Span
+from cargo_manifest._reader import Reader
 
 from .test_refusals import NO_TOML, SCHEMA, OfDepthAndLength
 from .test_table import number, text as text_bytes
@@ -181,11 +183,11 @@ class Refused(unittest.TestCase):
                     self.assertEqual(said[0], said[1])
 
     def test_the_bound(self) -> None:
-        # 7 1 7 3 2 3 1 4 `name` 7 1 7 2 2 0 2 2
-        self.assertEqual(faults("", most=20), faults(""))
+        # 7 2, 7 1 7 3 2 3 1 4 `name` 7 1 7 2 2 0 2 2, and 7 1 7 3 7 0 7 0 7 0
+        self.assertEqual(faults("", most=32), faults(""))
         for call in (faults, ignored, unused_keys):
             with self.assertRaises(ManifestError) as caught:
-                call("", most=19)
+                call("", most=31)
             self.assertIs(caught.exception.cause, Cause.TOO_LONG)
 
     def test_more_than_most(self) -> None:
@@ -197,11 +199,11 @@ class Refused(unittest.TestCase):
         long = "k" * 20_000
         many = "".join(f"a{number} = 1\n" for number in range(20_000))
         made = f"package.name = 'p'\n[target.{long}]\n{many}"
-        keys = [key.path for key in unused_keys(made, most=2 * len(made))]
+        keys = [key.path for key in unused_keys(made, most=5 * len(made))]
         self.assertEqual((len(keys), keys[0]), (20_000, ("target", long, "a0")))
         self.assertIs(keys[0][1], keys[-1][1])
         made = f"[package]\nname = 'p'\n[profile.a.package{'.a' * 75}]\na{'.a' * 23} = [{'0.5, ' * 20_000}]"
-        found = faults(made, most=4 * len(made))
+        found = faults(made, most=9 * len(made))
         wanted = ("profile", "a", "package", *"a" * 99, 19_999)
         self.assertEqual((len(found), found[-1].path, found[-1].cause), (20_000, wanted, Cause.HOLDS_FLOAT))
 
@@ -275,8 +277,8 @@ def below(step: Union[str, int], count: int) -> bytes:
 
 
 def told(tree: bytes) -> list[tuple[Any, ...]]:
-    """What the bytes say is found, with paths."""
-    return [(each.what, path_of(each.link), each.cause, each.choices) for each in found_in(tree)]
+    """What the bytes of a tree say is found, with paths."""
+    return [(each.what, path_of(each.link), each.cause, each.choices) for each in found_in(Reader(tree))]
 
 
 class OfTaggedBytes(unittest.TestCase):
@@ -320,7 +322,7 @@ class OfTaggedBytes(unittest.TestCase):
 
     def test_bytes_that_hold_no_tree(self) -> None:
         whole = held(self.TREE)
-        bad = [whole[:end] for end in range(len(whole))] + [whole + b"\0", held("a"), held(1), b"\7\1\7\3\2\3\4\7\0"]
+        bad = [whole[:end] for end in range(len(whole))] + [held("a"), held(1), b"\7\1\7\3\2\3\4\7\0"]
         parts: list[Any] = [
             1, "a", [], [0], ["a", 1], [0, "a"], [0, 0], [0, 9], [0, 4], [1, 4], [4, 1], [0, 257], [0, 1, []], [0, 4, 1],
             [0, 4, [1]], [0, 4, [], 1], [2, 1], [2, "a", 1], [3, "a"], [3, "a", 1], [3, "a", [], 1], [3, [], []], [3, "a", [1]],
@@ -330,7 +332,7 @@ class OfTaggedBytes(unittest.TestCase):
                 told(each)
 
     def test_a_hundred_thousand_steps_in_one_another(self) -> None:
-        found = list(found_in(b"\7\1" + (below("a", 2) + held([0, 1])) * 100_000 + held([2, "b"])))
+        found = list(found_in(Reader(b"\7\1" + (below("a", 2) + held([0, 1])) * 100_000 + held([2, "b"]))))
         self.assertEqual((len(found), len(path_of(found[-1].link))), (100_001, 100_001))
         self.assertEqual(path_of(found[1].link), ("a", "a"))
 
@@ -339,8 +341,34 @@ class OfTaggedBytes(unittest.TestCase):
         parts = b"".join(held([3, index, [[0, 7]]]) for index in range(20_000))
         tree = b"\7\1" + below(long, 1) * 99 + below(long, 20_000) + parts
         tracemalloc.start()
-        found = list(found_in(tree))
+        found = list(found_in(Reader(tree)))
         taken, _ = tracemalloc.get_traced_memory()
         tracemalloc.stop()
         self.assertEqual((len(found), path_of(found[-1].link)), (20_000, (*[long] * 100, 19_999)))
         self.assertLess(taken, 5 * len(tree))
+
+    PLACES: list[Any] = [[[], [], []], [[4, 5], [0, 1], []], [[300, 70000], [], [8, 11]]]
+    PLACED: list[Any] = [[[2, "a"], [1, 7], [2, "b"]], PLACES]
+
+    def test_a_tree_with_places(self) -> None:
+        due: dict[int, list[Ranges]] = {
+            FAULT: [],
+            IGNORED: [Ranges(Span(4, 5), Span(0, 1))],
+            UNUSED: [Ranges(), Ranges(Span(300, 70000), None, Span(8, 11))],
+        }
+        for what, wanted in due.items():
+            found = placed_in(held(self.PLACED), what)
+            self.assertEqual([(each.what, ranges) for each, ranges in found], [(what, ranges) for ranges in wanted])
+        self.assertEqual(placed_in(held([[], []]), FAULT), [])
+        self.assertEqual([ranges for _, ranges in placed_in(held([self.PLACED[0], []]), UNUSED)], [Ranges(), Ranges()])
+
+    def test_bytes_that_hold_no_places(self) -> None:
+        whole, (tree, places) = held(self.PLACED), self.PLACED
+        bad = [whole[:end] for end in range(len(whole))] + [whole + b"\0", held([]), held([tree]), held([tree, places, []])]
+        ranges: list[Any] = [
+            [], [[], []], [[], [], [], []], [[1], [], []], [[1, 2, 3], [], []], [["a", "b"], [], []], ["a", [], []], 1,
+        ]
+        bad += [held([tree, places[:2]]), held([tree, [*places, places[0]]])]
+        for each in bad + [held([tree, [places[0], one, places[0]]]) for one in ranges]:
+            with self.subTest(bytes=each), self.assertRaisesRegex(RuntimeError, "different versions"):
+                placed_in(each, UNUSED)

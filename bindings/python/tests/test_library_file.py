@@ -104,6 +104,9 @@ class Declarations(unittest.TestCase):
             "bytes": _library.Bytes,
             "names": _library.Names,
             "folders": _library.Folders,
+            "path": _library.Path,
+            "step": _library.Step,
+            "edit": _library.Edit,
             "request": _library.Request,
         }
         self.assertEqual(said.splitlines(), [self.line(name, kind) for name, kind in kinds.items()])

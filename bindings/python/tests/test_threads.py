@@ -5,8 +5,8 @@ import unittest
 from collections.abc import Callable
 from concurrent.futures import ThreadPoolExecutor
 
-from cargo_manifest import ManifestError, canonical, completed, faults, resolved, resolved_completed, table
-from cargo_manifest import unused_keys
+from cargo_manifest import Edit, ManifestError, canonical, completed, edited, faults, positions, resolved
+from cargo_manifest import resolved_completed, table, unused_keys
 
 from .test_calls import COUNT, FOLDERS, LIB, MANY, MANY_BINS, MEMBER, RESOLVED, ROOT
 
@@ -38,6 +38,8 @@ def each_call(thread: int) -> list[object]:
         refused(" " * thread + "="),
         [fault.path for fault in faults(f"package = {{ name = {thread}, authors = [{'1, ' * thread}] }}")],
         [key.path for key in unused_keys(f"name = 'p'\n{name} = 1")],
+        edited(f"# {name}\na = 1 # {name}", [Edit.set(("a",), str(thread))]),
+        [position.line for position in positions("\n" * thread, range(thread + 1))],
     ]
 
 
@@ -58,6 +60,8 @@ def wanted(thread: int) -> list[object]:
         (refused(" " * thread + "=")[0], None, thread),
         [("package", "name"), *(("package", "authors", index) for index in range(thread))],
         [(name,)],
+        f"# {name}\na = {thread} # {name}",
+        list(range(1, thread + 2)),
     ]
 
 
