@@ -17,8 +17,8 @@ C = BINDINGS / "c"
 STANDARDS = {"c": ["c99", "c11", "c17"], "c++": ["c++98", "c++11", "c++17"]}
 COMPILERS = {"c": ["gcc", "clang"], "c++": ["g++", "clang++"]}
 # the programs of bindings/c: all of them, and those that are tried over a shared library, which has no heap functions to call
-PROGRAMS = ("calls", "canonical", "listed", "own_heap", "blocks")
-CALLERS = ("calls", "canonical")
+PROGRAMS = ("calls", "edits", "canonical", "listed", "own_heap", "blocks")
+CALLERS = ("calls", "edits", "canonical")
 LOADED = SCRIPTS / "shared" / "loaded.c"
 SONAME = "libcargo_manifest.so.4"
 ARM_COMPILER = "aarch64-linux-gnu-gcc"
@@ -96,6 +96,7 @@ def replay_folders(name, words, room):
 def run_all(name, runner, room):
     """Runs the programs that were built, by a runner or by themselves."""
     counted(f"calls from {name}", run([*runner, room / "calls"]), COUNTS)
+    counted(f"edits from {name}", run([*runner, room / "edits"]), COUNTS)
     counted(f"calls from {name} over a heap of its own", run([*runner, room / "own_heap"]), COUNTS)
     counted(f"blocks of the library's heap, from {name}", run([*runner, room / "blocks"]), COUNTS)
     replay_manifests(name, [*runner, room / "canonical"])
@@ -107,7 +108,7 @@ def check_valgrind(room):
     if not shutil.which("valgrind"):
         not_run("the calls from C under valgrind", "there is no command valgrind")
         return
-    for name in ("calls", "own_heap", "blocks"):
+    for name in ("calls", "edits", "own_heap", "blocks"):
         counted(f"{name}.c under valgrind", run([*VALGRIND, room / name]), COUNTS)
     manifest = room / "a-b.toml"  # (no Cargo.toml, which cargo would find above what is built in this folder)
     manifest.write_text("[package]\nname = 'a-b'\n[lib]\n", encoding="utf-8")
