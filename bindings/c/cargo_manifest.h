@@ -328,7 +328,7 @@ struct manifest_answer manifest_findings(const uint8_t *bytes, size_t bytes_leng
 
    Of a key that is missing they are those of the table in which it belongs; of a key that nothing reads, those of that key. The
    second array is empty where nothing is found. (It would be so too where the places of a text could not be found, which was
-   never seen.) That each place is right is proved: with another value in it the text is the document with that value at the path.
+   never seen.) That each place is right is proved: with a number in it the text is the document with that number at the path.
    `name = 1` is 7 2, the bytes of its findings, and 7 1 7 3 7 2 2 7 2 8 7 2 2 0 2 4 7 0. */
 struct manifest_answer manifest_placed_findings(const uint8_t *bytes, size_t bytes_length, size_t most, uint8_t *out,
                                                 size_t out_length);
@@ -358,7 +358,7 @@ enum manifest_kind {
     MANIFEST_SET = 0,    /* the text is a value of TOML, which takes the place of the value at the path */
     MANIFEST_INSERT = 1, /* the text is a value of TOML; the path ends with a new key, or with the index after the last item of an
                             array */
-    MANIFEST_REMOVE = 2, /* nothing more at the path: the entry goes with the rest of its line, or with one comma */
+    MANIFEST_REMOVE = 2, /* nothing more at the path: the entry goes with the rest of its line, or with blanks and one comma */
     MANIFEST_RENAME = 3  /* the text is another key, without quotes, for what is at the path */
 };
 
@@ -376,8 +376,9 @@ struct manifest_edit {
    is given.
 
    A new key stands after the table's own entries, before the comments of the next header; where the table has no header, it gets
-   one at the end of the text. Refused as MANIFEST_NO_PLACE is a path at which nothing is, and a table or an array of tables that is
-   written by headers or by dotted keys, where it would have to be replaced, removed or, but for its key, renamed as a whole. */
+   one at the end of the text. A key is replaced in each dotted key and each header that goes through it. Refused as
+   MANIFEST_NO_PLACE is a path at which nothing is, and to set or to remove a table or an array of tables that is written by
+   headers or by dotted keys. */
 struct manifest_answer manifest_edited(const uint8_t *bytes, size_t bytes_length, const struct manifest_edit *edits,
                                        size_t edits_length, uint8_t as_replacements, size_t most, uint8_t *out,
                                        size_t out_length);

@@ -84,6 +84,14 @@ def leaves(held, path=()):
             yield from leaves(inner, (*path, step))
 
 
+def inner_paths(held, path=()):
+    """The paths of all that is in a document."""
+    for step, inner in held.items() if isinstance(held, dict) else enumerate(held):
+        yield (*path, step)
+        if isinstance(inner, (dict, list)):
+            yield from inner_paths(inner, (*path, step))
+
+
 def after(held, edits):
     """The document after edits, of which none is about a value in what another one is about: with the kinds of its values."""
     changed = copy.deepcopy(held)

@@ -27,10 +27,10 @@ positions_data ps = array (items_of (map position_data ps))
 abbrev pub offsets_data : Text → List ℕ → Data
 offsets_data text offsets = positions_data (map (offset_position text) offsets)
 
--- THE TEXT is the tagged bytes of the positions of the offsets
+-- THE TEXT is the tagged bytes of the positions of the offsets, which ascend
 abbrev pub GivesPositions : ℕ → Text → List ℕ → Text → Type 0
 GivesPositions most bytes offsets text =
-    IsUtf8 bytes × AreWithin most (encoded (offsets_data bytes offsets)) text
+    IsUtf8 bytes × OffsetsAscend bytes 0 offsets × AreWithin most (encoded (offsets_data bytes offsets)) text
 
 -- the bytes are not UTF-8
 abbrev pub AreNotUtf8 : Text → Refusals

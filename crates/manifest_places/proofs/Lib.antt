@@ -7,3 +7,4 @@ pub mod Numbers
 pub mod RestoringLemmas
 pub mod There
 mod FindingLemmas
+pub mod PlanLemmas

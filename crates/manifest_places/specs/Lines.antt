@@ -74,7 +74,7 @@ OffsetsAscend text n (m ∷ more) = (n ≤ m) × OffsetsAscend text m more
 abbrev pub ArePositions : Text → List ℕ → Option (List CodePosition) → Type 0
 ArePositions text ns found =
     MatchOption found (¬ OffsetsAscend text 0 ns)
-    (λ ps. map position_of ps ≡ map (offset_position text) ns)
+    (λ ps. OffsetsAscend text 0 ns × (map position_of ps ≡ map (offset_position text) ns))
 
 -- a position and one more byte
 abbrev pub end_after : Position → ℕ → Position

@@ -200,52 +200,65 @@ fn with_change_here(value: Value, change: Change) -> Result<Option<Value>, Alloc
             let Some(mut table) = table_in(value) else {
                 return Ok(None);
             };
-            if inserted(&mut table, key, new)? {
-                Ok(Some(Value::Table(table)))
+            let done = inserted(&mut table, key, new)?;
+            Ok(if done {
+                Some(Value::Table(table))
             } else {
-                Ok(None)
-            }
+                None
+            })
         }
         Change::Remove(key) => {
             let Some(mut table) = table_in(value) else {
                 return Ok(None);
             };
-            if taken(&mut table, key.as_str()).is_some() {
-                Ok(Some(Value::Table(table)))
+            let done = taken(&mut table, key.as_str()).is_some();
+            Ok(if done {
+                Some(Value::Table(table))
             } else {
-                Ok(None)
-            }
+                None
+            })
         }
         Change::Rename(key, name) => {
             let Some(mut table) = table_in(value) else {
                 return Ok(None);
             };
-            if renamed(&mut table, key.as_str(), name)? {
-                Ok(Some(Value::Table(table)))
+            let done = renamed(&mut table, key.as_str(), name)?;
+            Ok(if done {
+                Some(Value::Table(table))
             } else {
-                Ok(None)
-            }
+                None
+            })
         }
-        Change::InsertItem(index, new) => {
-            let Some(mut items) = array_in(value) else {
-                return Ok(None);
-            };
-            if item_inserted(&mut items, index, new)? {
-                Ok(Some(Value::Array(items)))
-            } else {
-                Ok(None)
-            }
-        }
-        Change::RemoveItem(index) => {
-            let Some(mut items) = array_in(value) else {
-                return Ok(None);
-            };
-            if item_removed(&mut items, index) {
-                Ok(Some(Value::Array(items)))
-            } else {
-                Ok(None)
-            }
-        }
+        Change::InsertItem(index, new) => with_item(value, index, new),
+        Change::RemoveItem(index) => Ok(without_item(value, index)),
+    }
+}
+
+/// The array with one more item, at this index.
+fn with_item(value: Value, index: usize, new: Value) -> Result<Option<Value>, AllocError>
+    ensures { IfOk result (λ made. option_map view made
+        ≡ spec.in_array (spec.with_item index (view new)) (view value)) }
+{
+    let Some(mut items) = array_in(value) else {
+        return Ok(None);
+    };
+    let done = item_inserted(&mut items, index, new)?;
+    Ok(if done {
+        Some(Value::Array(items))
+    } else {
+        None
+    })
+}
+
+/// The array without its item at this index.
+fn without_item(value: Value, index: usize) -> Option<Value>
+    ensures { option_map view result ≡ spec.in_array (spec.without_item index) (view value) }
+{
+    let mut items = array_in(value)?;
+    if item_removed(&mut items, index) {
+        Some(Value::Array(items))
+    } else {
+        None
     }
 }
 

@@ -20,12 +20,19 @@ pub(crate) struct Company {
     taken: BTreeSet<usize>,
     /// For each edit, which others put in where it does.
     others: Vec<Others>,
+    /// Whether one of them puts in a value.
+    inserts: bool,
 }
 
 impl Company {
     /// Whether the value that begins there is taken out.
     pub(crate) fn takes(&self, at: usize) -> bool {
         self.taken.contains(&at)
+    }
+
+    /// Whether one of the edits puts in a value.
+    pub(crate) fn inserts(&self) -> bool {
+        self.inserts
     }
 
     /// Which others put in where the edit with this number does.
@@ -47,15 +54,21 @@ pub(crate) fn company_of(
 ) -> Result<Company, AllocError> {
     let mut taken = BTreeSet::new(alloc);
     let mut others = Vec::new(alloc);
+    let mut inserts = false;
     for number in 0..edits.len() {
         if let Edit::Remove(path) = &edits[number] {
             if let Some(found) = survey.value(path.as_slice()) {
                 taken.insert(found.value.from)?;
             }
         }
+        inserts |= insert_place(edits.get(number)).is_some();
         others.push(others_of(edits, number))?;
     }
-    Ok(Company { taken, others })
+    Ok(Company {
+        taken,
+        others,
+        inserts,
+    })
 }
 
 fn others_of(edits: &[Edit], number: usize) -> Others {

@@ -1,16 +1,17 @@
 //! Edits of a text that change what they say and keep all else: comments, order and layout.
 
-ghost use Rattle.std.specs.Prelude.{◌≡◌, ◌⊎◌, ◌++◌, None, Some, IfOk, IfErr, OnOk, map, flat_map, string_bytes, All};
+ghost use Rattle.std.specs.Prelude.{◌≡◌, ◌⊎◌, ◌++◌, None, Some, IsTrue, IfOk, IfErr, OnOk, map, flat_map, string_bytes, All};
 ghost use Rattle.toml.specs.View.{view};
 ghost use Rattle.manifest_places.specs.Paths.{document};
 ghost use Rattle.manifest_places.specs.Changes.{change_at_of};
 ghost use Rattle.manifest_places.specs.Splices.{splice_of};
 ghost use Rattle.manifest_places.specs.Places.{place_of};
-ghost use Rattle.manifest_places.specs.Edits.{edit_of, plan_of, edit_in, places_in, splices_in, change_in, IsPlan, IsEdit, MakeNone, IsReason};
+ghost use Rattle.manifest_places.specs.Edits.{edit_of, plan_of, edit_in, places_in, headers_in, splices_in, change_in, IsPlan, AreOpened, IsEdit, MakeNone, IsReason};
 ghost use Rattle.manifest_places.specs.declared.edits.EditError.TheVariants.{NotADocument, Memory};
 
 use crate::changes::ChangeAt;
 use crate::company::company_of;
+use crate::headers::are_headers_in;
 use crate::places::{Place, are_places_in, edited_in};
 use crate::planning::{Plan, planned};
 use crate::reading::document_of;
@@ -149,14 +150,19 @@ fn made(alloc: Global, text: &str, old: Value, plans: Vec<Plan>) -> Result<Edite
     ensures refused { IfErr result (MakeNone text.now (map plan_of plans.items)) }
 {
     let parts = parted(alloc, plans)?;
-    if !are_places_in(alloc, text, &old, parts.places.as_slice())? {
-        return Err(EditError::Overlap);
-    }
     let Parts {
+        mut places,
+        headers,
         mut splices,
         mut changes,
-        ..
     } = parts;
+    places.sort_by_key(|place| place.from)?;
+    if !are_places_in(alloc, text, &old, places.as_slice())? {
+        return Err(EditError::Overlap);
+    }
+    if !are_opened(alloc, text, &old, headers)? {
+        return Err(EditError::NoPlace);
+    }
     splices.sort_by_key(|splice| (splice.from, splice.to))?;
     changes.reverse();
     match edited_in(alloc, text, old, splices.as_slice(), changes)? {
@@ -168,39 +174,65 @@ fn made(alloc: Global, text: &str, old: Value, plans: Vec<Plan>) -> Result<Edite
     }
 }
 
-/// The places, splices and changes of plans.
+/// Whether these are the headers of their tables, if there are any.
+fn are_opened(
+    alloc: Global,
+    text: &str,
+    old: &Value,
+    headers: Vec<Place>,
+) -> Result<bool, AllocError>
+    requires { document text.now ≡ Some (view old.now) }
+    ensures { IfOk result (λ good. IsTrue good → AreOpened text.now (map place_of headers.items)) }
+{
+    if headers.is_empty() {
+        return Ok(true);
+    }
+    let mut ordered = headers;
+    ordered.sort_by_key(|header| header.from)?;
+    let good = are_headers_in(alloc, text, old, ordered.as_slice())?;
+    Ok(good)
+}
+
+/// The places, headers, splices and changes of plans.
 #[derive(Drop)]
 struct Parts {
     places: Vec<Place>,
+    headers: Vec<Place>,
     splices: Vec<Splice>,
     changes: Vec<ChangeAt>,
 }
 
-/// The places, splices and changes of these plans.
+/// The places, headers, splices and changes of these plans.
 fn parted(alloc: Global, plans: Vec<Plan>) -> Result<Parts, AllocError>
     ensures places { IfOk result (λ p.
         map place_of p.places.items ≡ flat_map places_in (map plan_of plans.items)) }
+    ensures headers { IfOk result (λ p.
+        map place_of p.headers.items ≡ flat_map headers_in (map plan_of plans.items)) }
     ensures splices { IfOk result (λ p.
         map splice_of p.splices.items ≡ flat_map splices_in (map plan_of plans.items)) }
     ensures changes { IfOk result (λ p.
         map change_at_of p.changes.items ≡ map change_in (map plan_of plans.items)) }
 {
     let mut places = Vec::new(alloc);
+    let mut headers = Vec::new(alloc);
     let mut splices = Vec::new(alloc);
     let mut changes = Vec::new(alloc);
     for plan in plans {
         let Plan {
             places: more_places,
+            headers: more_headers,
             splices: more_splices,
             change,
             ..
         } = plan;
         put_places(&mut places, more_places)?;
+        put_places(&mut headers, more_headers)?;
         put_splices(&mut splices, more_splices)?;
         changes.push(change)?;
     }
     Ok(Parts {
         places,
+        headers,
         splices,
         changes,
     })
@@ -218,7 +250,7 @@ fn put_places(places: &mut Vec<Place>, more: Vec<Place>) -> Result<(), AllocErro
 }
 
 /// The splices, and more of them.
-fn put_splices(splices: &mut Vec<Splice>, more: Vec<Splice>) -> Result<(), AllocError>
+pub(crate) fn put_splices(splices: &mut Vec<Splice>, more: Vec<Splice>) -> Result<(), AllocError>
     ensures { OnOk result (map splice_of splices.new.items
         ≡ map splice_of splices.old.items ++ map splice_of more.items) }
 {

@@ -3,7 +3,7 @@
 
 use crate::company::Company;
 use crate::keys::Span;
-use crate::layout::{after_blanks, before_blanks, begins_line, line_end};
+use crate::layout::{after_blanks, before_blanks, begins_line, line_end, line_start};
 use crate::walk::{FoundValue, Survey};
 use std::alloc::{AllocError, Global};
 use toml_parser::text::byte_at;
@@ -16,9 +16,18 @@ pub(crate) struct Element {
     pub goes: bool,
 }
 
+/// What is taken out with a value: itself with what stands around it, and one more range.
+#[derive(Clone, Copy)]
+pub(crate) struct Taken {
+    pub entry: Span,
+    pub more: Option<Span>,
+}
+
 /// What stands around an element.
 #[derive(Clone, Copy)]
 struct Neighbours {
+    /// How many blanks stand before the first one.
+    lead: usize,
     /// The one before it, if it is taken out.
     gone_before: Option<Element>,
     stays_before: bool,
@@ -71,21 +80,34 @@ pub(crate) fn container_of<'s>(survey: &'s Survey, found: &FoundValue) -> Option
     None
 }
 
-/// The range that is taken out with the value: the rest of its line, if it has one of its own, and else one comma.
+/// What is taken out with the value: the rest of its line, if it has one of its own, and else one comma. With the last
+/// line of an array or an inline table that has no comma after it goes the comma before it; and with the line between two
+/// blank ones the second of these.
 pub(crate) fn taken_with(
     alloc: Global,
     text: &str,
     survey: &Survey,
     company: &Company,
     found: &FoundValue,
-) -> Result<Span, AllocError> {
+) -> Result<Taken, AllocError> {
     match container_of(survey, found) {
-        None => Ok(line_taken(text, survey, company, found)),
+        None => {
+            let entry = line_taken(text, survey, company, found);
+            let more = blank_after(text, company, entry);
+            Ok(Taken { entry, more })
+        }
         Some(container) => {
             let elements = elements_of(alloc, survey, company, container)?;
             let start = start_of(found);
             let around = neighbours_of(text, elements.as_slice(), start);
-            Ok(element_taken(text, start, found.value.to, &around))
+            let entry = element_taken(text, start, found.value.to, &around);
+            let lines = has_own_lines(text, start, found.value.to, around.is_last);
+            let more = if lines && leaves_comma(company, &around) {
+                comma_before(text, elements.as_slice(), start)
+            } else {
+                None
+            };
+            Ok(Taken { entry, more })
         }
     }
 }
@@ -106,6 +128,28 @@ fn line_taken(text: &str, survey: &Survey, company: &Company, found: &FoundValue
     Span { from, to }
 }
 
+/// The blank line after the lines that are taken out, where one stands before them too.
+fn blank_after(text: &str, company: &Company, lines: Span) -> Option<Span> {
+    let Span { from, to } = lines;
+    let before = line_start(text, from.saturating_sub(1));
+    if company.inserts() || before >= from || !begins_line(text, from) || !begins_line(text, to) {
+        return None;
+    }
+    if is_blank_line(text, before) && is_blank_line(text, to) {
+        Some(Span {
+            from: to,
+            to: line_end(text, to),
+        })
+    } else {
+        None
+    }
+}
+
+/// Whether nothing but blanks stands in the line that begins there, which has an end.
+fn is_blank_line(text: &str, at: usize) -> bool {
+    ends_line(text, after_blanks(text, at, false))
+}
+
 /// Whether the line that ends there is taken out, or there is none.
 fn line_goes(text: &str, survey: &Survey, company: &Company, end: usize) -> bool {
     for found in &survey.values {
@@ -122,6 +166,12 @@ fn line_goes(text: &str, survey: &Survey, company: &Company, end: usize) -> bool
 /// What stands around the element that begins there.
 fn neighbours_of(text: &str, elements: &[Element], start: usize) -> Neighbours {
     let mut around = Neighbours {
+        lead: match elements.first() {
+            Some(first) => first
+                .start
+                .saturating_sub(before_blanks(text, first.start, false)),
+            None => 0,
+        },
         gone_before: None,
         stays_before: false,
         stays_after: false,
@@ -140,6 +190,24 @@ fn neighbours_of(text: &str, elements: &[Element], start: usize) -> Neighbours {
         around.has_trailing_comma = has_comma(text, element.end);
     }
     around
+}
+
+/// Whether the comma before the element would be one after the last of those that stay, which had none.
+fn leaves_comma(company: &Company, around: &Neighbours) -> bool {
+    around.is_last && around.stays_before && !around.has_trailing_comma && !company.inserts()
+}
+
+/// The comma after the element before the one that begins there, where that one stays.
+fn comma_before(text: &str, elements: &[Element], start: usize) -> Option<Span> {
+    let before = elements.iter().rev().find(|element| element.start < start)?;
+    let comma = after_blanks(text, before.end, true);
+    if before.goes || byte_at(text, comma) != b',' {
+        return None;
+    }
+    Some(Span {
+        from: comma,
+        to: comma.saturating_add(1),
+    })
 }
 
 /// Whether a comma comes next, after blanks.
@@ -200,7 +268,8 @@ fn with_comma_before(text: &str, start: usize, end: usize, around: &Neighbours) 
     }
 }
 
-/// Any other element takes the comma after it, if there is one, and the blanks that would be left alone.
+/// Any other element takes the comma after it, if there is one, and the blanks that would be left alone. (Those within
+/// braces go where there are as many after the last entry as before the first one.)
 fn with_comma_after(text: &str, start: usize, end: usize, around: &Neighbours) -> Span {
     let mut from = start;
     let mut to = end;
@@ -214,11 +283,13 @@ fn with_comma_after(text: &str, start: usize, end: usize, around: &Neighbours) -
     if around.gone_before.is_none() && (!around.stays_after || ends_line(text, to)) {
         from = before_blanks(text, start, false);
     }
-    if around.is_last && !around.stays_before {
-        let after = after_blanks(text, to, false);
-        if byte_at(text, after) == b']' || byte_at(text, after) == b'}' {
-            to = after;
-        }
+    let after = after_blanks(text, to, false);
+    if around.is_last
+        && !around.stays_before
+        && byte_at(text, after) == b'}'
+        && after.saturating_sub(to) == around.lead
+    {
+        to = after;
     }
     Span { from, to }
 }

@@ -100,7 +100,11 @@ fn arranged(alloc: Global, found: Survey) -> Result<Places, AllocError> {
 fn arranged_headers(alloc: Global, headers: Vec<FoundHeader>) -> Result<Vec<Place>, AllocError> {
     let mut places = Vec::new(alloc);
     for header in headers {
-        let FoundHeader { path, header: span } = header;
+        let FoundHeader {
+            path,
+            header: span,
+            ..
+        } = header;
         places.push(Place {
             path,
             from: span.from,

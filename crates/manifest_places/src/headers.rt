@@ -6,7 +6,7 @@ ghost use Rattle.manifest_places.specs.Paths.{document};
 ghost use Rattle.manifest_places.specs.Changes as changes;
 ghost use Rattle.manifest_places.specs.Splices.{splice_of};
 ghost use Rattle.manifest_places.specs.Places.{place_of, first_number, most_numbers};
-ghost use Rattle.manifest_places.specs.Headers.{IsHeader, pairs_put, pairs_taken, AreBracketed, AreHeaders};
+ghost use Rattle.manifest_places.specs.Headers.{brackets, IsHeader, pairs_put, pairs_taken, AreBracketed, AreHeaders};
 
 use crate::changes::{Change, with_change};
 use crate::compare::same_value;
@@ -129,11 +129,18 @@ fn are_bracketed(alloc: Global, text: &str, places: &[Place]) -> Result<bool, Al
     Ok(true)
 }
 
+/// How many brackets a header has on each side.
+pub(crate) fn brackets_of(header: &str) -> usize
+    ensures { result ≡ brackets header.now }
+{
+    if byte_at(header, 1) == b'[' { 2 } else { 1 }
+}
+
 /// Whether the text is a key between single or double brackets.
 pub(crate) fn is_header(alloc: Global, header: &str) -> Result<bool, AllocError>
     ensures { IfOk result (λ good. IsTrue good ↔ IsHeader header.now) }
 {
-    let brackets = if byte_at(header, 1) == b'[' { 2 } else { 1 };
+    let brackets = brackets_of(header);
     let end = header.len().saturating_sub(brackets);
     let Some(name) = part_of(header, brackets, end) else {
         return Ok(false);

@@ -26,6 +26,14 @@ pub(crate) struct Node {
     pub header: Option<usize>,
 }
 
+/// What stands at a path or below it, this many steps on: the indexes of a value and of a header.
+#[derive(Clone, Copy)]
+pub(crate) struct Below {
+    pub steps: usize,
+    pub value: Option<usize>,
+    pub header: Option<usize>,
+}
+
 /// The nodes: the first one is that of the empty path.
 #[derive(Debug, Drop)]
 pub(crate) struct Index {
@@ -52,6 +60,44 @@ impl Index {
             steps = steps.saturating_add(1);
         }
         (steps, self.nodes.get(at))
+    }
+
+    /// What stands at the path and below it, where the places of values are in one round.
+    pub(crate) fn below(&self, alloc: Global, path: &[Step]) -> Result<Vec<Below>, AllocError> {
+        let mut found = Vec::new(alloc);
+        let mut left = Vec::new(alloc);
+        if let Some(at) = self.at(path) {
+            left.push((at, 0usize))?;
+        }
+        for _node in 0..self.nodes.len() {
+            let Some((at, steps)) = left.pop() else {
+                break;
+            };
+            let Some(node) = self.nodes.get(at) else {
+                break;
+            };
+            found.push(Below {
+                steps,
+                value: node.value.map(|entry| entry.index),
+                header: node.header,
+            })?;
+            for (_key, next) in &node.keys {
+                left.push((*next, steps.saturating_add(1)))?;
+            }
+            for (_item, next) in &node.items {
+                left.push((*next, steps.saturating_add(1)))?;
+            }
+        }
+        Ok(found)
+    }
+
+    /// The node that the path leads to.
+    fn at(&self, path: &[Step]) -> Option<usize> {
+        let mut at = 0usize;
+        for step in path {
+            at = self.next(at, step)?;
+        }
+        Some(at)
     }
 
     /// Adds the place of a value, whose key has this many parts.

@@ -6,6 +6,7 @@ use crate::elements::{Element, container_of, elements_of, has_own_lines, start_o
 use crate::keys::Span;
 use crate::layout::{
     after_blanks, before_blanks, begins_line, indent_of, key_text, line_break, line_end,
+    line_start, mark_of,
 };
 use crate::step::Step;
 use crate::walk::{FoundValue, Survey};
@@ -220,11 +221,6 @@ fn lines_at(
     })
 }
 
-/// How long the byte order mark of the text is, if it has one.
-fn mark_of(text: &str) -> usize {
-    if text.starts_with("\u{FEFF}") { 3 } else { 0 }
-}
-
 /// At the end of the table's own lines, before the comment that belongs to the next header.
 fn section_insertion(
     alloc: Global,
@@ -271,18 +267,6 @@ fn before_comments(text: &str, at: usize) -> usize {
         start = line;
     }
     start
-}
-
-/// Where the line begins in which the offset is, after a byte order mark.
-fn line_start(text: &str, at: usize) -> usize {
-    let mut start = at;
-    for _byte in 0..at {
-        if begins_line(text, start) {
-            return start;
-        }
-        start = start.saturating_sub(1);
-    }
-    start.max(mark_of(text))
 }
 
 /// A new table by a header of its own at the end of the text.
@@ -390,7 +374,8 @@ fn element_at(
     }
 }
 
-/// The first element of an array, or of an inline table, where blanks stand within the braces.
+/// The first element of an array, or of an inline table, where blanks stand within the braces. Where there are blanks
+/// already, what is put in is such that its removal leaves as many.
 fn only_element(
     alloc: Global,
     text: &str,
@@ -401,13 +386,18 @@ fn only_element(
 ) -> Result<Insertion, AllocError> {
     let inside = container.from.saturating_add(1);
     let is_table = byte_at(text, container.from) == b'{';
-    let is_blank = at == inside && after_blanks(text, inside, false) > inside;
-    let lead = match (others.before, is_table || is_blank) {
+    let blanks = if at == inside {
+        after_blanks(text, inside, false).saturating_sub(inside)
+    } else {
+        0
+    };
+    let is_spaced = if is_table { blanks != 1 } else { blanks > 0 };
+    let lead = match (others.before, is_spaced) {
         (true, _) => ", ",
         (false, true) => " ",
         (false, false) => "",
     };
-    let trail = if is_table && !is_blank && !others.after {
+    let trail = if is_table && blanks == 0 && !others.after {
         " "
     } else {
         ""

@@ -49,6 +49,23 @@ pub(crate) fn line_end(text: &str, at: usize) -> usize {
     text.len()
 }
 
+/// How long the byte order mark of the text is, if it has one.
+pub(crate) fn mark_of(text: &str) -> usize {
+    if text.starts_with("\u{FEFF}") { 3 } else { 0 }
+}
+
+/// Where the line begins in which the offset is, after a byte order mark.
+pub(crate) fn line_start(text: &str, at: usize) -> usize {
+    let mut start = at;
+    for _byte in 0..at {
+        if begins_line(text, start) {
+            return start;
+        }
+        start = start.saturating_sub(1);
+    }
+    start.max(mark_of(text))
+}
+
 /// The white space before the offset, where nothing else stands before it in its line.
 pub(crate) fn indent_of(text: &str, at: usize) -> &str {
     let from = before_blanks(text, at, false);

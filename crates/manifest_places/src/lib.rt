@@ -3,6 +3,7 @@
 //! which finds all of them, `src/located.rt`, what belongs to a path, and `src/edits.rt`.
 #![tactic(auto)]
 
+mod blanks;
 mod changes;
 mod company;
 mod compare;
@@ -20,7 +21,10 @@ mod lines;
 mod located;
 mod places;
 mod planning;
+mod putting;
 mod reading;
+mod removing;
+mod renaming;
 mod splices;
 mod step;
 mod walk;

@@ -4,10 +4,10 @@
 ghost use Rattle.std.specs.Prelude.{◌<◌, ◌≤◌, length, IfOk};
 ghost use Rattle.toml_parser.specs.Reading.{Shortens};
 
-use crate::index::{Entry, Index, Node};
+use crate::index::{Below, Entry, Index, Node};
 use crate::keys::Span;
 use crate::step::{Step, copied};
-use std::alloc::Global;
+use std::alloc::{AllocError, Global};
 use std::collections::BTreeMap;
 use toml_parser::text::{byte_at, first, skip, skip_blank, skip_ws};
 use toml_parser::{ErrorKind, ParseError, RECURSION_LIMIT, bytes, quoted, starts_string, unquoted};
@@ -28,11 +28,12 @@ pub(crate) struct FoundValue {
     pub level: usize,
 }
 
-/// A header that was found, and the path of its table.
+/// A header that was found, the path of its table, and the parts of its key.
 #[derive(Drop)]
 pub(crate) struct FoundHeader {
     pub path: Vec<Step>,
     pub header: Span,
+    pub parts: Vec<Span>,
 }
 
 /// What was found, in the order of the text: a value after those that stand in it.
@@ -112,6 +113,29 @@ fn header<'t>(
 ) -> Result<(Vec<Step>, &'t str), ParseError>
     ensures { Shortens start.now result }
 {
+    let (key, after) = header_key(alloc, start)?;
+    let path = header_path(alloc, key.parts.as_slice(), key.many, survey)?;
+    survey.take_room(path.as_slice(), start)?;
+    let found = FoundHeader {
+        path: copied(alloc, path.as_slice())?,
+        header: survey.span(start.len(), after.len()),
+        parts: survey.spans(alloc, key.parts.as_slice())?,
+    };
+    survey.headers.push(found)?;
+    Ok((path, after))
+}
+
+/// The key of a header, and whether that has double brackets.
+#[derive(Drop)]
+struct HeaderKey {
+    parts: Vec<Part>,
+    many: bool,
+}
+
+/// The key of a header, and the text after its brackets.
+fn header_key(alloc: Global, start: &str) -> Result<(HeaderKey, &str), ParseError>
+    ensures { Shortens start.now result }
+{
     if first(start) != b'[' {
         return Err(ParseError::at(ErrorKind::UnclosedTable, start));
     }
@@ -128,14 +152,7 @@ fn header<'t>(
     if many && first(after) == b']' {
         after = skip(after, 1);
     }
-    let path = header_path(alloc, parts.as_slice(), many, survey)?;
-    survey.take_room(path.as_slice(), start)?;
-    let found = FoundHeader {
-        path: copied(alloc, path.as_slice())?,
-        header: survey.span(start.len(), after.len()),
-    };
-    survey.headers.push(found)?;
-    Ok((path, after))
+    Ok((HeaderKey { parts, many }, after))
 }
 
 /// The path that the parts of a header's key lead to: through the last item of each array of tables, and with double
@@ -189,15 +206,28 @@ impl Survey {
         self.values.get(entry.index)
     }
 
-    /// A value at the path or below it, whose key goes through the last step of the path.
-    pub(crate) fn key(&self, path: &[Step]) -> Option<&FoundValue> {
-        let node = self.node(path)?;
-        let entry = node.value.or(node.through)?;
-        let found = self.values.get(entry.index)?;
-        if found.parts.is_empty() {
-            None
-        } else {
+    /// What stands at the path and below it.
+    pub(crate) fn below(&self, alloc: Global, path: &[Step]) -> Result<Vec<Below>, AllocError> {
+        self.index.below(alloc, path)
+    }
+
+    /// The value there whose key goes through the path that this many steps before it leads to.
+    pub(crate) fn key_through(&self, at: &Below) -> Option<&FoundValue> {
+        let found = self.values.get(at.value?)?;
+        if found.parts.len() > at.steps {
             Some(found)
+        } else {
+            None
+        }
+    }
+
+    /// The header that opens the table there, which is below the path.
+    pub(crate) fn header_at(&self, path: &[Step], at: &Below) -> Option<&FoundHeader> {
+        let found = self.headers.get(at.header?)?;
+        if found.path.len() == path.len().saturating_add(at.steps) {
+            Some(found)
+        } else {
+            None
         }
     }
 

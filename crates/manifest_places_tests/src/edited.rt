@@ -135,6 +135,12 @@ const ITEMS: &[Case] = &[
         "a = [{ b = 1 }]\n",
     ),
     ("a = [ ]\n", &[("insert", "a.#0", "", "1")], "a = [ 1 ]\n"),
+    ("a = { }\n", &[("insert", "a.b", "", "1")], "a = {b = 1 }\n"),
+    (
+        "a = {  }\n",
+        &[("insert", "a.b", "", "1")],
+        "a = { b = 1  }\n",
+    ),
     (
         "a = []\nb = {}\n",
         &[
@@ -207,6 +213,28 @@ const REMOVES: &[Case] = &[
         "a = { b.c = 1 }",
     ),
     ("a = { d = 2 }", &[("remove", "a.d", "", "")], "a = {}"),
+    ("a = {d = 2 }", &[("remove", "a.d", "", "")], "a = { }"),
+    ("a = [ 1 ]", &[("remove", "a.#0", "", "")], "a = [ ]"),
+    (
+        "a = [\n  1, # one\n\n  # two\n  2\n]\n",
+        &[("remove", "a.#1", "", "")],
+        "a = [\n  1 # one\n\n  # two\n]\n",
+    ),
+    (
+        "a = [\n  1, # one\n  2,\n]\n",
+        &[("remove", "a.#1", "", "")],
+        "a = [\n  1, # one\n]\n",
+    ),
+    (
+        "# x\r\n\r\na = 1 # y\r\n \r\n[t]\r\n",
+        &[("remove", "a", "", "")],
+        "# x\r\n\r\n[t]\r\n",
+    ),
+    (
+        "b = 1\na = 1\n\n[t]\n",
+        &[("remove", "a", "", "")],
+        "b = 1\n\n[t]\n",
+    ),
     ("[a]\n", &[("remove", "a", "", "")], "NoPlace"),
     (
         "a = [1, 2]\n",
@@ -301,7 +329,47 @@ const RENAMES: &[Case] = &[
         "a.\"x y\".c = 1\n",
     ),
     ("'a' . b = 1\n", &[("rename", "a", "c", "")], "c . b = 1\n"),
-    ("a.b = 1\na.c = 2\n", &[("rename", "a", "d", "")], "Refused"),
+    (
+        "a.b = 1\na.c = 2\n",
+        &[("rename", "a", "d", "")],
+        "d.b = 1\nd.c = 2\n",
+    ),
+    (
+        "a.b = 1\nd = 2\na.c = 3\n",
+        &[("rename", "a", "e", ""), ("set", "d", "", "4")],
+        "e.b = 1\nd = 4\ne.c = 3\n",
+    ),
+    (
+        "# [a]\n[ \"a\" . b ] # [a]\n[a.b.c]\na = 1\n",
+        &[("rename", "a", "d", "")],
+        "# [a]\n[ d . b ] # [a]\n[d.b.c]\na = 1\n",
+    ),
+    (
+        "[a.b]\n[a.b.c]\n[a.d]\n",
+        &[("rename", "a.b", "x y", ""), ("set", "a.b.c", "", "1")],
+        "NoPlace",
+    ),
+    (
+        "[a.b]\nc = 1\n[a.b.d]\n[a.e]\n",
+        &[("rename", "a.b", "x y", ""), ("set", "a.b.c", "", "2")],
+        "[a.\"x y\"]\nc = 2\n[a.\"x y\".d]\n[a.e]\n",
+    ),
+    (
+        "[[a]]\n[a.b]\nc = [[1]]\n[[a]]\n",
+        &[("rename", "a", "d", ""), ("rename", "a.#0.b", "e", "")],
+        "[[d]]\n[d.e]\nc = [[1]]\n[[d]]\n",
+    ),
+    (
+        "a.b = 1\n[a.c]\nd = 2\n",
+        &[("rename", "a", "x", "")],
+        "x.b = 1\n[x.c]\nd = 2\n",
+    ),
+    ("[a]\n[b]\n", &[("rename", "a", "b", "")], "Refused"),
+    (
+        "a = 1\n",
+        &[("rename", "a", "b", ""), ("set", "a", "", "2")],
+        "Overlap",
+    ),
     ("a = 1\nb = 2\n", &[("rename", "a", "b", "")], "Refused"),
     (
         "a = 1\nb = 2\n",

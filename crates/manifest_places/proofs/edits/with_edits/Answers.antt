@@ -21,6 +21,9 @@ permuted : (text new : Text) (edits others : List Edit) (replaced : List Splice)
     → IsEdit text edits replaced new
 permuted text new edits others replaced same e = record {
   plans = e.plans;
+  places = e.places;
+  ordered = e.ordered;
+  opened = e.opened;
   planned = (IsPermutation-trans edits others (map edit_in e.plans) same e.planned.0, e.planned.1);
   there = e.there;
   whole = e.whole;
@@ -32,7 +35,7 @@ made_none : (text : Text) (edits : List Edit) (plans : List Plan) (e : EditError
     → IsReason text edits e
 made_none text edits plans NotADocument are none = absurd none
 made_none text edits plans NotAValue are none = absurd none
-made_none text edits plans NoPlace are none = absurd none
+made_none text edits plans NoPlace are none = none
 made_none text edits plans Overlap are none = (plans, are, none)
 made_none text edits plans Refused are none = (plans, are, none)
 made_none text edits plans Memory are none = none

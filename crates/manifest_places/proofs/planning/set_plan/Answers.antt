@@ -18,4 +18,5 @@ returns-clause-plan c =
       search rules,
       search rules,
       search rules,
+      search rules,
     )

@@ -1,7 +1,7 @@
 use Rattle.std.proofs.Common.{[], ◌∷◌, ap, ◌∙◌}
 use Rattle.std.proofs.lemmas.List.{map-append}
 use Rattle.manifest_places.specs.Paths.{step_of, path_of}
-use Rattle.manifest_places.proofs.planning.removal_at.Goals as goal
+use Rattle.manifest_places.proofs.removing.removal_at.Goals as goal
 
 pub returns-in_ok-made-in-Some : goal.returns-in_ok-made-in-Some
 returns-in_ok-made-in-Some c =

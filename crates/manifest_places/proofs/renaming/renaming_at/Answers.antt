@@ -2,7 +2,7 @@ use Rattle.std.proofs.Common.{◌≡◌, [], ◌∷◌, ◌++◌, string_bytes, 
 use Rattle.std.proofs.lemmas.List.{map-append}
 use Rattle.manifest_places.specs.Paths.{step_of, path_of}
 use Rattle.manifest_places.specs.Changes.{change_at_of, rename}
-use Rattle.manifest_places.proofs.planning.renaming_at.Goals as goal
+use Rattle.manifest_places.proofs.renaming.renaming_at.Goals as goal
 
 pub returns-in_ok-made-in-Key : goal.returns-in_ok-made-in-Key
 returns-in_ok-made-in-Key c =

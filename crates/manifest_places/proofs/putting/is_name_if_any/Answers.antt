@@ -2,7 +2,7 @@ use Rattle.std.proofs.Common.{Some, option_map, sym, ap, ◌∙◌, inr}
 use Rattle.std.proofs.lemmas.List.{map-append}
 use Rattle.manifest_places.specs.Paths.{step_of, path_of}
 use Rattle.manifest_places.specs.Keys.{key_steps}
-use Rattle.manifest_places.proofs.planning.is_name_if_any.Goals as goal
+use Rattle.manifest_places.proofs.putting.is_name_if_any.Goals as goal
 
 pub returns : goal.returns
 returns c good =

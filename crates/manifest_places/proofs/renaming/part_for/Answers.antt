@@ -2,7 +2,7 @@ use Rattle.std.proofs.Common.{◌≡◌, ◌+◌, List, [], ◌∷◌, ◌++◌,
 use Rattle.std.proofs.lemmas.List.{map-append, length-map}
 use Rattle.manifest_places.specs.Paths.{step_of, path_of}
 use Rattle.manifest_places.specs.Keys.{span_of}
-use Rattle.manifest_places.proofs.planning.part_for.Goals as goal
+use Rattle.manifest_places.proofs.renaming.part_for.Goals as goal
 
 first_at : {A B : Type 0} (f : A → B) (ys : List A) (x : A) (more : List A)
     → slice_get (map f (ys ++ x ∷ more)) (length ys) ≡ Some (f x)

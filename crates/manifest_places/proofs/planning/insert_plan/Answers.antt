@@ -1,6 +1,0 @@
-use Rattle.std.proofs.Common.{rules}
-use Rattle.toml.specs.View.{view}
-use Rattle.manifest_places.proofs.planning.insert_plan.Goals as goal
-
-pub returns-clause-plan : goal.returns-clause-plan
-returns-clause-plan c text = (view c.in-Some.read, search rules, search rules, search rules, search rules)
