@@ -18,6 +18,7 @@ from ._error import ManifestError
 from ._faults import Fault, faults, ignored, unused_keys
 from ._places import Span
 from ._positions import Position, positions
+from ._toml import toml_of
 from ._unused import CargoKey, UnusedKey
 
 __version__ = "0.2.0"
@@ -46,5 +47,6 @@ __all__ = [
     "resolved_completed_table",
     "resolved_table",
     "table",
+    "toml_of",
     "unused_keys",
 ]

@@ -26,7 +26,11 @@ class Edit:
     - `path`: the keys and indexes that lead to what it is about, in the text as it was before all edits.
     - `text`: the TOML text of a value, or of a renaming the key; of a removal it is empty.
 
+    `toml_of` gives the TOML text of a value.
+
     >>> Edit.set(("package", "name"), '"b"')
+    Edit(kind='set', path=('package', 'name'), text='"b"')
+    >>> Edit.set(("package", "name"), toml_of("b"))
     Edit(kind='set', path=('package', 'name'), text='"b"')
     """
 
@@ -48,12 +52,14 @@ class Edit:
 
     @classmethod
     def remove(cls, path: Iterable[Step]) -> Edit:
-        """The value at the path taken out, with its key and the rest of its line, or with one comma."""
+        """The value at the path taken out, with its key and the rest of its line, or with one comma. With the last line of an
+        array that has no comma after it goes the comma before it, and with a line between two blank ones one of these."""
         return _edit("remove", path, "")
 
     @classmethod
     def rename(cls, path: Iterable[Step], key: str) -> Edit:
-        """Another key, in the place of the last one of the path. It is passed in as it is, without quotes."""
+        """Another key, in the place of the last one of the path: in each dotted key and each header that goes through it. It is
+        passed in as it is, without quotes."""
         return _edit("rename", path, key)
 
     def __reduce__(self) -> tuple[Any, ...]:

@@ -11,7 +11,7 @@ Step = Union[str, int]
 KeyPath = tuple[Step, ...]
 
 TOP = "(top)"
-_BARE = re.compile(r"[A-Za-z0-9_-]+")
+BARE = re.compile(r"[A-Za-z0-9_-]+")
 _STEP = re.compile(r'\[([0-9]+)\]|\.([A-Za-z0-9_-]+)|\."([^"\\]*(?:\\.[^"\\]*)*)"')
 _ESCAPED = re.compile(r"\\(?:u([0-9A-F]{4})|(.))")
 _TO_ESCAPE = re.compile(r'["\\\x00-\x1f\x7f]')
@@ -48,7 +48,7 @@ def steps_of(text: str) -> KeyPath:
 
 def key_text(key: str) -> str:
     """A key as it stands in a path: between quotes where it is no bare key."""
-    return key if _BARE.fullmatch(key) else f'"{_TO_ESCAPE.sub(_escaped, key)}"'
+    return key if BARE.fullmatch(key) else f'"{_TO_ESCAPE.sub(_escaped, key)}"'
 
 
 def text_of(path: KeyPath) -> str:

@@ -1,12 +1,14 @@
 """Edits of texts: what they make, what they replace, and what is refused."""
 import copy
+import datetime
 import pickle
 import tempfile
+import tomllib
 import unittest
 from pathlib import Path
 from typing import Any
 
-from cargo_manifest import Cause, Edit, ManifestError, Replacement, edited, replacements
+from cargo_manifest import Cause, Edit, ManifestError, Replacement, edited, replacements, toml_of
 
 from .test_refusals import NO_TOML, OfDepthAndLength
 
@@ -37,6 +39,7 @@ EDITS: list[tuple[list[Edit], str, str]] = [
     ([Edit.remove(("package", "authors", 1))], "\"b\", 'é'", '"b"'),
     ([Edit.remove(("dependencies", "c", "optional"))], ", optional = true", ""),
     ([Edit.rename(("dependencies", "d"), "x y")], "d.e", '"x y".e'),
+    ([Edit.rename(("dependencies",), "x")], "[dependencies]", "[x]"),
     ([Edit.rename(("dependencies", "d", "e"), "é")], "d.e", 'd."é"'),
 ]
 
@@ -116,6 +119,29 @@ class Edited(unittest.TestCase):
                 self.assertEqual(edited(like, edits), wanted)
                 self.assertEqual(replacements(like, edits), [Replacement(4, 5, "2")])
             self.assertEqual(file.read_bytes(), text.encode("utf-8"))
+
+
+class Values(unittest.TestCase):
+    def test_each_is_read_as_it_is(self) -> None:
+        zone = datetime.timezone(datetime.timedelta(hours=2))
+        values: list[Any] = [
+            "", "a b", "é\u2028\U0001f600", 'q"\\', "\b\t\n\f\r\x00\x1f\x7f", True, False, 0, -1, 2**63 - 1, 0.5, -1e300, float("inf"),
+            datetime.datetime(2026, 1, 2, 3, 4, 5, 600, zone), datetime.datetime(2026, 1, 2), datetime.date(2026, 1, 2),
+            datetime.time(3, 4), [], [[1], ["a"]], {}, {"a": {"b c": [{"": 1}]}, "é": 2},
+        ]
+        for value in values:
+            with self.subTest(value=value):
+                new = edited("a = 1 # one\n", [Edit.set(("a",), toml_of(value))])
+                said = tomllib.loads(new)["a"]
+                self.assertEqual(said, value)
+                self.assertIs(type(said), type(value))
+                self.assertTrue(new.endswith(" # one\n"))
+        self.assertEqual(toml_of(("a", 1)), '["a", 1]')
+
+    def test_what_is_no_type_of_toml(self) -> None:
+        for value in (None, b"a", {1: 2}, [object()], {"a": None}):
+            with self.subTest(value=value), self.assertRaises(TypeError):
+                toml_of(value)
 
 
 class Refused(unittest.TestCase):
