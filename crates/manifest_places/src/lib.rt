@@ -33,6 +33,7 @@ pub use changes::{Change, ChangeAt, with_change, with_changes};
 pub use compare::same_value;
 pub use edits::{Edit, EditError, Edited, with_edits};
 pub use finding::{Places, Round, places_of};
+pub use findings::{AtItsKey, AtItsPath, LooksAt};
 pub use headers::are_headers;
 pub use keys::{KeyParts, Span, is_key};
 pub use lines::{Position, position_of, positions_of};
