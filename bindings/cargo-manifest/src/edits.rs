@@ -5,7 +5,14 @@ use std::ops::Range;
 
 /// A change of the text of a `Cargo.toml`, or of any other TOML document, at a key path, as [`edited`](crate::edited) makes it.
 ///
-/// A value is given as TOML text, as `"'2021'"` or `"[1, 2]"`, and a key as it is, without quotes.
+/// A value is given as TOML text, as `"'2021'"` or `"[1, 2]"`, or as a [`Value`](crate::Value), and a key as it is, without
+/// quotes.
+///
+/// ```
+/// use cargo_manifest::{Edit, Value};
+///
+/// assert_eq!(Edit::set(["a"], Value::from(vec![1, 2])), Edit::set(["a"], "[1, 2]"));
+/// ```
 #[derive(Clone, Debug, PartialEq, Eq, Hash)]
 #[non_exhaustive]
 pub enum Edit {
@@ -16,9 +23,10 @@ pub enum Edit {
     /// new key stands after the table's own entries, before the comments of the next header; where the table has no header, it
     /// gets one at the end of the text.
     Insert(KeyPath, String),
-    /// Nothing more at the path: the entry goes with the rest of its line, or with one comma.
+    /// Nothing more at the path: the entry goes with the rest of its line, or with one comma. With the last line of an array
+    /// that has no comma after it goes the comma before it, and with a line between two blank ones one of these.
     Remove(KeyPath),
-    /// Another key for what is at the path.
+    /// Another key for what is at the path, in each dotted key and each header that goes through it.
     Rename(KeyPath, String),
 }
 

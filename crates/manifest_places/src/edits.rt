@@ -49,10 +49,10 @@ pub enum EditError {
     NotADocument,
     /// What was given as a value is not one value alone.
     NotAValue,
-    /// Nothing that can be edited is written at the path: nothing is there, or a table or an array that is written by
-    /// headers or by dotted keys; and for an insert no table or array that takes it, or an index that is not the number
-    /// of items; or the paths of a long text would take more than 256 bytes for each of its bytes, as where a long key
-    /// stands above many short lines. No contract says when this comes.
+    /// Nothing that can be edited is written at the path: nothing is there, or, to set or to remove it, a table or an array
+    /// that is written by headers or by dotted keys; and for an insert no table or array that takes it, or an index that is
+    /// not the number of items; or the paths of a long text would take more than 256 bytes for each of its bytes, as where
+    /// a long key stands above many short lines. No contract says when this comes.
     NoPlace,
     /// Two edits touch the same place, or one lies within what another one replaces.
     Overlap,
@@ -89,7 +89,8 @@ impl<T: Drop> From<AllocFailed<T>> for EditError {
 
 /// The text with all of these edits, and the ranges that they replace, which an editor takes; or the reason why they
 /// cannot be made, and then none is made. Paths and indexes are those of the document as it was given. However many edits
-/// there are, it reads the text three times and the new text once: its document, to find the places, and to check them.
+/// there are, it reads the text three times and the new text once: its document, to find the places, and to check them;
+/// and once more where a key is renamed that stands in headers.
 ///
 /// ```ignore
 /// let path = vec![in alloc; Step::Key(String::from_str(alloc, "a")?)]?;

@@ -79,6 +79,23 @@ pub(crate) fn inline(value: &Value, float: Float, out: &mut impl Write) -> fmt::
     }
 }
 
+/// The TOML text of the value in one line, as it stands after a key and `=`.
+impl From<&Value> for String {
+    fn from(value: &Value) -> String {
+        let mut text = String::new();
+        // (writing to a `String` never fails)
+        let _ = inline(value, short, &mut text);
+        text
+    }
+}
+
+/// The TOML text of the value in one line, as it stands after a key and `=`.
+impl From<Value> for String {
+    fn from(value: Value) -> String {
+        String::from(&value)
+    }
+}
+
 fn member(name: &str, value: &Value, float: Float, out: &mut impl Write) -> fmt::Result {
     key(name, out)?;
     out.write_str(" = ")?;
