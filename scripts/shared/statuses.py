@@ -14,7 +14,7 @@ ABOUT = re.compile(r" *-- ([A-Z][A-Z0-9_]*): (.*)")
 # a status, whether the root has one too, and what more of it is a number; or the number of a cause, or of the fault of a folder
 NUMBER = re.compile(
     r"^(?P<of>cause|kind)_number (?P<word>\w+) = (?P<number>\d+)$"
-    r"|(?:IsReport t \(?|t\.status ≡ )(?P<root>at_root is_root )?(?P<status>\d+)\)?(?: \((?P<cause>cause|kind)_number)?"
+    r"|(?:IsReport t \(?|t\.status ≡ |^refusal_status .* = )(?P<root>at_root is_root )?(?P<status>\d+)\)?(?: \((?P<cause>cause|kind)_number)?"
 )
 OF_ROOT = re.compile(r"^at_root is_root status = if is_root then status \+ (\d+) else status$", re.M)
 # the enums of the header that have what more of a status is a number

@@ -2,6 +2,9 @@ pub mod DateLemmas
 pub mod GivenLemmas
 pub mod MadeLemmas
 pub mod PositionLemmas
+pub mod StepLemmas
 pub mod StoredLemmas
 pub mod TextLemmas
+pub mod TreeLemmas
 pub mod UnreadLemmas
+pub mod UnresolvedLemmas

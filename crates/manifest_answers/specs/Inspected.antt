@@ -46,18 +46,18 @@ finding_data (Fault c words) = cause_data 0 (cause_of c) (choices_of words)
 finding_data (Ignored c words) = cause_data 1 (cause_of c) (choices_of words)
 finding_data (Unused k) = pair_data (integer (pos 2)) (string (string_bytes k))
 
--- A NODE: its finding, or by 3 what is found in the value of a step
-abbrev pub node_data_step : FindingNode-F Finding Data → Data
-node_data_step (FindingNode-F.Here f) = finding_data f
-node_data_step (FindingNode-F.Within s inside) =
+-- A NODE: what is found, by the data that it is, or by 3 what is found in the value of a step
+abbrev pub node_data_step : {C : Type 0} → (C → Data) → FindingNode-F C Data → Data
+node_data_step data_of (FindingNode-F.Here c) = data_of c
+node_data_step data_of (FindingNode-F.Within s inside) =
     triple_data (integer (pos 3)) (step_data (step_of s)) (array (items_of inside.items))
 
-abbrev pub node_data : FindingNode Finding → Data
-node_data = fold-FindingNode Finding Data node_data_step
+abbrev pub node_data : {C : Type 0} → (C → Data) → FindingNode C → Data
+node_data {C} data_of = fold-FindingNode C Data (node_data_step data_of)
 
 -- NODES: the array of them, in their order
-abbrev pub nodes_data : List (FindingNode Finding) → Data
-nodes_data nodes = array (items_of (map node_data nodes))
+abbrev pub nodes_data : {C : Type 0} → (C → Data) → List (FindingNode C) → Data
+nodes_data data_of nodes = array (items_of (map (node_data data_of) nodes))
 
 -- the nodes say all that is found in the table of a document, whose metadata is not looked at, and no more
 abbrev pub SayAllFound : Members → List (FindingNode Finding) → Type 0
@@ -68,14 +68,14 @@ SayAllFound document nodes =
 abbrev pub GivesFound : ℕ → Members → Text → Type 0
 GivesFound most document text =
     (nodes : List (FindingNode Finding)) × SayAllFound document nodes
-    × AreWithin most (encoded (nodes_data nodes)) text
+    × AreWithin most (encoded (nodes_data finding_data nodes)) text
 
 -- memory ran out, or the tagged bytes of such nodes are refused as they are made
 abbrev pub RefusesFound : ℕ → Members → Refusals
 RefusesFound most document e =
     IsOutOfMemory e
     ⊎ ((nodes : List (FindingNode Finding)) × SayAllFound document nodes
-    × RefusesTagged most (encoded (nodes_data nodes)) e)
+    × RefusesTagged most (encoded (nodes_data finding_data nodes)) e)
 
 -- THE TEXT says what is found in the table that the bytes are
 abbrev pub GivesFindings : ℕ → List ℕ → Text → Type 0

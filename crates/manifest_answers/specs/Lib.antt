@@ -11,5 +11,7 @@ pub mod Made
 pub mod Unread
 pub mod Inspected
 pub mod Placed
+pub mod Unresolved
+pub mod Unfound
 pub mod Positions
 pub mod Edited

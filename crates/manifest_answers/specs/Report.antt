@@ -96,17 +96,26 @@ abbrev pub ReportsPrinting : Error → Report → Type 0
 ReportsPrinting (fault.Other s) t = IsReport t 7 0 (string_bytes s)
 ReportsPrinting e t = ReportsError false e t
 
--- what cannot be inherited
-abbrev pub TellsUnresolved : Unresolved → Report → Type 0
+-- THE STATUS by which it is reported what cannot be inherited, and the text of that status
+abbrev pub refusal_status : Unresolved → ℕ
 -- NOT_IN_WORKSPACE: the workspace does not have what is inherited; the text is its key, as
 -- `version`, or the name of a dependency, or `lints`
-TellsUnresolved (unresolved.NotInWorkspace s) t = IsReport t 10 0 (string_bytes s)
+refusal_status (unresolved.NotInWorkspace s) = 10
 -- INHERITED_IN_WORKSPACE: the workspace inherits its own dependency; the text is its name
-TellsUnresolved (unresolved.InheritedInWorkspace s) t = IsReport t 11 0 (string_bytes s)
+refusal_status (unresolved.InheritedInWorkspace s) = 11
 -- MIXED_LINTS: lints are inherited, and the manifest has lints of a tool as well
-TellsUnresolved unresolved.MixedLints t = IsReport t 12 0 []
+refusal_status unresolved.MixedLints = 12
 -- TOOL_NAMED_WORKSPACE: lints are inherited, and those of the workspace have a tool `workspace`
-TellsUnresolved unresolved.ToolNamedWorkspace t = IsReport t 13 0 []
+refusal_status unresolved.ToolNamedWorkspace = 13
+
+abbrev pub refusal_name : Unresolved → Text
+refusal_name (unresolved.NotInWorkspace s) = string_bytes s
+refusal_name (unresolved.InheritedInWorkspace s) = string_bytes s
+refusal_name _ = []
+
+-- what cannot be inherited
+abbrev pub TellsUnresolved : Unresolved → Report → Type 0
+TellsUnresolved r t = IsReport t (refusal_status r) 0 (refusal_name r)
 
 -- why it is not resolved: the refusal, without its path
 abbrev pub ReportsResolving : ResolveError → Report → Type 0

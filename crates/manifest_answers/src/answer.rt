@@ -8,6 +8,8 @@ ghost use Rattle.manifest_answers.specs.Made.{Makes, RefusesToMake};
 ghost use Rattle.manifest_answers.specs.Unread.{GivesUnread, RefusesUnread, GivesDocument, RefusesDocument};
 ghost use Rattle.manifest_answers.specs.Inspected.{GivesFindings, RefusesFindings};
 ghost use Rattle.manifest_answers.specs.Placed.{GivesPlacedFindings, RefusesPlacedFindings};
+ghost use Rattle.manifest_answers.specs.Unresolved.{GivesRefusals, RefusesRefusals};
+ghost use Rattle.manifest_answers.specs.Unfound.{GivesUnfound, RefusesUnfound};
 ghost use Rattle.manifest_answers.specs.Positions.{GivesPositions, RefusesPositions};
 ghost use Rattle.manifest_answers.specs.Edited.{wants_replacements, GivesEdited, RefusesToEdit};
 
@@ -20,7 +22,9 @@ use crate::positions::positions;
 use crate::reading::Input;
 use crate::refusal::Refusal;
 use crate::reporting::{Report, report_of, with_text};
+use crate::unfound::placed_unfound_targets;
 use crate::unread::{document_table, unread_table};
+use crate::unresolved::placed_refusals;
 use std::alloc::Global;
 
 /// What a call answers. `docs/LIBRARY.md` has the statuses and the causes.
@@ -242,6 +246,51 @@ pub fn respond_placed_findings(alloc: Global, bytes: &[u8], most: usize, out: &m
 {
     let findings = placed_findings(alloc, bytes, most);
     let report = outcome(alloc, findings);
+    write_answer(&report, out)
+}
+
+/// Answers a call for why a member cannot inherit from the workspace of a root and where in both texts that stands, in the
+/// way of [`respond`].
+///
+/// ```ignore
+/// let member = b"package.name = 'a'\npackage.version.workspace = true";
+/// // `[[[3, 'package', [[3, 'version', [[0, 10, 'version']]]]]], [[[], [19, 34], []]], [[[], [], [0, 11]]]]`
+/// let answer = respond_placed_refusals(alloc, member, b"[workspace]", usize::MAX, &mut out);
+/// ```
+pub fn respond_placed_refusals(
+    alloc: Global,
+    bytes: &[u8],
+    root: &[u8],
+    most: usize,
+    out: &mut [u8],
+) -> Answer
+    ensures { IsAnswered (GivesRefusals most bytes.now root.now)
+        (RefusesRefusals most bytes.now root.now) out.old out.new result }
+{
+    let refusals = placed_refusals(alloc, bytes, root, most);
+    let report = outcome(alloc, refusals);
+    write_answer(&report, out)
+}
+
+/// Answers a call for the declared targets of a manifest without a file in the folders and where in its text they stand, in
+/// the way of [`respond`].
+///
+/// ```ignore
+/// // `[[['lib']], [[[26, 28], [20, 23], []]]]`
+/// let answer = respond_placed_unfound_targets(alloc, b"package.name = 'a'\n\nlib = {}", &[], usize::MAX, &mut out);
+/// ```
+pub fn respond_placed_unfound_targets(
+    alloc: Global,
+    bytes: &[u8],
+    folders: &[Folder<'_>],
+    most: usize,
+    out: &mut [u8],
+) -> Answer
+    ensures { IsAnswered (GivesUnfound most bytes.now folders.now)
+        (RefusesUnfound most bytes.now folders.now) out.old out.new result }
+{
+    let unfound = placed_unfound_targets(alloc, bytes, folders, most);
+    let report = outcome(alloc, unfound);
     write_answer(&report, out)
 }
 

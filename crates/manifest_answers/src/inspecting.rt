@@ -1,6 +1,6 @@
 //! What is found in the table of a document, as tagged bytes.
 
-ghost use Rattle.manifest_schema.specs.Prelude.{view, table_view};
+ghost use Rattle.manifest_schema.specs.Prelude.{Data, view, table_view};
 ghost use Rattle.std.specs.Prelude.{◌≡◌, IfOk, map};
 ghost use Rattle.manifest_bytes.specs.Encoded.{encoded};
 ghost use Rattle.manifest_fault.specs.Faults.{step_of, cause_of};
@@ -57,7 +57,7 @@ pub(crate) fn index_number(index: usize) -> i64
 }
 
 /// A step as a value: a text for a key, a number for an index.
-fn step_value(alloc: Global, step: &Step) -> Result<Value, AllocError>
+pub(crate) fn step_value(alloc: Global, step: &Step) -> Result<Value, AllocError>
     ensures { IfOk result (λ v. view v ≡ step_data (step_of step.now)) }
 {
     match step {
@@ -104,13 +104,29 @@ fn finding_value(alloc: Global, finding: &Finding) -> Result<Value, AllocError>
     }
 }
 
-/// A node as a value: that of its finding, or of the number 3 for what is found in the value that a step leads to.
+/// What is found at a value, which is reported as a value.
+pub(crate) trait Reported {
+    ghost reported: { Self → Data };
+
+    fn reported_value(&self, alloc: Global) -> Result<Value, AllocError>
+        ensures { IfOk result (λ v. view v ≡ reported self.now) };
+}
+
+impl Reported for Finding {
+    ghost reported = { finding_data };
+
+    fn reported_value(&self, alloc: Global) -> Result<Value, AllocError> {
+        finding_value(alloc, self)
+    }
+}
+
+/// A node as a value: that of what is found, or of the number 3 for what is found in the value that a step leads to.
 #[cycle(trees)]
-fn node_value(alloc: Global, node: &FindingNode<Finding>) -> Result<Value, AllocError>
-    ensures { IfOk result (λ v. view v ≡ node_data node.now) }
+fn node_value<C: Reported>(alloc: Global, node: &FindingNode<C>) -> Result<Value, AllocError>
+    ensures { IfOk result (λ v. view v ≡ node_data C.reported node.now) }
 {
     match node {
-        FindingNode::Here(finding) => finding_value(alloc, finding),
+        FindingNode::Here(found) => found.reported_value(alloc),
         FindingNode::Within(step, nodes) => {
             let step = step_value(alloc, step)?;
             let inside = nodes_value(alloc, nodes)?;
@@ -121,11 +137,11 @@ fn node_value(alloc: Global, node: &FindingNode<Finding>) -> Result<Value, Alloc
 
 /// Nodes as a value: the array of them, in their order.
 #[cycle(trees)]
-pub(crate) fn nodes_value(
+pub(crate) fn nodes_value<C: Reported>(
     alloc: Global,
-    nodes: &[FindingNode<Finding>],
+    nodes: &[FindingNode<C>],
 ) -> Result<Value, AllocError>
-    ensures { IfOk result (λ v. view v ≡ nodes_data nodes.now) }
+    ensures { IfOk result (λ v. view v ≡ nodes_data C.reported nodes.now) }
 {
     let mut all = Vec::new(alloc);
     for node in nodes {
@@ -140,7 +156,7 @@ fn bytes_of_nodes(
     nodes: &[FindingNode<Finding>],
     most: usize,
 ) -> Result<Vec<u8>, Refusal>
-    ensures { let tagged = encoded (nodes_data nodes.now) in
+    ensures { let tagged = encoded (nodes_data finding_data nodes.now) in
         IsMade (AreWithin most tagged) (RefusesTagged most tagged) result }
 {
     let value = nodes_value(alloc, nodes)?;

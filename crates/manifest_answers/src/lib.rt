@@ -14,11 +14,14 @@ mod positions;
 mod reading;
 mod refusal;
 mod reporting;
+mod unfound;
 mod unread;
+mod unresolved;
 
 pub use answer::{
     Answer, Asked, Request, respond, respond_document, respond_edited, respond_findings,
-    respond_placed_findings, respond_positions, respond_request, respond_unread,
+    respond_placed_findings, respond_placed_refusals, respond_placed_unfound_targets,
+    respond_positions, respond_request, respond_unread,
 };
 pub use editing::{GivenEdit, GivenStep};
 pub use folders::Folder;

@@ -1,8 +1,12 @@
 //! Where that stands in the text of a document which is found in it, as tagged bytes.
 
 ghost use Rattle.manifest_schema.specs.Prelude.{view, table_view};
-ghost use Rattle.std.specs.Prelude.{◌≡◌, IfOk};
+ghost use Rattle.std.specs.Prelude.{◌≡◌, IfOk, IfSome, map};
+ghost use Rattle.manifest_fault.specs.Faults.{path_of};
+ghost use Rattle.manifest_fault.specs.Placed.{placed_among};
 ghost use Rattle.manifest_fault.specs.Found.{found_among};
+ghost use Rattle.manifest_places.specs.Finding.{AreFound};
+ghost use Rattle.manifest_places.specs.Findings.{paths_by, finding_paths};
 ghost use Rattle.manifest_answers.specs.Made.{IsMade};
 ghost use Rattle.manifest_answers.specs.Placed.{range_data, located_data, places_data, AreFoundIn, GivesPlaced, RefusesPlaced, GivesPlacedFound, RefusesPlacedFound, GivesPlacedFindings, RefusesPlacedFindings};
 
@@ -11,8 +15,8 @@ use crate::making::tagged_bytes;
 use crate::positions::text_of;
 use crate::reading::document;
 use crate::refusal::Refusal;
-use cargo_manifest::{Finding, FindingNode, Unread, Value, inspect_with_metadata};
-use manifest_places::{Located, Span, places_of};
+use cargo_manifest::{Finding, FindingNode, KeyPath, Unread, Value, inspect_with_metadata};
+use manifest_places::{AtItsKey, Located, LooksAt, Places, Span, places_of};
 use manifest_written::Written;
 use std::alloc::{AllocError, Global};
 use toml::Table;
@@ -41,8 +45,8 @@ fn located_value(alloc: Global, located: Located) -> Result<Value, AllocError>
     triple(alloc, value, key, header)
 }
 
-/// Where the findings stand, as a value: the array with one for each, in their order.
-fn places_value(alloc: Global, all: &[Located]) -> Result<Value, AllocError>
+/// Where some things stand, as a value: the array with one for each, in their order.
+pub(crate) fn places_value(alloc: Global, all: &[Located]) -> Result<Value, AllocError>
     ensures { IfOk result (λ v. view v ≡ places_data all.now) }
 {
     let mut values = Vec::new(alloc);
@@ -52,25 +56,66 @@ fn places_value(alloc: Global, all: &[Located]) -> Result<Value, AllocError>
     Ok(Value::Array(values))
 }
 
-/// Where the findings stand in the text, one for each in their order; or none at all, where nothing is found or the
-/// places of the text are not.
-fn located(
+/// The places of the text that the bytes are, where they are found.
+fn places_in(alloc: Global, bytes: &[u8]) -> Result<Option<Places>, AllocError>
+    ensures { IfOk result (λ found. IfSome found (AreFound bytes.now)) }
+{
+    let Ok(text) = text_of(bytes) else {
+        return Ok(None);
+    };
+    let found = places_of(alloc, text)?;
+    Ok(found)
+}
+
+/// Where in the text that stands which the nodes say, one for each in their order, at the path at which `L` looks for it; or
+/// none at all, where they say nothing or the places of the text are not found.
+pub(crate) fn located<C, L: LooksAt<C>>(
+    alloc: Global,
+    bytes: &[u8],
+    nodes: &[FindingNode<C>],
+) -> Result<Vec<Located>, AllocError>
+    ensures { IfOk result
+        (λ all. AreFoundIn bytes.now (paths_by L.leads (placed_among nodes.now)) all.items) }
+{
+    if nodes.is_empty() {
+        return Ok(Vec::new(alloc));
+    }
+    let Some(places) = places_in(alloc, bytes)? else {
+        return Ok(Vec::new(alloc));
+    };
+    let all = places.locate_by::<C, L>(alloc, nodes)?;
+    Ok(all)
+}
+
+/// Where in the text that stands which belongs to the paths, one for each in their order; or none at all, where there are
+/// none or the places of the text are not found.
+pub(crate) fn located_paths(
+    alloc: Global,
+    bytes: &[u8],
+    paths: &[KeyPath],
+) -> Result<Vec<Located>, AllocError>
+    ensures { IfOk result (λ all. AreFoundIn bytes.now (map path_of paths.now) all.items) }
+{
+    if paths.is_empty() {
+        return Ok(Vec::new(alloc));
+    }
+    let Some(places) = places_in(alloc, bytes)? else {
+        return Ok(Vec::new(alloc));
+    };
+    let all = places.locate_paths(alloc, paths)?;
+    Ok(all)
+}
+
+/// Where in the text the findings of the schema stand that the nodes say.
+fn located_findings(
     alloc: Global,
     bytes: &[u8],
     nodes: &[FindingNode<Finding>],
 ) -> Result<Vec<Located>, AllocError>
-    ensures { IfOk result (λ all. AreFoundIn bytes.now (found_among nodes.now) all.items) }
+    ensures { IfOk result
+        (λ all. AreFoundIn bytes.now (finding_paths (found_among nodes.now)) all.items) }
 {
-    let Ok(text) = text_of(bytes) else {
-        return Ok(Vec::new(alloc));
-    };
-    if nodes.is_empty() {
-        return Ok(Vec::new(alloc));
-    }
-    let Some(places) = places_of(alloc, text)? else {
-        return Ok(Vec::new(alloc));
-    };
-    let all = places.locate_findings(alloc, nodes)?;
+    let all = located::<Finding, AtItsKey>(alloc, bytes, nodes)?;
     Ok(all)
 }
 
@@ -84,7 +129,7 @@ fn bytes_of_placed(
     ensures { IsMade (GivesPlaced most bytes.now nodes.now)
         (RefusesPlaced most bytes.now nodes.now) result }
 {
-    let all = located(alloc, bytes, nodes)?;
+    let all = located_findings(alloc, bytes, nodes)?;
     let places = places_value(alloc, all.as_slice())?;
     let tree = nodes_value(alloc, nodes)?;
     let value = pair(alloc, tree, places)?;

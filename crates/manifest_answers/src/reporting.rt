@@ -4,7 +4,7 @@
 ghost use Rattle.std.specs.Prelude.{◌≡◌, ◌≤◌, ◌⊎◌, IsUtf8, string_bytes};
 ghost use Rattle.std.specs.IoError.{error_kind};
 ghost use Rattle.manifest_fault.specs.Faults.{cause_of};
-ghost use Rattle.manifest_answers.specs.Report.{cause_number, kind_number, at_root, IsReport, ReportsMemory, ReportsToml, ReportsSchema, ReportsError, ReportsInput, TellsUnresolved, ReportsResolving, ReportsFinishing, ReportsPrinting, ReportsEdits, Reports};
+ghost use Rattle.manifest_answers.specs.Report.{cause_number, kind_number, at_root, IsReport, ReportsMemory, ReportsToml, ReportsSchema, ReportsError, ReportsInput, refusal_status, refusal_name, TellsUnresolved, ReportsResolving, ReportsFinishing, ReportsPrinting, ReportsEdits, Reports};
 
 use crate::refusal::{InputError, Refusal};
 use cargo_manifest::{Cause, Error, ParseFault, SchemaFault};
@@ -158,16 +158,41 @@ fn tell_input(alloc: Global, error: InputError, is_root: bool) -> Report
     }
 }
 
+/// The status by which it is reported what cannot be inherited: 10 to 13.
+pub(crate) fn refusal_status(refusal: &Unresolved) -> u8
+    ensures { result ≡ refusal_status refusal.now }
+{
+    match refusal {
+        Unresolved::NotInWorkspace(_) => 10,
+        Unresolved::InheritedInWorkspace(_) => 11,
+        Unresolved::MixedLints => 12,
+        Unresolved::ToolNamedWorkspace => 13,
+    }
+}
+
+/// The key or the name of what cannot be inherited, where the refusal has one; else nothing.
+pub(crate) fn refusal_name(refusal: &Unresolved) -> &str
+    ensures { result.now ≡ refusal_name refusal.now }
+{
+    match refusal {
+        Unresolved::NotInWorkspace(key) => key.as_str(),
+        Unresolved::InheritedInWorkspace(name) => name.as_str(),
+        Unresolved::MixedLints => "",
+        Unresolved::ToolNamedWorkspace => "",
+    }
+}
+
 /// The report of what cannot be inherited: status 10 to 13; the text is the key or the name, where the refusal has one.
 fn tell_unresolved(alloc: Global, refusal: Unresolved) -> Report
     ensures report { ReportsMemory result ⊎ TellsUnresolved refusal result }
     ensures utf8 { IsUtf8 result.text.items }
 {
+    let status = refusal_status(&refusal);
     match refusal {
-        Unresolved::NotInWorkspace(key) => with_string(10, 0, key),
-        Unresolved::InheritedInWorkspace(name) => with_string(11, 0, name),
-        Unresolved::MixedLints => with_text(12, 0, Vec::new(alloc)),
-        Unresolved::ToolNamedWorkspace => with_text(13, 0, Vec::new(alloc)),
+        Unresolved::NotInWorkspace(key) => with_string(status, 0, key),
+        Unresolved::InheritedInWorkspace(name) => with_string(status, 0, name),
+        Unresolved::MixedLints => with_text(status, 0, Vec::new(alloc)),
+        Unresolved::ToolNamedWorkspace => with_text(status, 0, Vec::new(alloc)),
     }
 }
 

@@ -12,12 +12,15 @@ ghost use Rattle.manifest_answers.specs.Requested.{AnswersRequest};
 ghost use Rattle.manifest_answers.specs.Unread.{GivesUnread, RefusesUnread, GivesDocument, RefusesDocument};
 ghost use Rattle.manifest_answers.specs.Inspected.{GivesFindings, RefusesFindings};
 ghost use Rattle.manifest_answers.specs.Placed.{GivesPlacedFindings, RefusesPlacedFindings};
+ghost use Rattle.manifest_answers.specs.Unresolved.{GivesRefusals, RefusesRefusals};
+ghost use Rattle.manifest_answers.specs.Unfound.{GivesUnfound, RefusesUnfound};
 ghost use Rattle.manifest_answers.specs.Positions.{GivesPositions, RefusesPositions};
 ghost use Rattle.manifest_answers.specs.Edited.{wants_replacements, GivesEdited, RefusesToEdit};
 
 use manifest_answers::{
-    Answer, GivenEdit, Request, respond_document, respond_edited, respond_findings,
-    respond_placed_findings, respond_positions, respond_request, respond_unread,
+    Answer, Folder, GivenEdit, Request, respond_document, respond_edited, respond_findings,
+    respond_placed_findings, respond_placed_refusals, respond_placed_unfound_targets,
+    respond_positions, respond_request, respond_unread,
 };
 use std::alloc::Global;
 
@@ -122,6 +125,62 @@ pub extern "C" fn manifest_placed_findings(
         (RefusesPlacedFindings most bytes.now) out.old out.new result }
 {
     respond_placed_findings(alloc, bytes, most, out)
+}
+
+/// Reads the bytes of a member's and of a root's `Cargo.toml`, and writes all reasons why the member cannot inherit from the
+/// root's workspace, and where in the bytes that stands: the tagged bytes of an array of three. The first is the tree of the
+/// refusals, as [`manifest_findings`] writes one: each is 0, the status by which [`manifest_run`] refuses it, and the text of
+/// that status. The second has for each refusal, in their order, the ranges in the member of its value, of its key and of its
+/// header; the third those in the root of what is asked for there, as `workspace.package.version`, or of the table in which
+/// it is missing. (Each of these two is empty where nothing is refused, and where the places of its text are not found.)
+///
+/// Refuses as [`manifest_run`] does, with a root, what is not read and a root without a workspace; and tagged bytes that are
+/// more than `most`.
+///
+/// ```ignore
+/// let member = b"package.name = 'a'\npackage.version.workspace = true";
+/// // `[[[3, 'package', [[3, 'version', [[0, 10, 'version']]]]]], [[[], [19, 34], []]], [[[], [], [0, 11]]]]`
+/// let answer = manifest_placed_refusals(alloc, member, b"[workspace]", usize::MAX, &mut out);
+/// ```
+#[unsafe(no_mangle)]
+pub extern "C" fn manifest_placed_refusals(
+    alloc: Global,
+    bytes: &[u8],
+    root: &[u8],
+    most: usize,
+    out: &mut [u8],
+) -> Answer
+    ensures { IsAnswered (GivesRefusals most bytes.now root.now)
+        (RefusesRefusals most bytes.now root.now) out.old out.new result }
+{
+    respond_placed_refusals(alloc, bytes, root, most, out)
+}
+
+/// Reads the bytes of a `Cargo.toml`, and writes which of its declared targets have no file in the folders, and where in the
+/// bytes they stand: the tagged bytes of an array of two. The first has the path of each, an array of its steps: a library
+/// for which [`manifest_run`] refuses to complete the manifest, and then each binary, example, test or bench that it leaves
+/// without a path. The second has for each, in their order, the ranges of its value, of its key and of its header; it is empty
+/// where nothing is unfound, and where the places of the text are not found.
+///
+/// Refuses as [`manifest_run`] does, with folders, folders that are no listings, what is not read and the fault of a folder;
+/// and tagged bytes that are more than `most`.
+///
+/// ```ignore
+/// // `[[['lib']], [[[26, 28], [20, 23], []]]]`
+/// let answer = manifest_placed_unfound_targets(alloc, b"package.name = 'a'\n\nlib = {}", &[], usize::MAX, &mut out);
+/// ```
+#[unsafe(no_mangle)]
+pub extern "C" fn manifest_placed_unfound_targets(
+    alloc: Global,
+    bytes: &[u8],
+    folders: &[Folder<'_>],
+    most: usize,
+    out: &mut [u8],
+) -> Answer
+    ensures { IsAnswered (GivesUnfound most bytes.now folders.now)
+        (RefusesUnfound most bytes.now folders.now) out.old out.new result }
+{
+    respond_placed_unfound_targets(alloc, bytes, folders, most, out)
 }
 
 /// Writes of each offset in a text, which ascend, its line, from 1 on, and how many bytes, characters and units of UTF-16
