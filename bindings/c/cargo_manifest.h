@@ -333,6 +333,36 @@ struct manifest_answer manifest_findings(const uint8_t *bytes, size_t bytes_leng
 struct manifest_answer manifest_placed_findings(const uint8_t *bytes, size_t bytes_length, size_t most, uint8_t *out,
                                                 size_t out_length);
 
+/* Why the member that the bytes are cannot inherit from the workspace of the root: every reason, and not the first one alone,
+   with its place in both texts. The status is MANIFEST_ACCEPTED whatever is refused: the refusals are what was asked for, and
+   where there are none, manifest_run resolves the member. Refused is what manifest_run refuses with a root: a member or a root
+   that is no manifest, and a root without a workspace. It is a tagged array of three:
+
+      the refusals   parts, as of manifest_findings. Each refusal is an array of three: MANIFEST_FOUND_FAULT, the status with
+                     which manifest_run refuses it, MANIFEST_NOT_IN_WORKSPACE to MANIFEST_TOOL_NAMED_WORKSPACE, and the text of
+                     that status
+      in the member  for each refusal, in their order, the three ranges of what inherits, as manifest_placed_findings has them
+      in the root    for each the three ranges of what it asks for there: `workspace.package.version` for `package.version`,
+                     `workspace.dependencies.serde` for a dependency `serde` in any map, `workspace.lints` for lints, and the
+                     tool `workspace` of these. Of what is missing they are those of the table in which it belongs
+
+   The second and the third are empty where nothing is refused, and each where the places of its text are not found. Under an old
+   header, or by a second spelling, as `dev_dependencies`, what inherits does not stand at the path of its refusal: then its
+   ranges are those of the table in which that would belong. That each place is right is proved. */
+struct manifest_answer manifest_placed_refusals(const uint8_t *bytes, size_t bytes_length, const uint8_t *root, size_t root_length,
+                                                size_t most, uint8_t *out, size_t out_length);
+
+/* Which declared targets of the manifest that the bytes are have no file in the folders, with their places in the text: the
+   library, where manifest_run refuses to complete the manifest for it, and each binary, example, test or bench that it leaves
+   without a path. (A path that is declared is not looked up.) Refused is what manifest_run refuses with folders: folders that
+   are no listings, bytes that are no manifest, and a fault of a folder. It is a tagged array of two: an array of the paths, each
+   an array of its steps, a text for a key or a number for an index, as `[["lib"], ["bin", 1]]`; and an array that has for each of
+   them, in their order, the three ranges as manifest_placed_findings has them. The second is empty where nothing is unfound, and
+   where the places of the text are not found. */
+struct manifest_answer manifest_placed_unfound_targets(const uint8_t *bytes, size_t bytes_length,
+                                                       const struct manifest_folder *folders, size_t folders_length,
+                                                       size_t most, uint8_t *out, size_t out_length);
+
 /* The lines and the columns of offsets in a UTF-8 text, which ascend and of which none is over its end: a tagged array that has
    for each offset an array of four numbers: its line, from 1 on, and how many bytes, characters and units of UTF-16 stand before
    it in that line. A line ends after a line feed, and nowhere else. It is one pass over the text, however many offsets there are. */

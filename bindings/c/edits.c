@@ -1,4 +1,5 @@
-/* Edits, places and positions, called as a program in C does; each answer is compared with the one that is written here. */
+/* Edits, places, refusals, unfound targets and positions, called as a program in C does; each answer is compared with the one
+   that is written here. */
 #include "cargo_manifest.h"
 
 #include <stdio.h>
@@ -17,6 +18,7 @@
 
 #define MANIFEST "[package]\nname = 'a' # its name\n\n# what it needs\n[dependencies]\nlog = '0.4'\n"
 #define CUT "a\xc3"
+#define BYTES(text) text, sizeof(text) - 1
 
 /* A text, edits of it, and the text that they make or the status with which they are refused. */
 static const struct edits {
@@ -45,6 +47,36 @@ static const struct edits {
     {"\xff", EDITS(REMOVE(KEY("a"))), MANIFEST_NOT_UTF8, ""},
 };
 
+#define MEMBER "package.name = 'a'\npackage.version.workspace = true"
+#define NEEDS "[package]\nname = 'a'\n[dependencies]\nb.workspace = true\n"
+#define LINTS "[package]\nname = 'a'\n[lints]\nworkspace = true\n"
+
+/* A member, a root, and the bytes of the refusals or the status. */
+static const struct refusals {
+    const char *member;
+    const char *root;
+    int status;
+    const char *wanted;
+    size_t length;
+} REFUSALS_OF[] = {
+    /* [[3, 'package', [[3, 'version', [[0, 10, 'version']]]]]], [[[], [19, 34], []]], [[[], [], [0, 11]]] */
+    {MEMBER, "[workspace]", 0,
+     BYTES("\7\3\7\1\7\3\2\3\1\7package\7\1\7\3\2\3\1\7version\7\1\7\3\2\0\2\12\1\7version"
+           "\7\1\7\3\7\0\7\2\2\23\2\42\7\0" "\7\1\7\3\7\0\7\0\7\2\2\0\2\13")},
+    /* [[3, 'dependencies', [[3, 'b', [[0, 11, 'b']]]]]], [[[], [36, 37], [21, 35]]], [[[], [25, 26], [0, 24]]] */
+    {NEEDS, "[workspace.dependencies]\nb.workspace = true\n", 0,
+     BYTES("\7\3\7\1\7\3\2\3\1\14dependencies\7\1\7\3\2\3\1\1b\7\1\7\3\2\0\2\13\1\1b"
+           "\7\1\7\3\7\0\7\2\2\44\2\45\7\2\2\25\2\43" "\7\1\7\3\7\0\7\2\2\31\2\32\7\2\2\0\2\30")},
+    /* [[3, 'lints', [[0, 13, '']]]], [[[], [], [21, 28]]], [[[], [], [0, 27]]] */
+    {LINTS, "[workspace.lints.workspace]\n", 0,
+     BYTES("\7\3\7\1\7\3\2\3\1\5lints\7\1\7\3\2\0\2\15\1\0"
+           "\7\1\7\3\7\0\7\0\7\2\2\25\2\34" "\7\1\7\3\7\0\7\0\7\2\2\0\2\33")},
+    {MEMBER, "workspace.package.version = '1.0.0'", 0, BYTES("\7\3\7\0\7\0\7\0")},
+    {"[package]", "[workspace]", MANIFEST_SCHEMA, BYTES("package.name")},
+    {MEMBER, "\xff", MANIFEST_ROOT_NOT_UTF8, BYTES("")},
+    {MEMBER, "[package]\nname = 'b'\n", MANIFEST_NO_WORKSPACE, BYTES("")},
+};
+
 static int passed, failed;
 
 static void count(int is_right, const char *what, size_t number)
@@ -63,6 +95,20 @@ static int is_answer(struct manifest_answer answer, const uint8_t *out, int stat
     if (answer.status != status || answer.cause != 0)
         return 0;
     return !wanted || (answer.length == length && !memcmp(out, wanted, length));
+}
+
+/* The refusals of each row, which may have a cause. */
+static void try_refusals(void)
+{
+    uint8_t out[256];
+    for (size_t i = 0; i < sizeof REFUSALS_OF / sizeof *REFUSALS_OF; i++) {
+        const struct refusals *row = &REFUSALS_OF[i];
+        struct manifest_answer answer = manifest_placed_refusals((const uint8_t *)row->member, strlen(row->member),
+                                                                 (const uint8_t *)row->root, strlen(row->root), SIZE_MAX,
+                                                                 out, sizeof out);
+        answer.cause = 0;
+        count(is_answer(answer, out, row->status, row->wanted, row->length), "refusals", i + 1);
+    }
 }
 
 #define HAS(answer, text) is_answer(answer, out, MANIFEST_ACCEPTED, text, sizeof(text) - 1)
@@ -89,6 +135,21 @@ int main(void)
               "\7\2\7\1\7\3\2\3\1\4name\7\1\7\2\2\0\2\1\7\1\7\3\7\2\2\7\2\10\7\2\2\0\2\4\7\0"), "placed", 1);
     count(HAS(manifest_placed_findings((const uint8_t *)"name = 'a'", 10, SIZE_MAX, out, sizeof out), "\7\2\7\0\7\0"),
           "placed", 2);
+
+    try_refusals();
+
+    const uint8_t *library = (const uint8_t *)"package.name = 'a'\n\nlib = {}";
+    const struct manifest_bytes names[] = {TEXT("lib.rs")};
+    const struct manifest_folder sources[] = {{TEXT("src"), {names, 1}, MANIFEST_NO_FAULT}};
+    const struct manifest_folder faulty[] = {{TEXT("src"), {NULL, 0}, MANIFEST_OTHER_FAULT}};
+    /* [[['lib']], [[[26, 28], [20, 23], []]]] */
+    count(HAS(manifest_placed_unfound_targets(library, 28, NULL, 0, SIZE_MAX, out, sizeof out),
+              "\7\2\7\1\7\1\1\3lib\7\1\7\3\7\2\2\32\2\34\7\2\2\24\2\27\7\0"), "unfound", 1);
+    count(HAS(manifest_placed_unfound_targets(library, 28, sources, 1, SIZE_MAX, out, sizeof out), "\7\2\7\0\7\0"),
+          "unfound", 2);
+    count(manifest_placed_unfound_targets(library, 28, faulty, 1, SIZE_MAX, out, sizeof out).status == MANIFEST_IO,
+          "unfound", 3);
+    count(manifest_placed_unfound_targets(library, 28, NULL, 0, 8, out, sizeof out).status == MANIFEST_TOO_LONG, "unfound", 4);
 
     const size_t offsets[] = {4, 6, 9};
     const uint8_t *lines = (const uint8_t *)"a = 1\n\xc3\xa9 = 2";
