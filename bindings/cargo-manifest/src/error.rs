@@ -241,7 +241,7 @@ pub(crate) fn refused_table(refusal: Refusal) -> Error {
 }
 
 /// Why a manifest cannot inherit from its workspace.
-fn sentence(refusal: &Refusal) -> String {
+pub(crate) fn sentence(refusal: &Refusal) -> String {
     match refusal {
         Refusal::NoWorkspace => "the manifest of the workspace's root has no table `workspace`".into(),
         Refusal::NotInWorkspace(key) => format!("`{key}` is inherited from the workspace, which does not define it"),

@@ -214,13 +214,16 @@ pub mod from_cargo_manifest {}
 mod readme {}
 
 pub use badge::{Badge, Badges, Maintenance, MaintenanceStatus};
-pub use calls::{edited, positions, replacements, Cause};
+pub use calls::{edited, positions, refusals, replacements, unfound_targets, Cause};
 pub use codec::Step;
 pub use dependency::{Dependency, DependencyDetail, InheritedDependencyDetail, Target};
 pub use edits::{Edit, Position, Replacement};
 pub use error::{Error, ParseError};
 pub use filesystem::{AbstractFilesystem, Filesystem};
-pub use found::{faults, ignored, unused_keys, CargoKey, CargoSupport, Fault, Finding, KeyPath, Place, UnusedKey};
+pub use found::{
+    faults, ignored, unused_keys, CargoKey, CargoSupport, Fault, Finding, KeyPath, Place, UnfoundTarget, Unresolved,
+    UnresolvedCause, UnusedKey,
+};
 pub use inherited::{MaybeInherited, True};
 pub use lint::{Lint, LintConfig, LintLevel, MaybeInheritedLintsSet};
 pub use manifest::Manifest;

@@ -7,7 +7,7 @@ use super::editing::{positions_of, replacements_of};
 use super::listings::Listings;
 use super::refusal::Refusal;
 use super::value_of;
-use crate::found::{findings_of, Finding};
+use crate::found::{findings_of, refusals_of, unfound_of, Finding, UnfoundTarget, Unresolved};
 use crate::value::Value;
 use crate::{Edit, Position, Replacement};
 
@@ -72,6 +72,16 @@ impl AtMost {
     /// [`findings`](super::findings) in at most this many tagged bytes.
     pub fn findings(self, bytes: &[u8]) -> Result<Vec<Finding>, Refusal> {
         of_text(manifest_placed_findings, bytes, self.0).map(findings_of)
+    }
+
+    /// [`refusals`](super::refusals) in at most this many tagged bytes.
+    pub fn refusals(self, member: &[u8], root: &[u8]) -> Result<Vec<Unresolved>, Refusal> {
+        declared::refusals(member, root, self.0).map(refusals_of)
+    }
+
+    /// [`unfound_targets`](super::unfound_targets) in at most this many tagged bytes.
+    pub fn unfound_targets(self, bytes: &[u8], listings: &Listings) -> Result<Vec<UnfoundTarget>, Refusal> {
+        declared::unfound_targets(bytes, listings, self.0).map(unfound_of)
     }
 
     /// [`edited`](super::edited) in at most this many bytes.

@@ -57,6 +57,24 @@ impl Request {
 extern "C" {
     fn manifest_version() -> u32;
     pub(crate) fn manifest_run(request: Request, out: *mut u8, out_length: usize) -> Answer;
+    fn manifest_placed_refusals(
+        bytes: *const u8,
+        bytes_length: usize,
+        root: *const u8,
+        root_length: usize,
+        most: usize,
+        out: *mut u8,
+        out_length: usize,
+    ) -> Answer;
+    fn manifest_placed_unfound_targets(
+        bytes: *const u8,
+        bytes_length: usize,
+        folders: *const Folder,
+        folders_length: usize,
+        most: usize,
+        out: *mut u8,
+        out_length: usize,
+    ) -> Answer;
     fn manifest_positions(
         bytes: *const u8,
         bytes_length: usize,
@@ -146,10 +164,6 @@ fn refused(answer: Answer, text: Vec<u8>) -> Refusal {
         numbers::MEMORY => Refusal::Memory,
         numbers::DATE => Refusal::Date(text_of(text)),
         numbers::NO_WORKSPACE => Refusal::NoWorkspace,
-        numbers::NOT_IN_WORKSPACE => Refusal::NotInWorkspace(text_of(text)),
-        numbers::INHERITED_IN_WORKSPACE => Refusal::InheritedInWorkspace(text_of(text)),
-        numbers::MIXED_LINTS => Refusal::MixedLints,
-        numbers::TOOL_NAMED_WORKSPACE => Refusal::ToolNamedWorkspace,
         numbers::UNTAGGED | numbers::ROOT_UNTAGGED => Refusal::Untagged(part),
         numbers::TOO_DEEP | numbers::ROOT_TOO_DEEP => Refusal::TooDeep(part),
         numbers::TOO_LONG => Refusal::TooLong,
@@ -158,7 +172,20 @@ fn refused(answer: Answer, text: Vec<u8>) -> Refusal {
         numbers::OVERLAP => Refusal::Overlap,
         numbers::NOT_EDITED => Refusal::NotEdited,
         numbers::OFFSETS => Refusal::Offsets,
-        _ => is_broken(),
+        status => Refusal::of_inheriting(status, text_of(text)).unwrap_or_else(|| is_broken()),
+    }
+}
+
+impl Refusal {
+    /// The refusal to inherit something, of the status with which it is reported, with the text of that.
+    pub(crate) fn of_inheriting(status: u8, text: String) -> Option<Refusal> {
+        match status {
+            numbers::NOT_IN_WORKSPACE => Some(Refusal::NotInWorkspace(text)),
+            numbers::INHERITED_IN_WORKSPACE => Some(Refusal::InheritedInWorkspace(text)),
+            numbers::MIXED_LINTS => Some(Refusal::MixedLints),
+            numbers::TOOL_NAMED_WORKSPACE => Some(Refusal::ToolNamedWorkspace),
+            _ => None,
+        }
     }
 }
 
@@ -277,6 +304,26 @@ pub(crate) fn of_text(call: OnSlice, bytes: &[u8], most: usize) -> Result<Vec<u8
     bytes_of(room_for(bytes.len(), 0).min(most), |out, room| {
         // SAFETY: both pointers are of slices that live through the call and do not overlap, with their lengths.
         unsafe { call(bytes.as_ptr(), bytes.len(), most, out, room) }
+    })
+}
+
+/// The refusals of a member over the workspace of a root, in at most this many tagged bytes.
+pub(crate) fn refusals(member: &[u8], root: &[u8], most: usize) -> Result<Vec<u8>, Refusal> {
+    bytes_of(room_for(member.len(), 0).min(most), |out, room| {
+        let (at, length) = (root.as_ptr(), root.len());
+        // SAFETY: the three pointers are of slices that live through the call, of which `out` overlaps none, with their lengths.
+        unsafe { manifest_placed_refusals(member.as_ptr(), member.len(), at, length, most, out, room) }
+    })
+}
+
+/// The unfound targets of a manifest over listings, in at most this many tagged bytes.
+pub(crate) fn unfound_targets(bytes: &[u8], listings: &Listings, most: usize) -> Result<Vec<u8>, Refusal> {
+    with_folders(listings, |folders| {
+        bytes_of(room_for(bytes.len(), 0).min(most), |out, room| {
+            let (at, length) = (folders.as_ptr(), folders.len());
+            // SAFETY: as in `refusals`; so are the slices that the folders hold.
+            unsafe { manifest_placed_unfound_targets(bytes.as_ptr(), bytes.len(), at, length, most, out, room) }
+        })
     })
 }
 

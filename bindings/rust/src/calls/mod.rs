@@ -30,7 +30,7 @@ pub(crate) mod tables;
 #[allow(unsafe_code)] // (one call is made with less memory than its text takes)
 mod tests;
 
-use crate::found::Finding;
+use crate::found::{Finding, UnfoundTarget, Unresolved};
 use crate::value::{decoded, Value};
 use crate::{Edit, Position, Replacement};
 pub use at_most::AtMost;
@@ -122,6 +122,54 @@ pub fn resolved_completed_table(bytes: &[u8], root: &[u8], listings: &Listings) 
 /// ```
 pub fn findings(bytes: &[u8]) -> Result<Vec<Finding>, Refusal> {
     AtMost(ANY).findings(bytes)
+}
+
+/// All that a member cannot inherit from the workspace of a root, and why, with its places in both texts. There is none exactly
+/// where [`resolved`] puts in what the member inherits, and else the first one is that with which it refuses (but that a bound may
+/// refuse it before).
+///
+/// They stand in this order: the fields of the package, `dependencies`, `dev-dependencies` and `build-dependencies`, the same three of
+/// each platform, and `lints`. Under an old header, or by a second spelling, as `dev_dependencies`, what inherits does not stand at
+/// the path of its refusal: its place is that of the table in which it would belong.
+///
+/// An error is a member or a root that is no manifest, and [`Refusal::NoWorkspace`].
+///
+/// ```
+/// use cargo_manifest::{refusals, UnresolvedCause};
+///
+/// let member = "[package]\nname = 'a'\nversion.workspace = true\n[dependencies]\nlog = { workspace = true }\n";
+/// let root = "[workspace.dependencies]\nlog.workspace = true\n";
+/// let found = refusals(member.as_bytes(), root.as_bytes())?;
+/// assert_eq!(found[0].cause, UnresolvedCause::NotInWorkspace("version".into()));
+/// assert_eq!(found[0].line_column(member.as_bytes()), Some((3, 1)));
+/// assert_eq!(found[1].cause, UnresolvedCause::InheritedInWorkspace("log".into()));
+/// assert_eq!(found[1].span().map(|span| &member[span]), Some("{ workspace = true }"));
+/// assert_eq!(found[1].root_line_column(root.as_bytes()), Some((2, 1)));
+/// # Ok::<(), cargo_manifest::calls::Refusal>(())
+/// ```
+pub fn refusals(member: &[u8], root: &[u8]) -> Result<Vec<Unresolved>, Refusal> {
+    AtMost(ANY).refusals(member, root)
+}
+
+/// The declared targets of the manifest that the bytes are for which there is no file in the listings, with their places in the
+/// text: the library, where [`completed`] refuses the manifest for it, and each binary, example, test or bench that it leaves
+/// without a path. The library is first, and then each list is in its order. A path that is declared is not looked up.
+///
+/// An error is what is no manifest, and a listing whose error refuses a completion; that of `.` does not.
+///
+/// ```
+/// use cargo_manifest::{calls::Listings, unfound_targets};
+///
+/// let text = "[package]\nname = 'a'\nedition = '2021'\n[[bin]]\nname = 'b'\n[[bin]]\nname = 'c'\n";
+/// let mut listings = Listings::new();
+/// listings.put("src/bin", ["b.rs"]);
+/// let unfound = unfound_targets(text.as_bytes(), &listings)?;
+/// assert_eq!((unfound.len(), unfound[0].path.to_string().as_str()), (1, "bin[1]"));
+/// assert_eq!(unfound[0].line_column(text.as_bytes()), Some((6, 1)));
+/// # Ok::<(), cargo_manifest::calls::Refusal>(())
+/// ```
+pub fn unfound_targets(bytes: &[u8], listings: &Listings) -> Result<Vec<UnfoundTarget>, Refusal> {
+    AtMost(ANY).unfound_targets(bytes, listings)
 }
 
 /// The text with all of these edits, in which nothing else is changed: comments, order and layout stay. It is the text of the

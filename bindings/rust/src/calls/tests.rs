@@ -5,7 +5,8 @@ use super::editing::{GivenEdit, GivenStep};
 use super::folders::{Folder, Slice};
 use super::heap::refusals::{blocks, with_refused};
 use super::{
-    canonical, findings, resolved_completed, resolved_completed_table, table, ListingError, Listings, Refusal,
+    canonical, findings, refusals, resolved_completed, resolved_completed_table, table, unfound_targets, ListingError,
+    Listings, Refusal,
 };
 use crate::value::{decoded, Value};
 use std::fmt::Debug;
@@ -99,6 +100,12 @@ fn each_growth_of_a_completion_is_refused() {
     let table = || resolved_completed_table(member, root, &listings);
     assert!(table().is_ok(), "{:?}", table());
     are_refused(table, &table());
+    let refused = || refusals(member, b"[workspace.dependencies]\na.workspace = true\n");
+    assert!(refused().is_ok_and(|all| all.len() == 2), "{:?}", refused());
+    are_refused(refused, &refused());
+    let unfound = || unfound_targets(b"lib.name = 'l'\n[package]\nname = 'p'\n[[bench]]\nname = 'c'\n", &listings);
+    assert!(unfound().is_ok_and(|all| all.len() == 1), "{:?}", unfound());
+    are_refused(unfound, &unfound());
 }
 
 /// A hundred thousand tables in one another, around an array.

@@ -5,6 +5,7 @@ mod place;
 #[cfg(test)]
 mod tests;
 mod tree;
+mod unresolved;
 mod unused;
 
 use crate::calls::{self, is_broken, Cause};
@@ -17,6 +18,8 @@ pub use place::Place;
 use std::fmt;
 use std::ops::Range;
 use std::sync::Arc;
+pub(crate) use unresolved::{refusals_of, unfound_of};
+pub use unresolved::{UnfoundTarget, Unresolved, UnresolvedCause};
 pub use unused::{CargoKey, CargoSupport, UnusedKey};
 
 /// A value, or its absence, that does not fit: where, and why.

@@ -1,7 +1,7 @@
 //! Trees of what is found, written here once more as `docs/LIBRARY.md` says it, and paths that share their steps.
 
-use super::tree::decoded;
-use super::{Fault, Finding, KeyPath, Place, UnusedKey};
+use super::tree::{decoded, decoded_refusals, decoded_targets};
+use super::{Fault, Finding, KeyPath, Place, UnfoundTarget, Unresolved, UnresolvedCause, UnusedKey};
 use crate::calls;
 use crate::codec::Step;
 use crate::value::tests::{bytes_of, Random};
@@ -164,6 +164,72 @@ fn bytes_that_are_no_tree_are_refused() {
     // (no room is made for more than there is)
     assert_eq!(decoded(&[&[7, 2, 7][..], &[255; 9], &[1]].concat()), None);
     assert_eq!(decoded(&[&[7, 2, 7, 1, 7, 3, 2, 0, 2, 4, 7][..], &[255; 9], &[1]].concat()), None);
+}
+
+/// A refusal, by its status and its text.
+fn refusal(status: u8, text: &str) -> Value {
+    array([0.into(), status.into(), text.into()])
+}
+
+/// The bytes of refusals, and of a range for each in the member.
+fn refused(parts: Value, places: impl IntoIterator<Item = (u8, u8)>) -> Vec<u8> {
+    let range = |(start, end): (u8, u8)| array([array([start.into(), end.into()]), array([]), array([])]);
+    bytes_of(&array([parts, array(places.into_iter().map(range)), array([])]))
+}
+
+#[test]
+fn refusals_are_read_in_their_order() {
+    let cause = UnresolvedCause::NotInWorkspace("version".into());
+    let version = below("package", [below("version", [refusal(10, "version")])]);
+    let lints = below("lints", [refusal(12, ""), refusal(13, "")]);
+    let needs = below("dependencies", [below("b", [refusal(11, "b")])]);
+    let places = [(1, 2), (3, 4), (5, 6), (7, 8)];
+    let bytes = refused(array([version, needs, lints]), places);
+    let found = decoded_refusals(&bytes).expect("refusals");
+    let of = |steps: &[&str], cause, (start, end): (usize, usize)| Unresolved {
+        path: steps.iter().map(|step| key(step)).collect(),
+        cause,
+        place: Place { value: Some(start..end), ..Place::default() },
+        root_place: Place::default(),
+    };
+    let wanted = [
+        of(&["package", "version"], cause, (1, 2)),
+        of(&["dependencies", "b"], UnresolvedCause::InheritedInWorkspace("b".into()), (3, 4)),
+        of(&["lints"], UnresolvedCause::MixedLints, (5, 6)),
+        of(&["lints"], UnresolvedCause::ToolNamedWorkspace, (7, 8)),
+    ];
+    assert_eq!(found, wanted);
+    for end in 0..bytes.len() {
+        assert_eq!(decoded_refusals(&bytes[..end]), None, "{end}");
+    }
+    assert_eq!(decoded_refusals(&[&bytes[..], &[0]].concat()), None);
+    assert_eq!(decoded_refusals(&refused(array([]), [])), Some(vec![]));
+    let wrong = [refusal(9, ""), refusal(14, ""), refusal(12, "a"), refusal(13, "a"), fault(0, 10), unused("a")];
+    for part in wrong {
+        assert_eq!(decoded_refusals(&refused(array([part.clone()]), [])), None, "{part:?}");
+    }
+    assert_eq!(decoded_refusals(&refused(array([refusal(10, "a")]), [(1, 2), (3, 4)])), None);
+}
+
+#[test]
+fn unfound_targets_are_read_in_their_order() {
+    let place = || array([array([1.into(), 2.into()]), array([]), array([])]);
+    let paths = || array([array(["lib".into()]), array(["bin".into(), 300.into()])]);
+    let bytes = bytes_of(&array([paths(), array([place(), place()])]));
+    let of = |steps: Vec<Step>| UnfoundTarget {
+        path: steps.into_iter().collect(),
+        place: Place { value: Some(1..2), ..Place::default() },
+    };
+    assert_eq!(decoded_targets(&bytes), Some(vec![of(vec![key("lib")]), of(vec![key("bin"), Step::Index(300)])]));
+    for end in 0..bytes.len() {
+        assert_eq!(decoded_targets(&bytes[..end]), None, "{end}");
+    }
+    let lines = |places: Value| decoded_targets(&bytes_of(&array([paths(), places]))).map(|all| all.len());
+    assert_eq!(lines(array([])), Some(2));
+    assert_eq!(lines(array([place()])), None);
+    assert_eq!(lines(array([place(), place(), place()])), None);
+    assert_eq!(decoded_targets(&bytes_of(&array([array([array([true.into()])]), array([])]))), None);
+    assert_eq!(decoded_targets(&bytes_of(&array([array([]), array([]), array([])]))), None);
 }
 
 #[test]
