@@ -19,6 +19,7 @@ from ._faults import Fault, faults, ignored, unused_keys
 from ._places import Span
 from ._positions import Position, positions
 from ._toml import toml_of
+from ._unresolved import UnfoundTarget, Unresolved, refusals, unfound_targets
 from ._unused import CargoKey, UnusedKey
 
 __version__ = "0.2.0"
@@ -32,6 +33,8 @@ __all__ = [
     "Position",
     "Replacement",
     "Span",
+    "UnfoundTarget",
+    "Unresolved",
     "UnusedKey",
     "__version__",
     "canonical",
@@ -41,6 +44,7 @@ __all__ = [
     "faults",
     "ignored",
     "positions",
+    "refusals",
     "replacements",
     "resolved",
     "resolved_completed",
@@ -48,5 +52,6 @@ __all__ = [
     "resolved_table",
     "table",
     "toml_of",
+    "unfound_targets",
     "unused_keys",
 ]

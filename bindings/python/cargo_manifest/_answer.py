@@ -31,15 +31,23 @@ OF_TEXT, OF_TABLE = 0, 1
 AS_TEXT, AS_TABLE = 0, 1
 
 
-def answered(call: Call, most: Optional[int], manifest: bytes, *more: Any, room: Optional[int] = None) -> bytes:
+def answered(
+    call: Call,
+    most: Optional[int],
+    manifest: bytes,
+    *more: Any,
+    room: Optional[int] = None,
+    root: bytes = b"",
+    listings: Optional[Listings] = None,
+) -> bytes:
     """What a call of a text, and of what more it takes, gives in at most this many bytes; else the exception of its refusal
-    is raised. `room` is how many bytes the answer is expected to have."""
+    is raised. `room` is how many bytes the answer is expected to have; the root and the listings are those that it takes."""
     limit = limit_of(most)
     expected = 2 * len(manifest) if room is None else room
     return _given(
         lambda out, room: call(manifest, len(manifest), *more, limit, out, room),
         min(256 + expected, limit + 1),
-        (manifest, b"", None),
+        (manifest, root, listings),
     )
 
 

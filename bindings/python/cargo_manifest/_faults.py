@@ -10,8 +10,8 @@ from ._library import manifest_placed_findings
 from ._messages import said_of
 from ._parts import FAULT, IGNORED, UNUSED, Choices, Found, placed_in
 from ._paths import KeyPath, Link, Step, link_of, path_of
-from ._places import Located, packed
-from ._positions import positions_of
+from ._places import Located
+from ._positions import places_of
 from ._texts import Text, bytes_of
 from ._unused import UnusedKey
 
@@ -99,15 +99,8 @@ def _found(manifest: Text, most: Optional[int], wanted: int) -> Iterator[tuple[F
     """What is found of this kind, each with its place."""
     text = bytes_of(manifest, "manifest")
     found = placed_in(answered(manifest_placed_findings, most, text), wanted)
-    starts = sorted({span.start for span in (ranges.first() for _, ranges in found) if span is not None})
-    positions = dict(zip(starts, positions_of(text, starts))) if starts else {}
-    for each, ranges in found:
-        span = ranges.first()
-        if span is None:
-            yield each, packed(ranges)
-        else:
-            position = positions[span.start]
-            yield each, packed(ranges, position.line, position.characters + 1)
+    places = places_of(text, [ranges for _, ranges in found])
+    return zip((each for each, _ in found), places)
 
 
 def faults(manifest: Text, *, most: Optional[int] = None) -> list[Fault]:

@@ -7,6 +7,7 @@ from typing import NamedTuple
 
 from ._answer import answered
 from ._library import broken, manifest_positions
+from ._places import Ranges, packed
 from ._reader import Reader
 from ._texts import Text, bytes_of
 
@@ -68,3 +69,15 @@ def _position(reader: Reader) -> Position:
     if reader.array() != len(Position._fields):
         raise broken()
     return Position(*(reader.whole_number() for _ in Position._fields))
+
+
+def places_of(text: bytes, all_ranges: Sequence[Ranges]) -> list[bytes]:
+    """The places that these ranges are in a text, each with the line and the column of its first range."""
+    spans = [ranges.first() for ranges in all_ranges]
+    starts = sorted({span.start for span in spans if span is not None})
+    positions = dict(zip(starts, positions_of(text, starts))) if starts else {}
+    places = []
+    for ranges, span in zip(all_ranges, spans):
+        position = None if span is None else positions[span.start]
+        places.append(packed(ranges) if position is None else packed(ranges, position.line, position.characters + 1))
+    return places

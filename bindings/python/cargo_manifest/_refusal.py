@@ -47,6 +47,12 @@ _PLAIN: dict[int, tuple[Cause, Part]] = {
     _numbers.NOT_TEXT: (Cause.NOT_UTF8, "manifest"),
 }
 
+# the causes of statuses that say what cannot be inherited
+UNRESOLVED_CAUSES = {
+    status: {**_NAMED, **_PLAIN}[status][0]
+    for status in range(_numbers.NOT_IN_WORKSPACE, _numbers.TOOL_NAMED_WORKSPACE + 1)
+}
+
 
 def place_of(text: bytes, start: int, end: int) -> Place:
     """The place that these offsets are in a text."""

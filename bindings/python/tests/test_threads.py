@@ -5,8 +5,8 @@ import unittest
 from collections.abc import Callable
 from concurrent.futures import ThreadPoolExecutor
 
-from cargo_manifest import Edit, ManifestError, canonical, completed, edited, faults, positions, resolved
-from cargo_manifest import resolved_completed, table, unused_keys
+from cargo_manifest import Edit, ManifestError, canonical, completed, edited, faults, positions, refusals, resolved
+from cargo_manifest import resolved_completed, table, unfound_targets, unused_keys
 
 from .test_calls import COUNT, FOLDERS, LIB, MANY, MANY_BINS, MEMBER, RESOLVED, ROOT
 
@@ -40,6 +40,8 @@ def each_call(thread: int) -> list[object]:
         [key.path for key in unused_keys(f"name = 'p'\n{name} = 1")],
         edited(f"# {name}\na = 1 # {name}", [Edit.set(("a",), str(thread))]),
         [position.line for position in positions("\n" * thread, range(thread + 1))],
+        [(refusal.path, refusal.root_line) for refusal in refusals(MEMBER.replace("p-q", name), "\n" * thread + "[workspace]")],
+        [(target.path, target.line) for target in unfound_targets("\n" * thread + f"lib = {{}}\npackage.name = '{name}'", {})],
     ]
 
 
@@ -62,6 +64,8 @@ def wanted(thread: int) -> list[object]:
         [(name,)],
         f"# {name}\na = {thread} # {name}",
         list(range(1, thread + 2)),
+        [(("package", "version"), thread + 1)],
+        [(("lib",), thread + 1)],
     ]
 
 
