@@ -3,7 +3,8 @@
 
        bounds CALL MOST BYTES [ROOT] [FOLDERS]
 
-   CALL is the name of a call without `manifest_`; BYTES, ROOT and FOLDERS are files. Each line of FOLDERS is a path and the
+   CALL is the name of a call without `manifest_`; BYTES, ROOT and FOLDERS are files. (What else a call takes is made: offsets
+   of every eighth byte, and one edit, which inserts a key at the top.) Each line of FOLDERS is a path and the
    names in it, with tabs between. The line that is printed has seven numbers: the status, the length of the text, the bytes
    of stack below the call, the most bytes of memory that it has at once, the number of requests for memory, the bytes that it
    still has at the end, and the nanoseconds of the processor.
@@ -119,20 +120,46 @@ static void read_folders(struct file lines)
     if (!strcmp(call, #name))                                                                                            \
         return manifest_##name(bytes.at, bytes.length, root.at, root.length, folders, folders_length, most, out, ROOM)
 
+/* The positions of every eighth byte. */
+static struct manifest_answer positions(void)
+{
+    size_t count = bytes.length / 8, *offsets = malloc((count + 1) * sizeof *offsets);
+    if (!offsets)
+        exit(2);
+    for (size_t i = 0; i < count; i++)
+        offsets[i] = 8 * i;
+    return manifest_positions(bytes.at, bytes.length, offsets, count, most, out, ROOM);
+}
+
+/* The text with a new key at its top. */
+static struct manifest_answer edited(void)
+{
+    const struct manifest_step step = {{(const uint8_t *)"new", 3}, 0, 0};
+    const struct manifest_edit edit = {{&step, 1}, {(const uint8_t *)"1", 1}, MANIFEST_INSERT};
+    return manifest_edited(bytes.at, bytes.length, &edit, 1, 0, most, out, ROOM);
+}
+
 static struct manifest_answer called(void)
 {
+    if (!strcmp(call, "positions"))
+        return positions();
+    if (!strcmp(call, "edited"))
+        return edited();
     ON_BYTES(canonical);
     ON_BYTES(table);
     ON_BYTES(table_without_metadata);
     ON_BYTES(document);
     ON_BYTES(findings);
+    ON_BYTES(placed_findings);
     ON_BYTES(canonical_of_table);
     OVER_FOLDERS(completed);
     OVER_FOLDERS(completed_table);
     OVER_FOLDERS(completed_of_table);
+    OVER_FOLDERS(placed_unfound_targets);
     OF_ROOT(resolved);
     OF_ROOT(resolved_table);
     OF_ROOT(resolved_of_tables);
+    OF_ROOT(placed_refusals);
     OF_BOTH(resolved_completed);
     OF_BOTH(resolved_completed_table);
     exit((fprintf(stderr, "there is no call %s\n", call), 2));
