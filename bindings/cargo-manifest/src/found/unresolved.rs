@@ -85,7 +85,7 @@ impl Unresolved {
         self.span().map(|span| line_column(bytes, span.start))
     }
 
-    /// The same of what is asked for in the bytes of the root.
+    /// The same for what is asked for in the bytes of the root.
     pub fn root_span(&self) -> Option<Range<usize>> {
         self.root_place.span()
     }
