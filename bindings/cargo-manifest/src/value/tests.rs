@@ -436,3 +436,29 @@ fn a_document_where_no_memory_is_left() {
     }
     assert!(granted > 3, "{granted}");
 }
+
+#[test]
+fn the_text_of_a_value_is_read_as_it_is() {
+    let due: Datetime = "2026-01-02T03:04:05.006+02:00".parse().unwrap();
+    let values = [
+        Value::from(""),
+        Value::from("é\u{1}\u{7f}\t\r\n\"\\ # '"),
+        Value::from(i64::MIN),
+        Value::from(true),
+        Value::from(-1e300),
+        Value::from(f64::INFINITY),
+        Value::from(due),
+        Value::from(Vec::<Value>::new()),
+        Value::from(vec![Value::from(vec![1]), Value::from("a")]),
+        Value::from_iter([
+            ("a", Value::from_iter([("b c", vec![Value::from_iter([("", 1)])])])),
+            ("é", Value::from(2)),
+        ]),
+    ];
+    for value in values {
+        let text = String::from(&value);
+        let read: Value = format!("a = {text} # one\n").parse().unwrap();
+        assert_eq!(read["a"], value, "{text}");
+        assert!(!text.contains('\n'), "{text}");
+    }
+}
