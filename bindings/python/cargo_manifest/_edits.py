@@ -30,6 +30,7 @@ class Edit:
 
     >>> Edit.set(("package", "name"), '"b"')
     Edit(kind='set', path=('package', 'name'), text='"b"')
+    >>> from cargo_manifest import toml_of
     >>> Edit.set(("package", "name"), toml_of("b"))
     Edit(kind='set', path=('package', 'name'), text='"b"')
     """
