@@ -51,8 +51,8 @@
    TOML. Each text that the library writes of a table at most 80 deep is read again.
 
    A call takes at most 111 KiB of stack on all inputs that were tried, so a thread with 128 KiB makes it, which is what musl
-   gives its threads if nothing is said. Where a place or an edit is looked for below 126 keys in one another,
-   `manifest_placed_findings` and `manifest_edited` take 136 KiB: a thread with 160 KiB makes each call.
+   gives its threads if nothing is said. Where a place or an edit is looked for below 126 keys in one another, the calls for
+   places and `manifest_edited` take 136 KiB: a thread with 160 KiB makes each call.
 
    A call has at most 768 bytes of memory at once for each byte that is passed in (a name of a folder counts as 16 more), and
    64 for each byte of `most`, on all inputs that were tried.
