@@ -327,8 +327,9 @@ struct manifest_answer manifest_findings(const uint8_t *bytes, size_t bytes_leng
                      the one that opens it, or else the first one that goes through it
 
    Of a key that is missing they are those of the table in which it belongs; of a key that nothing reads, those of that key. The
-   second array is empty where nothing is found. (It would be so too where the places of a text could not be found, which was
-   never seen.) That each place is right is proved: with a number in it the text is the document with that number at the path.
+   second array is empty where nothing is found. (It is so too where the places of the text are not found,
+   as where it has the numbers that are tried in the places of its values: docs/LIBRARY.md.) That each place is right is proved:
+   with a number in it the text is the document with that number at the path.
    `name = 1` is 7 2, the bytes of its findings, and 7 1 7 3 7 2 2 7 2 8 7 2 2 0 2 4 7 0. */
 struct manifest_answer manifest_placed_findings(const uint8_t *bytes, size_t bytes_length, size_t most, uint8_t *out,
                                                 size_t out_length);
