@@ -1,0 +1,361 @@
+//! What the rules look at: the tables of a document, and what else is known of the package.
+
+use crate::told::At;
+use std::alloc::{AllocError, Global};
+use std::collections::{BTreeMap, BTreeSet};
+use toml::{Table, Value};
+
+/// An edition of Rust.
+#[derive(Clone, Copy, Debug, PartialEq, Eq, PartialOrd, Ord)]
+pub enum Edition {
+    E2015,
+    E2018,
+    E2021,
+    E2024,
+}
+
+impl Edition {
+    /// The edition of this name.
+    pub fn named(name: &str) -> Option<Edition> {
+        match name {
+            "2015" => Some(Edition::E2015),
+            "2018" => Some(Edition::E2018),
+            "2021" => Some(Edition::E2021),
+            "2024" => Some(Edition::E2024),
+            _ => None,
+        }
+    }
+}
+
+/// What is known of the workspace's root.
+#[derive(Clone, Copy)]
+pub enum Root<'a> {
+    /// Nobody looked for it.
+    Unknown,
+    /// There is none.
+    Missing,
+    /// Its document; that of the manifest itself where that is the root.
+    Found(&'a Table),
+}
+
+/// The names in folders, by the path of the folder from that of the manifest, with `/` between the parts; the path of the
+/// folder itself is the empty text. A folder that was looked for and is not there has no entry.
+#[derive(Drop)]
+pub struct Folders {
+    pub names: BTreeMap<String, BTreeSet<String>>,
+}
+
+/// A member of the workspace.
+pub struct Member<'a> {
+    /// The path of its folder from that of the root.
+    pub path: &'a str,
+    /// Its document, where it could be read.
+    pub document: Option<&'a Table>,
+}
+
+/// What is handed in beside the document.
+pub struct Surroundings<'a> {
+    pub root: Root<'a>,
+    pub folders: Option<&'a Folders>,
+    pub members: &'a [Member<'a>],
+    pub config: Option<&'a Table>,
+}
+
+/// Where a table of dependencies stands.
+#[derive(Clone, Copy, Debug, PartialEq, Eq)]
+pub(crate) enum Section {
+    Normal,
+    Dev,
+    Build,
+    Workspace,
+    Patch,
+    Replace,
+}
+
+/// A table of dependencies.
+#[derive(Drop)]
+pub(crate) struct DependencyTable<'a> {
+    pub(crate) section: Section,
+    pub(crate) path: Vec<At<'a>>,
+    pub(crate) table: &'a Table,
+}
+
+/// A kind of target.
+#[derive(Clone, Copy, Debug, PartialEq, Eq)]
+pub(crate) enum Kind {
+    Lib,
+    Bin,
+    Example,
+    Test,
+    Bench,
+}
+
+impl Kind {
+    /// The key of its table, or of its array of tables.
+    pub(crate) fn key(self) -> &'static str {
+        match self {
+            Kind::Lib => "lib",
+            Kind::Bin => "bin",
+            Kind::Example => "example",
+            Kind::Test => "test",
+            Kind::Bench => "bench",
+        }
+    }
+}
+
+/// A target that the manifest declares.
+#[derive(Drop)]
+pub(crate) struct DeclaredTarget<'a> {
+    pub(crate) kind: Kind,
+    pub(crate) path: Vec<At<'a>>,
+    pub(crate) table: &'a Table,
+}
+
+/// What the rules look at.
+#[derive(Drop)]
+pub(crate) struct Look<'a> {
+    pub(crate) alloc: Global,
+    pub(crate) text: &'a str,
+    pub(crate) document: &'a Table,
+    /// The table of the package, and its key: `package`, or `project`.
+    pub(crate) package: Option<&'a Table>,
+    pub(crate) package_key: &'static str,
+    pub(crate) workspace: Option<&'a Table>,
+    pub(crate) edition: Edition,
+    pub(crate) around: &'a Surroundings<'a>,
+    pub(crate) dependencies: Vec<DependencyTable<'a>>,
+    pub(crate) targets: Vec<DeclaredTarget<'a>>,
+}
+
+pub(crate) fn table_in<'a>(table: &'a Table, key: &str) -> Option<&'a Table> {
+    match table.get(key) {
+        Some(Value::Table(inner)) => Some(inner),
+        _ => None,
+    }
+}
+
+pub(crate) fn text_in<'a>(table: &'a Table, key: &str) -> Option<&'a str> {
+    match table.get(key) {
+        Some(Value::String(text)) => Some(text.as_str()),
+        _ => None,
+    }
+}
+
+pub(crate) fn flag_in(table: &Table, key: &str) -> Option<bool> {
+    match table.get(key) {
+        Some(Value::Boolean(flag)) => Some(*flag),
+        _ => None,
+    }
+}
+
+pub(crate) fn items_in<'a>(table: &'a Table, key: &str) -> &'a [Value] {
+    match table.get(key) {
+        Some(Value::Array(items)) => items.as_slice(),
+        _ => &[],
+    }
+}
+
+/// Whether the value of the key is inherited: a table whose `workspace` is true.
+pub(crate) fn inherits(table: &Table, key: &str) -> bool {
+    match table_in(table, key) {
+        Some(inner) => flag_in(inner, "workspace") == Some(true),
+        None => false,
+    }
+}
+
+/// The tables of dependencies of a table that has them: the document, or a platform.
+fn push_sections<'a>(
+    alloc: Global,
+    base: &[At<'a>],
+    table: &'a Table,
+    all: &mut Vec<DependencyTable<'a>>,
+) -> Result<(), AllocError> {
+    push_section(alloc, Section::Normal, base, "dependencies", table, all)?;
+    push_section(alloc, Section::Dev, base, "dev-dependencies", table, all)?;
+    push_section(alloc, Section::Dev, base, "dev_dependencies", table, all)?;
+    push_section(
+        alloc,
+        Section::Build,
+        base,
+        "build-dependencies",
+        table,
+        all,
+    )?;
+    push_section(
+        alloc,
+        Section::Build,
+        base,
+        "build_dependencies",
+        table,
+        all,
+    )?;
+    Ok(())
+}
+
+fn push_section<'a>(
+    alloc: Global,
+    section: Section,
+    base: &[At<'a>],
+    key: &'a str,
+    table: &'a Table,
+    all: &mut Vec<DependencyTable<'a>>,
+) -> Result<(), AllocError> {
+    if let Some(inner) = table_in(table, key) {
+        let mut path = Vec::new(alloc);
+        for at in base {
+            path.push(*at)?;
+        }
+        path.push(At::Key(key))?;
+        all.push(DependencyTable {
+            section,
+            path,
+            table: inner,
+        })?;
+    }
+    Ok(())
+}
+
+/// All tables of dependencies of the document: of the package, of its platforms, of the workspace, of patches and
+/// replacements.
+fn dependency_tables<'a>(
+    alloc: Global,
+    document: &'a Table,
+) -> Result<Vec<DependencyTable<'a>>, AllocError> {
+    let mut all = Vec::new(alloc);
+    push_sections(alloc, &[], document, &mut all)?;
+    if let Some(platforms) = table_in(document, "target") {
+        for (name, platform) in platforms {
+            if let Value::Table(inner) = platform {
+                let base = [At::Key("target"), At::Key(name.as_str())];
+                push_sections(alloc, &base, inner, &mut all)?;
+            }
+        }
+    }
+    if let Some(workspace) = table_in(document, "workspace") {
+        let base = [At::Key("workspace")];
+        push_section(
+            alloc,
+            Section::Workspace,
+            &base,
+            "dependencies",
+            workspace,
+            &mut all,
+        )?;
+    }
+    if let Some(patches) = table_in(document, "patch") {
+        for (name, _patch) in patches {
+            let base = [At::Key("patch")];
+            push_section(
+                alloc,
+                Section::Patch,
+                &base,
+                name.as_str(),
+                patches,
+                &mut all,
+            )?;
+        }
+    }
+    push_section(alloc, Section::Replace, &[], "replace", document, &mut all)?;
+    Ok(all)
+}
+
+fn push_targets<'a>(
+    alloc: Global,
+    kind: Kind,
+    document: &'a Table,
+    all: &mut Vec<DeclaredTarget<'a>>,
+) -> Result<(), AllocError> {
+    let mut index = 0usize;
+    for item in items_in(document, kind.key()) {
+        if let Value::Table(table) = item {
+            let mut path = Vec::new(alloc);
+            path.push(At::Key(kind.key()))?;
+            path.push(At::Index(index))?;
+            all.push(DeclaredTarget { kind, path, table })?;
+        }
+        index = index.saturating_add(1);
+    }
+    Ok(())
+}
+
+/// The targets that the document declares, the library first.
+fn declared_targets<'a>(
+    alloc: Global,
+    document: &'a Table,
+) -> Result<Vec<DeclaredTarget<'a>>, AllocError> {
+    let mut all = Vec::new(alloc);
+    if let Some(table) = table_in(document, "lib") {
+        let mut path = Vec::new(alloc);
+        path.push(At::Key("lib"))?;
+        all.push(DeclaredTarget {
+            kind: Kind::Lib,
+            path,
+            table,
+        })?;
+    }
+    push_targets(alloc, Kind::Bin, document, &mut all)?;
+    push_targets(alloc, Kind::Example, document, &mut all)?;
+    push_targets(alloc, Kind::Test, document, &mut all)?;
+    push_targets(alloc, Kind::Bench, document, &mut all)?;
+    Ok(all)
+}
+
+/// The workspace of the root, where there is one.
+pub(crate) fn workspace_of<'a>(root: Root<'a>) -> Option<&'a Table> {
+    match root {
+        Root::Found(document) => table_in(document, "workspace"),
+        Root::Unknown => None,
+        Root::Missing => None,
+    }
+}
+
+/// The edition of a package: its own, or that of the workspace which it inherits; 2015 where there is none.
+fn edition_of(package: Option<&Table>, root: Root<'_>) -> Edition {
+    let Some(package) = package else {
+        return Edition::E2015;
+    };
+    let own = text_in(package, "edition");
+    let name = if inherits(package, "edition") {
+        inherited_edition(root)
+    } else {
+        own
+    };
+    match name {
+        Some(name) => Edition::named(name).unwrap_or(Edition::E2015),
+        None => Edition::E2015,
+    }
+}
+
+fn inherited_edition<'a>(root: Root<'a>) -> Option<&'a str> {
+    let workspace = workspace_of(root)?;
+    let package = table_in(workspace, "package")?;
+    text_in(package, "edition")
+}
+
+impl<'a> Look<'a> {
+    /// What the rules look at in a document with this text.
+    pub(crate) fn new(
+        alloc: Global,
+        text: &'a str,
+        document: &'a Table,
+        around: &'a Surroundings<'a>,
+    ) -> Result<Look<'a>, AllocError> {
+        let own = table_in(document, "package");
+        let (package, package_key) = match own {
+            Some(table) => (Some(table), "package"),
+            None => (table_in(document, "project"), "project"),
+        };
+        Ok(Look {
+            alloc,
+            text,
+            document,
+            package,
+            package_key,
+            workspace: table_in(document, "workspace"),
+            edition: edition_of(package, around.root),
+            around,
+            dependencies: dependency_tables(alloc, document)?,
+            targets: declared_targets(alloc, document)?,
+        })
+    }
+}
