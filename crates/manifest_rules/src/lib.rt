@@ -11,7 +11,7 @@ use crate::features::features;
 use crate::look::Look;
 use crate::told::Out;
 pub use codes::{ALL, Code, Level, Needs, code_named};
-pub use look::{Edition, Folders, Member, Root, Surroundings};
+pub use look::{Edition, Folders, Member, PathPackage, Root, Surroundings, member_of};
 use std::alloc::{AllocError, Global};
 pub use told::{At, File, Label, Part, Spot, Suggestion, Told};
 use toml::Table;

@@ -32,8 +32,10 @@ impl Edition {
 pub enum Root<'a> {
     /// Nobody looked for it.
     Unknown,
-    /// There is none.
+    /// There is none in the folders above, or where `package.workspace` leads to.
     Missing,
+    /// A `Cargo.toml` above, at this path, cannot be read, so Cargo finds no root.
+    Unreadable(&'a str),
     /// Its document; that of the manifest itself where that is the root.
     Found(&'a Table),
 }
@@ -45,20 +47,47 @@ pub struct Folders {
     pub names: BTreeMap<String, BTreeSet<String>>,
 }
 
-/// A member of the workspace.
-pub struct Member<'a> {
+/// What the rules of a root have to know of a member.
+#[derive(Drop)]
+pub struct Member {
     /// The path of its folder from that of the root.
-    pub path: &'a str,
-    /// Its document, where it could be read.
-    pub document: Option<&'a Table>,
+    pub path: String,
+    /// The index of the pattern in `workspace.members` that leads to it; `None` where a `path` dependency does.
+    pub pattern: Option<usize>,
+    /// Its name, where it has one.
+    pub name: Option<String>,
+    pub edition: Edition,
+    /// Whether it is the root of a workspace itself.
+    pub is_root: bool,
+    /// The dependencies that it inherits.
+    pub inherited: Vec<String>,
+}
+
+/// A package to which the `path` of a dependency leads.
+#[derive(Drop)]
+pub struct PathPackage {
+    /// The path as it is written.
+    pub path: String,
+    /// The name of the package there; `None` where there is none.
+    pub name: Option<String>,
 }
 
 /// What is handed in beside the document.
+#[derive(Drop)]
 pub struct Surroundings<'a> {
     pub root: Root<'a>,
+    /// Whether the manifest is that of the root itself.
+    pub is_root: bool,
+    /// Whether the root lists the package, by a pattern or a `path`, or excludes it; `None` where that is not known.
+    pub is_listed: Option<bool>,
     pub folders: Option<&'a Folders>,
-    pub members: &'a [Member<'a>],
+    pub packages: Option<&'a [PathPackage]>,
+    /// The members of the workspace whose root the manifest is.
+    pub members: Option<&'a [Member]>,
+    /// The configuration of Cargo, merged.
     pub config: Option<&'a Table>,
+    /// Whether to say what a registry wants.
+    pub publishes: bool,
 }
 
 /// Where a table of dependencies stands.
@@ -304,8 +333,7 @@ fn declared_targets<'a>(
 pub(crate) fn workspace_of<'a>(root: Root<'a>) -> Option<&'a Table> {
     match root {
         Root::Found(document) => table_in(document, "workspace"),
-        Root::Unknown => None,
-        Root::Missing => None,
+        _ => None,
     }
 }
 
@@ -358,4 +386,47 @@ impl<'a> Look<'a> {
             targets: declared_targets(alloc, document)?,
         })
     }
+}
+
+/// What the rules of a root have to know of a member with this document, in this folder.
+pub fn member_of(
+    alloc: Global,
+    path: &str,
+    pattern: Option<usize>,
+    document: &Table,
+    root: Root<'_>,
+) -> Result<Member, AllocError> {
+    let package = table_in(document, "package");
+    let name = match package {
+        Some(package) => owned(alloc, text_in(package, "name"))?,
+        None => None,
+    };
+    Ok(Member {
+        path: String::from_str(alloc, path)?,
+        pattern,
+        name,
+        edition: edition_of(package, root),
+        is_root: document.contains_key("workspace"),
+        inherited: inherited_names(alloc, document)?,
+    })
+}
+
+fn owned(alloc: Global, text: Option<&str>) -> Result<Option<String>, AllocError> {
+    match text {
+        Some(text) => Ok(Some(String::from_str(alloc, text)?)),
+        None => Ok(None),
+    }
+}
+
+/// The names of the dependencies that a document inherits.
+fn inherited_names(alloc: Global, document: &Table) -> Result<Vec<String>, AllocError> {
+    let mut names = Vec::new(alloc);
+    for section in dependency_tables(alloc, document)? {
+        for (name, _dependency) in section.table {
+            if inherits(section.table, name.as_str()) {
+                names.push(String::from_str(alloc, name.as_str())?)?;
+            }
+        }
+    }
+    Ok(names)
 }
