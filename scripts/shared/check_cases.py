@@ -1,0 +1,103 @@
+"""The cases of manifest_check: the files tests/checks/*.cases, whose lines tests/checks/README.md explains."""
+import re
+from typing import NamedTuple
+
+from .repository import TOP
+
+FOLDER = TOP / "tests" / "checks"
+MOMENTS = ("read", "build", "warn", "pack", "host", "none")
+LEVELS = ("error", "warning", "note")
+DIAGNOSTIC = re.compile(r"(?:(?P<file>.+): )?(?P<code>[a-z0-9-]+) (?P<line>\d+):(?P<column>\d+|\*)(?: (?P<level>error|warning|note))?")
+
+
+class Told(NamedTuple):
+    """A diagnostic: the file, the line and the column from 1 on, the code, and the level. A column of 0 is any one."""
+
+    file: str
+    line: int
+    column: int
+    code: str
+    level: str
+
+    def __str__(self):
+        return f"{self.file}:{self.line}:{self.column or '*'}: {self.level}[{self.code}]"
+
+
+class Case(NamedTuple):
+    """One case: where it stands, what it is about, when Cargo says it, where and with which words Cargo is run, the options of
+    the program, the files by their paths, and the diagnostics that are expected."""
+
+    place: str
+    name: str
+    code: str
+    moment: str
+    folder: str
+    words: tuple
+    options: tuple
+    files: dict
+    expected: tuple
+
+
+def unescaped(text):
+    """The bytes of a text that is written with escapes."""
+    return text.encode("utf-8").decode("latin-1").encode("latin-1").decode("unicode_escape").encode("latin-1")
+
+
+def diagnostic_of(line, codes):
+    """The diagnostic of a line of the part `expected`; the level is that of the table of codes unless the line has one."""
+    found = DIAGNOSTIC.fullmatch(line)
+    if found is None or found["code"] not in codes:
+        raise ValueError(f"{line!r} is not the line of a diagnostic")
+    column = 0 if found["column"] == "*" else int(found["column"])
+    return Told(found["file"] or "Cargo.toml", int(found["line"]), column, found["code"], found["level"] or codes[found["code"]].level)
+
+
+def parts_of(lines):
+    """The parts of a case, each by the line that begins it, and its lines."""
+    parts = [("", [])]
+    for line in lines:
+        if line.startswith("--- "):
+            parts.append((line[4:], []))
+        else:
+            parts[-1][1].append(line)
+    return parts
+
+
+def file_of(head, lines):
+    """The path of a file and its bytes."""
+    name, comma, _ = head.partition(", escaped")
+    text = "".join(f"{line}\n" for line in lines)
+    return name, unescaped(text.removesuffix("\n").replace("\n", "\\n")) if comma else text.encode("utf-8")
+
+
+def case_of(place, name, lines, codes):
+    """The case of these lines."""
+    (_, head), *parts = parts_of(lines)
+    about = dict(line.split(": ", 1) for line in head if line)
+    moment, *words = about.pop("cargo").split()
+    folder = ""
+    if words[:1] == ["in"]:
+        folder, words = words[1], words[2:]
+    code, options = about.pop("code"), tuple(about.pop("options", "").split())
+    if about or moment not in MOMENTS or code not in codes or not parts or parts[-1][0] != "expected":
+        raise ValueError(f"{place}: {name}: the lines are not those of a case: {about or moment or code}")
+    expected = tuple(sorted(diagnostic_of(line, codes) for line in parts[-1][1] if line))
+    files = dict(file_of(*part) for part in parts[:-1])
+    return Case(place, name, code, moment, folder, tuple(words), options, files, expected)
+
+
+def cases_of(file, codes):
+    """The cases of a file."""
+    blocks, name, first = [], None, 0
+    for number, line in enumerate(file.read_text(encoding="utf-8").split("\n"), 1):
+        if line.startswith("=== "):
+            name, first = line[4:], number
+            blocks.append((f"{file.name}:{first}", name, []))
+        elif name is not None:
+            blocks[-1][2].append(line)
+    return [case_of(place, name, lines, codes) for place, name, lines in blocks]
+
+
+def all_cases(codes):
+    """All cases, in the order of the files."""
+    return [case for file in sorted(FOLDER.glob("*.cases")) for case in cases_of(file, codes)]
