@@ -1,36 +1,103 @@
-"""What the command cargo says of manifests in made folders: when reading them, as warnings, and when building.
+"""What the command cargo says of manifests in made folders: when it reads them, as warnings, and when it builds.
 
 Each question is asked once. Nothing is fetched: where a dependency is absent because nothing may be fetched, that is no answer
-about the manifest.
+about the manifest. Cargo has an empty home of its own, so no configuration of the machine is read, and several runs do not
+wait for one another.
 """
 import os
 import re
 import shutil
 import subprocess
+import tempfile
+import threading
+from concurrent.futures import ThreadPoolExecutor
+from pathlib import Path
 from typing import NamedTuple
 
+# how many runs of Cargo there are at a time
+POOL = 3
 # what Cargo says where it only lacks what it may not fetch, or where a workspace has nothing to build
 ABSENT = re.compile(
     r"no matching package named `.*` found\nlocation searched: .* index|can't checkout from '.*': you are in the offline mode"
     r"|failed to query replaced source|the workspace has no members"
 )
-READ = ("metadata", "--no-deps", "--format-version", "1")
-BUILD = ("check", "--all-targets")
-PACK = ("package", "--no-verify", "--allow-dirty")
+# a refusal that rests on the version of Cargo, its channel, the compiler or the configuration
+OF_HOST = re.compile(
+    r"feature `.*` is required|requires `-Z ?[a-z-]+`|unknown Cargo\.toml feature|unknown cargo feature|is not a valid cargo feature"
+    r"|registry `.*` not found|registry index was not found|\[patch\] entry .* should be a URL or registry name"
+    r"|is not supported by the following packages|only available on the nightly|incorrect value `.*` for codegen option `strip`"
+    r"|failed to run `rustc` to learn about crate-type"
+)
 # warnings that rest on the lock file
 OF_LOCK = re.compile(r"warning: (?:patch `.*` was not used in the crate graph|package replacement is not used)")
 # lines of what Cargo writes that are about its own work
 OWN_WORK = re.compile(r"^ *(Blocking|Locking|Checking|Compiling|Finished|Packaging|Packaged|Updating|Adding|Fresh|Dirty) ")
+READ = ("metadata", "--no-deps", "--format-version", "1")
+WARN = ("fetch",)
+BUILD = ("check", "--all-targets")
+# a binary that no package here has: Cargo refuses what it would not build, and compiles nothing
+NO_BINARY = "no-such-binary"
+RESOLVE = ("check", "--bin", NO_BINARY)
+PACK = ("package", "--no-verify", "--allow-dirty")
 
 
 class Answer(NamedTuple):
-    """What Cargo says of a package: why it is not read, the warnings, and why it is not built; `absent` where it cannot be said
-    whether it is built, as a dependency is absent."""
+    """What Cargo says of a package: why it does not read it, what it warns of, and why it does not build it. `is_open` says
+    that it cannot be known whether it builds it, as a dependency is absent."""
 
-    read: str
-    warned: str
-    built: str
-    absent: bool
+    read: str = ""
+    warned: str = ""
+    built: str = ""
+    is_open: bool = False
+
+
+class Room:
+    """A temporary place in which Cargo is asked, by several at a time."""
+
+    def __init__(self):
+        self.folder = tempfile.TemporaryDirectory()
+        self.path = Path(self.folder.name)
+
+    def __enter__(self):
+        return self
+
+    def __exit__(self, *_):
+        self.folder.cleanup()
+
+    def own(self, name):
+        """A folder of this name for the one who asks."""
+        path = self.path / f"{name}-{threading.get_ident()}"
+        path.mkdir(exist_ok=True)
+        return path
+
+    def run(self, folder, words):
+        """One run of cargo in a folder: its status, and what it says, without the path and without its own work."""
+        settings = {name: value for name, value in os.environ.items() if not name.startswith("CARGO_")}
+        settings |= {"CARGO_TARGET_DIR": str(self.own("target")), "CARGO_HOME": str(self.own("home")), "CARGO_TERM_COLOR": "never"}
+        done = subprocess.run(
+            ["nice", "cargo", *words, "--offline"], cwd=folder, env=settings, capture_output=True, timeout=600
+        )
+        said = done.stderr.decode("utf-8", "replace").replace(f"{os.path.realpath(folder)}/", "")
+        return done.returncode, "\n".join(line for line in said.split("\n") if not OWN_WORK.match(line)).strip()
+
+    def refusal(self, folder, words):
+        """Why Cargo refuses, or an empty text."""
+        return refusal(*self.run(folder, words))
+
+    def asked(self, folder, builds=True):
+        """All that Cargo says of the package in a folder; whether it builds it only where this is asked for."""
+        read = self.refusal(folder, READ)
+        if read:
+            return Answer(read)
+        warned = warnings_of(self.run(folder, WARN)[1])
+        built = self.refusal(folder, BUILD) if builds else ""
+        is_open = ABSENT.search(built) is not None
+        return Answer("", warned, "" if is_open else built, is_open)
+
+    def each(self, function, things):
+        """What a function answers of each of these things, several at a time, in their order."""
+        with ThreadPoolExecutor(POOL) as pool:
+            yield from pool.map(function, things)
 
 
 def is_there():
@@ -40,17 +107,6 @@ def is_there():
 def version():
     """What `cargo --version` says."""
     return subprocess.run(["cargo", "--version"], capture_output=True, text=True).stdout.strip()
-
-
-def run(folder, words, target):
-    """One run of cargo in a folder, with files that are built in another: its status, and what it says, without the path."""
-    settings = {name: value for name, value in os.environ.items() if not name.startswith("CARGO_TARGET")}
-    settings |= {"CARGO_TARGET_DIR": str(target), "CARGO_TERM_COLOR": "never"}
-    done = subprocess.run(
-        ["nice", "cargo", *words, "--offline"], cwd=folder, env=settings, capture_output=True, timeout=300
-    )
-    said = done.stderr.decode("utf-8", "replace").replace(f"{os.path.realpath(folder)}/", "")
-    return done.returncode, "\n".join(line for line in said.split("\n") if not OWN_WORK.match(line)).strip()
 
 
 def warnings_of(said):
@@ -70,30 +126,3 @@ def refusal(status, said):
         return ""
     found = re.search(r"^error", said, re.M)
     return said[found.start():] if found else said or f"status {status}"
-
-
-def reads(folder, target):
-    """Why Cargo does not read the manifest in a folder, or an empty text."""
-    return refusal(*run(folder, READ, target))
-
-
-def warns(folder, target):
-    """What Cargo warns of, before it builds anything."""
-    return warnings_of(run(folder, ("fetch",), target)[1])
-
-
-def builds(folder, target, words=()):
-    """Why Cargo does not build the package, and whether a dependency is absent."""
-    refused = refusal(*run(folder, [*(words or BUILD)], target))
-    return ("", True) if ABSENT.search(refused) else (refused, False)
-
-
-def asked(folder, target, words=(), also_builds=True):
-    """All that Cargo says of the package in a folder."""
-    read = reads(folder, target)
-    if read:
-        return Answer(read, "", "", False)
-    status, said = run(folder, [*(words or BUILD)], target) if also_builds else (0, "")
-    built = refusal(status, said)
-    is_absent = ABSENT.search(built) is not None
-    return Answer("", warns(folder, target), "" if is_absent else built, is_absent)

@@ -39,17 +39,18 @@ class Case(NamedTuple):
 
 
 def unescaped(text):
-    """The bytes of a text that is written with escapes."""
-    return text.encode("utf-8").decode("latin-1").encode("latin-1").decode("unicode_escape").encode("latin-1")
+    """The bytes of a text in ASCII that is written with escapes."""
+    return text.encode("ascii").decode("unicode_escape").encode("latin-1")
 
 
-def diagnostic_of(line, codes):
-    """The diagnostic of a line of the part `expected`; the level is that of the table of codes unless the line has one."""
+def diagnostic_of(line, codes, manifest):
+    """The diagnostic of a line of the part `expected`, of this manifest unless the line has another; the level is that of the
+    table of codes unless the line has one."""
     found = DIAGNOSTIC.fullmatch(line)
     if found is None or found["code"] not in codes:
         raise ValueError(f"{line!r} is not the line of a diagnostic")
     column = 0 if found["column"] == "*" else int(found["column"])
-    return Told(found["file"] or "Cargo.toml", int(found["line"]), column, found["code"], found["level"] or codes[found["code"]].level)
+    return Told(found["file"] or manifest, int(found["line"]), column, found["code"], found["level"] or codes[found["code"]].level)
 
 
 def parts_of(lines):
@@ -75,14 +76,15 @@ def case_of(place, name, lines, codes):
     (_, head), *parts = parts_of(lines)
     about = dict(line.split(": ", 1) for line in head if line)
     moment, *words = about.pop("cargo").split()
-    folder = ""
+    files = dict(file_of(*part) for part in parts[:-1])
+    manifest = next(name for name in files if name.endswith("Cargo.toml"))
+    folder = manifest.rpartition("/")[0]
     if words[:1] == ["in"]:
         folder, words = words[1], words[2:]
     code, options = about.pop("code"), tuple(about.pop("options", "").split())
     if about or moment not in MOMENTS or code not in codes or not parts or parts[-1][0] != "expected":
         raise ValueError(f"{place}: {name}: the lines are not those of a case: {about or moment or code}")
-    expected = tuple(sorted(diagnostic_of(line, codes) for line in parts[-1][1] if line))
-    files = dict(file_of(*part) for part in parts[:-1])
+    expected = tuple(sorted(diagnostic_of(line, codes, manifest) for line in parts[-1][1] if line))
     return Case(place, name, code, moment, folder, tuple(words), options, files, expected)
 
 

@@ -1,0 +1,113 @@
+"""Whether what manifest_check reports agrees with what Cargo says: an error where Cargo refuses, and a warning where it warns."""
+import re
+from typing import NamedTuple
+
+from .check_cargo import OF_HOST
+
+
+class Difference(NamedTuple):
+    """An intended difference: its name, why it is intended, the codes that are reported and Cargo does not refuse or, where
+    there are none, the words of Cargo for which nothing is reported."""
+
+    name: str
+    reason: str
+    codes: tuple = ()
+    words: str = ""
+
+
+# what Cargo warns of, and the codes of which one has to be reported then
+WARNED = [
+    (r"unused manifest key `lints\.", ("unknown-lint-tool", "unstable-lint-tool")),
+    (r"unused manifest key: lints\.", ("unknown-lint-tool", "unknown-key", "misspelled-key", "ignored-lint-key")),
+    (r"unrecognized lint tool", ("unknown-lint-tool",)),
+    (
+        r"unused manifest key: ",
+        ("unknown-key", "misspelled-key", "ignored-spelling", "configuration-key", "ignored-lint-key", "ignored-when-inherited"),
+    ),
+    (r"no edition set|no `edition` set|edition.* defaulting to", ("missing-edition",)),
+    (r"only one of `license` or `license-file`", ("license-and-license-file",)),
+    (r"is redundant with", ("two-spellings", "old-spelling", "proc-macro-crate-type")),
+    (r"is deprecated in favor of|`\[project\]` is deprecated", ("old-spelling",)),
+    (r"found to be present in multiple build targets", ("shared-target-file",)),
+    (r"An explicit \[\[", ("undeclared-target-files",)),
+    (r"`edition` is set on", ("edition-of-target",)),
+    (r"`default-features` is ignored for", ("ignored-default-features",)),
+    (r"`default_features` is ", ("old-spelling", "two-spellings")),
+    (r"ignoring `public` on|ignoring '?hint", ("unstable-key",)),
+    (r"URL fragment", ("fragment-in-url",)),
+    (r"includes semver metadata", ("metadata-in-requirement",)),
+    (r"`panic` setting is ignored for", ("panic-of-tests",)),
+    (r"profile `doc` is deprecated", ("doc-profile",)),
+    (r"defines a feature named `default-features`", ("default-features-feature",)),
+    (r"in required-features of target", ("unknown-required-feature",)),
+    (r"the cargo feature `.*` has been stabilized", ("stable-cargo-feature",)),
+    (r"for the non root package will be ignored", ("ignored-in-member",)),
+    (r"virtual workspace defaulting to", ("missing-resolver",)),
+    (r"unused field in patch for", ("ignored-in-patch",)),
+    (r"[Ff]ound `.*` in `target\.", ("never-true-cfg",)),
+    (r"\[target\..*boolean literal|is a boolean|as a cfg key|`(?:r#)?(?:true|false)` as a", ("boolean-as-cfg-key",)),
+    (r"proc-macro", ("proc-macro-crate-type",)),
+]
+
+DIFFERENCES = [
+    Difference(
+        "what the compiler refuses, where nothing is compiled with it",
+        "Cargo passes such a value on to rustc, which refuses it as soon as the profile or the target is built: a check of one "
+        "profile does not show it",
+        codes=("invalid-lto", "opt-level-too-high", "no-codegen-units", "invalid-target-name", "invalid-library-type"),
+    ),
+    Difference(
+        "an array or a date in place of a table or a text",
+        "Cargo's reader takes an array for some tables, with its items as the fields in their order, by accident",
+        codes=("wrong-kind",),
+    ),
+    Difference(
+        "files of binaries, benches and libraries in the old places of the edition 2015",
+        "Cargo warns that it takes them by mistake; they are found or reported as absent by other rules here",
+        words=r"was erroneously implicitly accepted",
+    ),
+    Difference(
+        "names of packages with `::`, editions to come, several build scripts",
+        "they rest on unstable features of Cargo, so that another Cargo may take them",
+        words=r"feature `(?:open-namespaces|unstable-editions|multiple-build-scripts)` is required",
+    ),
+]
+
+
+def differs(answer, told):
+    """How what is reported disagrees with what Cargo says, or None; and the name of the intended difference, if it is one."""
+    errors = {each.code for each in told if each.level == "error"}
+    if answer.read and not errors:
+        if OF_HOST.search(answer.read):
+            return None, None
+        return by_words(answer.read, f"no error is reported, and Cargo refuses it: {shortened(answer.read)}")
+    if errors and not (answer.read or answer.built or answer.is_open):
+        codes = ", ".join(sorted(errors))
+        return by_codes(errors, f"{codes}: reported, and Cargo neither refuses to read it nor to build it")
+    return differs_in_warnings(answer.warned, {each.code for each in told})
+
+
+def differs_in_warnings(warned, codes):
+    """How what is reported disagrees with what Cargo warns of."""
+    for warning in re.split(r"^(?=warning: )", warned, flags=re.M)[1:]:
+        due = next((due for words, due in WARNED if re.search(words, warning)), ())
+        if not codes.intersection(due):
+            fault = f"none of {', '.join(due) or 'the codes'} is reported, and Cargo warns: {shortened(warning)}"
+            return by_words(warning, fault)
+    return None, None
+
+
+def by_words(said, fault):
+    """A difference, or the name of the intended one that has these words of Cargo."""
+    name = next((each.name for each in DIFFERENCES if each.words and re.search(each.words, said)), None)
+    return (None, name) if name else (fault, None)
+
+
+def by_codes(errors, fault):
+    """A difference, or the name of the intended one that has all these codes."""
+    name = next((each.name for each in DIFFERENCES if errors <= set(each.codes)), None)
+    return (None, name) if name else (fault, None)
+
+
+def shortened(said):
+    return " ".join(said.split())[:300]
