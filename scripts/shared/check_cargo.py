@@ -25,7 +25,7 @@ ABSENT = re.compile(
 OF_HOST = re.compile(
     r"feature `.*` is required|requires `-Z ?[a-z-]+`|unknown Cargo\.toml feature|unknown cargo feature|is not a valid cargo feature"
     r"|registry `.*` not found|registry index was not found|\[patch\] entry .* should be a URL or registry name"
-    r"|is not supported by the following packages|only available on the nightly|incorrect value `.*` for codegen option `strip`"
+    r"|is not supported by the following packages|requires a nightly version of Cargo|incorrect value `.*` for codegen option `strip`"
     r"|failed to run `rustc` to learn about crate-type"
 )
 # warnings that rest on the lock file

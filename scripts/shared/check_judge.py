@@ -22,7 +22,10 @@ WARNED = [
     (r"unrecognized lint tool", ("unknown-lint-tool",)),
     (
         r"unused manifest key: ",
-        ("unknown-key", "misspelled-key", "ignored-spelling", "configuration-key", "ignored-lint-key", "ignored-when-inherited"),
+        (
+            "unknown-key", "misspelled-key", "ignored-spelling", "configuration-key", "ignored-lint-key", "ignored-when-inherited",
+            "inherited-patch",
+        ),
     ),
     (r"no edition set|no `edition` set|edition.* defaulting to", ("missing-edition",)),
     (r"only one of `license` or `license-file`", ("license-and-license-file",)),
@@ -45,7 +48,7 @@ WARNED = [
     (r"virtual workspace defaulting to", ("missing-resolver",)),
     (r"unused field in patch for", ("ignored-in-patch",)),
     (r"[Ff]ound `.*` in `target\.", ("never-true-cfg",)),
-    (r"\[target\..*boolean literal|is a boolean|as a cfg key|`(?:r#)?(?:true|false)` as a", ("boolean-as-cfg-key",)),
+    (r"is deprecated as `(?:true|false)` is a keyword", ("boolean-as-cfg-key",)),
     (r"proc-macro", ("proc-macro-crate-type",)),
 ]
 
