@@ -23,10 +23,9 @@ ABSENT = re.compile(
 )
 # a refusal that rests on the version of Cargo, its channel, the compiler or the configuration
 OF_HOST = re.compile(
-    r"feature `.*` is required|requires `-Z ?[a-z-]+`|unknown Cargo\.toml feature|unknown cargo feature|is not a valid cargo feature"
-    r"|registry `.*` not found|registry index was not found|\[patch\] entry .* should be a URL or registry name"
-    r"|is not supported by the following packages|requires a nightly version of Cargo|incorrect value `.*` for codegen option `strip`"
-    r"|failed to run `rustc` to learn about crate-type"
+    r"feature `.*` is required|requires `-Z ?[a-z-]+`|unknown Cargo\.toml feature|requires a nightly version of Cargo"
+    r"|registry index was not found in any configuration|\[patch\] entry .* should be a URL or registry name"
+    r"|is not supported by the following packages|incorrect value `.*` for codegen option `strip`|unknown crate type"
 )
 # warnings that rest on the lock file
 OF_LOCK = re.compile(r"warning: (?:patch `.*` was not used in the crate graph|package replacement is not used)")
@@ -73,7 +72,8 @@ class Room:
     def run(self, folder, words):
         """One run of cargo in a folder: its status, and what it says, without the path and without its own work."""
         settings = {name: value for name, value in os.environ.items() if not name.startswith("CARGO_")}
-        settings |= {"CARGO_TARGET_DIR": str(self.own("target")), "CARGO_HOME": str(self.own("home")), "CARGO_TERM_COLOR": "never"}
+        own = {"CARGO_TARGET_DIR": str(self.own("target")), "CARGO_HOME": str(self.own("home"))}
+        settings |= {**own, "CARGO_TERM_COLOR": "never"}
         done = subprocess.run(
             ["nice", "cargo", *words, "--offline"], cwd=folder, env=settings, capture_output=True, timeout=600
         )

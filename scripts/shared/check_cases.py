@@ -7,7 +7,9 @@ from .repository import TOP
 FOLDER = TOP / "tests" / "checks"
 MOMENTS = ("read", "build", "warn", "pack", "host", "none")
 LEVELS = ("error", "warning", "note")
-DIAGNOSTIC = re.compile(r"(?:(?P<file>.+): )?(?P<code>[a-z0-9-]+) (?P<line>\d+):(?P<column>\d+|\*)(?: (?P<level>error|warning|note))?")
+DIAGNOSTIC = re.compile(
+    r"(?:(?P<file>.+): )?(?P<code>[a-z0-9-]+) (?P<line>\d+):(?P<column>\d+|\*)(?: (?P<level>error|warning|note))?"
+)
 
 
 class Told(NamedTuple):
@@ -50,7 +52,8 @@ def diagnostic_of(line, codes, manifest):
     if found is None or found["code"] not in codes:
         raise ValueError(f"{line!r} is not the line of a diagnostic")
     column = 0 if found["column"] == "*" else int(found["column"])
-    return Told(found["file"] or manifest, int(found["line"]), column, found["code"], found["level"] or codes[found["code"]].level)
+    level = found["level"] or codes[found["code"]].level
+    return Told(found["file"] or manifest, int(found["line"]), column, found["code"], level)
 
 
 def parts_of(lines):

@@ -1,4 +1,4 @@
-"""Whether what manifest_check reports agrees with what Cargo says: an error where Cargo refuses, and a warning where it warns."""
+"""Whether what manifest_check reports agrees with what Cargo says: errors where it refuses, warnings where it warns."""
 import re
 from typing import NamedTuple
 
@@ -23,8 +23,8 @@ WARNED = [
     (
         r"unused manifest key: ",
         (
-            "unknown-key", "misspelled-key", "ignored-spelling", "configuration-key", "ignored-lint-key", "ignored-when-inherited",
-            "inherited-patch",
+            "unknown-key", "misspelled-key", "ignored-spelling", "configuration-key", "ignored-lint-key",
+            "ignored-when-inherited", "inherited-patch",
         ),
     ),
     (r"no edition set|no `edition` set|edition.* defaulting to", ("missing-edition",)),

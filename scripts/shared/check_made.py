@@ -15,55 +15,93 @@ NUMBERS = ["0", "1", "2", "9", "10", "01", "18446744073709551615", "184467440737
 PARTS = ["", "-", "-0", "-01", "-a", "-rc.1", "-1a", "-é", "+", "+b", "+01", "-a+b", "-a.", "-a..b", " ", "\\t", "x"]
 OPERATORS = ["", "", "^", "~", "=", ">", ">=", "<", "<=", "==", "!", "=>", ">= ", " ^ ", "v"]
 CFG = [
-    "unix", "windows", "test", "debug_assertions", "proc_macro", "true", "false", "feature", "r#any", "r#true", "é", "a-b", "1a",
-    'target_os = "linux"', "target_os=\"\"", 'feature = "x"', 'true = "x"', 'r#false = "x"', "a = b", 'a = "b" c', "", " ", "\t", "x y",
+    "unix", "windows", "test", "debug_assertions", "proc_macro", "true", "false", "feature", "r#any", "r#true", "é", "a-b",
+    "1a", 'target_os = "linux"', 'target_os=""', 'feature = "x"', 'true = "x"', 'r#false = "x"', "a = b", 'a = "b" c', "", " ",
+    "	", "x y",
 ]
 URLS = [
-    "https://example.com/b", "http://example.com", "ssh://git@example.com/b", "git@example.com:b", "file:///b", "b", "../b", "/b", "",
-    "https://", "https:example.com", "https://exa mple.com", "git+https://example.com/b", "sparse+https://example.com/", "mailto:a",
-    "https://example.com/b#c", "https://[::1]/b", "https://[", "https://example.com:99999/", "https://example.com:80/", "a:b",
-    "data:x", "HTTPS://EXAMPLE.COM/B", "https://1.2.3.4/b", "https://1.2.3.256/b", "https://é.com/b", "file://b", "//example.com/b",
+    "https://example.com/b", "http://example.com", "ssh://git@example.com/b", "git@example.com:b", "file:///b", "b", "../b",
+    "/b", "", "https://", "https:example.com", "https://exa mple.com", "git+https://example.com/b",
+    "sparse+https://example.com/", "mailto:a", "https://example.com/b#c", "https://[::1]/b", "https://[",
+    "https://example.com:99999/", "https://example.com:80/", "a:b", "data:x", "HTTPS://EXAMPLE.COM/B", "https://1.2.3.4/b",
+    "https://1.2.3.256/b", "https://é.com/b", "file://b", "//example.com/b",
 ]
-VALUES = ["1", "0", "-1", "true", "false", '"x"', '""', "[]", '["x"]', "{}", "1.5", "2020-01-01", "[1]", "{ workspace = true }", '"1"', "3"]
+VALUES = [
+    "1", "0", "-1", "true", "false", '"x"', '""', "[]", '["x"]', "{}", "1.5", "2020-01-01", "[1]", "{ workspace = true }",
+    '"1"', "3",
+]
 KEYS = {
     "package": [
-        "authors", "description", "documentation", "readme", "homepage", "repository", "license", "license-file", "keywords", "categories",
-        "links", "exclude", "include", "publish", "metadata", "default-run", "autolib", "autobins", "autoexamples", "autotests", "autobenches",
-        "resolver", "rust-version", "build", "workspace", "edtion", "autor", "zebra", "license_file", "rust_version", "im-a-teapot",
+        "authors", "description", "documentation", "readme", "homepage", "repository", "license", "license-file", "keywords",
+        "categories", "links", "exclude", "include", "publish", "metadata", "default-run", "autolib", "autobins",
+        "autoexamples", "autotests", "autobenches", "resolver", "rust-version", "build", "workspace", "edtion", "autor",
+        "zebra", "license_file", "rust_version", "im-a-teapot",
     ],
     "lib": [
-        "name", "path", "test", "doctest", "bench", "doc", "plugin", "proc-macro", "proc_macro", "harness", "edition", "crate-type",
-        "crate_type", "required-features", "filename", "doc-scrape-examples", "crate-types", "zebra",
+        "name", "path", "test", "doctest", "bench", "doc", "plugin", "proc-macro", "proc_macro", "harness", "edition",
+        "crate-type", "crate_type", "required-features", "filename", "doc-scrape-examples", "crate-types", "zebra",
     ],
     "profile.dev": [
         "opt-level", "debug", "split-debuginfo", "strip", "debug-assertions", "overflow-checks", "lto", "panic", "incremental",
         "codegen-units", "rpath", "inherits", "package", "build-override", "opt_level", "dir-name", "rustflags", "zebra",
     ],
     "dependencies.b": [
-        "version", "path", "git", "branch", "tag", "rev", "registry", "features", "optional", "default-features", "default_features",
-        "package", "workspace", "public", "artifact", "lib", "target", "base", "zebra",
+        "version", "path", "git", "branch", "tag", "rev", "registry", "features", "optional", "default-features",
+        "default_features", "package", "workspace", "public", "artifact", "lib", "target", "base", "zebra",
     ],
-    "lints.rust.unused": ["level", "priority", "check-cfg", "zebra"],
-    "workspace": ["members", "default-members", "exclude", "resolver", "dependencies", "package", "metadata", "lints", "default_members"],
-    "workspace.package": ["version", "edition", "authors", "license", "readme", "publish", "rust-version", "name", "badges", "zebra"],
+    "lints.rust.unused": [
+        "level", "priority", "check-cfg", "zebra",
+    ],
+    "workspace": [
+        "members", "default-members", "exclude", "resolver", "dependencies", "package", "metadata", "lints", "default_members",
+    ],
+    "workspace.package": [
+        "version", "edition", "authors", "license", "readme", "publish", "rust-version", "name", "badges", "zebra",
+    ],
 }
 TOP = [
-    "dependencies", "dev-dependencies", "build-dependencies", "dev_dependencies", "features", "target", "patch", "replace", "profile", "badges",
-    "lints", "hints", "workspace", "lib", "bin", "test", "example", "bench", "project", "net", "build", "alias", "env", "zebra", "dependancies",
-    "cargo-features", "paths", "term", "Package",
+    "dependencies", "dev-dependencies", "build-dependencies", "dev_dependencies", "features", "target", "patch", "replace",
+    "profile", "badges", "lints", "hints", "workspace", "lib", "bin", "test", "example", "bench", "project", "net", "build",
+    "alias", "env", "zebra", "dependancies", "cargo-features", "paths", "term", "Package",
 ]
 TOOLS = ["rust", "clippy", "rustdoc", "cargo", "miri", "Rust", ""]
 PROFILES = [
-    "own", "dev", "release", "test", "bench", "doc", "debug", "Debug", "build", "check", "cargo", "cargo-x", "deps", "rust", "rustc", "root", "tmp",
-    "package", "build-override", "target", "uninstall", "a b", "a.b", "é", "", "1", "-",
+    "own", "dev", "release", "test", "bench", "doc", "debug", "Debug", "build", "check", "cargo", "cargo-x", "deps", "rust",
+    "rustc", "root", "tmp", "package", "build-override", "target", "uninstall", "a b", "a.b", "é", "", "1", "-",
 ]
 SPECS = [
-    "*", "a", "b", "a@0.1.0", "a@0.1", "a:0.1.0", "a@", "@1", "a@^1", "a b", "https://example.com/a", "https://example.com/a#b@1.0.0",
-    "https://example.com/a#1.0.0", "file:///a#1", "", "a@1.2.3.4", "a@x", "1a", "a#1",
+    "*", "a", "b", "a@0.1.0", "a@0.1", "a:0.1.0", "a@", "@1", "a@^1", "a b", "https://example.com/a",
+    "https://example.com/a#b@1.0.0", "https://example.com/a#1.0.0", "file:///a#1", "", "a@1.2.3.4", "a@x", "1a", "a#1",
 ]
 PATTERNS = ["m", "m*", "*", "m/*", "a***", "**", "[", "[a-z]", "?", ".", "", "nope", "./m", "m/", "no*", "{m}"]
 TYPES = ["lib", "rlib", "dylib", "cdylib", "staticlib", "proc-macro", "bin", "x", ""]
-CARGO_FEATURES = ["strip", "edition2021", "metabuild", "publish-lockfile", "nope", "rust_version", "test-dummy-stable", "path-bases"]
+CARGO_FEATURES = [
+    "strip", "edition2021", "metabuild", "publish-lockfile", "nope", "rust_version", "test-dummy-stable", "path-bases",
+]
+RUST_VERSIONS = ["1", "0", "2", "31", "56", "55", "84", "85", "30", "x", "01"]
+DEPENDENCY_KEYS = {
+    "version": '"0.1"', "path": '"b"', "git": '"https://example.com/b"', "branch": '"x"', "tag": '"x"', "rev": '"x"',
+    "registry": '"crates-io"', "registry-index": '"https://example.com"', "optional": "true", "features": '["x"]',
+    "package": '"b"', "lib": "true", "base": '"x"',
+}
+DEPENDENCY_TABLES = [
+    "dependencies", "dependencies", "dev-dependencies", "build-dependencies", "workspace.dependencies", "patch.crates-io",
+]
+ELEMENTS = [
+    "b", "x", "one", "two", "dep:b", "dep:x", "b/x", "b?/x", "dep:b/x", "b/x/y", "c/x", "/", "dep:", "b/", "?/x", "default",
+    "one/x", "",
+]
+LEVELS = [
+    '"warn"', '"Warn"', '"forbid"', "1", '{ level = "deny" }', "{ priority = 1 }", '{ level = "warn", priority = 200 }', "[]",
+]
+OVERRIDES = [
+    "opt-level = 2", "panic = 'abort'", "lto = true", "rpath = true", "package = {}", "build-override = {}",
+    "inherits = 'dev'", "x = 1",
+]
+REPLACEMENTS = ['{ path = "b" }', '{ git = "https://example.com/b" }', '{ path = "b", version = "1" }', '"1"', "{}"]
+TARGET_LINES = [
+    "", "", 'crate-type = ["lib"]\n', "crate-type = []\n", "proc-macro = true\n", 'edition = "2018"\n', 'edition = "x"\n',
+]
 
 
 class Made:
@@ -97,8 +135,9 @@ class Made:
         return self.head.replace('"0.1.0"', f'"{self.choice(["", "", "", " ", "v"])}{".".join(parts)}{self.choice(PARTS)}"')
 
     def rust_version(self):
-        parts = [self.choice(["1", "0", "2", "31", "56", "55", "84", "85", "30", "x", "01"]) for _ in range(self.choice([1, 2, 2, 3, 4]))]
-        said = self.choice(["", "", "", " ", "^", "v"]) + ".".join(parts) + self.choice(["", "", "", " ", "-a", "+b", ".", "\\t"])
+        parts = [self.choice(RUST_VERSIONS) for _ in range(self.choice([1, 2, 2, 3, 4]))]
+        after = self.choice(["", "", "", " ", "-a", "+b", ".", "\\t"])
+        said = self.choice(["", "", "", " ", "^", "v"]) + ".".join(parts) + after
         return f'{self.head}rust-version = "{said}"\n'
 
     def package_name(self):
@@ -125,14 +164,10 @@ class Made:
         return f'{self.head}[dependencies]\nb = {{ version = "1", registry = "{self.letters()}" }}\n'
 
     def sources(self):
-        keys = {
-            "version": '"0.1"', "path": '"b"', "git": '"https://example.com/b"', "branch": '"x"', "tag": '"x"', "rev": '"x"', "registry": '"crates-io"',
-            "registry-index": '"https://example.com"', "optional": "true", "features": '["x"]', "package": '"b"', "lib": "true", "base": '"x"',
-        }
-        chosen = dict.fromkeys(self.some(list(keys), 5))
+        chosen = dict.fromkeys(self.some(list(DEPENDENCY_KEYS), 5))
         self.files |= B
-        table = self.choice(["dependencies", "dependencies", "dev-dependencies", "build-dependencies", "workspace.dependencies", "patch.crates-io"])
-        return f'{self.head}[{table}]\nb = {{ {", ".join(f"{key} = {keys[key]}" for key in chosen)} }}\n'
+        pairs = ", ".join(f"{key} = {DEPENDENCY_KEYS[key]}" for key in chosen)
+        return f"{self.head}[{self.choice(DEPENDENCY_TABLES)}]\nb = {{ {pairs} }}\n"
 
     def platform(self):
         def expression(deep):
@@ -143,7 +178,8 @@ class Made:
             parts = [expression(deep - 1) for _ in range(1 if name == "not" else self.random.randrange(4))]
             return f'{name}({self.choice([", ", ",", " , "]).join(parts)}{self.choice(["", "", ","])})'
 
-        said = self.choice([f"cfg({expression(2)})"] * 8 + [f"cfg ({expression(1)})", expression(1), f" cfg({expression(1)})", self.letters()])
+        others = [f"cfg ({expression(1)})", expression(1), f" cfg({expression(1)})", self.letters()]
+        said = self.choice([f"cfg({expression(2)})"] * 8 + others)
         key = f"'{said}'" if "'" not in said and "\\" not in said else '"' + said.replace('"', '\\"') + '"'
         return f"{self.head}[target.{key}.dependencies]\n"
 
@@ -152,17 +188,17 @@ class Made:
 
     def feature(self):
         self.files |= B
-        values = ["b", "x", "one", "two", "dep:b", "dep:x", "b/x", "b?/x", "dep:b/x", "b/x/y", "c/x", "/", "dep:", "b/", "?/x", "default", "one/x", ""]
         table = self.choice(["dependencies", "dependencies", "dev-dependencies", "target.'cfg(unix)'.dependencies"])
         optional = self.choice([", optional = true", ", optional = true", ""]) * (table != "dev-dependencies")
-        lists = [f"{name} = [{self.listed(values)}]\n" for name in ("one", "two")]
+        lists = [f"{name} = [{self.listed(ELEMENTS)}]\n" for name in ("one", "two")]
         own = self.choice(["", "", "b = []\n", 'b = ["dep:b"]\n', 'default = ["one"]\n'])
         return f'{self.head}[features]\n{"".join(lists)}{own}[{table}]\nb = {{ path = "b"{optional} }}\n'
 
     def kind(self):
         table = self.choice(list(KEYS))
         key, value = self.choice(KEYS[table]), self.choice(VALUES)
-        base = {"dependencies.b": 'path = "b"\n' * (key != "path"), "lints.rust.unused": 'level = "warn"\n' * (key != "level")}.get(table, "")
+        bases = {"dependencies.b": 'path = "b"\n' * (key != "path"), "lints.rust.unused": 'level = "warn"\n' * (key != "level")}
+        base = bases.get(table, "")
         if table == "dependencies.b":
             self.files |= B
         if table == "package":
@@ -176,7 +212,7 @@ class Made:
         return f"{self.head}[{self.choice(TOP)}]\n{self.choice(['', '', 'x = 1', 'x = []', 'name = 1'])}\n"
 
     def lint(self):
-        value = self.choice(['"warn"', '"Warn"', '"forbid"', "1", '{ level = "deny" }', "{ priority = 1 }", '{ level = "warn", priority = 200 }', "[]"])
+        value = self.choice(LEVELS)
         name = self.choice(["unused", "unsafe_code", '"clippy::all"', '"rust::x"', '"a::b"', '"a b"', '""'])
         return f'{self.head}[{self.choice(["lints", "workspace.lints"])}."{self.choice(TOOLS)}"]\n{name} = {value}\n'
 
@@ -185,24 +221,23 @@ class Made:
         return f'{self.head}[profile."{self.choice(PROFILES)}"]\n{line}'
 
     def override(self):
-        key = self.choice(["opt-level = 2", "panic = 'abort'", "lto = true", "rpath = true", "package = {}", "build-override = {}", "inherits = 'dev'", "x = 1"])
         where = self.choice([f'package."{self.choice(SPECS)}"', f'package."{self.choice(SPECS)}"', "build-override"])
-        return f"{self.head}[profile.dev.{where}]\n{key}\n"
+        return f"{self.head}[profile.dev.{where}]\n{self.choice(OVERRIDES)}\n"
 
     def inherits(self):
-        lines = [f'[profile.{name}]\ninherits = "{self.choice(["dev", "release", "debug", "p", "q", "r", "x", "test"])}"\n' for name in "pqr"]
-        return self.head + "".join(lines)
+        names = ["dev", "release", "debug", "p", "q", "r", "x", "test"]
+        return self.head + "".join(f'[profile.{name}]\ninherits = "{self.choice(names)}"\n' for name in "pqr")
 
     def replace(self):
-        element = self.choice(['{ path = "b" }', '{ git = "https://example.com/b" }', '{ path = "b", version = "1" }', '"1"', "{}"])
         self.files |= B
-        return f'{self.head}[replace]\n"{self.choice([*SPECS, "b:0.1.0", "b@0.1.0"])}" = {element}\n'
+        key = self.choice([*SPECS, "b:0.1.0", "b@0.1.0"])
+        return f'{self.head}[replace]\n"{key}" = {self.choice(REPLACEMENTS)}\n'
 
     def target(self):
         kind = self.choice(["bin", "bin", "test", "example", "bench"])
         lines = [f'[[{kind}]]\nname = "{self.choice([self.letters(), "x", "x", "deps", "build"])}"\n']
         lines.append(self.choice(['path = "t.rs"\n', 'path = "t.rs"\n', 'path = "nope.rs"\n', 'path = "src"\n', ""]))
-        lines.append(self.choice(["", "", 'crate-type = ["lib"]\n', "crate-type = []\n", "proc-macro = true\n", 'edition = "2018"\n', 'edition = "x"\n']))
+        lines.append(self.choice(TARGET_LINES))
         return self.head + "".join(lines)
 
     def types(self):
@@ -239,19 +274,21 @@ class Made:
 
 
 RIGHT_KEYS = [
-    'description = "x"\n', 'authors = ["x"]\n', 'keywords = ["x"]\n', 'license = "MIT"\n', "readme = false\n", "publish = false\n",
-    'homepage = "https://example.com"\n', 'repository = "https://example.com"\n', "autobins = true\n", 'build = false\n', "include = []\n",
+    'description = "x"\n', 'authors = ["x"]\n', 'keywords = ["x"]\n', 'license = "MIT"\n', "readme = false\n",
+    "publish = false\n", 'homepage = "https://example.com"\n', 'repository = "https://example.com"\n', "autobins = true\n",
+    "build = false\n", "include = []\n",
 ]
 RIGHT_TABLES = [
-    "[lib]\ndoctest = false\n", '[[test]]\nname = "t"\npath = "t.rs"\n', '[features]\ndefault = ["one"]\none = []\n', "[profile.release]\nlto = true\n",
-    '[profile.own]\ninherits = "dev"\nopt-level = 2\n', '[lints.rust]\nunsafe_code = "forbid"\n', '[badges.maintenance]\nstatus = "as-is"\n',
-    "[target.'cfg(unix)'.dependencies]\n", "[build-dependencies]\n", "[dev-dependencies]\n", "[package.metadata.x]\ny = 1\n", "[patch.crates-io]\n",
+    "[lib]\ndoctest = false\n", '[[test]]\nname = "t"\npath = "t.rs"\n', '[features]\ndefault = ["one"]\none = []\n',
+    "[profile.release]\nlto = true\n", '[profile.own]\ninherits = "dev"\nopt-level = 2\n',
+    '[lints.rust]\nunsafe_code = "forbid"\n', '[badges.maintenance]\nstatus = "as-is"\n', "[target.'cfg(unix)'.dependencies]\n",
+    "[build-dependencies]\n", "[dev-dependencies]\n", "[package.metadata.x]\ny = 1\n", "[patch.crates-io]\n",
 ]
 WAYS = [
-    Made.version, Made.rust_version, Made.package_name, Made.requirement, Made.requirement, Made.dependency_name, Made.url, Made.registry,
-    Made.sources, Made.sources, Made.platform, Made.platform, Made.feature_name, Made.feature, Made.feature, Made.kind, Made.kind, Made.kind,
-    Made.top, Made.table, Made.lint, Made.profile, Made.override, Made.inherits, Made.replace, Made.target, Made.types, Made.required, Made.members,
-    Made.cargo_features, Made.two, Made.right,
+    Made.version, Made.rust_version, Made.package_name, Made.requirement, Made.requirement, Made.dependency_name, Made.url,
+    Made.registry, Made.sources, Made.sources, Made.platform, Made.platform, Made.feature_name, Made.feature, Made.feature,
+    Made.kind, Made.kind, Made.kind, Made.top, Made.table, Made.lint, Made.profile, Made.override, Made.inherits, Made.replace,
+    Made.target, Made.types, Made.required, Made.members, Made.cargo_features, Made.two, Made.right,
 ]
 # those whose lines stand in tables that no other one of them has
 APART = [Made.feature_name, Made.requirement, Made.platform, Made.lint, Made.target, Made.profile]

@@ -1,8 +1,9 @@
 """The sections of docs/CHECKS.md, one for each code, with their examples; and the text of each for a terminal.
 
-An example is a block of TOML whose first line is ```toml, then `told` or `mended`, and then words that only scripts read: the
-file, where it is not Cargo.toml; `escaped`, where the text has escapes of bytes; `with` and the empty files that are there as
-well, in place of src/lib.rs; and options of the program. Blocks of one kind in a section are the files of one example.
+An example is a block of TOML. The word `toml` after its opening fence is followed by `told` or `mended`, and then by words that
+only scripts read: the file, where it is not Cargo.toml; `escaped`, where the text has escapes of bytes; `with` and the empty
+files that are there as well, in place of src/lib.rs; and options of the program. Blocks of one kind in a section are the files
+of one example.
 """
 import re
 
@@ -75,7 +76,8 @@ def plain(code, text):
     """A section as plain text: without marks, code by four more spaces, and each link with where it leads."""
     parts, end = [], 0
     for found in FENCE.finditer(text):
-        parts += [plain_words(text[end:found.start()]), "".join(f"    {line}".rstrip() + "\n" for line in found[1].rstrip("\n").split("\n"))]
+        lines = found[1].rstrip("\n").split("\n")
+        parts += [plain_words(text[end:found.start()]), "".join(f"    {line}".rstrip() + "\n" for line in lines)]
         end = found.end()
     return f"{code}\n\n" + "".join([*parts, plain_words(text[end:])]).strip("\n") + "\n"
 

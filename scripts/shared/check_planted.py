@@ -1,9 +1,9 @@
 """Manifests in which faults are planted, so that it is known which diagnostics have to be reported, and where.
 
 A fault is lines of TOML for a table, in which a mark stands before each place where something has to be reported. They are put
-right after the header of the table or, where no such header stands in the manifest, with the header at its end; a line whose key
-stands in the table already takes its place. Then the marks are taken out, and what was to be reported at each is noted by its
-line and column.
+right after the header of the table or, where no such header stands in the manifest, with the header at its end; a line whose
+key stands in the table already takes its place. Then the marks are taken out, and what was to be reported at each is noted by
+its line and column.
 """
 import re
 import tomllib
@@ -22,49 +22,74 @@ KEY = re.compile(rf"(?:{OPEN}[^{CLOSE}]*{CLOSE})?([\w-]+) = ")
 # the faults: the table, and its lines, where # stands for the number of the fault. Those in the tables of KEYS_ONCE take the
 # place of a key, and are planted once
 FAULTS = {
-    "": ["«unknown-key warning»zebra-# = 1", "«misspelled-key warning»dependancies = {}", "«configuration-key warning»paths = []"],
+    "": [
+        "«unknown-key warning»zebra-# = 1", "«misspelled-key warning»dependancies = {}",
+        "«configuration-key warning»paths = []",
+    ],
     "package": [
-        "«unknown-key warning»zebra-# = true", '«misspelled-key warning»licence = "MIT"', '«misspelled-key warning»autors = ["x"]',
-        '«unknown-key warning»"key #" = 1', 'version = «invalid-version»"1.#"', 'version = «invalid-version»"v1.0.#"', "version = «wrong-kind»#",
-        'version = «invalid-version»"1.0.0-01"', "description = «wrong-kind»#", 'authors = «wrong-kind»"me"', 'keywords = ["é", «wrong-kind»#]',
-        'publish = «wrong-kind»"crates-io"', 'rust-version = «invalid-rust-version»"1.x"', 'rust-version = «invalid-rust-version»"stable"',
-        'build = «missing-build-script»"nope-#.rs"', "readme = «wrong-kind»[]", 'default-run = «unknown-default-run»"nope-#"',
-        'resolver = «unknown-word»"4"', "license = { workspace = «not-true»false }", 'documentation = "«direction-characters warning»\u202ex"',
+        "«unknown-key warning»zebra-# = true", '«misspelled-key warning»licence = "MIT"',
+        '«misspelled-key warning»autors = ["x"]', '«unknown-key warning»"key #" = 1', 'version = «invalid-version»"1.#"',
+        'version = «invalid-version»"v1.0.#"', "version = «wrong-kind»#", 'version = «invalid-version»"1.0.0-01"',
+        "description = «wrong-kind»#", 'authors = «wrong-kind»"me"', 'keywords = ["é", «wrong-kind»#]',
+        'publish = «wrong-kind»"crates-io"', 'rust-version = «invalid-rust-version»"1.x"',
+        'rust-version = «invalid-rust-version»"stable"', 'build = «missing-build-script»"nope-#.rs"', "readme = «wrong-kind»[]",
+        'default-run = «unknown-default-run»"nope-#"', 'resolver = «unknown-word»"4"',
+        "license = { workspace = «not-true»false }", 'documentation = "«direction-characters warning»\u202ex"',
     ],
-    "package.metadata.planted": ["a-# = «float-in-metadata note»0.5", "b-# = [1, «float-in-metadata note»2.5]"],
+    "package.metadata.planted": [
+        "a-# = «float-in-metadata note»0.5", "b-# = [1, «float-in-metadata note»2.5]",
+    ],
     "dependencies": [
-        'd-# = «invalid-requirement»"1 2"', 'd-# = «invalid-requirement»"v#"', 'd-# = «invalid-requirement»""', "d-# = «no-source»{}", "d-# = «wrong-kind»true",
-        '«invalid-dependency-name»"#d" = "1"', '«invalid-dependency-name»"d #" = "1"', 'd-# = { version = "1", «unknown-key warning»zebra = # }',
-        'd-# = { version = "1", «misspelled-key warning»feature = [] }', 'd-# = { version = "1", «revision-without-git»tag = "v#" }',
-        'd-# = { git = «invalid-url»"a/#" }', 'd-# = { git = "https://example.com/#", branch = "b", «several-revisions»tag = "t" }',
-        'd-# = { version = "1", features = ["é", «invalid-dependency-feature»"a/b"] }', 'd-# = { version = "1", package = «invalid-dependency-name»"a b" }',
+        'd-# = «invalid-requirement»"1 2"', 'd-# = «invalid-requirement»"v#"', 'd-# = «invalid-requirement»""',
+        "d-# = «no-source»{}", "d-# = «wrong-kind»true", '«invalid-dependency-name»"#d" = "1"',
+        '«invalid-dependency-name»"d #" = "1"', 'd-# = { version = "1", «unknown-key warning»zebra = # }',
+        'd-# = { version = "1", «misspelled-key warning»feature = [] }',
+        'd-# = { version = "1", «revision-without-git»tag = "v#" }', 'd-# = { git = «invalid-url»"a/#" }',
+        'd-# = { git = "https://example.com/#", branch = "b", «several-revisions»tag = "t" }',
+        'd-# = { version = "1", features = ["é", «invalid-dependency-feature»"a/b"] }',
+        'd-# = { version = "1", package = «invalid-dependency-name»"a b" }',
         'd-# = { version = "1", registry = «invalid-registry-name»"1r" }', 'd-# = «metadata-in-requirement warning»"1.0.#+x"',
-        'd-# = { path = «missing-path-package»"nope-#" }', 'd-# = { git = "https://example.com/#", «conflicting-sources»path = "b" }',
+        'd-# = { path = «missing-path-package»"nope-#" }',
+        'd-# = { git = "https://example.com/#", «conflicting-sources»path = "b" }',
     ],
-    "dev-dependencies": ['v-# = { version = "1", optional = «optional-dev-dependency»true }', 'v-# = { version = «wrong-kind»1 }'],
+    "dev-dependencies": [
+        'v-# = { version = "1", optional = «optional-dev-dependency»true }', "v-# = { version = «wrong-kind»1 }",
+    ],
     "features": [
-        'f-# = [«unknown-feature»"nope-#"]', 'f-# = [«unknown-feature»"dep:nope"]', '«invalid-feature-name»"f #" = []', '«invalid-feature-name»"f/#" = []',
-        "f-# = «wrong-kind»{}", 'f-# = [«wrong-kind»#]', '«default-features-feature warning»default-features = []', 'f-# = [«feature-enables-itself»"f-#"]',
+        'f-# = [«unknown-feature»"nope-#"]', 'f-# = [«unknown-feature»"dep:nope"]', '«invalid-feature-name»"f #" = []',
+        '«invalid-feature-name»"f/#" = []', "f-# = «wrong-kind»{}", "f-# = [«wrong-kind»#]",
+        "«default-features-feature warning»default-features = []", 'f-# = [«feature-enables-itself»"f-#"]',
     ],
-    "lib": ['«unknown-key warning»zebra-# = 1', "doctest = «wrong-kind»0", 'crate-type = «wrong-kind»"lib"', 'name = «invalid-library-name»"my-lib"',
-            'name = «empty-target-name»" "', 'path = «wrong-target-path»"nope-#.rs"', 'crate-type = «dylib-and-cdylib»["dylib", "cdylib"]'],
+    "lib": [
+        "«unknown-key warning»zebra-# = 1", "doctest = «wrong-kind»0", 'crate-type = «wrong-kind»"lib"',
+        'name = «invalid-library-name»"my-lib"', 'name = «empty-target-name»" "', 'path = «wrong-target-path»"nope-#.rs"',
+        'crate-type = «dylib-and-cdylib»["dylib", "cdylib"]',
+    ],
     "profile.planted-#": [
-        'inherits = «inherits-debug»"debug"', 'inherits = "dev"\nopt-level = «unknown-word»"3"', 'inherits = "dev"\ndebug = «out-of-range»3',
-        'inherits = "dev"\n«unknown-key warning»zebra = #', 'inherits = "dev"\n«ignored-spelling warning»opt_level = 1', 'inherits = "dev"\npanic = «unknown-word»"no"',
-        'inherits = "dev"\nlto = «invalid-lto»"true"', 'inherits = "dev"\n«removed-dir-name»dir-name = "x"', 'inherits = "dev"\ncodegen-units = «no-codegen-units»0',
+        'inherits = «inherits-debug»"debug"', 'inherits = "dev"\nopt-level = «unknown-word»"3"',
+        'inherits = "dev"\ndebug = «out-of-range»3', 'inherits = "dev"\n«unknown-key warning»zebra = #',
+        'inherits = "dev"\n«ignored-spelling warning»opt_level = 1', 'inherits = "dev"\npanic = «unknown-word»"no"',
+        'inherits = "dev"\nlto = «invalid-lto»"true"', 'inherits = "dev"\n«removed-dir-name»dir-name = "x"',
+        'inherits = "dev"\ncodegen-units = «no-codegen-units»0',
     ],
-    "lints.clippy": ['l# = «unknown-word»"error"', 'l# = { level = "warn", priority = «out-of-range»128 }', 'l# = «missing-key»{ priority = 1 }',
-                     '«tool-in-lint-name»"clippy::l#" = "warn"', 'l# = { level = "warn", «ignored-lint-key warning»zebra = 1 }'],
+    "lints.clippy": [
+        'l# = «unknown-word»"error"', 'l# = { level = "warn", priority = «out-of-range»128 }',
+        "l# = «missing-key»{ priority = 1 }", '«tool-in-lint-name»"clippy::l#" = "warn"',
+        'l# = { level = "warn", «ignored-lint-key warning»zebra = 1 }',
+    ],
 }
 # the faults that have a header of their own
 TABLES = [
-    "[«unknown-key warning»zebra-table-#]\nx = 1", "[«misspelled-key warning»dev-dependancies]", "[«configuration-key warning»net]\noffline = true",
-    "[profile.«invalid-profile-name»\"p #\"]\ninherits = \"dev\"", "[profile.«reserved-profile-name»cargo-#]\ninherits = \"dev\"",
-    "«missing-inherits»[profile.own-#]\nopt-level = 1", "[profile.«doc-profile warning»doc]", '[target.«invalid-platform»"cfg(unix".dependencies]',
-    '[target.«invalid-platform»"a b #".dependencies]', '[target.«never-true-cfg warning»"cfg(test)".dependencies]', '«no-source»[dependencies.h-#]\noptional = true',
-    "[lints.«unknown-lint-tool warning»miri]\nx = \"warn\"", '«missing-target-name»[[test]]\npath = "n.rs"', '«missing-target-file»[[test]]\nname = "u-#"',
-    '[[bench]]\nname = "u-#"\npath = «wrong-target-path»"nope-#.rs"', '[[example]]\nname = «empty-target-name»""\npath = "e.rs"',
-    '[[example]]\nname = «invalid-target-name»"u #"\npath = "i.rs"', '[profile.planted-#.package.«invalid-package-spec»"a b"]\nopt-level = 1\n[profile.planted-#]\ninherits = "dev"',
+    "[«unknown-key warning»zebra-table-#]\nx = 1", "[«misspelled-key warning»dev-dependancies]",
+    "[«configuration-key warning»net]\noffline = true", '[profile.«invalid-profile-name»"p #"]\ninherits = "dev"',
+    '[profile.«reserved-profile-name»cargo-#]\ninherits = "dev"', "«missing-inherits»[profile.own-#]\nopt-level = 1",
+    "[profile.«doc-profile warning»doc]", '[target.«invalid-platform»"cfg(unix".dependencies]',
+    '[target.«invalid-platform»"a b #".dependencies]', '[target.«never-true-cfg warning»"cfg(test)".dependencies]',
+    "«no-source»[dependencies.h-#]\noptional = true", '[lints.«unknown-lint-tool warning»miri]\nx = "warn"',
+    '«missing-target-name»[[test]]\npath = "n.rs"', '«missing-target-file»[[test]]\nname = "u-#"',
+    '[[bench]]\nname = "u-#"\npath = «wrong-target-path»"nope-#.rs"',
+    '[[example]]\nname = «empty-target-name»""\npath = "e.rs"', '[[example]]\nname = «invalid-target-name»"u #"\npath = "i.rs"',
+    '[profile.planted-#.package.«invalid-package-spec»"a b"]\nopt-level = 1\n[profile.planted-#]\ninherits = "dev"',
 ]
 MORE_FILES = {**dict.fromkeys(("e.rs", "i.rs", "n.rs"), b"fn main() {}\n"), **B}
 # what a manifest with faults has to have for a target (else other files would be found), and must not have at all

@@ -7,7 +7,9 @@ from pathlib import Path
 from .check_cases import Told
 from .repository import TOP, X86
 
-LINE = re.compile(r"(?P<file>.+?):(?P<line>\d+):(?P<column>\d+): (?P<level>error|warning|note)\[(?P<code>[a-z0-9-]+)\]: (?P<text>.*)")
+LINE = re.compile(
+    r"(?P<file>.+?):(?P<line>\d+):(?P<column>\d+): (?P<level>error|warning|note)\[(?P<code>[a-z0-9-]+)\]: (?P<text>.*)"
+)
 SECONDS = 600
 NAME = "manifest_check"
 
