@@ -13,6 +13,7 @@ from .check_codes import PAGE
 SECTION = re.compile(r"^### `(?P<code>[a-z0-9-]+)`\n(?P<text>.*?)(?=^###? |\Z)", re.M | re.S)
 BLOCK = re.compile(r"^```toml (?P<words>(?:told|mended)[^\n]*)\n(?P<text>.*?)^```$", re.M | re.S)
 FENCE = re.compile(r"^```[^\n]*\n(.*?)^```$", re.M | re.S)
+TURNING = re.compile("[\u202a-\u202e\u2066-\u2069]")
 LINK = re.compile(r"\[([^\]]*)\]\(([^)]*)\)")
 
 
@@ -73,15 +74,21 @@ def examples():
 
 
 def plain(code, text):
-    """A section as plain text: without marks, code by four more spaces, and each link with where it leads."""
+    """A section as plain text: code by four more spaces, and each link with where it leads."""
     parts, end = [], 0
     for found in FENCE.finditer(text):
         lines = found[1].rstrip("\n").split("\n")
-        parts += [plain_words(text[end:found.start()]), "".join(f"    {line}".rstrip() + "\n" for line in lines)]
+        parts += [plain_words(text[end:found.start()]), "\n".join(f"    {line}".rstrip() for line in lines)]
         end = found.end()
-    return f"{code}\n\n" + "".join([*parts, plain_words(text[end:])]).strip("\n") + "\n"
+    return f"{code}\n\n" + shown("".join([*parts, plain_words(text[end:])]).strip("\n")) + "\n"
 
 
 def plain_words(text):
+    """Words without marks, but for the backquotes around names."""
     text = LINK.sub(lambda link: link[1] if link[2].startswith("#") else f"{link[1]} <{link[2]}>", text)
-    return text.replace("`", "").replace("**", "")
+    return text.replace("`` ", "").replace(" ``", "").replace("**", "")
+
+
+def shown(text):
+    """A text whose characters that turn its direction are named, so that no terminal turns it."""
+    return TURNING.sub(lambda found: f"<U+{ord(found[0]):X}>", text)
