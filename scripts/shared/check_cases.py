@@ -6,7 +6,6 @@ from .repository import TOP
 
 FOLDER = TOP / "tests" / "checks"
 MOMENTS = ("read", "build", "warn", "pack", "host", "none")
-LEVELS = ("error", "warning", "note")
 DIAGNOSTIC = re.compile(
     r"(?:(?P<file>.+): )?(?P<code>[a-z0-9-]+) (?P<line>\d+):(?P<column>\d+|\*)(?: (?P<level>error|warning|note))?"
 )

@@ -6,12 +6,13 @@ from .check_cargo import OF_HOST
 
 
 class Difference(NamedTuple):
-    """An intended difference: its name, why it is intended, the codes that are reported and Cargo does not refuse or, where
-    there are none, the words of Cargo for which nothing is reported."""
+    """An intended difference: its name, why it is intended, and the codes that are reported and Cargo does not refuse, in a
+    manifest whose text has this pattern; or, where there are no codes, the words of Cargo for which nothing is reported."""
 
     name: str
     reason: str
     codes: tuple = ()
+    pattern: str = ""
     words: str = ""
 
 
@@ -54,15 +55,16 @@ WARNED = [
 
 DIFFERENCES = [
     Difference(
-        "what the compiler refuses, where nothing is compiled with it",
-        "Cargo passes such a value on to rustc, which refuses it as soon as the profile or the target is built: a check of one "
-        "profile does not show it",
-        codes=("invalid-lto", "opt-level-too-high", "no-codegen-units", "invalid-target-name", "invalid-library-type"),
+        "a setting of a profile that the compiler refuses, where nothing is compiled with it",
+        "Cargo passes such a value on to rustc, which refuses it as soon as something is built with the profile, or linked: a "
+        "check with another profile does not show it",
+        codes=("invalid-lto", "opt-level-too-high", "no-codegen-units"),
     ),
     Difference(
-        "an array or a date in place of a table or a text",
-        "Cargo's reader takes an array for some tables, with its items as the fields in their order, by accident",
+        "an array in place of a profile, an override or `hints`",
+        "Cargo's reader takes an array for these tables, with its items as the fields in their order, by accident",
         codes=("wrong-kind",),
+        pattern=r"(?m)^(?:hints|build-override|profile[.\w]*|release|dev|test|bench|doc) = \[|^\[\[(?:hints|profile[.\w]*)\]\]",
     ),
     Difference(
         "files of binaries, benches and libraries in the old places of the edition 2015",
@@ -77,8 +79,9 @@ DIFFERENCES = [
 ]
 
 
-def differs(answer, told):
-    """How what is reported disagrees with what Cargo says, or None; and the name of the intended difference, if it is one."""
+def differs(answer, told, text):
+    """How what is reported disagrees with what Cargo says of the manifest with this text, or None; and the name of the intended
+    difference, if it is one."""
     errors = {each.code for each in told if each.level == "error"}
     if answer.read and not errors:
         if OF_HOST.search(answer.read):
@@ -86,7 +89,7 @@ def differs(answer, told):
         return by_words(answer.read, f"no error is reported, and Cargo refuses it: {shortened(answer.read)}")
     if errors and not (answer.read or answer.built or answer.is_open):
         codes = ", ".join(sorted(errors))
-        return by_codes(errors, f"{codes}: reported, and Cargo neither refuses to read it nor to build it")
+        return by_codes(errors, text, f"{codes}: reported, and Cargo neither refuses to read it nor to build it")
     return differs_in_warnings(answer.warned, {each.code for each in told})
 
 
@@ -106,9 +109,10 @@ def by_words(said, fault):
     return (None, name) if name else (fault, None)
 
 
-def by_codes(errors, fault):
-    """A difference, or the name of the intended one that has all these codes."""
-    name = next((each.name for each in DIFFERENCES if errors <= set(each.codes)), None)
+def by_codes(errors, text, fault):
+    """A difference, or the name of the intended one that has all these codes, and a pattern of the text."""
+    fitting = (each.name for each in DIFFERENCES if errors <= set(each.codes) and re.search(each.pattern, text))
+    name = next(fitting, None)
     return (None, name) if name else (fault, None)
 
 
