@@ -174,6 +174,16 @@ def clean_manifests(count, seed, stored):
     return made
 
 
+def kinds():
+    """A plain manifest for each kind of fault: its files, and what has to be reported, by the number of the fault."""
+    each = [(table, lines) for table, all_lines in FAULTS.items() for lines in all_lines] + [(None, lines) for lines in TABLES]
+    made = {}
+    for number, (table, lines) in enumerate(each):
+        text, expected = places(with_fault(HEAD.format(edition="2021"), table, lines, 1))
+        made[str(number)] = ({"Cargo.toml": text.encode("utf-8"), **FILES, **MORE_FILES}, expected)
+    return made
+
+
 def planted(bases, count, seed):
     """The files of manifests with up to five faults, by their names, and what has to be reported of each."""
     made, names = {}, sorted(bases)
