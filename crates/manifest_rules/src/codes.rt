@@ -1,5 +1,7 @@
 //! The codes of diagnostics: one line each, with its level and what it looks at. `docs/CHECKS.md` has a page for each.
 
+use crate::look::Edition;
+
 /// How grave a diagnostic is.
 #[derive(Clone, Copy, Debug, PartialEq, Eq)]
 pub enum Level {
@@ -37,6 +39,17 @@ pub struct Code {
     pub needs: Needs,
 }
 
+impl Code {
+    /// The level in a package of this edition.
+    pub fn level_in(&self, edition: Edition) -> Level {
+        if edition == Edition::E2024 {
+            self.in_2024
+        } else {
+            self.level
+        }
+    }
+}
+
 /// A code of this level and name, which looks at this.
 macro_rules! code {
     ($level:ident, $name:literal, $needs:ident) => {
@@ -69,7 +82,7 @@ pub const WRONG_KIND: Code = code!(Error, "wrong-kind", Text);
 /// A key that has to be there is not.
 pub const MISSING_KEY: Code = code!(Error, "missing-key", Text);
 /// A key by both of its spellings.
-pub const TWO_SPELLINGS: Code = code!(Warning, "two-spellings", Text);
+pub const TWO_SPELLINGS: Code = code!(Warning to Error, "two-spellings", Text);
 /// A text that is not one of the words that its key has.
 pub const UNKNOWN_WORD: Code = code!(Error, "unknown-word", Text);
 /// A whole number out of the range of its key.
@@ -208,11 +221,11 @@ pub const CONFLICTING_SOURCES: Code = code!(Error, "conflicting-sources", Text);
 pub const REVISION_WITHOUT_GIT: Code = code!(Error, "revision-without-git", Text);
 /// More than one of `branch`, `tag` and `rev`.
 pub const SEVERAL_REVISIONS: Code = code!(Error, "several-revisions", Text);
-/// A URL that is none, or has no base.
+/// An invalid URL, or one without a base.
 pub const INVALID_URL: Code = code!(Error, "invalid-url", Text);
 /// A `#` in the URL of `git`.
 pub const FRAGMENT_IN_URL: Code = code!(Warning, "fragment-in-url", Text);
-/// A version requirement that is none.
+/// An invalid version requirement.
 pub const INVALID_REQUIREMENT: Code = code!(Error, "invalid-requirement", Text);
 /// `+` in a requirement.
 pub const METADATA_IN_REQUIREMENT: Code = code!(Warning, "metadata-in-requirement", Text);
@@ -321,7 +334,7 @@ pub const LINTS_BESIDE_WORKSPACE: Code = code!(Error, "lints-beside-workspace", 
 
 /// A member, or a pattern, that leads to no manifest.
 pub const MISSING_MEMBER: Code = code!(Error, "missing-member", Folder);
-/// A pattern that is none.
+/// An invalid pattern.
 pub const INVALID_MEMBER_PATTERN: Code = code!(Error, "invalid-member-pattern", Text);
 /// A default member that is no member.
 pub const UNKNOWN_DEFAULT_MEMBER: Code = code!(Error, "unknown-default-member", Folder);
@@ -347,8 +360,8 @@ pub const IGNORED_IN_PATCH: Code = code!(Warning, "ignored-in-patch", Text);
 pub const REPLACE_BESIDE_PATCH: Code = code!(Error, "replace-beside-patch", Text);
 /// A key of `replace` that is no package id with a whole version.
 pub const INVALID_REPLACE_KEY: Code = code!(Error, "invalid-replace-key", Text);
-/// An element of `replace` without a version.
-pub const REPLACE_WITHOUT_VERSION: Code = code!(Error, "replace-without-version", Text);
+/// An element of `replace` with a version.
+pub const VERSION_IN_REPLACE: Code = code!(Error, "version-in-replace", Text);
 /// A dependency of the workspace that no member inherits.
 pub const UNUSED_WORKSPACE_DEPENDENCY: Code = code!(Note, "unused-workspace-dependency", Folder);
 /// The workspace has lints, and the member does not take them.
@@ -517,7 +530,7 @@ pub const ALL: &[Code] = &[
     IGNORED_IN_PATCH,
     REPLACE_BESIDE_PATCH,
     INVALID_REPLACE_KEY,
-    REPLACE_WITHOUT_VERSION,
+    VERSION_IN_REPLACE,
     UNUSED_WORKSPACE_DEPENDENCY,
     LINTS_NOT_INHERITED,
     DIRECTION_CHARACTERS,

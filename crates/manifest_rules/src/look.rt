@@ -1,6 +1,6 @@
 //! What the rules look at: the tables of a document, and what else is known of the package.
 
-use crate::told::At;
+use crate::report::At;
 use std::alloc::{AllocError, Global};
 use std::collections::{BTreeMap, BTreeSet};
 use toml::{Table, Value};
@@ -45,6 +45,8 @@ pub enum Root<'a> {
 #[derive(Drop)]
 pub struct Folders {
     pub names: BTreeMap<String, BTreeSet<String>>,
+    /// The paths that were looked for.
+    pub asked: BTreeSet<String>,
 }
 
 /// What the rules of a root have to know of a member.
@@ -72,7 +74,7 @@ pub struct PathPackage {
     pub name: Option<String>,
 }
 
-/// What is handed in beside the document.
+/// What is known in addition to the document.
 #[derive(Drop)]
 pub struct Surroundings<'a> {
     pub root: Root<'a>,
@@ -90,6 +92,22 @@ pub struct Surroundings<'a> {
     pub publishes: bool,
 }
 
+impl Surroundings<'static> {
+    /// Where nothing is known.
+    pub fn nothing() -> Surroundings<'static> {
+        Surroundings {
+            root: Root::Unknown,
+            is_root: false,
+            is_listed: None,
+            folders: None,
+            packages: None,
+            members: None,
+            config: None,
+            publishes: false,
+        }
+    }
+}
+
 /// Where a table of dependencies stands.
 #[derive(Clone, Copy, Debug, PartialEq, Eq)]
 pub(crate) enum Section {
@@ -99,6 +117,13 @@ pub(crate) enum Section {
     Workspace,
     Patch,
     Replace,
+}
+
+impl Section {
+    /// Whether these are dependencies of the package.
+    pub(crate) fn is_of_package(self) -> bool {
+        matches!(self, Section::Normal | Section::Dev | Section::Build)
+    }
 }
 
 /// A table of dependencies.
@@ -380,7 +405,7 @@ impl<'a> Look<'a> {
             package,
             package_key,
             workspace: table_in(document, "workspace"),
-            edition: edition_of(package, around.root),
+            edition: edition_in(document, around.root),
             around,
             dependencies: dependency_tables(alloc, document)?,
             targets: declared_targets(alloc, document)?,
@@ -429,4 +454,12 @@ fn inherited_names(alloc: Global, document: &Table) -> Result<Vec<String>, Alloc
         }
     }
     Ok(names)
+}
+
+/// The edition of the package of a document, its own or that which it inherits; 2015 where there is none.
+pub fn edition_in(document: &Table, root: Root<'_>) -> Edition {
+    match table_in(document, "package") {
+        Some(package) => edition_of(Some(package), root),
+        None => edition_of(table_in(document, "project"), root),
+    }
 }

@@ -1,0 +1,100 @@
+//! Rules of dependencies that look at packages and at the configuration, and what to look for.
+
+use crate::codes::{MISSING_PATH_PACKAGE, UNKNOWN_REGISTRY};
+use crate::look::{Look, PathPackage, Section, flag_in, table_in, text_in};
+use crate::report::{At, Out};
+use std::alloc::AllocError;
+use toml::Table;
+
+/// All rules of what the sources of dependencies lead to.
+pub(crate) fn sources_around(look: &Look<'_>, out: &mut Out) -> Result<(), AllocError> {
+    for section in &look.dependencies {
+        if section.section == Section::Replace {
+            continue;
+        }
+        for (name, _dependency) in section.table {
+            let Some(dependency) = table_in(section.table, name.as_str()) else {
+                continue;
+            };
+            let base = section.path.as_slice();
+            path_package(look, base, name.as_str(), dependency, out)?;
+            unknown_registry(look, base, name.as_str(), dependency, out)?;
+        }
+    }
+    Ok(())
+}
+
+fn package_at<'a>(look: &Look<'a>, path: &str) -> Option<&'a PathPackage> {
+    look.around
+        .packages?
+        .iter()
+        .find(|package| package.path.as_str() == path)
+}
+
+/// The `path` of a dependency leads to a package of its name.
+fn path_package(
+    look: &Look<'_>,
+    base: &[At<'_>],
+    name: &str,
+    dependency: &Table,
+    out: &mut Out,
+) -> Result<(), AllocError> {
+    let alloc = look.alloc;
+    let Some(path) = text_in(dependency, "path") else {
+        return Ok(());
+    };
+    let Some(package) = package_at(look, path) else {
+        return Ok(());
+    };
+    let wanted = text_in(dependency, "package").unwrap_or(name);
+    let rest = [At::Key(name), At::Key("path")];
+    let message = match &package.name {
+        None => format!(in alloc; "no package at `{path}`: there is no Cargo.toml with a package")?,
+        Some(there) if there.as_str() == wanted => return Ok(()),
+        Some(there) => {
+            let there = there.as_str();
+            format!(in alloc;
+                "no matching package named `{wanted}` at `{path}`: the package there is `{there}`"
+            )?
+        }
+    };
+    out.value(MISSING_PATH_PACKAGE, base, &rest, message)
+}
+
+/// Whether the configuration has this registry.
+fn is_configured(config: &Table, registry: &str) -> bool {
+    match table_in(config, "registries") {
+        Some(registries) => registries.contains_key(registry),
+        None => false,
+    }
+}
+
+fn unknown_registry(
+    look: &Look<'_>,
+    base: &[At<'_>],
+    name: &str,
+    dependency: &Table,
+    out: &mut Out,
+) -> Result<(), AllocError> {
+    let Some(registry) = text_in(dependency, "registry") else {
+        return Ok(());
+    };
+    let Some(config) = look.around.config else {
+        return Ok(());
+    };
+    if registry == "crates-io"
+        || is_configured(config, registry)
+        || flag_in(dependency, "workspace") == Some(true)
+    {
+        return Ok(());
+    }
+    let message = format!(in look.alloc;
+        "registry index was not found in any configuration: `{registry}`"
+    )?;
+    out.value(
+        UNKNOWN_REGISTRY,
+        base,
+        &[At::Key(name), At::Key("registry")],
+        message,
+    )
+}

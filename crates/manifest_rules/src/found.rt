@@ -1,0 +1,133 @@
+//! The targets that Cargo finds in the folders of a package.
+//! (<https://doc.rust-lang.org/cargo/guide/project-layout.html>)
+
+use crate::files::names_in;
+use crate::look::{Edition, Kind, Look, flag_in, text_in};
+use std::alloc::{AllocError, Global};
+
+/// A file that is a target by where it stands.
+#[derive(Drop)]
+pub(crate) struct FoundFile {
+    pub(crate) name: String,
+    pub(crate) path: String,
+}
+
+impl Kind {
+    /// The folder whose files are targets of this kind.
+    pub(crate) fn folder(self) -> &'static str {
+        match self {
+            Kind::Lib => "src",
+            Kind::Bin => "src/bin",
+            Kind::Example => "examples",
+            Kind::Test => "tests",
+            Kind::Bench => "benches",
+        }
+    }
+
+    /// The key by which a package says whether they are found.
+    fn auto_key(self) -> &'static str {
+        match self {
+            Kind::Lib => "autolib",
+            Kind::Bin => "autobins",
+            Kind::Example => "autoexamples",
+            Kind::Test => "autotests",
+            Kind::Bench => "autobenches",
+        }
+    }
+
+    /// What it is called.
+    pub(crate) fn words(self) -> &'static str {
+        match self {
+            Kind::Lib => "library",
+            Kind::Bin => "binary",
+            Kind::Example => "example",
+            Kind::Test => "test",
+            Kind::Bench => "bench",
+        }
+    }
+}
+
+/// The kinds of which there may be several targets.
+pub(crate) const LISTED: [Kind; 4] = [Kind::Bin, Kind::Example, Kind::Test, Kind::Bench];
+
+/// Whether targets of this kind are found: the package says so, or it says nothing and its edition is 2018 or later, or it
+/// declares none of the kind.
+pub(crate) fn finds(look: &Look<'_>, kind: Kind) -> bool {
+    match says_auto(look, kind) {
+        Some(flag) => flag,
+        None => look.edition != Edition::E2015 || kind == Kind::Lib || !declares(look, kind),
+    }
+}
+
+/// What the package says of finding targets of this kind.
+pub(crate) fn says_auto(look: &Look<'_>, kind: Kind) -> Option<bool> {
+    flag_in(look.package?, kind.auto_key())
+}
+
+/// Whether the manifest has a table of this kind.
+pub(crate) fn declares(look: &Look<'_>, kind: Kind) -> bool {
+    look.document.contains_key(kind.key())
+}
+
+/// The name of the package, where it has one.
+pub(crate) fn package_name<'a>(look: &Look<'a>) -> Option<&'a str> {
+    text_in(look.package?, "name")
+}
+
+/// The files that are targets of this kind by where they stand, whether or not they are found: of a binary that of the
+/// package first.
+pub(crate) fn files_of(look: &Look<'_>, kind: Kind) -> Result<Vec<FoundFile>, AllocError> {
+    let alloc = look.alloc;
+    let mut all = Vec::new(alloc);
+    if kind == Kind::Bin {
+        if let Some(name) = package_name(look) {
+            if has_file(look, "src", "main.rs") {
+                all.push(found(alloc, name, "src", "main.rs")?)?;
+            }
+        }
+    }
+    let folder = kind.folder();
+    let Some(names) = names_in(look, folder) else {
+        return Ok(all);
+    };
+    for name in names {
+        if let Some(file) = file_named(look, folder, name.as_str())? {
+            all.push(file)?;
+        }
+    }
+    Ok(all)
+}
+
+/// The target of this entry of a folder: `NAME.rs`, or the folder `NAME` with a file `main.rs`.
+fn file_named(look: &Look<'_>, folder: &str, name: &str) -> Result<Option<FoundFile>, AllocError> {
+    let alloc = look.alloc;
+    if name.starts_with('.') {
+        return Ok(None);
+    }
+    let inner = format!(in alloc; "{folder}/{name}")?;
+    if names_in(look, inner.as_str()).is_some() {
+        if has_file(look, inner.as_str(), "main.rs") {
+            return Ok(Some(found(alloc, name, inner.as_str(), "main.rs")?));
+        }
+        return Ok(None);
+    }
+    match name.strip_suffix(".rs") {
+        Some(stem) => Ok(Some(found(alloc, stem, folder, name)?)),
+        None => Ok(None),
+    }
+}
+
+fn found(alloc: Global, name: &str, folder: &str, file: &str) -> Result<FoundFile, AllocError> {
+    Ok(FoundFile {
+        name: String::from_str(alloc, name)?,
+        path: format!(in alloc; "{folder}/{file}")?,
+    })
+}
+
+/// Whether a listed folder has an entry of this name.
+pub(crate) fn has_file(look: &Look<'_>, folder: &str, name: &str) -> bool {
+    match names_in(look, folder) {
+        Some(names) => names.contains(name),
+        None => false,
+    }
+}

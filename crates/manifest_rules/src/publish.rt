@@ -1,0 +1,262 @@
+//! What a registry wants of a package: said only where it is asked for, and not of one that is not published.
+//! (<https://doc.rust-lang.org/cargo/reference/publishing.html>)
+
+use crate::codes::{
+    INCLUDE_AND_EXCLUDE, INVALID_KEYWORDS, INVALID_LICENSE, MISSING_DESCRIPTION, MISSING_LICENSE,
+    MISSING_LINKS, MISSING_PACKAGE_FILE, PATH_WITHOUT_VERSION, TOO_MANY_CATEGORIES,
+    WILDCARD_REQUIREMENT,
+};
+use crate::files::{FileState, file_state};
+use crate::look::{Look, Section, items_in, text_in};
+use crate::report::{At, Out};
+use crate::spdx::is_license;
+use std::alloc::AllocError;
+use toml::{Table, Value};
+
+/// All that a registry wants.
+pub(crate) fn publishing(look: &Look<'_>, out: &mut Out) -> Result<(), AllocError> {
+    let Some(package) = look.package else {
+        return Ok(());
+    };
+    if !look.around.publishes || is_private(package) {
+        return Ok(());
+    }
+    let path = [At::Key(look.package_key)];
+    missing_description(look, &path, package, out)?;
+    license(look, &path, package, out)?;
+    missing_links(look, &path, package, out)?;
+    include_and_exclude(look, &path, package, out)?;
+    package_files(look, &path, package, out)?;
+    keywords(look, &path, package, out)?;
+    categories(look, &path, package, out)?;
+    requirements(look, out)
+}
+
+/// Whether a package says that it is published nowhere.
+fn is_private(package: &Table) -> bool {
+    match package.get("publish") {
+        Some(Value::Boolean(flag)) => !*flag,
+        Some(Value::Array(registries)) => registries.is_empty(),
+        _ => false,
+    }
+}
+
+/// Whether the table has this key, with a text that is not empty or with another value.
+fn has(table: &Table, key: &str) -> bool {
+    match table.get(key) {
+        Some(Value::String(text)) => !text.is_empty(),
+        Some(_) => true,
+        None => false,
+    }
+}
+
+fn missing_description(
+    look: &Look<'_>,
+    path: &[At<'_>],
+    package: &Table,
+    out: &mut Out,
+) -> Result<(), AllocError> {
+    if has(package, "description") {
+        return Ok(());
+    }
+    let message = String::from_str(look.alloc, "manifest has no description")?;
+    out.header(MISSING_DESCRIPTION, path, &[], message)
+}
+
+fn license(
+    look: &Look<'_>,
+    path: &[At<'_>],
+    package: &Table,
+    out: &mut Out,
+) -> Result<(), AllocError> {
+    let alloc = look.alloc;
+    if !has(package, "license") && !has(package, "license-file") {
+        let message = String::from_str(alloc, "manifest has no license or license-file")?;
+        return out.header(MISSING_LICENSE, path, &[], message);
+    }
+    let Some(text) = text_in(package, "license") else {
+        return Ok(());
+    };
+    if text.is_empty() || is_license(text) {
+        return Ok(());
+    }
+    let message = format!(in alloc;
+        "`{text}` is no SPDX license expression, as `MIT OR Apache-2.0` is one"
+    )?;
+    out.value(INVALID_LICENSE, path, &[At::Key("license")], message)
+}
+
+fn missing_links(
+    look: &Look<'_>,
+    path: &[At<'_>],
+    package: &Table,
+    out: &mut Out,
+) -> Result<(), AllocError> {
+    for key in ["documentation", "homepage", "repository"] {
+        if has(package, key) {
+            return Ok(());
+        }
+    }
+    let message = String::from_str(
+        look.alloc,
+        "manifest has no documentation, homepage or repository",
+    )?;
+    out.header(MISSING_LINKS, path, &[], message)
+}
+
+fn include_and_exclude(
+    look: &Look<'_>,
+    path: &[At<'_>],
+    package: &Table,
+    out: &mut Out,
+) -> Result<(), AllocError> {
+    if !package.contains_key("include") || !package.contains_key("exclude") {
+        return Ok(());
+    }
+    let message = String::from_str(
+        look.alloc,
+        "both package.include and package.exclude are specified; the exclude list will be ignored",
+    )?;
+    out.key(INCLUDE_AND_EXCLUDE, path, &[At::Key("exclude")], message)
+}
+
+fn package_files(
+    look: &Look<'_>,
+    path: &[At<'_>],
+    package: &Table,
+    out: &mut Out,
+) -> Result<(), AllocError> {
+    for key in ["license-file", "readme"] {
+        let Some(file) = text_in(package, key) else {
+            continue;
+        };
+        if file_state(look, file) == FileState::Absent {
+            let message = format!(in look.alloc;
+                "{key} `{file}` does not appear to exist (relative to the manifest)"
+            )?;
+            out.value(MISSING_PACKAGE_FILE, path, &[At::Key(key)], message)?;
+        }
+    }
+    Ok(())
+}
+
+/// Whether crates.io takes a keyword: at most 20 ASCII letters, digits, `_`, `-` and `+`, a letter or a digit first.
+fn is_keyword(text: &str) -> bool {
+    let mut is_first = true;
+    for ch in text.chars() {
+        let may_begin = ch.is_ascii_alphanumeric();
+        if !may_begin && (is_first || !matches!(ch, '_' | '-' | '+')) {
+            return false;
+        }
+        is_first = false;
+    }
+    !text.is_empty() && text.len() <= 20
+}
+
+fn keywords(
+    look: &Look<'_>,
+    path: &[At<'_>],
+    package: &Table,
+    out: &mut Out,
+) -> Result<(), AllocError> {
+    let alloc = look.alloc;
+    let items = items_in(package, "keywords");
+    if items.len() > 5 {
+        let message = String::from_str(alloc, "a registry takes five keywords at most")?;
+        out.value(
+            INVALID_KEYWORDS,
+            path,
+            &[At::Key("keywords"), At::Index(5)],
+            message,
+        )?;
+    }
+    let mut index = 0usize;
+    for item in items {
+        if let Value::String(word) = item {
+            let word = word.as_str();
+            if !is_keyword(word) {
+                let message = format!(in alloc;
+                    "`{word}` is no keyword: it has at most 20 ASCII letters, digits, `_`, `-` and `+`, and begins with a letter or a digit"
+                )?;
+                let rest = [At::Key("keywords"), At::Index(index)];
+                out.value(INVALID_KEYWORDS, path, &rest, message)?;
+            }
+        }
+        index = index.saturating_add(1);
+    }
+    Ok(())
+}
+
+fn categories(
+    look: &Look<'_>,
+    path: &[At<'_>],
+    package: &Table,
+    out: &mut Out,
+) -> Result<(), AllocError> {
+    if items_in(package, "categories").len() <= 5 {
+        return Ok(());
+    }
+    let message = String::from_str(look.alloc, "a registry takes five categories at most")?;
+    out.value(TOO_MANY_CATEGORIES, path, &[At::Key("categories")], message)
+}
+
+/// Each dependency is published with a version: one of a `path` has one, and none is `*`.
+fn requirements(look: &Look<'_>, out: &mut Out) -> Result<(), AllocError> {
+    for section in &look.dependencies {
+        if !section.section.is_of_package() {
+            continue;
+        }
+        for (name, dependency) in section.table {
+            let base = section.path.as_slice();
+            let is_dev = section.section == Section::Dev;
+            requirement(look, base, name.as_str(), dependency, is_dev, out)?;
+        }
+    }
+    Ok(())
+}
+
+fn requirement(
+    look: &Look<'_>,
+    base: &[At<'_>],
+    name: &str,
+    dependency: &Value,
+    is_dev: bool,
+    out: &mut Out,
+) -> Result<(), AllocError> {
+    let alloc = look.alloc;
+    let version = match dependency {
+        Value::String(text) => Some(text.as_str()),
+        Value::Table(table) => text_in(table, "version"),
+        _ => return Ok(()),
+    };
+    if version.is_some_and(|version| version.trim() == "*") && !is_dev {
+        let message = format!(in alloc;
+            "wildcard (`*`) dependency constraints are not allowed on crates.io: `{name}`"
+        )?;
+        return wildcard(base, name, dependency, message, out);
+    }
+    let is_path = dependency.get("path").is_some();
+    if is_path && version.is_none() && !is_dev {
+        let message = format!(in alloc;
+            "all dependencies must have a version specified when packaging: `{name}` has none"
+        )?;
+        return out.header(PATH_WITHOUT_VERSION, base, &[At::Key(name)], message);
+    }
+    Ok(())
+}
+
+/// Says this of the requirement, which is the dependency itself or stands in its table.
+fn wildcard(
+    base: &[At<'_>],
+    name: &str,
+    dependency: &Value,
+    message: String,
+    out: &mut Out,
+) -> Result<(), AllocError> {
+    if dependency.is_table() {
+        let rest = [At::Key(name), At::Key("version")];
+        out.value(WILDCARD_REQUIREMENT, base, &rest, message)
+    } else {
+        out.value(WILDCARD_REQUIREMENT, base, &[At::Key(name)], message)
+    }
+}

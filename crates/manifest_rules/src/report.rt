@@ -1,0 +1,319 @@
+//! What a rule says: at which place, in which words, and what can be written instead.
+
+use crate::codes::{Code, Level};
+use crate::look::Edition;
+use crate::words::Nearest;
+use manifest_places::{Edit, Step};
+use std::alloc::{AllocError, Global};
+use toml::Value;
+
+/// A step to a value: to the entry of a table, or to the item of an array.
+#[derive(Clone, Copy, Debug, PartialEq, Eq)]
+pub enum At<'a> {
+    Key(&'a str),
+    Index(usize),
+}
+
+/// What of an entry is meant.
+#[derive(Clone, Copy, Debug, PartialEq, Eq)]
+pub enum Part {
+    /// The value, and where it has no place of its own its key or its header.
+    Value,
+    /// The key, and where there is none the header or the value.
+    Key,
+    /// The header of the table, or its value where it stands inline.
+    Header,
+}
+
+/// A place in a text.
+#[derive(Debug, Drop)]
+pub enum Spot {
+    /// What stands at a key path.
+    Path(Vec<Step>, Part),
+    /// The bytes from the first offset to the second.
+    Bytes(usize, usize),
+}
+
+/// The text in which a place is.
+#[derive(Clone, Copy, Debug, PartialEq, Eq)]
+pub enum File {
+    /// The manifest itself.
+    Own,
+    /// The manifest of the workspace's root.
+    Root,
+    /// The manifest of the member with this index.
+    Member(usize),
+}
+
+/// A second place, and what is to be said there.
+#[derive(Debug, Drop)]
+pub struct Label {
+    pub file: File,
+    pub spot: Spot,
+    pub text: String,
+}
+
+/// What can be written instead.
+#[derive(Debug, Drop)]
+pub struct Suggestion {
+    pub text: String,
+    /// Edits of the manifest itself.
+    pub edits: Vec<Edit>,
+    /// Whether the edits mean what was meant, so that a program may make them.
+    pub is_certain: bool,
+}
+
+/// One thing that a rule says.
+#[derive(Debug, Drop)]
+pub struct Report {
+    pub code: Code,
+    pub level: Level,
+    pub message: String,
+    pub spot: Spot,
+    pub labels: Vec<Label>,
+    pub notes: Vec<String>,
+    pub suggestions: Vec<Suggestion>,
+}
+
+/// The steps of one path after those of another, in memory of their own.
+pub(crate) fn steps(
+    alloc: Global,
+    base: &[At<'_>],
+    rest: &[At<'_>],
+) -> Result<Vec<Step>, AllocError> {
+    let mut path = Vec::new(alloc);
+    for at in base {
+        path.push(step(alloc, *at)?)?;
+    }
+    for at in rest {
+        path.push(step(alloc, *at)?)?;
+    }
+    Ok(path)
+}
+
+fn step(alloc: Global, at: At<'_>) -> Result<Step, AllocError> {
+    match at {
+        At::Key(key) => Ok(Step::Key(String::from_str(alloc, key)?)),
+        At::Index(index) => Ok(Step::Index(index)),
+    }
+}
+
+/// The place of a part of what stands at a path.
+pub(crate) fn place_of(
+    alloc: Global,
+    base: &[At<'_>],
+    rest: &[At<'_>],
+    part: Part,
+) -> Result<Spot, AllocError> {
+    Ok(Spot::Path(steps(alloc, base, rest)?, part))
+}
+
+/// A text as TOML writes it, in quotes.
+pub(crate) fn quoted(alloc: Global, text: &str) -> Result<String, AllocError> {
+    let value = Value::string(alloc, text)?;
+    format!(in alloc; "{value}")
+}
+
+/// The same steps, in memory of their own.
+pub fn copied(alloc: Global, path: &[Step]) -> Result<Vec<Step>, AllocError> {
+    let mut all = Vec::new(alloc);
+    for step in path {
+        all.push(match step {
+            Step::Key(key) => Step::Key(String::from_str(alloc, key.as_str())?),
+            Step::Index(index) => Step::Index(*index),
+        })?;
+    }
+    Ok(all)
+}
+
+/// The same edits, in memory of their own.
+pub fn copied_edits(alloc: Global, edits: &[Edit]) -> Result<Vec<Edit>, AllocError> {
+    let mut all = Vec::new(alloc);
+    for edit in edits {
+        all.push(match edit {
+            Edit::Set(path, text) => { Edit::Set(copied(alloc, path.as_slice())?, text.clone()?) }
+            Edit::Insert(path, text) => {
+                Edit::Insert(copied(alloc, path.as_slice())?, text.clone()?)
+            }
+            Edit::Remove(path) => Edit::Remove(copied(alloc, path.as_slice())?),
+            Edit::Rename(path, key) => {
+                Edit::Rename(copied(alloc, path.as_slice())?, key.clone()?)
+            }
+        })?;
+    }
+    Ok(all)
+}
+
+impl Report {
+    /// This message of what stands at a path.
+    pub(crate) fn at(
+        alloc: Global,
+        code: Code,
+        part: Part,
+        base: &[At<'_>],
+        rest: &[At<'_>],
+        message: String,
+    ) -> Result<Report, AllocError> {
+        let spot = Spot::Path(steps(alloc, base, rest)?, part);
+        Ok(Report::new(alloc, code, spot, message))
+    }
+
+    /// This message, of the code's level, at this place.
+    pub(crate) fn new(alloc: Global, code: Code, spot: Spot, message: String) -> Report {
+        Report {
+            code,
+            level: code.level,
+            message,
+            spot,
+            labels: Vec::new(alloc),
+            notes: Vec::new(alloc),
+            suggestions: Vec::new(alloc),
+        }
+    }
+
+    /// The same at another level.
+    pub(crate) fn at_level(self, level: Level) -> Report {
+        let mut report = self;
+        report.level = level;
+        report
+    }
+
+    /// The same with one more note.
+    pub(crate) fn with_note(self, note: String) -> Result<Report, AllocError> {
+        let mut report = self;
+        report.notes.push(note)?;
+        Ok(report)
+    }
+
+    /// The same with one more note, of these words.
+    pub(crate) fn with_note_str(self, note: &str) -> Result<Report, AllocError> {
+        let note = String::from_str(*self.notes.allocator(), note)?;
+        self.with_note(note)
+    }
+
+    /// The same with one more place of the manifest, and these words there.
+    pub(crate) fn with_label_str(self, spot: Spot, text: &str) -> Result<Report, AllocError> {
+        let text = String::from_str(*self.labels.allocator(), text)?;
+        self.with_label(File::Own, spot, text)
+    }
+
+    /// The same with one more place.
+    pub(crate) fn with_label(
+        self,
+        file: File,
+        spot: Spot,
+        text: String,
+    ) -> Result<Report, AllocError> {
+        let mut report = self;
+        report.labels.push(Label { file, spot, text })?;
+        Ok(report)
+    }
+
+    /// The same with a suggestion of one edit.
+    pub(crate) fn with_fix(
+        self,
+        alloc: Global,
+        text: String,
+        edit: Edit,
+        is_certain: bool,
+    ) -> Result<Report, AllocError> {
+        let mut edits = Vec::new(alloc);
+        edits.push(edit)?;
+        let mut report = self;
+        report.suggestions.push(Suggestion {
+            text,
+            edits,
+            is_certain,
+        })?;
+        Ok(report)
+    }
+
+    /// The same with words of what can be written, and no edit.
+    pub(crate) fn with_help(self, alloc: Global, text: String) -> Result<Report, AllocError> {
+        let mut report = self;
+        report.suggestions.push(Suggestion {
+            text,
+            edits: Vec::new(alloc),
+            is_certain: false,
+        })?;
+        Ok(report)
+    }
+}
+
+/// Where rules say things, of a package of this edition.
+#[derive(Drop)]
+pub(crate) struct Out {
+    pub(crate) alloc: Global,
+    pub(crate) edition: Edition,
+    pub(crate) reports: Vec<Report>,
+}
+
+impl Out {
+    /// Says this, at the level that its code has in the edition, unless a level was given to it.
+    pub(crate) fn tell(&mut self, report: Report) -> Result<(), AllocError> {
+        let mut report = report;
+        if report.level == report.code.level {
+            report.level = report.code.level_in(self.edition);
+        }
+        self.reports.push(report)?;
+        Ok(())
+    }
+
+    /// A search for the name that is nearest to a text. Where much is report already, it finds nothing: that would take
+    /// long for a manifest with many wrong names.
+    pub(crate) fn nearest<'a>(&self, text: &'a str) -> Nearest<'a> {
+        if self.reports.len() < 100 {
+            Nearest::to(text)
+        } else {
+            Nearest::given_up(text)
+        }
+    }
+
+    /// Says this at a place, with a note.
+    pub(crate) fn with_note(
+        &mut self,
+        code: Code,
+        spot: Spot,
+        message: String,
+        note: &str,
+    ) -> Result<(), AllocError> {
+        let report = Report::new(self.alloc, code, spot, message).with_note_str(note)?;
+        self.tell(report)
+    }
+
+    /// Says this of the header of the table at a path, as something is missing in it.
+    pub(crate) fn header(
+        &mut self,
+        code: Code,
+        base: &[At<'_>],
+        rest: &[At<'_>],
+        message: String,
+    ) -> Result<(), AllocError> {
+        let spot = place_of(self.alloc, base, rest, Part::Header)?;
+        self.tell(Report::new(self.alloc, code, spot, message))
+    }
+
+    /// Says this of the value at a path.
+    pub(crate) fn value(
+        &mut self,
+        code: Code,
+        base: &[At<'_>],
+        rest: &[At<'_>],
+        message: String,
+    ) -> Result<(), AllocError> {
+        let spot = place_of(self.alloc, base, rest, Part::Value)?;
+        self.tell(Report::new(self.alloc, code, spot, message))
+    }
+
+    /// Says this of the key at a path.
+    pub(crate) fn key(
+        &mut self,
+        code: Code,
+        base: &[At<'_>],
+        rest: &[At<'_>],
+        message: String,
+    ) -> Result<(), AllocError> {
+        let spot = place_of(self.alloc, base, rest, Part::Key)?;
+        self.tell(Report::new(self.alloc, code, spot, message))
+    }
+}

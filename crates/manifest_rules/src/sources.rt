@@ -1,0 +1,267 @@
+//! Rules that compare where dependencies come from.
+
+use crate::codes::{REPEATED_DEPENDENCY, SELF_DEPENDENCY, TWO_SOURCES};
+use crate::dependencies::Dependency;
+use crate::look::{Look, Section, text_in};
+use crate::report::{Out, Report};
+use crate::words::url_fault;
+use std::alloc::{AllocError, Global};
+use std::collections::BTreeMap;
+use toml::Table;
+
+/// Where a dependency comes from, as far as the manifest says.
+#[derive(Debug, PartialEq, Eq, Drop)]
+enum Source {
+    /// The folder, without `.` and, where that can be, without `..`.
+    Path(String),
+    /// The URL and the revision.
+    Git(String),
+    CratesIo,
+    /// A registry of this name.
+    Registry(String),
+}
+
+impl Source {
+    /// The source of this table; nothing where only Cargo can tell.
+    fn new(alloc: Global, detail: &Table) -> Result<Option<Source>, AllocError> {
+        if let Some(url) = text_in(detail, "git") {
+            return git_source(alloc, url, detail);
+        }
+        if let Some(path) = text_in(detail, "path") {
+            return Ok(Some(Source::Path(plain_path(alloc, path)?)));
+        }
+        if detail.contains_key("registry-index") {
+            return Ok(None);
+        }
+        let registry = text_in(detail, "registry").unwrap_or("crates-io");
+        if registry == "crates-io" {
+            return Ok(Some(Source::CratesIo));
+        }
+        Ok(Some(Source::Registry(String::from_str(alloc, registry)?)))
+    }
+
+    /// Whether two sources are two, whatever the folders and the configuration are.
+    fn differs(&self, other: &Source) -> bool {
+        match (self, other) {
+            (Source::Registry(_), Source::Registry(_)) => false,
+            (Source::Path(one), Source::Path(another)) => {
+                ups(one.as_str()) == ups(another.as_str()) && one.as_str() != another.as_str()
+            }
+            _ => self != other,
+        }
+    }
+
+    /// The source as a text that no other source has.
+    fn text(&self, alloc: Global) -> Result<String, AllocError> {
+        match self {
+            Source::Path(path) => format!(in alloc; "path {path}"),
+            Source::Git(url) => format!(in alloc; "git {url}"),
+            Source::CratesIo => String::from_str(alloc, "registry"),
+            Source::Registry(name) => format!(in alloc; "registry {name}"),
+        }
+    }
+}
+
+/// How a path leads out of its folder: what stands for an absolute path, or each `..` at its beginning.
+fn ups(path: &str) -> Option<usize> {
+    if path.starts_with('/') {
+        return None;
+    }
+    Some(path.split('/').take_while(|part| *part == "..").count())
+}
+
+/// The source of a repository; nothing where its URL is invalid, or has a query or a fragment.
+fn git_source(alloc: Global, url: &str, detail: &Table) -> Result<Option<Source>, AllocError> {
+    if url.contains('?') || url.contains('#') || url_fault(alloc, url)?.is_some() {
+        return Ok(None);
+    }
+    // As Cargo compares them: without a last `/` and `.git`, and without regard to case at GitHub.
+    let bare = url.strip_suffix('/').unwrap_or(url);
+    let bare = bare.strip_suffix(".git").unwrap_or(bare);
+    let mut text = String::from_str(alloc, bare)?;
+    if text.as_str().contains("://github.com/") {
+        text.make_ascii_lowercase();
+    }
+    for key in ["branch", "tag", "rev"] {
+        if let Some(name) = text_in(detail, key) {
+            text.push_str(" ")?;
+            text.push_str(key)?;
+            text.push_str(" ")?;
+            text.push_str(name)?;
+        }
+    }
+    Ok(Some(Source::Git(text)))
+}
+
+/// The path without `.`, without what a `..` takes back, and without a last `/`.
+fn plain_path(alloc: Global, path: &str) -> Result<String, AllocError> {
+    let is_absolute = path.starts_with('/');
+    let mut parts = Vec::new(alloc);
+    for part in path.split('/') {
+        if part.is_empty() || part == "." {
+            continue;
+        }
+        let before = parts
+            .last()
+            .copied()
+            .unwrap_or(if is_absolute { "/" } else { ".." });
+        if part != ".." || before == ".." {
+            parts.push(part)?;
+        } else {
+            let _taken = parts.pop();
+        }
+    }
+    joined(alloc, is_absolute, parts.as_slice())
+}
+
+fn joined(alloc: Global, is_absolute: bool, parts: &[&str]) -> Result<String, AllocError> {
+    let mut path = String::new(alloc);
+    for part in parts {
+        if is_absolute || !path.is_empty() {
+            path.push_str("/")?;
+        }
+        path.push_str(part)?;
+    }
+    Ok(path)
+}
+
+/// A dependency of the package, and where it comes from.
+#[derive(Drop)]
+struct Sourced<'a> {
+    dependency: Dependency<'a>,
+    source: Source,
+}
+
+/// The dependencies of the package whose sources the manifest says.
+fn all_sourced<'a>(look: &'a Look<'_>) -> Result<Vec<Sourced<'a>>, AllocError> {
+    let mut all = Vec::new(look.alloc);
+    for table in look.dependencies.iter() {
+        if !table.section.is_of_package() {
+            continue;
+        }
+        for (name, value) in table.table {
+            let dependency = Dependency {
+                section: table.section,
+                base: table.path.as_slice(),
+                name: name.as_str(),
+                table: table.table,
+            };
+            let source = match dependency.detail() {
+                Some(detail) => Source::new(look.alloc, detail)?,
+                None if value.is_str() => Some(Source::CratesIo),
+                None => None,
+            };
+            if let Some(source) = source {
+                all.push(Sourced { dependency, source })?;
+            }
+        }
+    }
+    Ok(all)
+}
+
+/// All rules that compare dependencies.
+pub(crate) fn sources(look: &Look<'_>, out: &mut Out) -> Result<(), AllocError> {
+    let all = all_sourced(look)?;
+    two_sources(all.as_slice(), out)?;
+    repeated_dependency(all.as_slice(), out)?;
+    for one in all.iter() {
+        self_dependency(look, one, out)?;
+    }
+    Ok(())
+}
+
+/// One name has one source in all tables.
+fn two_sources(all: &[Sourced<'_>], out: &mut Out) -> Result<(), AllocError> {
+    let mut seen = BTreeMap::new(out.alloc);
+    for one in all {
+        let name = one.dependency.name;
+        let Some(first) = seen.get(&name) else {
+            seen.insert(name, one)?;
+            continue;
+        };
+        if one.source.differs(&first.source) {
+            let message = format!(in out.alloc;
+                "dependency `{name}` has different sources in two tables"
+            )?;
+            let place = one.dependency.own_key(out.alloc)?;
+            let other = first.dependency.own_key(out.alloc)?;
+            let report = Report::new(out.alloc, TWO_SOURCES, place, message)
+                .with_label_str(other, "its other source is here")?
+                .with_note_str("one name has one source; `package` gives one of two another name")?;
+            out.tell(report)?;
+        }
+    }
+    Ok(())
+}
+
+/// What says whether two dependencies are one package: its name, its source and, of a registry, the requirement.
+fn identity(alloc: Global, one: &Sourced<'_>) -> Result<String, AllocError> {
+    let source = one.source.text(alloc)?;
+    let requirement = match one.source {
+        Source::CratesIo | Source::Registry(_) => match one.dependency.requirement() {
+            Some((text, _rest)) => text.trim(),
+            None => "",
+        },
+        _ => "",
+    };
+    let package = one.dependency.package();
+    format!(in alloc; "{package}\n{source}\n{requirement}")
+}
+
+/// Whether Rust code sees two keys as one name.
+fn is_one_crate(one: &str, another: &str) -> bool {
+    one.chars()
+        .map(|ch| if ch == '-' { '_' } else { ch })
+        .eq(another.chars().map(|ch| if ch == '-' { '_' } else { ch }))
+}
+
+/// A package has one name among the dependencies.
+fn repeated_dependency(all: &[Sourced<'_>], out: &mut Out) -> Result<(), AllocError> {
+    let mut seen = BTreeMap::new(out.alloc);
+    for one in all {
+        let identity = identity(out.alloc, one)?;
+        let Some(first) = seen.get(&identity) else {
+            seen.insert(identity, one)?;
+            continue;
+        };
+        let (name, other) = (one.dependency.name, first.dependency.name);
+        if is_one_crate(name, other) {
+            continue;
+        }
+        let package = one.dependency.package();
+        let message = format!(in out.alloc;
+            "package `{package}` is a dependency by two names, `{other}` and `{name}`"
+        )?;
+        let place = one.dependency.own_key(out.alloc)?;
+        let label = first.dependency.own_key(out.alloc)?;
+        let report = Report::new(out.alloc, REPEATED_DEPENDENCY, place, message);
+        out.tell(report.with_label_str(label, "it has another name here")?)?;
+    }
+    Ok(())
+}
+
+/// A package does not depend on itself, but for its tests.
+fn self_dependency(look: &Look<'_>, one: &Sourced<'_>, out: &mut Out) -> Result<(), AllocError> {
+    let is_own = match &one.source {
+        Source::Path(path) => path.is_empty(),
+        _ => false,
+    };
+    if !is_own || one.dependency.section == Section::Dev {
+        return Ok(());
+    }
+    let Some(package) = look.package else {
+        return Ok(());
+    };
+    if text_in(package, "name") != Some(one.dependency.package()) {
+        return Ok(());
+    }
+    let name = one.dependency.package();
+    let message = format!(in out.alloc; "package `{name}` depends on itself")?;
+    let place = one.dependency.own_key(out.alloc)?;
+    out.with_note(
+        SELF_DEPENDENCY,
+        place,
+        message,
+        "only a dev-dependency may be the package itself",
+    )
+}
