@@ -40,7 +40,17 @@ pub(crate) fn file_state(look: &Look<'_>, path: &str) -> FileState {
     }
     match names_in(look, folder) {
         Some(names) if names.contains(name) => FileState::There,
-        _ => FileState::Absent,
+        Some(_) => FileState::Absent,
+        None if was_asked(look, folder) => FileState::Absent,
+        None => FileState::Unknown,
+    }
+}
+
+/// Whether the folder was looked for, be it there or not.
+fn was_asked(look: &Look<'_>, folder: &str) -> bool {
+    match look.around.folders {
+        Some(folders) => folders.asked.contains(folder),
+        None => false,
     }
 }
 

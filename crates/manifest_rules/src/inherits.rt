@@ -167,7 +167,7 @@ fn parent_of<'a>(profiles: &'a Table, name: &str) -> Option<&'a str> {
     text_in(table_in(profiles, name)?, "inherits")
 }
 
-/// Profiles do not inherit from one another in a circle, of which each is report once.
+/// Profiles do not inherit from one another in a circle, each of which is reported once.
 fn circular_inherits(profiles: &Table, out: &mut Out) -> Result<(), AllocError> {
     let mut done = BTreeSet::new(out.alloc);
     for (start, _profile) in profiles {

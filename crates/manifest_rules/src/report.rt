@@ -259,7 +259,7 @@ impl Out {
         Ok(())
     }
 
-    /// A search for the name that is nearest to a text. Where much is report already, it finds nothing: that would take
+    /// A search for the name that is nearest to a text. Where much is reported already, it finds nothing: that would take
     /// long for a manifest with many wrong names.
     pub(crate) fn nearest<'a>(&self, text: &'a str) -> Nearest<'a> {
         if self.reports.len() < 100 {

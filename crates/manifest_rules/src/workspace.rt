@@ -6,6 +6,7 @@ use crate::codes::{
     MISSING_RESOLVER, NESTED_WORKSPACE, NOT_A_MEMBER, REPEATED_PACKAGE_NAME,
     UNKNOWN_DEFAULT_MEMBER, UNREADABLE_ROOT, UNUSED_WORKSPACE_DEPENDENCY, WRONG_WORKSPACE_PATH,
 };
+use crate::found::package_name;
 use crate::look::{Edition, Look, Member, Root, inherits, items_in, table_in, text_in};
 use crate::report::{At, File, Out, Part, Report, Spot, steps};
 use std::alloc::AllocError;
@@ -172,8 +173,8 @@ fn member_spot(look: &Look<'_>, member: &Member) -> Result<Spot, AllocError> {
 fn members_alone(look: &Look<'_>, members: &[Member], out: &mut Out) -> Result<(), AllocError> {
     let alloc = look.alloc;
     let mut names = std::collections::BTreeMap::new(alloc);
-    if let Some(package) = look.package {
-        let _none = names.insert(text_in(package, "name").unwrap_or(""), ".")?;
+    if let Some(own) = package_name(look) {
+        let _none = names.insert(own, ".")?;
     }
     for member in members {
         let path = member.path.as_str();
