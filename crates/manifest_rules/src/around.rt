@@ -1,13 +1,15 @@
 //! Rules of dependencies that look at packages and at the configuration, and what to look for.
 
 use crate::codes::{MISSING_PATH_PACKAGE, UNKNOWN_REGISTRY};
-use crate::look::{Look, PathPackage, Section, flag_in, table_in, text_in};
+use crate::look::{Look, PathPackage, Section, table_in, text_in};
 use crate::report::{At, Out};
 use std::alloc::AllocError;
+use std::collections::BTreeMap;
 use toml::Table;
 
 /// All rules of what the sources of dependencies lead to.
 pub(crate) fn sources_around(look: &Look<'_>, out: &mut Out) -> Result<(), AllocError> {
+    let packages = packages_by_path(look)?;
     for section in &look.dependencies {
         if section.section == Section::Replace {
             continue;
@@ -16,34 +18,41 @@ pub(crate) fn sources_around(look: &Look<'_>, out: &mut Out) -> Result<(), Alloc
             let Some(dependency) = table_in(section.table, name.as_str()) else {
                 continue;
             };
+            if section.inherits(name.as_str()) {
+                continue;
+            }
             let base = section.path.as_slice();
-            path_package(look, base, name.as_str(), dependency, out)?;
+            path_package(&packages, base, name.as_str(), dependency, out)?;
             unknown_registry(look, base, name.as_str(), dependency, out)?;
         }
     }
     Ok(())
 }
 
-fn package_at<'a>(look: &Look<'a>, path: &str) -> Option<&'a PathPackage> {
-    look.around
-        .packages?
-        .iter()
-        .find(|package| package.path.as_str() == path)
+/// The packages that are known, by the paths that lead to them.
+fn packages_by_path<'a>(
+    look: &Look<'a>,
+) -> Result<BTreeMap<String, &'a PathPackage>, AllocError> {
+    let mut packages = BTreeMap::new(look.alloc);
+    for package in look.around.packages.unwrap_or(&[]) {
+        let _other = packages.insert(package.path.clone()?, package)?;
+    }
+    Ok(packages)
 }
 
 /// The `path` of a dependency leads to a package of its name.
 fn path_package(
-    look: &Look<'_>,
+    packages: &BTreeMap<String, &PathPackage>,
     base: &[At<'_>],
     name: &str,
     dependency: &Table,
     out: &mut Out,
 ) -> Result<(), AllocError> {
-    let alloc = look.alloc;
+    let alloc = out.alloc;
     let Some(path) = text_in(dependency, "path") else {
         return Ok(());
     };
-    let Some(package) = package_at(look, path) else {
+    let Some(package) = packages.get(path) else {
         return Ok(());
     };
     let wanted = text_in(dependency, "package").unwrap_or(name);
@@ -84,7 +93,6 @@ fn unknown_registry(
     };
     if registry == "crates-io"
         || is_configured(config, registry)
-        || flag_in(dependency, "workspace") == Some(true)
     {
         return Ok(());
     }

@@ -1,6 +1,6 @@
 //! Which folders and packages the rules look at.
 
-use crate::files::split_path;
+use crate::files::{plain_path, split_path, stays_inside};
 use crate::look::{Folders, Look, Surroundings, text_in};
 use std::alloc::{AllocError, Global};
 use toml::{Table, Value};
@@ -28,9 +28,12 @@ pub fn asked_folders(
         }
     }
     for path in paths_of(alloc, document)? {
-        let (folder, _name) = split_path(path);
-        let _is_new = asked.insert(String::from_str(alloc, folder)?)?;
-        let _is_new = asked.insert(String::from_str(alloc, path)?)?;
+        let path = plain_path(alloc, path)?;
+        if stays_inside(path.as_str()) {
+            let (folder, _name) = split_path(path.as_str());
+            let _is_new = asked.insert(String::from_str(alloc, folder)?)?;
+            let _is_new = asked.insert(path)?;
+        }
     }
     let mut all = Vec::new(alloc);
     for folder in asked {
@@ -68,24 +71,23 @@ fn paths_of<'a>(alloc: Global, document: &'a Table) -> Result<Vec<&'a str>, Allo
 
 fn push_path<'a>(all: &mut Vec<&'a str>, table: &'a Table, key: &str) -> Result<(), AllocError> {
     if let Some(path) = text_in(table, key) {
-        let path = path.strip_prefix("./").unwrap_or(path);
-        if !path.starts_with('/') && !path.contains("..") {
-            all.push(path)?;
-        }
+        all.push(path)?;
     }
     Ok(())
 }
 
-/// The `path`s of dependencies as they are written, each once.
+/// The `path`s of dependencies as they are written, each once; Cargo ignores those of inherited ones.
 pub fn asked_packages(alloc: Global, document: &Table) -> Result<Vec<String>, AllocError> {
     let around = Surroundings::nothing();
     let look = Look::new(alloc, "", document, &around)?;
     let mut paths = std::collections::BTreeSet::new(alloc);
     for section in &look.dependencies {
-        for (_name, dependency) in section.table {
+        for (name, dependency) in section.table {
             if let Value::Table(table) = dependency {
                 if let Some(path) = text_in(table, "path") {
-                    let _is_new = paths.insert(path)?;
+                    if !section.inherits(name.as_str()) {
+                        let _is_new = paths.insert(path)?;
+                    }
                 }
             }
         }

@@ -1,5 +1,8 @@
 //! The codes of diagnostics: one line each, with its level and what it looks at. `docs/CHECKS.md` has a page for each.
 
+ghost use Rattle.std.specs.Prelude.{◌≡◌};
+ghost use Rattle.manifest_rules.specs.Rules as spec;
+
 use crate::look::Edition;
 
 /// How grave a diagnostic is.
@@ -41,11 +44,14 @@ pub struct Code {
 
 impl Code {
     /// The level in a package of this edition.
-    pub fn level_in(&self, edition: Edition) -> Level {
-        if edition == Edition::E2024 {
-            self.in_2024
-        } else {
-            self.level
+    pub fn level_in(&self, edition: Edition) -> Level
+        ensures { result ≡ spec.level_in edition self.now }
+    {
+        match edition {
+            Edition::E2024 => self.in_2024,
+            Edition::E2021 => self.level,
+            Edition::E2018 => self.level,
+            Edition::E2015 => self.level,
         }
     }
 }
@@ -91,6 +97,8 @@ pub const OUT_OF_RANGE: Code = code!(Error, "out-of-range", Text);
 pub const NOT_TRUE: Code = code!(Error, "not-true", Text);
 /// A float in metadata, which Cargo reads and this library's manifests do not hold.
 pub const FLOAT_IN_METADATA: Code = code!(Note, "float-in-metadata", Text);
+/// A whole number that Cargo reads and this library's manifests do not hold.
+pub const NUMBER_NOT_KEPT: Code = code!(Note, "number-not-kept", Text);
 /// A value that does not fit, and counts as absent (of a badge).
 pub const IGNORED_VALUE: Code = code!(Warning, "ignored-value", Text);
 /// A key that nothing reads.
@@ -411,6 +419,7 @@ pub const ALL: &[Code] = &[
     OUT_OF_RANGE,
     NOT_TRUE,
     FLOAT_IN_METADATA,
+    NUMBER_NOT_KEPT,
     IGNORED_VALUE,
     UNKNOWN_KEY,
     MISSPELLED_KEY,

@@ -7,6 +7,7 @@ use crate::codes::{
     METADATA_IN_REQUIREMENT, NO_SOURCE, OPTIONAL_DEV_DEPENDENCY, OPTIONAL_IN_WORKSPACE,
     REVISION_WITHOUT_GIT, SEVERAL_REVISIONS,
 };
+use crate::inherited::inherited_dependencies;
 use crate::look::{Look, Section, flag_in, inherits, items_in, table_in, text_in};
 use crate::report::{At, Out, Part, Report, Spot, place_of, quoted, steps};
 use crate::words::{Word, WordFault, name_fault, requirement_fault, url_fault, word_message};
@@ -95,6 +96,7 @@ impl<'a> Dependency<'a> {
 
 /// All rules of single dependencies.
 pub(crate) fn dependencies(look: &Look<'_>, out: &mut Out) -> Result<(), AllocError> {
+    let inherited = inherited_dependencies(look)?;
     for table in look.dependencies.iter() {
         for (name, _value) in table.table {
             let dependency = Dependency {
@@ -105,6 +107,10 @@ pub(crate) fn dependencies(look: &Look<'_>, out: &mut Out) -> Result<(), AllocEr
             };
             rules_of_any(&dependency, out)?;
             if let Some(detail) = dependency.detail() {
+                // (of the workspace's dependencies Cargo reads those that a member inherits)
+                if table.section != Section::Workspace || inherited.contains(dependency.name) {
+                    no_source(&dependency, detail, out)?;
+                }
                 rules_of_detail(&dependency, detail, out)?;
             }
         }
@@ -125,7 +131,6 @@ fn rules_of_detail(
     out: &mut Out,
 ) -> Result<(), AllocError> {
     invalid_package(dependency, detail, out)?;
-    no_source(dependency, detail, out)?;
     conflicting_sources(dependency, detail, out)?;
     revision_without_git(dependency, detail, out)?;
     several_revisions(dependency, detail, out)?;

@@ -1,6 +1,7 @@
 //! What is known of files by the listings of folders.
 
 use crate::look::Look;
+use std::alloc::{AllocError, Global};
 use std::collections::BTreeSet;
 
 /// Whether a file is there.
@@ -27,23 +28,60 @@ pub(crate) fn names_in<'a>(look: &Look<'a>, folder: &str) -> Option<&'a BTreeSet
     look.around.folders?.names.get(folder)
 }
 
-/// Whether the file at this path, from the folder of the manifest, is there. A path with `.` or `..` in it, or one from
-/// the root of the file system, is not looked up.
-pub(crate) fn file_state(look: &Look<'_>, path: &str) -> FileState {
-    let plain = path.strip_prefix("./").unwrap_or(path);
-    if look.around.folders.is_none() || !is_plain(plain) {
-        return FileState::Unknown;
+/// The path without `.`, without what a `..` takes back, and without a last `/`; the folder itself is the empty text.
+pub(crate) fn plain_path(alloc: Global, path: &str) -> Result<String, AllocError> {
+    let is_absolute = path.starts_with('/');
+    let mut parts = Vec::new(alloc);
+    for part in path.split('/') {
+        if part.is_empty() || part == "." {
+            continue;
+        }
+        let before = parts
+            .last()
+            .copied()
+            .unwrap_or(if is_absolute { "/" } else { ".." });
+        if part != ".." || before == ".." {
+            parts.push(part)?;
+        } else {
+            let _taken = parts.pop();
+        }
+    }
+    joined(alloc, is_absolute, parts.as_slice())
+}
+
+fn joined(alloc: Global, is_absolute: bool, parts: &[&str]) -> Result<String, AllocError> {
+    let mut path = String::new(alloc);
+    for part in parts {
+        if is_absolute || !path.is_empty() {
+            path.push_str("/")?;
+        }
+        path.push_str(part)?;
+    }
+    Ok(path)
+}
+
+/// Whether a path without `.` and what a `..` takes back stays in the folder from which it leads.
+pub(crate) fn stays_inside(plain: &str) -> bool {
+    !plain.starts_with('/') && plain.split('/').next() != Some("..")
+}
+
+/// Whether the file at this path, from the folder of the manifest, is there. What is outside that folder is not looked up.
+pub(crate) fn file_state(look: &Look<'_>, path: &str) -> Result<FileState, AllocError> {
+    let plain = plain_path(look.alloc, path)?;
+    let plain = plain.as_str();
+    if look.around.folders.is_none() || plain.is_empty() || !stays_inside(plain) {
+        return Ok(FileState::Unknown);
     }
     let (folder, name) = split_path(plain);
     if names_in(look, plain).is_some() {
-        return FileState::Folder;
+        return Ok(FileState::Folder);
     }
-    match names_in(look, folder) {
+    Ok(match names_in(look, folder) {
         Some(names) if names.contains(name) => FileState::There,
         Some(_) => FileState::Absent,
         None if was_asked(look, folder) => FileState::Absent,
         None => FileState::Unknown,
-    }
+    })
 }
 
 /// Whether the folder was looked for, be it there or not.
@@ -52,14 +90,4 @@ fn was_asked(look: &Look<'_>, folder: &str) -> bool {
         Some(folders) => folders.asked.contains(folder),
         None => false,
     }
-}
-
-/// Whether each part of a path is a name.
-fn is_plain(path: &str) -> bool {
-    for part in path.split('/') {
-        if part.is_empty() || part == "." || part == ".." {
-            return false;
-        }
-    }
-    true
 }

@@ -1,9 +1,10 @@
 //! The targets that Cargo finds in the folders of a package.
 //! (<https://doc.rust-lang.org/cargo/guide/project-layout.html>)
 
-use crate::files::names_in;
-use crate::look::{Edition, Kind, Look, flag_in, text_in};
+use crate::files::{names_in, plain_path};
+use crate::look::{DeclaredTarget, Edition, Kind, Look, flag_in, text_in};
 use std::alloc::{AllocError, Global};
+use std::collections::{BTreeMap, BTreeSet};
 
 /// A file that is a target by where it stands.
 #[derive(Drop)]
@@ -72,6 +73,48 @@ pub(crate) fn declares(look: &Look<'_>, kind: Kind) -> bool {
 /// The name of the package, where it has one.
 pub(crate) fn package_name<'a>(look: &Look<'a>) -> Option<&'a str> {
     text_in(look.package?, "name")
+}
+
+/// The targets of one kind that the manifest declares.
+#[derive(Drop)]
+pub(crate) struct Declared<'a> {
+    /// By their names; of several with one name the first.
+    pub(crate) names: BTreeMap<String, &'a DeclaredTarget<'a>>,
+    /// The paths of their files, of those that have one.
+    paths: BTreeSet<String>,
+}
+
+impl Declared<'_> {
+    /// Whether the target that a file would be is declared, by its name or by its path.
+    pub(crate) fn has(&self, file: &FoundFile) -> bool {
+        self.names.contains_key(file.name.as_str()) || self.paths.contains(file.path.as_str())
+    }
+}
+
+/// The targets of this kind that the manifest declares.
+pub(crate) fn declared_of<'a>(
+    look: &'a Look<'_>,
+    kind: Kind,
+) -> Result<Declared<'a>, AllocError> {
+    let mut declared = Declared {
+        names: BTreeMap::new(look.alloc),
+        paths: BTreeSet::new(look.alloc),
+    };
+    for target in &look.targets {
+        if target.kind != kind {
+            continue;
+        }
+        if let Some(path) = text_in(target.table, "path") {
+            let _is_new = declared.paths.insert(plain_path(look.alloc, path)?)?;
+        }
+        if let Some(name) = text_in(target.table, "name") {
+            if !declared.names.contains_key(name) {
+                let name = String::from_str(look.alloc, name)?;
+                let _none = declared.names.insert(name, target)?;
+            }
+        }
+    }
+    Ok(declared)
 }
 
 /// The files that are targets of this kind by where they stand, whether or not they are found: of a binary that of the

@@ -6,6 +6,7 @@ use crate::look::{Look, Root, flag_in, inherits, table_in};
 use crate::report::{At, File, Out, Part, Report, Spot, steps};
 use manifest_places::Edit;
 use std::alloc::AllocError;
+use std::collections::BTreeSet;
 use toml::{Table, Value};
 
 /// All rules of what is inherited.
@@ -95,11 +96,7 @@ fn fields(look: &Look<'_>, workspace: &Table, out: &mut Out) -> Result<(), Alloc
         if !inherits(package, field) {
             continue;
         }
-        if shared.is_some_and(|shared| shared.contains_key(field)) {
-            continue;
-        }
-        // Cargo looks for the file in the folder of the root.
-        if field == "readme" && shared.is_some() {
+        if shared.is_some_and(|shared| is_shared(shared, field)) {
             continue;
         }
         let message = format!(in look.alloc;
@@ -111,6 +108,34 @@ fn fields(look: &Look<'_>, workspace: &Table, out: &mut Out) -> Result<(), Alloc
         out.tell(in_root(look, report, &root, "it is not here")?)?;
     }
     Ok(())
+}
+
+/// Whether the table `workspace.package` gives this field to members. Where it has no `readme`, Cargo looks for the file in
+/// the folder of the root.
+fn is_shared(shared: &Table, field: &str) -> bool {
+    if field == "readme" {
+        flag_in(shared, field) != Some(false)
+    } else {
+        shared.contains_key(field)
+    }
+}
+
+/// The dependencies of the workspace that the package or a member inherits, as far as that is known.
+pub(crate) fn inherited_dependencies(look: &Look<'_>) -> Result<BTreeSet<String>, AllocError> {
+    let mut names = BTreeSet::new(look.alloc);
+    for member in look.around.members.unwrap_or(&[]) {
+        for name in &member.inherited {
+            let _is_new = names.insert(name.clone()?)?;
+        }
+    }
+    for section in &look.dependencies {
+        for (name, _dependency) in section.table {
+            if section.section.is_of_package() && inherits(section.table, name.as_str()) {
+                let _is_new = names.insert(String::from_str(look.alloc, name.as_str())?)?;
+            }
+        }
+    }
+    Ok(names)
 }
 
 fn dependencies(look: &Look<'_>, workspace: &Table, out: &mut Out) -> Result<(), AllocError> {

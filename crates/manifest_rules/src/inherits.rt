@@ -167,7 +167,7 @@ fn parent_of<'a>(profiles: &'a Table, name: &str) -> Option<&'a str> {
     text_in(table_in(profiles, name)?, "inherits")
 }
 
-/// Profiles do not inherit from one another in a circle, each of which is reported once.
+/// Profiles do not inherit from one another in a circle: each profile of one is reported.
 fn circular_inherits(profiles: &Table, out: &mut Out) -> Result<(), AllocError> {
     let mut done = BTreeSet::new(out.alloc);
     for (start, _profile) in profiles {
@@ -182,7 +182,7 @@ fn circular_inherits(profiles: &Table, out: &mut Out) -> Result<(), AllocError> 
                 break;
             };
             if way.contains(&parent) {
-                circle(name, parent, out)?;
+                all_of_circle(profiles, parent, out)?;
                 break;
             }
             name = parent;
@@ -190,6 +190,22 @@ fn circular_inherits(profiles: &Table, out: &mut Out) -> Result<(), AllocError> 
         for seen in way {
             done.insert(seen)?;
         }
+    }
+    Ok(())
+}
+
+/// Reports each profile of the circle to which this one belongs.
+fn all_of_circle(profiles: &Table, first: &str, out: &mut Out) -> Result<(), AllocError> {
+    let mut name = first;
+    for _step in 0..=profiles.len() {
+        let Some(parent) = parent_of(profiles, name) else {
+            break;
+        };
+        circle(name, parent, out)?;
+        if parent == first {
+            break;
+        }
+        name = parent;
     }
     Ok(())
 }

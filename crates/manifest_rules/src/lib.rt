@@ -12,6 +12,8 @@ mod files;
 mod found;
 mod inherited;
 mod inherits;
+mod keys;
+mod licenses;
 mod lints;
 mod look;
 mod newer;
@@ -21,6 +23,7 @@ mod profiles;
 mod publish;
 mod replace;
 mod report;
+mod shared_files;
 mod sources;
 mod spdx;
 mod spellings;
@@ -35,6 +38,7 @@ use crate::dependencies::dependencies;
 use crate::features::features;
 use crate::inherited::inherited;
 use crate::inherits::inherited_profiles;
+use crate::keys::keys;
 use crate::lints::lints;
 use crate::look::Look;
 use crate::newer::newer;
@@ -65,13 +69,10 @@ pub fn judged(
     around: &Surroundings<'_>,
 ) -> Result<Vec<Report>, AllocError> {
     let look = Look::new(alloc, text, document, around)?;
-    let mut out = Out {
-        alloc,
-        edition: look.edition,
-        reports: Vec::new(alloc),
-    };
+    let mut out = Out::new(alloc, look.edition);
     crate::text::text(&look, &mut out)?;
     spellings(&look, &mut out)?;
+    keys(&look, &mut out)?;
     package(&look, &mut out)?;
     targets(&look, &mut out)?;
     target_files(&look, &mut out)?;

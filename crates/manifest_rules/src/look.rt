@@ -56,6 +56,8 @@ pub struct Member {
     pub path: String,
     /// The index of the pattern in `workspace.members` that leads to it; `None` where a `path` dependency does.
     pub pattern: Option<usize>,
+    /// Whether its folder has a `Cargo.toml`, as each folder has to that a pattern fits.
+    pub has_manifest: bool,
     /// Its name, where it has one.
     pub name: Option<String>,
     pub edition: Edition,
@@ -132,6 +134,13 @@ pub(crate) struct DependencyTable<'a> {
     pub(crate) section: Section,
     pub(crate) path: Vec<At<'a>>,
     pub(crate) table: &'a Table,
+}
+
+impl DependencyTable<'_> {
+    /// Whether the dependency of this name is inherited.
+    pub(crate) fn inherits(&self, name: &str) -> bool {
+        self.section.is_of_package() && inherits(self.table, name)
+    }
 }
 
 /// A kind of target.
@@ -429,6 +438,7 @@ pub fn member_of(
     Ok(Member {
         path: String::from_str(alloc, path)?,
         pattern,
+        has_manifest: true,
         name,
         edition: edition_of(package, root),
         is_root: document.contains_key("workspace"),

@@ -1,11 +1,13 @@
 //! What is newer than the `rust-version` of a package says.
 //! (<https://doc.rust-lang.org/cargo/CHANGELOG.html>)
 
+use crate::cfg::facts;
 use crate::codes::NEWER_THAN_RUST_VERSION;
 use crate::look::{Look, items_in, table_in, text_in};
 use crate::package::rust_version_numbers;
+use crate::platforms::expression;
 use crate::report::{At, Out};
-use std::alloc::AllocError;
+use std::alloc::{AllocError, Global};
 use toml::{Table, Value};
 
 /// All that is newer.
@@ -36,6 +38,7 @@ pub(crate) fn newer(look: &Look<'_>, out: &mut Out) -> Result<(), AllocError> {
     }
     newer_profiles(look, minor, out)?;
     newer_features(look, minor, out)?;
+    newer_platforms(look, minor, out)?;
     newer_names(look, minor, out)
 }
 
@@ -174,6 +177,33 @@ fn say_of_item(
         "{what} is known since Rust 1.60, and `rust-version` is 1.{minor}"
     )?;
     out.value(NEWER_THAN_RUST_VERSION, path, &[], message)
+}
+
+/// Platforms whose expression has `true` or `false` in it.
+fn newer_platforms(look: &Look<'_>, minor: u64, out: &mut Out) -> Result<(), AllocError> {
+    let Some(platforms) = table_in(look.document, "target") else {
+        return Ok(());
+    };
+    for (name, _platform) in platforms {
+        let name = name.as_str();
+        let Some(text) = expression(name) else {
+            continue;
+        };
+        if minor < 88 && has_boolean(look.alloc, text)? {
+            let path = [At::Key("target"), At::Key(name)];
+            say(look, minor, 88, &path, "a boolean in a `cfg`", out)?;
+        }
+    }
+    Ok(())
+}
+
+fn has_boolean(alloc: Global, text: &str) -> Result<bool, AllocError> {
+    match facts(alloc, text)? {
+        Ok(facts) => Ok(facts.iter().any(|fact| {
+            !fact.is_raw && fact.value.is_none() && matches!(fact.name, "true" | "false")
+        })),
+        Err(_) => Ok(false),
+    }
 }
 
 /// Dependencies by another name than their package's.

@@ -319,7 +319,7 @@ fn build_script(
         let message = format!(in alloc; "the build script `{file}` has no file name")?;
         return out.value(INVALID_BUILD_PATH, path, &rest, message);
     }
-    if file_state(look, file) == FileState::Absent {
+    if file_state(look, file)? == FileState::Absent {
         let message = format!(in alloc; "couldn't find the build script `{file}`")?;
         return out.value(MISSING_BUILD_SCRIPT, path, &rest, message);
     }
@@ -338,7 +338,7 @@ fn links_without_build_script(
     }
     let is_off = flag_in(package, "build") == Some(false);
     if !is_off
-        && (package.contains_key("build") || file_state(look, "build.rs") != FileState::Absent)
+        && (package.contains_key("build") || file_state(look, "build.rs")? != FileState::Absent)
     {
         return Ok(());
     }

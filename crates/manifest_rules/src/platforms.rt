@@ -25,7 +25,7 @@ pub(crate) fn platforms(look: &Look<'_>, out: &mut Out) -> Result<(), AllocError
 }
 
 /// What stands in the parentheses of `cfg(..)`.
-fn expression(name: &str) -> Option<&str> {
+pub(crate) fn expression(name: &str) -> Option<&str> {
     name.strip_prefix("cfg(")?.strip_suffix(')')
 }
 

@@ -6,6 +6,7 @@ use crate::codes::{
     INVALID_PROFILE_OVERRIDE, NO_CODEGEN_UNITS, OPT_LEVEL_TOO_HIGH, OUT_OF_RANGE, PANIC_OF_TESTS,
     RESERVED_PROFILE_NAME, UNKNOWN_STRIP, UNKNOWN_WORD, WRONG_KIND,
 };
+use crate::keys::unknown_keys;
 use crate::look::{Look, table_in, text_in};
 use crate::report::{At, Out, Part, Report, Spot, place_of, quoted, steps};
 use crate::words::{Word, package_id, word_message};
@@ -117,8 +118,7 @@ fn overrides<'a>(
     if let Some(inner) = table_in(table, "build-override") {
         let below = [At::Key("build-override")];
         let settings = Settings::new(look.alloc, profile, &below, inner)?;
-        rules_of_settings(&settings, out)?;
-        invalid_profile_override(&settings, out)?;
+        rules_of_override(&settings, out)?;
     }
     let Some(packages) = table_in(table, "package") else {
         return Ok(());
@@ -128,11 +128,44 @@ fn overrides<'a>(
         if let Value::Table(inner) = value {
             let below = [At::Key("package"), At::Key(id.as_str())];
             let settings = Settings::new(look.alloc, profile, &below, inner)?;
-            rules_of_settings(&settings, out)?;
-            invalid_profile_override(&settings, out)?;
+            rules_of_override(&settings, out)?;
         }
     }
     Ok(())
+}
+
+/// The keys of settings that Cargo knows, some of which it refuses or ignores, as other rules say.
+static KEYS: [&str; 23] = [
+    "opt-level",
+    "opt_level",
+    "debug",
+    "split-debuginfo",
+    "strip",
+    "debug-assertions",
+    "debug_assertions",
+    "overflow-checks",
+    "overflow_checks",
+    "lto",
+    "panic",
+    "incremental",
+    "codegen-units",
+    "codegen_units",
+    "rpath",
+    "inherits",
+    "dir-name",
+    "package",
+    "build-override",
+    "codegen-backend",
+    "rustflags",
+    "trim-paths",
+    "hint-mostly-unused",
+];
+
+/// The rules of settings in an override, which is read as any value: the schema says the like of a profile.
+fn rules_of_override(settings: &Settings<'_>, out: &mut Out) -> Result<(), AllocError> {
+    rules_of_settings(settings, out)?;
+    invalid_profile_override(settings, out)?;
+    unknown_keys(settings.path.as_slice(), settings.table, &KEYS, out)
 }
 
 fn rules_of_settings(settings: &Settings<'_>, out: &mut Out) -> Result<(), AllocError> {

@@ -130,7 +130,7 @@ fn package_files(
         let Some(file) = text_in(package, key) else {
             continue;
         };
-        if file_state(look, file) == FileState::Absent {
+        if file_state(look, file)? == FileState::Absent {
             let message = format!(in look.alloc;
                 "{key} `{file}` does not appear to exist (relative to the manifest)"
             )?;

@@ -1,5 +1,8 @@
 //! What a rule says: at which place, in which words, and what can be written instead.
 
+ghost use Rattle.std.specs.Prelude.{◌≡◌, IfOk, map};
+ghost use Rattle.manifest_fault.specs.Faults.{step_of};
+
 use crate::codes::{Code, Level};
 use crate::look::Edition;
 use crate::words::Nearest;
@@ -115,15 +118,24 @@ pub(crate) fn quoted(alloc: Global, text: &str) -> Result<String, AllocError> {
 }
 
 /// The same steps, in memory of their own.
-pub fn copied(alloc: Global, path: &[Step]) -> Result<Vec<Step>, AllocError> {
-    let mut all = Vec::new(alloc);
+pub fn copied(alloc: Global, path: &[Step]) -> Result<Vec<Step>, AllocError>
+    ensures { IfOk result (λ steps. map step_of steps.items ≡ map step_of path.now) }
+{
+    let mut steps = Vec::new(alloc);
     for step in path {
-        all.push(match step {
-            Step::Key(key) => Step::Key(String::from_str(alloc, key.as_str())?),
-            Step::Index(index) => Step::Index(*index),
-        })?;
+        let copy = copy_of(alloc, step)?;
+        steps.push(copy)?;
     }
-    Ok(all)
+    Ok(steps)
+}
+
+fn copy_of(alloc: Global, step: &Step) -> Result<Step, AllocError>
+    ensures { IfOk result (λ s. step_of s ≡ step_of step.now) }
+{
+    match step {
+        Step::Key(key) => Ok(Step::Key(String::from_str(alloc, key.as_str())?)),
+        Step::Index(index) => Ok(Step::Index(*index)),
+    }
 }
 
 /// The same edits, in memory of their own.
@@ -240,17 +252,54 @@ impl Report {
     }
 }
 
+/// The bytes of all messages and paths that are reported of one manifest, at most. A long key above many wrong values
+/// stands in the path of each of them, so that without a bound a small manifest could take all memory.
+const ROOM: usize = 1 << 28;
+
 /// Where rules say things, of a package of this edition.
 #[derive(Drop)]
 pub(crate) struct Out {
     pub(crate) alloc: Global,
     pub(crate) edition: Edition,
     pub(crate) reports: Vec<Report>,
+    /// How many bytes of messages and paths there is room for.
+    room: usize,
+}
+
+/// The bytes of the names in a path.
+fn bytes_of(path: &[Step]) -> usize {
+    let mut bytes = 0usize;
+    for step in path {
+        if let Step::Key(key) = step {
+            bytes = bytes.saturating_add(key.len());
+        }
+    }
+    bytes
 }
 
 impl Out {
-    /// Says this, at the level that its code has in the edition, unless a level was given to it.
+    /// Nothing is said yet.
+    pub(crate) fn new(alloc: Global, edition: Edition) -> Out {
+        Out {
+            alloc,
+            edition,
+            reports: Vec::new(alloc),
+            room: ROOM,
+        }
+    }
+
+    /// Says this, at the level that its code has in the edition, unless a level was given to it. Out of memory where all
+    /// that is said takes too much.
     pub(crate) fn tell(&mut self, report: Report) -> Result<(), AllocError> {
+        let path = match &report.spot {
+            Spot::Path(path, _) => bytes_of(path.as_slice()),
+            Spot::Bytes(_, _) => 0,
+        };
+        let bytes = path.saturating_add(report.message.len());
+        let Some(room) = self.room.checked_sub(bytes) else {
+            return Err(AllocError);
+        };
+        self.room = room;
         let mut report = report;
         if report.level == report.code.level {
             report.level = report.code.level_in(self.edition);

@@ -2,6 +2,7 @@
 
 use crate::codes::{REPEATED_DEPENDENCY, SELF_DEPENDENCY, TWO_SOURCES};
 use crate::dependencies::Dependency;
+use crate::files::plain_path;
 use crate::look::{Look, Section, text_in};
 use crate::report::{Out, Report};
 use crate::words::url_fault;
@@ -91,38 +92,6 @@ fn git_source(alloc: Global, url: &str, detail: &Table) -> Result<Option<Source>
         }
     }
     Ok(Some(Source::Git(text)))
-}
-
-/// The path without `.`, without what a `..` takes back, and without a last `/`.
-fn plain_path(alloc: Global, path: &str) -> Result<String, AllocError> {
-    let is_absolute = path.starts_with('/');
-    let mut parts = Vec::new(alloc);
-    for part in path.split('/') {
-        if part.is_empty() || part == "." {
-            continue;
-        }
-        let before = parts
-            .last()
-            .copied()
-            .unwrap_or(if is_absolute { "/" } else { ".." });
-        if part != ".." || before == ".." {
-            parts.push(part)?;
-        } else {
-            let _taken = parts.pop();
-        }
-    }
-    joined(alloc, is_absolute, parts.as_slice())
-}
-
-fn joined(alloc: Global, is_absolute: bool, parts: &[&str]) -> Result<String, AllocError> {
-    let mut path = String::new(alloc);
-    for part in parts {
-        if is_absolute || !path.is_empty() {
-            path.push_str("/")?;
-        }
-        path.push_str(part)?;
-    }
-    Ok(path)
 }
 
 /// A dependency of the package, and where it comes from.

@@ -1,5 +1,7 @@
-//! License expressions of SPDX, by their grammar: which licenses there are is for a registry to say.
+//! License expressions of SPDX.
 //! (<https://spdx.github.io/spdx-spec/v2.3/SPDX-license-expressions/>)
+
+use crate::licenses::{EXCEPTIONS, LICENSES};
 
 /// What may come next in an expression.
 #[derive(Clone, Copy, PartialEq, Eq)]
@@ -70,22 +72,36 @@ fn after(wants: Wants, word: &str) -> Option<Wants> {
         (Wants::Word, "AND" | "OR") => Some(Wants::License),
         (Wants::WordAfterException, "AND" | "OR") => Some(Wants::License),
         (Wants::Word, "WITH") => Some(Wants::Exception),
-        (Wants::License, _) if is_name(word) => Some(Wants::Word),
-        (Wants::Exception, _) if is_name(word) => Some(Wants::WordAfterException),
+        (Wants::License, _) if is_license_name(word) => Some(Wants::Word),
+        (Wants::Exception, _) if is_one_of(&EXCEPTIONS, word) => Some(Wants::WordAfterException),
         _ => None,
     }
 }
 
-/// A name of a license: letters, digits, `-`, `.` and a `+` at the end; none of the words between them.
-fn is_name(word: &str) -> bool {
-    if matches!(word, "AND" | "OR" | "WITH" | "and" | "or" | "with") {
-        return false;
+/// Whether the word is one of these, which are sorted.
+fn is_one_of(words: &[&str], word: &str) -> bool {
+    let at = words.partition_point(|one| *one < word);
+    words.get(at).is_some_and(|one| *one == word)
+}
+
+/// Whether the word is a license of the list, with a `+` after it or not, or refers to one that is elsewhere:
+/// `LicenseRef-NAME` or `DocumentRef-NAME:LicenseRef-NAME`.
+fn is_license_name(word: &str) -> bool {
+    if is_one_of(&LICENSES, word.strip_suffix('+').unwrap_or(word)) {
+        return true;
     }
-    let name = word.strip_suffix('+').unwrap_or(word);
-    let name = match name.strip_prefix("DocumentRef-") {
-        Some(rest) => rest.split_once(':').map_or(rest, |parts| parts.1),
-        None => name,
+    let own = match word.strip_prefix("DocumentRef-") {
+        Some(rest) => match rest.split_once(':') {
+            Some((document, own)) if is_plain(document) => own,
+            _ => return false,
+        },
+        None => word,
     };
+    own.strip_prefix("LicenseRef-").is_some_and(|name| is_plain(name))
+}
+
+/// Whether a name is of letters, digits, `-` and `.`.
+fn is_plain(name: &str) -> bool {
     !name.is_empty()
         && name
             .chars()

@@ -2,40 +2,60 @@
 
 use crate::codes::{
     AMBIGUOUS_TARGET_FILE, MISSING_TARGET_FILE, NO_TARGETS, REPEATED_TARGET_NAME,
-    RESERVED_BINARY_NAME, SHARED_TARGET_FILE, UNDECLARED_TARGET_FILES, UNKNOWN_DEFAULT_RUN,
-    WRONG_TARGET_PATH,
+    RESERVED_BINARY_NAME, UNDECLARED_TARGET_FILES, UNKNOWN_DEFAULT_RUN, WRONG_TARGET_PATH,
 };
 use crate::files::{FileState, file_state};
 use crate::found::{
-    FoundFile, LISTED, declares, files_of, finds, has_file, package_name, says_auto,
+    Declared, FoundFile, LISTED, declared_of, declares, files_of, finds, has_file, package_name,
+    says_auto,
 };
 use crate::look::{DeclaredTarget, Edition, Kind, Look, text_in};
-use crate::report::{At, File, Out, Part, Report, Spot, steps};
+use crate::report::{At, Out, Part, Report, place_of};
+use crate::shared_files::shared_files;
 use std::alloc::AllocError;
+use std::collections::BTreeMap;
 
 /// All rules of targets and their files.
 pub(crate) fn target_files(look: &Look<'_>, out: &mut Out) -> Result<(), AllocError> {
-    repeated_names(look, out)?;
     for target in &look.targets {
         reserved_name(look, target, out)?;
+    }
+    for kind in LISTED {
+        let declared = declared_of(look, kind)?;
+        repeated_names(look, kind, &declared, out)?;
+        if look.around.folders.is_some() && look.package.is_some() {
+            files_of_kind(look, kind, &declared, out)?;
+        }
     }
     shared_files(look, out)?;
     if look.around.folders.is_none() || look.package.is_none() {
         return Ok(());
     }
     for target in &look.targets {
-        target_file(look, target, out)?;
-    }
-    for kind in LISTED {
-        let files = files_of(look, kind)?;
-        if finds(look, kind) {
-            found_names(look, kind, files.as_slice(), out)?;
-        } else {
-            undeclared_files(look, kind, files.as_slice(), out)?;
+        match text_in(target.table, "path") {
+            Some(path) => target_path(look, target, path, out)?,
+            None if target.kind == Kind::Lib => library_file(look, target, out)?,
+            None => {}
         }
     }
     no_targets(look, out)?;
     unknown_default_run(look, out)
+}
+
+/// The rules of the files that are targets of this kind by where they stand.
+fn files_of_kind(
+    look: &Look<'_>,
+    kind: Kind,
+    declared: &Declared<'_>,
+    out: &mut Out,
+) -> Result<(), AllocError> {
+    let files = files_of(look, kind)?;
+    declared_files(look, kind, files.as_slice(), out)?;
+    if finds(look, kind) {
+        found_names(look, kind, files.as_slice(), declared, out)
+    } else {
+        undeclared_files(look, kind, files.as_slice(), declared, out)
+    }
 }
 
 fn is_reserved(name: &str) -> bool {
@@ -65,114 +85,77 @@ fn reserved_name(
 }
 
 /// No two declared targets of one kind have one name.
-fn repeated_names(look: &Look<'_>, out: &mut Out) -> Result<(), AllocError> {
-    let mut count = 0usize;
+fn repeated_names(
+    look: &Look<'_>,
+    kind: Kind,
+    declared: &Declared<'_>,
+    out: &mut Out,
+) -> Result<(), AllocError> {
     for target in &look.targets {
-        repeated_name(look, target, count, out)?;
-        count = count.saturating_add(1);
+        let Some(name) = text_in(target.table, "name") else {
+            continue;
+        };
+        let Some(first) = declared.names.get(name) else {
+            continue;
+        };
+        if target.kind == kind && first.path.as_slice() != target.path.as_slice() {
+            repeated_name(target, first, name, out)?;
+        }
     }
     Ok(())
 }
 
 fn repeated_name(
-    look: &Look<'_>,
     target: &DeclaredTarget<'_>,
-    earlier: usize,
+    first: &DeclaredTarget<'_>,
+    name: &str,
     out: &mut Out,
 ) -> Result<(), AllocError> {
-    let alloc = look.alloc;
-    let Some(name) = text_in(target.table, "name") else {
-        return Ok(());
-    };
-    for other in look.targets.iter().take(earlier) {
-        if other.kind != target.kind || text_in(other.table, "name") != Some(name) {
+    let alloc = out.alloc;
+    let words = target.kind.words();
+    let message = format!(in alloc;
+        "found duplicate {words} name {name}, but all {words} targets must have a unique name"
+    )?;
+    let rest = [At::Key("name")];
+    let report = Report::at(
+        alloc,
+        REPEATED_TARGET_NAME,
+        Part::Value,
+        target.path.as_slice(),
+        &rest,
+        message,
+    )?;
+    let spot = place_of(alloc, first.path.as_slice(), &rest, Part::Value)?;
+    out.tell(report.with_label_str(spot, "the first one of this name")?)
+}
+
+/// Each declared target of this kind that has no path has one of these files.
+fn declared_files(
+    look: &Look<'_>,
+    kind: Kind,
+    files: &[FoundFile],
+    out: &mut Out,
+) -> Result<(), AllocError> {
+    let mut counts = BTreeMap::new(look.alloc);
+    for file in files {
+        let name = file.name.as_str();
+        let count = counts.get(&name).copied().unwrap_or(0usize);
+        let _before = counts.insert(name, count.saturating_add(1))?;
+    }
+    for target in &look.targets {
+        let Some(name) = text_in(target.table, "name") else {
+            continue;
+        };
+        if target.kind != kind || text_in(target.table, "path").is_some() {
             continue;
         }
-        let words = target.kind.words();
-        let message = format!(in alloc;
-            "found duplicate {words} name {name}, but all {words} targets must have a unique name"
-        )?;
-        let path = target.path.as_slice();
-        let rest = [At::Key("name")];
-        let report = Report::at(
-            alloc,
-            REPEATED_TARGET_NAME,
-            Part::Value,
-            path,
-            &rest,
-            message,
-        )?;
-        let spot = Spot::Path(steps(alloc, other.path.as_slice(), &rest)?, Part::Value);
-        let first = String::from_str(alloc, "the first one of this name")?;
-        return out.tell(report.with_label(File::Own, spot, first)?);
-    }
-    Ok(())
-}
-
-/// The path of a file without a `./` at its beginning.
-fn plain_path(path: &str) -> &str {
-    path.strip_prefix("./").unwrap_or(path)
-}
-
-/// Two declared targets of one file.
-fn shared_files(look: &Look<'_>, out: &mut Out) -> Result<(), AllocError> {
-    let alloc = look.alloc;
-    let mut count = 0usize;
-    for target in &look.targets {
-        if let Some(path) = text_in(target.table, "path") {
-            for other in look.targets.iter().take(count) {
-                let there = text_in(other.table, "path");
-                if there.is_some_and(|there| plain_path(there) == plain_path(path)) {
-                    let message = format!(in alloc;
-                        "file `{path}` found to be present in multiple build targets"
-                    )?;
-                    let rest = [At::Key("path")];
-                    let base = target.path.as_slice();
-                    let report = Report::at(
-                        alloc,
-                        SHARED_TARGET_FILE,
-                        Part::Value,
-                        base,
-                        &rest,
-                        message,
-                    )?;
-                    let spot = Spot::Path(steps(alloc, other.path.as_slice(), &rest)?, Part::Value);
-                    let words = String::from_str(alloc, "the same file")?;
-                    out.tell(report.with_label(File::Own, spot, words)?)?;
-                    break;
-                }
-            }
-        }
-        count = count.saturating_add(1);
-    }
-    Ok(())
-}
-
-fn target_file(
-    look: &Look<'_>,
-    target: &DeclaredTarget<'_>,
-    out: &mut Out,
-) -> Result<(), AllocError> {
-    if let Some(path) = text_in(target.table, "path") {
-        return target_path(look, target, path, out);
-    }
-    if target.kind == Kind::Lib {
-        return library_file(look, target, out);
-    }
-    let Some(name) = text_in(target.table, "name") else {
-        return Ok(());
-    };
-    let mut count = 0usize;
-    for file in files_of(look, target.kind)? {
-        if file.name.as_str() == name {
-            count = count.saturating_add(1);
+        match counts.get(&name) {
+            None => missing_file(look, target, name, out)?,
+            Some(count) if *count > 1 => ambiguous_file(look, target, name, out)?,
+            Some(_) => {}
         }
     }
-    match count {
-        0 => missing_file(look, target, name, out),
-        1 => Ok(()),
-        _ => ambiguous_file(look, target, name, out),
-    }
+    Ok(())
 }
 
 fn target_path(
@@ -182,7 +165,7 @@ fn target_path(
     out: &mut Out,
 ) -> Result<(), AllocError> {
     let words = target.kind.words();
-    let message = match file_state(look, path) {
+    let message = match file_state(look, path)? {
         FileState::There => return Ok(()),
         FileState::Unknown => return Ok(()),
         FileState::Folder => format!(in look.alloc;
@@ -275,73 +258,63 @@ fn found_names(
     look: &Look<'_>,
     kind: Kind,
     files: &[FoundFile],
+    declared: &Declared<'_>,
     out: &mut Out,
 ) -> Result<(), AllocError> {
-    let alloc = look.alloc;
-    let package = [At::Key(look.package_key)];
-    let mut count = 0usize;
+    let mut seen = BTreeMap::new(look.alloc);
     for file in files {
-        let name = file.name.as_str();
-        let path = file.path.as_str();
-        let is_declared = is_declared(look, kind, name);
-        if kind == Kind::Bin && is_reserved(name) && !is_declared {
-            let message = format!(in alloc;
-                "the binary target name `{name}` is forbidden, it conflicts with cargo's build directory names"
-            )?;
-            let note = format!(in alloc; "it is that of `{path}`")?;
-            let name_of_package = [At::Key("name")];
-            let report = if path == "src/main.rs" {
-                Report::at(
-                    alloc,
-                    RESERVED_BINARY_NAME,
-                    Part::Value,
-                    &package,
-                    &name_of_package,
-                    message,
-                )?
-            } else {
-                Report::at(
-                    alloc,
-                    RESERVED_BINARY_NAME,
-                    Part::Header,
-                    &package,
-                    &[],
-                    message,
-                )?
-            };
-            out.tell(report.with_note(note)?)?;
+        if declared.has(file) {
+            continue;
         }
-        for other in files.iter().take(count) {
-            if other.name.as_str() == name && !is_declared {
-                let words = kind.words();
-                let there = other.path.as_str();
-                let message = format!(in alloc;
-                    "found duplicate {words} name {name}, but all {words} targets must have a unique name"
-                )?;
-                let note = format!(in alloc; "`{there}` and `{path}` are both found")?;
-                let report = Report::at(
-                    alloc,
-                    REPEATED_TARGET_NAME,
-                    Part::Header,
-                    &package,
-                    &[],
-                    message,
-                )?;
-                out.tell(report.with_note(note)?)?;
-            }
+        if kind == Kind::Bin && is_reserved(file.name.as_str()) {
+            reserved_file(look, file, out)?;
         }
-        count = count.saturating_add(1);
+        let Some(first) = seen.get(&file.name.as_str()) else {
+            let _none = seen.insert(file.name.as_str(), file.path.as_str())?;
+            continue;
+        };
+        repeated_file(look, kind, file, first, out)?;
     }
     Ok(())
 }
 
-fn is_declared(look: &Look<'_>, kind: Kind, name: &str) -> bool {
-    for target in &look.targets {
-        if target.kind == kind && text_in(target.table, "name") == Some(name) {
-            return true;
-        }
-    }
-    false
+/// A binary that is found has a name that Cargo keeps: that of the package, or of its file.
+fn reserved_file(look: &Look<'_>, file: &FoundFile, out: &mut Out) -> Result<(), AllocError> {
+    let alloc = look.alloc;
+    let name = file.name.as_str();
+    let path = file.path.as_str();
+    let message = format!(in alloc;
+        "the binary target name `{name}` is forbidden, it conflicts with cargo's build directory names"
+    )?;
+    let note = format!(in alloc; "it is that of `{path}`")?;
+    let package = [At::Key(look.package_key)];
+    let spot = if path == "src/main.rs" {
+        place_of(alloc, &package, &[At::Key("name")], Part::Value)?
+    } else {
+        place_of(alloc, &package, &[], Part::Header)?
+    };
+    let report = Report::new(alloc, RESERVED_BINARY_NAME, spot, message);
+    out.tell(report.with_note(note)?)
+}
+
+fn repeated_file(
+    look: &Look<'_>,
+    kind: Kind,
+    file: &FoundFile,
+    first: &str,
+    out: &mut Out,
+) -> Result<(), AllocError> {
+    let alloc = look.alloc;
+    let words = kind.words();
+    let name = file.name.as_str();
+    let path = file.path.as_str();
+    let message = format!(in alloc;
+        "found duplicate {words} name {name}, but all {words} targets must have a unique name"
+    )?;
+    let note = format!(in alloc; "`{first}` and `{path}` are both found")?;
+    let spot = place_of(alloc, &[At::Key(look.package_key)], &[], Part::Header)?;
+    let report = Report::new(alloc, REPEATED_TARGET_NAME, spot, message);
+    out.tell(report.with_note(note)?)
 }
 
 /// In the edition 2015 files are not found where targets of their kind are declared, unless the package says so.
@@ -349,14 +322,14 @@ fn undeclared_files(
     look: &Look<'_>,
     kind: Kind,
     files: &[FoundFile],
+    declared: &Declared<'_>,
     out: &mut Out,
 ) -> Result<(), AllocError> {
     if says_auto(look, kind).is_some() {
         return Ok(());
     }
     for file in files {
-        let name = file.name.as_str();
-        if !is_declared(look, kind, name) {
+        if !declared.has(file) {
             let words = kind.words();
             let path = file.path.as_str();
             let message = format!(in look.alloc;
@@ -395,14 +368,15 @@ fn unknown_default_run(look: &Look<'_>, out: &mut Out) -> Result<(), AllocError>
     let Some(name) = text_in(package, "default-run") else {
         return Ok(());
     };
-    if is_declared(look, Kind::Bin, name) {
+    let declared = declared_of(look, Kind::Bin)?;
+    if declared.names.contains_key(name) {
         return Ok(());
     }
     let files = files_of(look, Kind::Bin)?;
     let mut nearest = out.nearest(name);
     if finds(look, Kind::Bin) {
         for file in &files {
-            if file.name.as_str() == name {
+            if file.name.as_str() == name && !declared.has(file) {
                 return Ok(());
             }
             nearest.offer(alloc, file.name.as_str())?;
@@ -415,15 +389,8 @@ fn unknown_default_run(look: &Look<'_>, out: &mut Out) -> Result<(), AllocError>
     }
     let message = format!(in alloc; "default-run target `{name}` not found")?;
     let base = [At::Key(look.package_key)];
-    let rest = [At::Key("default-run")];
-    let report = Report::at(
-        alloc,
-        UNKNOWN_DEFAULT_RUN,
-        Part::Value,
-        &base,
-        &rest,
-        message,
-    )?;
+    let spot = place_of(alloc, &base, &[At::Key("default-run")], Part::Value)?;
+    let report = Report::new(alloc, UNKNOWN_DEFAULT_RUN, spot, message);
     match nearest.found() {
         Some(word) => {
             let help = format!(in alloc; "a target with a similar name exists: `{word}`")?;

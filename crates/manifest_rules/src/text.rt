@@ -9,6 +9,7 @@ use crate::look::{Look, items_in};
 use crate::report::{At, Out, Part, Report, Spot, steps};
 use manifest_places::Edit;
 use std::alloc::AllocError;
+use std::collections::BTreeSet;
 use toml::Value;
 
 /// All rules of the text and of its top.
@@ -171,17 +172,19 @@ enum Said {
 }
 
 fn cargo_features(look: &Look<'_>, out: &mut Out) -> Result<(), AllocError> {
-    let items = items_in(look.document, "cargo-features");
-    let mut index = 0usize;
-    for item in items {
+    let mut names = BTreeSet::new(look.alloc);
+    for (index, item) in items_in(look.document, "cargo-features")
+        .iter()
+        .enumerate()
+    {
         if let Value::String(name) = item {
-            if items.iter().take(index).any(|earlier| earlier == item) {
-                repeated_cargo_feature(look, name.as_str(), index, out)?;
+            let name = name.as_str();
+            if names.insert(name)? {
+                cargo_feature(look, name, index, out)?;
             } else {
-                cargo_feature(look, name.as_str(), index, out)?;
+                repeated_cargo_feature(look, name, index, out)?;
             }
         }
-        index = index.saturating_add(1);
     }
     Ok(())
 }

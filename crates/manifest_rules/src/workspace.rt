@@ -6,10 +6,13 @@ use crate::codes::{
     MISSING_RESOLVER, NESTED_WORKSPACE, NOT_A_MEMBER, REPEATED_PACKAGE_NAME,
     UNKNOWN_DEFAULT_MEMBER, UNREADABLE_ROOT, UNUSED_WORKSPACE_DEPENDENCY, WRONG_WORKSPACE_PATH,
 };
+use crate::files::plain_path;
 use crate::found::package_name;
-use crate::look::{Edition, Look, Member, Root, inherits, items_in, table_in, text_in};
+use crate::inherited::inherited_dependencies;
+use crate::look::{Edition, Look, Member, Root, items_in, table_in, text_in};
 use crate::report::{At, File, Out, Part, Report, Spot, steps};
-use std::alloc::AllocError;
+use std::alloc::{AllocError, Global};
+use std::collections::{BTreeMap, BTreeSet};
 use toml::{Table, Value};
 
 /// All rules of a workspace's root, and of a member and its root.
@@ -20,7 +23,7 @@ pub(crate) fn workspace(look: &Look<'_>, out: &mut Out) -> Result<(), AllocError
         default_members(look, members, out)?;
         members_alone(look, members, out)?;
         missing_resolver(look, members, out)?;
-        unused_dependencies(look, members, out)?;
+        unused_dependencies(look, out)?;
     }
     match look.around.root {
         Root::Unreadable(file) => unreadable_root(look, file, out),
@@ -95,63 +98,91 @@ fn member_pattern(
     out.value(INVALID_MEMBER_PATTERN, &path, &[], message)
 }
 
+/// What the patterns of `members` lead to.
+#[derive(Drop)]
+struct PatternFolders<'a> {
+    /// The indexes of those that lead to a member.
+    patterns: BTreeSet<usize>,
+    /// The first folder without a `Cargo.toml` of each of those that lead to one.
+    bare: BTreeMap<usize, &'a str>,
+}
+
+fn fitted<'a>(alloc: Global, members: &'a [Member]) -> Result<PatternFolders<'a>, AllocError> {
+    let mut fitted = PatternFolders {
+        patterns: BTreeSet::new(alloc),
+        bare: BTreeMap::new(alloc),
+    };
+    for member in members {
+        let Some(index) = member.pattern else {
+            continue;
+        };
+        if member.has_manifest {
+            let _is_new = fitted.patterns.insert(index)?;
+        } else if !fitted.bare.contains_key(&index) {
+            let _none = fitted.bare.insert(index, member.path.as_str())?;
+        }
+    }
+    Ok(fitted)
+}
+
+/// Each pattern leads to a member, and each folder to which it leads has a `Cargo.toml`.
 fn missing_members(look: &Look<'_>, members: &[Member], out: &mut Out) -> Result<(), AllocError> {
     let Some(workspace) = look.workspace else {
         return Ok(());
     };
-    let mut index = 0usize;
-    for item in items_in(workspace, "members") {
-        if let Value::String(pattern) = item {
-            let pattern = pattern.as_str();
-            let leads = members.iter().any(|member| member.pattern == Some(index));
-            if !leads && pattern_fault(pattern).is_none() {
-                let message = format!(in look.alloc;
-                    "failed to load manifest for workspace member `{pattern}`: it leads to no Cargo.toml"
-                )?;
-                let path = [At::Key("workspace"), At::Key("members"), At::Index(index)];
-                out.value(MISSING_MEMBER, &path, &[], message)?;
-            }
-        }
-        index = index.saturating_add(1);
+    let alloc = look.alloc;
+    let found = fitted(alloc, members)?;
+    for (index, item) in items_in(workspace, "members").iter().enumerate() {
+        let Some(pattern) = item.as_str() else {
+            continue;
+        };
+        let message = if let Some(folder) = found.bare.get(&index) {
+            format!(in alloc;
+                "failed to load manifest for workspace member `{pattern}`: the folder `{folder}` has no Cargo.toml"
+            )?
+        } else if found.patterns.contains(&index) || pattern_fault(pattern).is_some() {
+            continue;
+        } else {
+            format!(in alloc;
+                "failed to load manifest for workspace member `{pattern}`: it leads to no Cargo.toml"
+            )?
+        };
+        let path = [At::Key("workspace"), At::Key("members"), At::Index(index)];
+        out.value(MISSING_MEMBER, &path, &[], message)?;
     }
     Ok(())
-}
-
-/// A path without `./` at its beginning and `/` at its end; the folder itself is the empty text.
-fn plain(path: &str) -> &str {
-    let path = path
-        .strip_prefix("./")
-        .unwrap_or(path)
-        .trim_end_matches('/');
-    if path == "." { "" } else { path }
 }
 
 fn default_members(look: &Look<'_>, members: &[Member], out: &mut Out) -> Result<(), AllocError> {
     let Some(workspace) = look.workspace else {
         return Ok(());
     };
-    let mut index = 0usize;
-    for item in items_in(workspace, "default-members") {
-        if let Value::String(path) = item {
-            let path = path.as_str();
-            let is_pattern = path.contains('*') || path.contains('?') || path.contains('[');
-            let is_root = plain(path).is_empty() && look.package.is_some();
-            let is_member = members
-                .iter()
-                .any(|member| member.path.as_str() == plain(path));
-            if !is_pattern && !is_root && !is_member {
-                let message = format!(in look.alloc;
-                    "package `{path}` is listed in default-members but is not a member"
-                )?;
-                let at = [
-                    At::Key("workspace"),
-                    At::Key("default-members"),
-                    At::Index(index),
-                ];
-                out.value(UNKNOWN_DEFAULT_MEMBER, &at, &[], message)?;
-            }
+    let alloc = look.alloc;
+    let mut paths = BTreeSet::new(alloc);
+    for member in members {
+        let _is_new = paths.insert(member.path.clone()?)?;
+    }
+    for (index, item) in items_in(workspace, "default-members")
+        .iter()
+        .enumerate()
+    {
+        let Some(path) = item.as_str() else {
+            continue;
+        };
+        let plain = plain_path(alloc, path)?;
+        let is_pattern = path.contains('*') || path.contains('?') || path.contains('[');
+        let is_root = plain.is_empty() && look.package.is_some();
+        if !is_pattern && !is_root && !paths.contains(plain.as_str()) {
+            let message = format!(in alloc;
+                "package `{path}` is listed in default-members but is not a member"
+            )?;
+            let at = [
+                At::Key("workspace"),
+                At::Key("default-members"),
+                At::Index(index),
+            ];
+            out.value(UNKNOWN_DEFAULT_MEMBER, &at, &[], message)?;
         }
-        index = index.saturating_add(1);
     }
     Ok(())
 }
@@ -172,7 +203,7 @@ fn member_spot(look: &Look<'_>, member: &Member) -> Result<Spot, AllocError> {
 /// No two members have one name, and none is a root itself.
 fn members_alone(look: &Look<'_>, members: &[Member], out: &mut Out) -> Result<(), AllocError> {
     let alloc = look.alloc;
-    let mut names = std::collections::BTreeMap::new(alloc);
+    let mut names = BTreeMap::new(alloc);
     if let Some(own) = package_name(look) {
         let _none = names.insert(own, ".")?;
     }
@@ -229,11 +260,7 @@ fn missing_resolver(look: &Look<'_>, members: &[Member], out: &mut Out) -> Resul
     out.header(MISSING_RESOLVER, &[At::Key("workspace")], &[], message)
 }
 
-fn unused_dependencies(
-    look: &Look<'_>,
-    members: &[Member],
-    out: &mut Out,
-) -> Result<(), AllocError> {
+fn unused_dependencies(look: &Look<'_>, out: &mut Out) -> Result<(), AllocError> {
     let Some(workspace) = look.workspace else {
         return Ok(());
     };
@@ -241,19 +268,7 @@ fn unused_dependencies(
         return Ok(());
     };
     let alloc = look.alloc;
-    let mut used = std::collections::BTreeSet::new(alloc);
-    for member in members {
-        for name in &member.inherited {
-            let _is_new = used.insert(name.as_str())?;
-        }
-    }
-    for section in &look.dependencies {
-        for (name, _dependency) in section.table {
-            if section.section.is_of_package() && inherits(section.table, name.as_str()) {
-                let _is_new = used.insert(name.as_str())?;
-            }
-        }
-    }
+    let used = inherited_dependencies(look)?;
     for (name, _dependency) in shared {
         let name = name.as_str();
         if !used.contains(name) {

@@ -1,0 +1,104 @@
+//! The rule of files that are in several targets.
+
+use crate::codes::SHARED_TARGET_FILE;
+use crate::files::plain_path;
+use crate::found::{LISTED, declared_of, declares, files_of, finds, has_file};
+use crate::look::{DeclaredTarget, Kind, Look, text_in};
+use crate::report::{At, Out, Part, Report, Spot, place_of};
+use std::alloc::AllocError;
+use std::collections::BTreeMap;
+
+/// The targets that have a file: the path by which it is declared, or that it stands where Cargo finds it.
+#[derive(Drop)]
+struct Users<'a> {
+    /// By the path of the file, the first target that declares it by `path`; `None` where it is found.
+    files: BTreeMap<String, Option<&'a DeclaredTarget<'a>>>,
+}
+
+impl<'a> Users<'a> {
+    /// Notes the files of one kind that are found: each that is not declared, if files of the kind are found, and that of
+    /// each declared target that has no path.
+    fn find(&mut self, look: &Look<'_>, kind: Kind) -> Result<(), AllocError> {
+        let declared = declared_of(look, kind)?;
+        for file in files_of(look, kind)? {
+            let is_used = match declared.names.get(file.name.as_str()) {
+                Some(target) => !target.table.contains_key("path"),
+                None => finds(look, kind) && !declared.has(&file),
+            };
+            if is_used {
+                let _other = self.files.insert(file.path.clone()?, None)?;
+            }
+        }
+        Ok(())
+    }
+
+    /// Notes the file of the library, where it stands at its place.
+    fn find_library(&mut self, look: &Look<'_>) -> Result<(), AllocError> {
+        let has_path = look
+            .targets
+            .iter()
+            .any(|target| target.kind == Kind::Lib && target.table.contains_key("path"));
+        let is_meant = declares(look, Kind::Lib) || finds(look, Kind::Lib);
+        if is_meant && !has_path && has_file(look, "src", "lib.rs") {
+            let path = String::from_str(look.alloc, "src/lib.rs")?;
+            let _other = self.files.insert(path, None)?;
+        }
+        Ok(())
+    }
+}
+
+/// No two targets have one file: each that has the file of an earlier one, or of one that is found, is reported.
+pub(crate) fn shared_files(look: &Look<'_>, out: &mut Out) -> Result<(), AllocError> {
+    let mut users = Users {
+        files: BTreeMap::new(look.alloc),
+    };
+    if look.package.is_some() {
+        users.find_library(look)?;
+        for kind in LISTED {
+            users.find(look, kind)?;
+        }
+    }
+    for target in &look.targets {
+        let Some(path) = text_in(target.table, "path") else {
+            continue;
+        };
+        let plain = plain_path(look.alloc, path)?;
+        let Some(first) = users.files.get(plain.as_str()) else {
+            let _none = users.files.insert(plain, Some(target))?;
+            continue;
+        };
+        shared_file(target, *first, path, out)?;
+    }
+    Ok(())
+}
+
+fn path_spot(target: &DeclaredTarget<'_>, out: &Out) -> Result<Spot, AllocError> {
+    place_of(
+        out.alloc,
+        target.path.as_slice(),
+        &[At::Key("path")],
+        Part::Value,
+    )
+}
+
+fn shared_file(
+    target: &DeclaredTarget<'_>,
+    first: Option<&DeclaredTarget<'_>>,
+    path: &str,
+    out: &mut Out,
+) -> Result<(), AllocError> {
+    let message = format!(in out.alloc;
+        "file `{path}` found to be present in multiple build targets"
+    )?;
+    let report = Report::new(
+        out.alloc,
+        SHARED_TARGET_FILE,
+        path_spot(target, out)?,
+        message,
+    );
+    let report = match first {
+        Some(first) => report.with_label_str(path_spot(first, out)?, "the same file")?,
+        None => report.with_note_str("by where it stands it is the file of another target")?,
+    };
+    out.tell(report)
+}
