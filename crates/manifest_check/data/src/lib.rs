@@ -1,0 +1,1 @@
+//! The library of a package with a fault in its features.

@@ -1,0 +1,388 @@
+//! One manifest after the other: read, judged, reported, and mended where that is asked for.
+
+use crate::files::{NotReplaced, Unreadable, read_file, replace_file};
+use crate::fixing::{Fixed, with_fixes};
+use crate::judging::{Placed, State, judge, place};
+use crate::members::Members;
+use crate::options::{Fixing, Options};
+use crate::paths::{resolved, shown};
+use crate::walk::Unread;
+use manifest_lint::{Diagnostic, Document, unread_diagnostic};
+use manifest_report::{MemberSource, Reporter, Source, Sources, push_diff, push_escaped};
+use manifest_rules::{File, Level};
+use std::alloc::{AllocError, Global};
+use std::collections::BTreeSet;
+use std::rt::Files;
+
+/// How much was found.
+#[derive(Clone, Copy)]
+pub(crate) struct Counts {
+    pub(crate) files: usize,
+    pub(crate) errors: usize,
+    pub(crate) warnings: usize,
+    /// How many could not be read or written.
+    pub(crate) unread: usize,
+}
+
+impl Counts {
+    pub(crate) const NONE: Counts = Counts {
+        files: 0,
+        errors: 0,
+        warnings: 0,
+        unread: 0,
+    };
+
+    fn add(&mut self, diagnostics: &[Diagnostic]) {
+        self.files = self.files.saturating_add(1);
+        for diagnostic in diagnostics {
+            match diagnostic.level {
+                Level::Error => self.errors = self.errors.saturating_add(1),
+                Level::Warning => self.warnings = self.warnings.saturating_add(1),
+                Level::Note => {}
+            }
+        }
+    }
+}
+
+/// What was asked for, where the program runs, and what is kept from one manifest to the next.
+#[derive(Drop)]
+pub(crate) struct Context {
+    pub(crate) options: Options,
+    /// The absolute path of the folder that the program runs in.
+    pub(crate) current: String,
+    pub(crate) state: State,
+}
+
+/// A run over manifests: its context, what was counted, and the texts that are to be written.
+#[derive(Drop)]
+pub(crate) struct Run {
+    pub(crate) context: Context,
+    pub(crate) reporter: Reporter,
+    pub(crate) counts: Counts,
+    /// What is to be written to standard output.
+    pub(crate) out: String,
+    /// What is to be written to standard error.
+    pub(crate) messages: String,
+}
+
+/// The text of bytes, up to the first one that is no UTF-8.
+fn readable(bytes: &[u8]) -> &str {
+    match str::from_utf8(bytes) {
+        Ok(text) => text,
+        Err(fault) => {
+            let front = bytes.get(..fault.valid_up_to()).unwrap_or(&[]);
+            str::from_utf8(front).unwrap_or("")
+        }
+    }
+}
+
+/// The indexes of the members that labels of these diagnostics lead to.
+fn labelled(alloc: Global, diagnostics: &[Diagnostic]) -> Result<BTreeSet<usize>, AllocError> {
+    let mut indexes = BTreeSet::new(alloc);
+    for diagnostic in diagnostics {
+        for label in &diagnostic.labels {
+            if let File::Member(index) = label.file {
+                indexes.insert(index)?;
+            }
+        }
+    }
+    Ok(indexes)
+}
+
+/// The text of a member, as it is now; `None` where it cannot be read.
+fn member_source<H: Files + AllocGlobal>(
+    rt: &H,
+    index: usize,
+    path: &str,
+    current: &str,
+    most: u64,
+) -> Result<Option<MemberSource>, AllocError> {
+    let alloc = rt.alloc();
+    let Ok(bytes) = read_file(rt, path, most) else {
+        return Ok(None);
+    };
+    let Ok(text) = String::from_utf8(bytes) else {
+        return Ok(None);
+    };
+    Ok(Some(MemberSource {
+        index,
+        name: String::from_str(alloc, shown(path, current))?,
+        text,
+    }))
+}
+
+/// The texts of the members that labels of these diagnostics lead to.
+fn member_sources<H: Files + AllocGlobal>(
+    rt: &H,
+    members: Option<&Members>,
+    diagnostics: &[Diagnostic],
+    current: &str,
+    most: u64,
+) -> Result<Vec<MemberSource>, AllocError> {
+    let alloc = rt.alloc();
+    let mut sources = Vec::new(alloc);
+    let Some(members) = members else {
+        return Ok(sources);
+    };
+    for index in &labelled(alloc, diagnostics)? {
+        if let Some(path) = members.manifests.get(*index) {
+            if let Some(source) = member_source(rt, *index, path.as_str(), current, most)? {
+                sources.push(source)?;
+            }
+        }
+    }
+    Ok(sources)
+}
+
+/// The texts that the places of a manifest's diagnostics are in.
+fn sources_of<'x>(
+    state: &'x State,
+    current: &'x str,
+    name: &'x str,
+    placed: &'x Placed,
+    members: &'x [MemberSource],
+) -> Option<Sources<'x>> {
+    let document = placed.document(state)?;
+    let root = match placed.other_root(state) {
+        Some(root) => Some(Source {
+            name: shown(root.path.as_str(), current),
+            text: root.document.text.as_str(),
+        }),
+        None => None,
+    };
+    Some(Sources {
+        own: Source {
+            name,
+            text: document.text.as_str(),
+        },
+        root,
+        members,
+    })
+}
+
+/// Writes what is said of a manifest. `members` are those that labels lead to.
+fn push_report<'x>(
+    context: &'x Context,
+    reporter: &mut Reporter,
+    out: &mut String,
+    name: &'x str,
+    placed: &'x Placed,
+    diagnostics: &'x [Diagnostic],
+    members: &'x [MemberSource],
+) -> Result<(), AllocError> {
+    let current = context.current.as_str();
+    match sources_of(&context.state, current, name, placed, members) {
+        Some(sources) => reporter.report(out, &sources, diagnostics),
+        None => Ok(()),
+    }
+}
+
+impl Run {
+    /// Tells what is said of bytes that are no document.
+    fn report_unread<'x>(
+        &mut self,
+        alloc: Global,
+        name: &'x str,
+        bytes: &'x [u8],
+        diagnostic: Diagnostic,
+    ) -> Result<(), AllocError> {
+        let mut diagnostics = Vec::new(alloc);
+        diagnostics.push(diagnostic)?;
+        let sources = Sources {
+            own: Source {
+                name,
+                text: readable(bytes),
+            },
+            root: None,
+            members: &[],
+        };
+        self.counts.add(diagnostics.as_slice());
+        self.reporter
+            .report(&mut self.out, &sources, diagnostics.as_slice())
+    }
+
+    /// Tells what is said of a manifest.
+    fn report<H: Files + AllocGlobal>(
+        &mut self,
+        rt: &H,
+        name: &str,
+        placed: &Placed,
+        diagnostics: &[Diagnostic],
+    ) -> Result<(), AllocError> {
+        self.counts.add(diagnostics);
+        if self.context.options.fixing == Fixing::Show {
+            return Ok(());
+        }
+        let context = &self.context;
+        let members = member_sources(
+            rt,
+            placed.members(&context.state),
+            diagnostics,
+            context.current.as_str(),
+            context.options.most,
+        )?;
+        push_report(
+            &self.context,
+            &mut self.reporter,
+            &mut self.out,
+            name,
+            placed,
+            diagnostics,
+            members.as_slice(),
+        )
+    }
+
+    /// Tells of what could not be read or written.
+    pub(crate) fn tell_unread(&mut self, name: &str, reason: &str) -> Result<(), AllocError> {
+        self.counts.unread = self.counts.unread.saturating_add(1);
+        self.messages.push_str("error: ")?;
+        push_escaped(&mut self.messages, name)?;
+        self.messages.push_str(": ")?;
+        push_escaped(&mut self.messages, reason)?;
+        self.messages.push('\n')
+    }
+
+    /// Tells of all paths that could not be read.
+    pub(crate) fn tell_all_unread(&mut self, unread: &[Unread]) -> Result<(), AllocError> {
+        for one in unread {
+            self.tell_unread(one.path.as_str(), one.reason.as_str())?;
+        }
+        Ok(())
+    }
+
+    /// Tells of the configurations that could not be read, each once.
+    fn tell_unread_configuration(&mut self) -> Result<(), AllocError> {
+        for _ in 0..u64::MAX {
+            let Some(unread) = self.context.state.next_unread() else {
+                return Ok(());
+            };
+            self.tell_unread(unread.path.as_str(), unread.reason.as_str())?;
+        }
+        Ok(())
+    }
+
+    fn tell_not_written(&mut self, name: &str, fault: &NotReplaced) -> Result<(), AllocError> {
+        let reason = format!(in *self.messages.allocator(); "not written: {fault}")?;
+        self.tell_unread(name, reason.as_str())
+    }
+
+    /// Writes a manifest with suggestions made, or shows what would change.
+    fn put<H: Files + AllocGlobal>(
+        &mut self,
+        rt: &H,
+        name: &str,
+        old: &str,
+        fixed: &Fixed,
+    ) -> Result<(), AllocError> {
+        if fixed.is_refused {
+            push_escaped(&mut self.messages, name)?;
+            let reason = "suggestions that cannot be made, or would make new errors, are left out";
+            write!(self.messages, ": {reason}\n")?;
+        }
+        if fixed.made == 0 {
+            return Ok(());
+        }
+        let new = fixed.text.as_str();
+        if self.context.options.fixing == Fixing::Show {
+            return push_diff(rt.alloc(), &mut self.out, name, old, new);
+        }
+        match replace_file(rt, name, old, new) {
+            Ok(()) => {
+                let made = fixed.made;
+                let noun = if made == 1 {
+                    "suggestion"
+                } else {
+                    "suggestions"
+                };
+                self.messages.push_str("fixed ")?;
+                push_escaped(&mut self.messages, name)?;
+                write!(self.messages, ": {made} {noun}\n")
+            }
+            Err(fault) => self.tell_not_written(name, &fault),
+        }
+    }
+
+    /// Checks a document at this path.
+    fn check_document<H: Files + AllocGlobal + Clone + Drop>(
+        &mut self,
+        rt: &H,
+        name: &str,
+        path: &str,
+        document: Document,
+    ) -> Result<(), AllocError> {
+        let is_fixing = self.context.options.fixing != Fixing::No;
+        let old = if is_fixing {
+            document.text.clone()?
+        } else {
+            String::new(rt.alloc())
+        };
+        let placed = place(
+            rt,
+            &self.context.options,
+            &mut self.context.state,
+            path,
+            document,
+        )?;
+        let diagnostics = judge(
+            rt,
+            &self.context.options,
+            &mut self.context.state,
+            path,
+            &placed,
+        )?;
+        self.tell_unread_configuration()?;
+        if !is_fixing {
+            return self.report(rt, name, &placed, diagnostics.as_slice());
+        }
+        let text = old.clone()?;
+        let options = &self.context.options;
+        let fixed = with_fixes(
+            rt,
+            options,
+            &mut self.context.state,
+            path,
+            text,
+            placed,
+            diagnostics,
+        )?;
+        self.put(rt, name, old.as_str(), &fixed)?;
+        self.report(rt, name, &fixed.placed, fixed.diagnostics.as_slice())
+    }
+
+    /// Checks the bytes of a manifest with this name.
+    pub(crate) fn check_bytes<H: Files + AllocGlobal + Clone + Drop>(
+        &mut self,
+        rt: &H,
+        name: &str,
+        bytes: Vec<u8>,
+    ) -> Result<(), AllocError> {
+        let alloc = rt.alloc();
+        match Document::read(alloc, bytes.as_slice()) {
+            Ok(document) => {
+                drop(bytes);
+                let path = resolved(alloc, self.context.current.as_str(), name)?;
+                self.check_document(rt, name, path.as_str(), document)
+            }
+            Err(unread) => {
+                let diagnostic = unread_diagnostic(alloc, unread)?;
+                self.report_unread(alloc, name, bytes.as_slice(), diagnostic)
+            }
+        }
+    }
+
+    /// Checks what was read under this name, or tells why it was not.
+    pub(crate) fn check_read<H: Files + AllocGlobal + Clone + Drop>(
+        &mut self,
+        rt: &H,
+        name: &str,
+        read: Result<Vec<u8>, Unreadable>,
+    ) -> Result<(), AllocError> {
+        match read {
+            Ok(bytes) => self.check_bytes(rt, name, bytes),
+            Err(fault) => {
+                let reason = format!(in rt.alloc(); "{fault}")?;
+                self.tell_unread(name, reason.as_str())
+            }
+        }
+    }
+}

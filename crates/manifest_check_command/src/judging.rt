@@ -1,0 +1,294 @@
+//! A manifest in its surroundings, and what is said of it.
+
+use crate::config::Configs;
+use crate::files::names_in;
+use crate::levels::Levels;
+use crate::members::Members;
+use crate::options::Options;
+use crate::packages::PackageNames;
+use crate::paths::{folder_of, join, opened};
+use crate::roots::{FoundRoot, KeptRoot, Roots};
+use crate::tables::table_in;
+use crate::walk::Unread;
+use manifest_lint::{Diagnostic, Document, Input, asked_folders, diagnostics};
+use manifest_rules::{Folders, PathPackage, Root, Surroundings};
+use std::alloc::{AllocError, Global};
+use std::collections::{BTreeMap, BTreeSet};
+use std::rt::Files;
+
+/// What is kept from one manifest to the next: the last root, the last configuration, and the names of packages.
+#[derive(Drop)]
+pub(crate) struct State {
+    pub(crate) roots: Roots,
+    configs: Configs,
+    packages: PackageNames,
+}
+
+impl State {
+    pub(crate) fn new(alloc: Global, most: u64) -> State {
+        State {
+            roots: Roots::new(alloc, most),
+            configs: Configs::new(alloc, most),
+            packages: PackageNames::new(alloc),
+        }
+    }
+
+    /// The next configuration that cannot be read, and of which nothing was said yet.
+    pub(crate) fn next_unread(&mut self) -> Option<Unread> {
+        self.configs.next_unread()
+    }
+}
+
+/// A manifest, and where its root is. The document of a root itself is kept as the last root.
+#[derive(Drop)]
+pub(crate) struct Placed {
+    own: Option<Document>,
+    root: FoundRoot,
+}
+
+/// What was gathered around a manifest.
+#[derive(Drop)]
+struct Gathered {
+    folders: Folders,
+    packages: Vec<PathPackage>,
+    is_listed: Option<bool>,
+}
+
+impl Placed {
+    /// The document of the manifest.
+    pub(crate) fn document<'a>(&'a self, state: &'a State) -> Option<&'a Document> {
+        match &self.own {
+            Some(document) => Some(document),
+            None => state.roots.kept().map(|kept| &kept.document),
+        }
+    }
+
+    /// Whether the manifest is a root itself.
+    pub(crate) fn is_root(&self) -> bool {
+        matches!(&self.root, FoundRoot::Own)
+    }
+
+    /// The root of the manifest, where it is another manifest that could be read.
+    pub(crate) fn other_root<'a>(&self, state: &'a State) -> Option<&'a KeptRoot> {
+        match &self.root {
+            FoundRoot::Kept => state.roots.kept(),
+            _ => None,
+        }
+    }
+
+    /// The members of the manifest, where it is a root.
+    pub(crate) fn members<'a>(&self, state: &'a State) -> Option<&'a Members> {
+        if self.is_root() {
+            state.roots.kept()?.members.as_ref()
+        } else {
+            None
+        }
+    }
+
+    /// What the rules learn of the root.
+    fn root<'a>(&'a self, state: &'a State) -> Root<'a> {
+        match (&self.root, state.roots.kept()) {
+            (FoundRoot::Unknown, _) => Root::Unknown,
+            (FoundRoot::Unreadable(path), _) => Root::Unreadable(path.as_str()),
+            (FoundRoot::Own | FoundRoot::Kept, Some(kept)) => Root::Found(&kept.document.table),
+            _ => Root::Missing,
+        }
+    }
+}
+
+/// Finds the root of a manifest with an absolute path. Of a root itself the members are gathered.
+pub(crate) fn place<H: Files + AllocGlobal + Clone + Drop>(
+    rt: &H,
+    options: &Options,
+    state: &mut State,
+    path: &str,
+    document: Document,
+) -> Result<Placed, AllocError> {
+    let is_root = table_in(&document.table, "workspace").is_some();
+    if is_root {
+        state
+            .roots
+            .keep(String::from_str(rt.alloc(), path)?, document);
+        if options.uses_workspace {
+            state.roots.gather(rt)?;
+        }
+        return Ok(Placed {
+            own: None,
+            root: FoundRoot::Own,
+        });
+    }
+    let root = if options.uses_workspace {
+        state.roots.find(rt, path, &document)?
+    } else {
+        FoundRoot::Unknown
+    };
+    Ok(Placed {
+        own: Some(document),
+        root,
+    })
+}
+
+/// The names in a folder; `None` where it cannot be listed.
+fn listed<H: Files + AllocGlobal + Clone + Drop>(
+    rt: &H,
+    folder: &str,
+) -> Result<Option<BTreeSet<String>>, AllocError> {
+    let Ok(found) = names_in(rt, opened(folder)) else {
+        return Ok(None);
+    };
+    let mut names = BTreeSet::new(rt.alloc());
+    for name in found {
+        names.insert(name)?;
+    }
+    Ok(Some(names))
+}
+
+/// The names in the folders that the rules want.
+fn folders_of<H: Files + AllocGlobal + Clone + Drop>(
+    rt: &H,
+    folder: &str,
+    document: &Document,
+) -> Result<Folders, AllocError> {
+    let alloc = rt.alloc();
+    let mut known = Folders {
+        names: BTreeMap::new(alloc),
+        asked: BTreeSet::new(alloc),
+    };
+    // the folders first, and then those that stand in them
+    for _ in 0..2 {
+        for asked in asked_folders(alloc, &document.table, &known)? {
+            let path = join(alloc, folder, asked.as_str())?;
+            known.asked.insert(asked.clone()?)?;
+            if let Some(found) = listed(rt, path.as_str())? {
+                known.names.insert(asked, found)?;
+            }
+        }
+    }
+    Ok(known)
+}
+
+/// Gathers what is around a manifest in this folder.
+fn gather<H: Files + AllocGlobal + Clone + Drop>(
+    rt: &H,
+    options: &Options,
+    state: &mut State,
+    folder: &str,
+    placed: &Placed,
+) -> Result<Option<Gathered>, AllocError> {
+    let is_listed = match &placed.root {
+        FoundRoot::Kept => Some(state.roots.lists(rt, folder)?),
+        _ => None,
+    };
+    match &options.config {
+        Some(path) => state.configs.load_file(rt, path.as_str())?,
+        None if options.uses_config => state.configs.load(rt, folder)?,
+        None => {}
+    }
+    let document = match (&placed.own, state.roots.kept()) {
+        (Some(document), _) => document,
+        (None, Some(kept)) => &kept.document,
+        (None, None) => return Ok(None),
+    };
+    Ok(Some(Gathered {
+        folders: folders_of(rt, folder, document)?,
+        packages: state.packages.of(rt, folder, document, options.most)?,
+        is_listed,
+    }))
+}
+
+/// What the rules learn of what is around a manifest.
+fn surroundings<'a>(
+    options: &Options,
+    state: &'a State,
+    placed: &'a Placed,
+    gathered: &'a Gathered,
+) -> Surroundings<'a> {
+    let members = placed.members(state).map(|members| members.all.as_slice());
+    Surroundings {
+        root: placed.root(state),
+        is_root: placed.is_root(),
+        is_listed: gathered.is_listed,
+        folders: Some(&gathered.folders),
+        packages: Some(gathered.packages.as_slice()),
+        members,
+        config: state.configs.kept(),
+        publishes: options.publishes,
+    }
+}
+
+/// The settings of codes for a manifest: those of the words count before those of the package's metadata, and these before
+/// those of the workspace's.
+fn levels_for(
+    alloc: Global,
+    options: &Options,
+    state: &State,
+    placed: &Placed,
+    document: &Document,
+) -> Result<Levels, AllocError> {
+    let mut levels = Levels::new(alloc);
+    if let Some(root) = placed.other_root(state) {
+        levels.set_by_metadata(alloc, table_in(&root.document.table, "workspace"))?;
+    }
+    levels.set_by_metadata(alloc, table_in(&document.table, "workspace"))?;
+    levels.set_by_metadata(alloc, table_in(&document.table, "package"))?;
+    for word in &options.levels {
+        levels.set(alloc, word.name.as_str(), word.setting)?;
+    }
+    Ok(levels)
+}
+
+/// What the rules say of a document.
+pub(crate) fn said(
+    alloc: Global,
+    document: &Document,
+    around: &Surroundings<'_>,
+    root_text: Option<&str>,
+) -> Result<Vec<Diagnostic>, AllocError> {
+    let input = Input {
+        document,
+        around,
+        root_text,
+    };
+    let found = diagnostics(alloc, &input);
+    let Input {
+        document: _,
+        around: _,
+        root_text: _,
+    } = input;
+    found
+}
+
+/// What is said of a manifest, in the order of its text.
+pub(crate) fn judge<H: Files + AllocGlobal + Clone + Drop>(
+    rt: &H,
+    options: &Options,
+    state: &mut State,
+    path: &str,
+    placed: &Placed,
+) -> Result<Vec<Diagnostic>, AllocError> {
+    let alloc = rt.alloc();
+    let Some(gathered) = gather(rt, options, state, folder_of(path), placed)? else {
+        return Ok(Vec::new(alloc));
+    };
+    let state = &*state;
+    let Some(document) = placed.document(state) else {
+        return Ok(Vec::new(alloc));
+    };
+    let around = surroundings(options, state, placed, &gathered);
+    let root_text = placed
+        .other_root(state)
+        .map(|root| root.document.text.as_str());
+    let found = said(alloc, document, &around, root_text)?;
+    let levels = levels_for(alloc, options, state, placed, document)?;
+    let mut kept = levels.applied(alloc, found)?;
+    sort(&mut kept)?;
+    Ok(kept)
+}
+
+/// Puts diagnostics in the order of their places; those at one place stay as they are.
+fn sort(diagnostics: &mut Vec<Diagnostic>) -> Result<(), AllocError> {
+    diagnostics.sort_by_key(|diagnostic| match diagnostic.span {
+        Some(span) => (span.from, span.to),
+        None => (0, 0),
+    })
+}

@@ -1,0 +1,98 @@
+//! What the words ask for.
+
+use crate::levels::Setting;
+use manifest_report::Format;
+use std::alloc::Global;
+
+/// How many bytes a file may have where no words say it.
+pub(crate) const MOST: u64 = 67_108_864;
+
+/// When colours are used.
+#[derive(Clone, Copy, PartialEq, Eq)]
+pub(crate) enum Color {
+    Auto,
+    Always,
+    Never,
+}
+
+impl Options {
+    /// What holds where no words say anything else, for these paths.
+    pub(crate) fn plain(alloc: Global, paths: Vec<String>) -> Options {
+        Options {
+            paths,
+            stdin_path: None,
+            format: Format::People,
+            color: Color::Never,
+            width: None,
+            uses_workspace: true,
+            uses_config: true,
+            config: None,
+            publishes: false,
+            fixing: Fixing::No,
+            levels: Vec::new(alloc),
+            most: MOST,
+        }
+    }
+}
+
+/// What is done with certain suggestions.
+#[derive(Clone, Copy, PartialEq, Eq)]
+pub(crate) enum Fixing {
+    /// They are reported.
+    No,
+    /// They are made in the files.
+    Write,
+    /// It is shown what would be made.
+    Show,
+}
+
+/// A setting of a code by a word.
+#[derive(Drop)]
+pub(crate) struct LevelWord {
+    /// Where it stands among the words.
+    pub(crate) at: usize,
+    pub(crate) name: String,
+    pub(crate) setting: Setting,
+}
+
+/// How manifests are checked.
+#[derive(Drop)]
+pub(crate) struct Options {
+    pub(crate) paths: Vec<String>,
+    /// The path that the manifest of standard input is taken to have.
+    pub(crate) stdin_path: Option<String>,
+    pub(crate) format: Format,
+    pub(crate) color: Color,
+    pub(crate) width: Option<usize>,
+    pub(crate) uses_workspace: bool,
+    pub(crate) uses_config: bool,
+    /// The configuration that is read in place of those above the manifests.
+    pub(crate) config: Option<String>,
+    pub(crate) publishes: bool,
+    pub(crate) fixing: Fixing,
+    /// The settings of codes, in the order of the words.
+    pub(crate) levels: Vec<LevelWord>,
+    /// How many bytes a file may have.
+    pub(crate) most: u64,
+}
+
+/// A question about the package of a manifest.
+#[derive(Drop)]
+pub(crate) struct Inquiry {
+    pub(crate) file: String,
+    pub(crate) is_json: bool,
+}
+
+/// What is asked for.
+#[derive(Drop)]
+pub(crate) enum Request {
+    Check(Options),
+    /// The page of a code.
+    Explain(String),
+    /// All codes.
+    List,
+    /// What a package builds and inherits.
+    Show(Inquiry),
+    /// Which of the manifests at these paths are not canonical.
+    Canon(Vec<String>),
+}

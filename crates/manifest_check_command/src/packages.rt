@@ -1,0 +1,89 @@
+//! The packages to which the `path` of a dependency leads.
+
+use crate::files::read_file;
+use crate::paths::{MANIFEST, join, resolved};
+use crate::tables::{table_in, text_in};
+use manifest_lint::{Document, asked_packages};
+use manifest_rules::PathPackage;
+use std::alloc::{AllocError, Global};
+use std::collections::BTreeMap;
+use std::rt::Files;
+
+/// The names of packages by the absolute paths of their folders: each manifest is read once, and not kept.
+#[derive(Drop)]
+pub(crate) struct PackageNames {
+    names: BTreeMap<String, Option<String>>,
+}
+
+fn copied(alloc: Global, name: Option<&str>) -> Result<Option<String>, AllocError> {
+    match name {
+        Some(name) => Ok(Some(String::from_str(alloc, name)?)),
+        None => Ok(None),
+    }
+}
+
+/// The name of the package in a folder; `None` where there is none.
+fn name_in<H: Files + AllocGlobal>(
+    rt: &H,
+    folder: &str,
+    most: u64,
+) -> Result<Option<String>, AllocError> {
+    let alloc = rt.alloc();
+    let manifest = join(alloc, folder, MANIFEST)?;
+    let Ok(bytes) = read_file(rt, manifest.as_str(), most) else {
+        return Ok(None);
+    };
+    match Document::read(alloc, bytes.as_slice()) {
+        Ok(document) => {
+            let name = match table_in(&document.table, "package") {
+                Some(package) => text_in(package, "name"),
+                None => None,
+            };
+            copied(alloc, name)
+        }
+        Err(_) => Ok(None),
+    }
+}
+
+impl PackageNames {
+    pub(crate) fn new(alloc: Global) -> PackageNames {
+        PackageNames {
+            names: BTreeMap::new(alloc),
+        }
+    }
+
+    /// The name of the package in a folder, as it was at the first question.
+    fn name<H: Files + AllocGlobal>(
+        &mut self,
+        rt: &H,
+        folder: String,
+        most: u64,
+    ) -> Result<Option<String>, AllocError> {
+        let alloc = rt.alloc();
+        if let Some(name) = self.names.get(folder.as_str()) {
+            return copied(alloc, name.as_ref().map(|name| name.as_str()));
+        }
+        let name = name_in(rt, folder.as_str(), most)?;
+        let copy = copied(alloc, name.as_ref().map(|name| name.as_str()))?;
+        self.names.insert(folder, copy)?;
+        Ok(name)
+    }
+
+    /// The packages to which the dependencies of a document in this folder lead.
+    pub(crate) fn of<H: Files + AllocGlobal>(
+        &mut self,
+        rt: &H,
+        folder: &str,
+        document: &Document,
+        most: u64,
+    ) -> Result<Vec<PathPackage>, AllocError> {
+        let alloc = rt.alloc();
+        let mut all = Vec::new(alloc);
+        for path in asked_packages(alloc, &document.table)? {
+            let target = resolved(alloc, folder, path.as_str())?;
+            let name = self.name(rt, target, most)?;
+            all.push(PathPackage { path, name })?;
+        }
+        Ok(all)
+    }
+}

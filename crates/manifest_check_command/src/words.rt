@@ -1,0 +1,371 @@
+//! The words of the program: its command-line arguments.
+
+use crate::levels::{SETTINGS, Setting};
+use crate::options::{Color, Fixing, Inquiry, LevelWord, MOST, Options, Request};
+use clap::{Arg, ArgAction, ArgMatches, Command, Error};
+use manifest_report::Format;
+use manifest_rules::code_named;
+use std::alloc::{AllocError, Global};
+
+/// What the words ask for, or what is said instead: a text, and whether it was asked for (help, the version).
+#[derive(Drop)]
+pub(crate) enum Words {
+    Request(Request),
+    Answer { text: String, is_asked: bool },
+}
+
+static FORMATS: [&str; 5] = ["people", "short", "json", "github", "sarif"];
+
+static SHOWN: [&str; 2] = ["people", "json"];
+
+static COLORS: [&str; 3] = ["auto", "always", "never"];
+
+fn flag<'a>(alloc: Global, name: &'a str, help: &'a str) -> Arg<'a> {
+    Arg::new(alloc, name)
+        .long(name)
+        .action(ArgAction::SetTrue)
+        .help(help)
+}
+
+fn option<'a>(alloc: Global, name: &'a str, value: &'a str, help: &'a str) -> Arg<'a> {
+    Arg::new(alloc, name)
+        .long(name)
+        .action(ArgAction::Set)
+        .value_name(value)
+        .help(help)
+}
+
+fn repeated<'a>(alloc: Global, name: &'a str, value: &'a str, help: &'a str) -> Arg<'a> {
+    option(alloc, name, value, help).action(ArgAction::Append)
+}
+
+/// The arguments that say what is checked.
+fn with_inputs<'a>(alloc: Global, command: Command<'a>) -> Result<Command<'a>, AllocError> {
+    let paths = Arg::new(alloc, "PATHS")
+        .action(ArgAction::Append)
+        .num_args(0..)
+        .help("Manifests, and folders with manifests; `-` is standard input [default: .]");
+    command
+        .arg(paths)?
+        .arg(option(
+            alloc,
+            "stdin-path",
+            "FILE",
+            "The path that standard input is taken to have",
+        ))?
+        .arg(flag(alloc, "no-workspace", "Look for no root of a workspace"))?
+        .arg(flag(alloc, "no-config", "Read no .cargo/config.toml"))?
+        .arg(option(
+            alloc,
+            "config",
+            "FILE",
+            "Read this configuration, and none above",
+        ))?
+        .arg(flag(alloc, "publish", "Say what a registry wants too"))?
+        .arg(
+            option(alloc, "max-size", "BYTES", "Read no file of more bytes")
+                .default_value("67108864")
+                .value_parser(clap::value_parser!(u64)),
+        )
+}
+
+/// The arguments that say how it is reported.
+fn with_formats<'a>(alloc: Global, command: Command<'a>) -> Result<Command<'a>, AllocError> {
+    command
+        .arg(
+            option(alloc, "format", "FORMAT", "How diagnostics are written")
+                .default_value("people")
+                .value_parser(FORMATS.as_slice()),
+        )?
+        .arg(
+            option(alloc, "color", "WHEN", "When colours are used")
+                .default_value("auto")
+                .value_parser(COLORS.as_slice()),
+        )?
+        .arg(option(alloc, "width", "COLUMNS", "How wide an excerpt may be").value_parser(
+            clap::value_parser!(u16),
+        ))?
+        .arg(repeated(alloc, "deny", "CODE", "Take a code, or `all`, for an error"))?
+        .arg(repeated(
+            alloc,
+            "warn",
+            "CODE",
+            "Take a code, or `all`, for a warning",
+        ))?
+        .arg(repeated(alloc, "allow", "CODE", "Do not tell a code, or `all`"))
+}
+
+/// The arguments that say what else is done.
+fn with_deeds<'a>(alloc: Global, command: Command<'a>) -> Result<Command<'a>, AllocError> {
+    command
+        .arg(flag(alloc, "fix", "Make the suggestions that are certain"))?
+        .arg(flag(
+            alloc,
+            "dry-run",
+            "Show what --fix would change, and change nothing",
+        )
+        .requires_arg("fix")?)?
+        .arg(option(alloc, "explain", "CODE", "Print the page of a code"))?
+        .arg(flag(alloc, "list", "Print all codes with their levels"))
+}
+
+/// The command `show`.
+fn show_command<'a>(alloc: Global) -> Result<Command<'a>, AllocError> {
+    Command::new(alloc, "show")
+        .about("Shows what a package builds, and what it inherits, with where each comes from")
+        .arg(
+            Arg::new(alloc, "FILE")
+                .required(true)
+                .action(ArgAction::Set)
+                .help("A manifest"),
+        )?
+        .arg(
+            option(alloc, "format", "FORMAT", "How it is written")
+                .default_value("people")
+                .value_parser(SHOWN.as_slice()),
+        )
+}
+
+/// The command `canon`.
+fn canon_command<'a>(alloc: Global) -> Result<Command<'a>, AllocError> {
+    Command::new(alloc, "canon")
+        .about("Tells which manifests are not canonical, with the difference")
+        .arg(flag(alloc, "check", "Change nothing").required(true))?
+        .arg(
+            Arg::new(alloc, "PATHS")
+                .required(true)
+                .action(ArgAction::Append)
+                .num_args(1..)
+                .help("Manifests, and folders with manifests"),
+        )
+}
+
+fn command<'a>(alloc: Global) -> Result<Command<'a>, AllocError> {
+    let command = Command::new(alloc, "manifest_check")
+        .about(
+            "Tells everything that is wrong with Cargo manifests, at its place, with what to write",
+        )
+        .version("0.2.0")
+        .args_conflicts_with_subcommands(true)
+        .subcommand(show_command(alloc)?)?
+        .subcommand(canon_command(alloc)?)?;
+    with_deeds(alloc, with_formats(alloc, with_inputs(alloc, command)?)?)
+}
+
+fn copied(alloc: Global, text: Option<&str>) -> Result<Option<String>, AllocError> {
+    match text {
+        Some(text) => Ok(Some(String::from_str(alloc, text)?)),
+        None => Ok(None),
+    }
+}
+
+/// The paths that were given.
+fn paths_of(alloc: Global, matches: &ArgMatches<'_>) -> Result<Vec<String>, AllocError> {
+    let mut paths = Vec::new(alloc);
+    for path in matches.get_strs("PATHS").unwrap_or(&[]) {
+        paths.push(String::from_str(alloc, *path)?)?;
+    }
+    Ok(paths)
+}
+
+/// The paths that were given; `.` where there is none.
+fn paths_or_here(alloc: Global, matches: &ArgMatches<'_>) -> Result<Vec<String>, AllocError> {
+    let mut paths = paths_of(alloc, matches)?;
+    if paths.is_empty() {
+        paths.push(String::from_str(alloc, ".")?)?;
+    }
+    Ok(paths)
+}
+
+/// The settings of codes by one option.
+fn push_levels(
+    alloc: Global,
+    matches: &ArgMatches<'_>,
+    option: &str,
+    setting: Setting,
+    levels: &mut Vec<LevelWord>,
+) -> Result<(), AllocError> {
+    let names = matches.get_strs(option).unwrap_or(&[]);
+    let places = matches.indices_of(option).unwrap_or(&[]);
+    for (name, at) in names.iter().zip(places.iter()) {
+        levels.push(LevelWord {
+            at: *at,
+            name: String::from_str(alloc, *name)?,
+            setting,
+        })?;
+    }
+    Ok(())
+}
+
+/// The settings of codes, in the order of the words.
+fn levels_of(alloc: Global, matches: &ArgMatches<'_>) -> Result<Vec<LevelWord>, AllocError> {
+    let mut levels = Vec::new(alloc);
+    for (option, setting) in &SETTINGS {
+        push_levels(alloc, matches, *option, *setting, &mut levels)?;
+    }
+    levels.sort_by_key(|level| level.at)?;
+    Ok(levels)
+}
+
+fn color_of(matches: &ArgMatches<'_>) -> Color {
+    match matches.get_str("color") {
+        Some("always") => Color::Always,
+        Some("never") => Color::Never,
+        _ => Color::Auto,
+    }
+}
+
+fn fixing_of(matches: &ArgMatches<'_>) -> Fixing {
+    if !matches.get_flag("fix") {
+        Fixing::No
+    } else if matches.get_flag("dry-run") {
+        Fixing::Show
+    } else {
+        Fixing::Write
+    }
+}
+
+fn options_of(alloc: Global, matches: &ArgMatches<'_>) -> Result<Options, AllocError> {
+    let format = matches.get_str("format").unwrap_or("people");
+    Ok(Options {
+        paths: paths_or_here(alloc, matches)?,
+        stdin_path: copied(alloc, matches.get_str("stdin-path"))?,
+        format: Format::named(format).unwrap_or(Format::People),
+        color: color_of(matches),
+        width: matches
+            .get_one::<u16>("width")
+            .map(|width| usize::from(width)),
+        uses_workspace: !matches.get_flag("no-workspace"),
+        uses_config: !matches.get_flag("no-config"),
+        config: copied(alloc, matches.get_str("config"))?,
+        publishes: matches.get_flag("publish"),
+        fixing: fixing_of(matches),
+        levels: levels_of(alloc, matches)?,
+        most: matches.get_one::<u64>("max-size").unwrap_or(MOST),
+    })
+}
+
+/// What the words after the name of a command ask for.
+fn subrequest_of(
+    alloc: Global,
+    name: &str,
+    matches: &ArgMatches<'_>,
+) -> Result<Request, AllocError> {
+    if name == "canon" {
+        return Ok(Request::Canon(paths_of(alloc, matches)?));
+    }
+    let file = matches.get_str("FILE").unwrap_or("");
+    Ok(Request::Show(Inquiry {
+        file: String::from_str(alloc, file)?,
+        is_json: matches.get_str("format") == Some("json"),
+    }))
+}
+
+fn request_of(alloc: Global, matches: &ArgMatches<'_>) -> Result<Request, AllocError> {
+    if let Some((name, matches)) = matches.subcommand() {
+        return subrequest_of(alloc, name, matches);
+    }
+    if let Some(code) = matches.get_str("explain") {
+        return Ok(Request::Explain(String::from_str(alloc, code)?));
+    }
+    if matches.get_flag("list") {
+        return Ok(Request::List);
+    }
+    Ok(Request::Check(options_of(alloc, matches)?))
+}
+
+/// A name among the words that is no code, if there is one.
+fn unknown_code(request: &Request) -> Option<&str> {
+    match request {
+        Request::Explain(name) => {
+            if code_named(name.as_str()).is_none() {
+                return Some(name.as_str());
+            }
+            None
+        }
+        Request::Check(options) => {
+            for level in &options.levels {
+                let name = level.name.as_str();
+                if name != "all" && code_named(name).is_none() {
+                    return Some(name);
+                }
+            }
+            None
+        }
+        Request::List | Request::Show(_) | Request::Canon(_) => None,
+    }
+}
+
+/// Why the words go together with no run, if they do not.
+fn conflict(request: &Request) -> Option<&'static str> {
+    let Request::Check(options) = request else {
+        return None;
+    };
+    let has_input = options.paths.iter().any(|path| path.as_str() == "-");
+    if has_input && options.fixing == Fixing::Write {
+        return Some("--fix writes files: with `-` it needs --dry-run");
+    }
+    if options.stdin_path.is_some() && !has_input {
+        return Some("--stdin-path says where `-` is, and there is no `-`");
+    }
+    None
+}
+
+/// A text of clap's, in memory of its own, with what a terminal would not show of the words escaped.
+fn answer_of(alloc: Global, error: &Error) -> Result<Words, AllocError> {
+    let written = format!(in alloc; "{error}")?;
+    let mut text = String::new(alloc);
+    for line in written.as_str().lines() {
+        manifest_report::push_escaped(&mut text, line)?;
+        text.push('\n')?;
+    }
+    Ok(Words::Answer {
+        text,
+        is_asked: !error.use_stderr(),
+    })
+}
+
+/// What is wrong with a request; the empty text where nothing is.
+fn fault_of(alloc: Global, request: &Request) -> Result<String, AllocError> {
+    let mut text = String::new(alloc);
+    if let Some(name) = unknown_code(request) {
+        text.push_str("error: no code has the name `")?;
+        manifest_report::push_escaped(&mut text, name)?;
+        text.push_str("` (see --list)\n")?;
+        return Ok(text);
+    }
+    if let Some(reason) = conflict(request) {
+        write!(text, "error: {reason}\n")?;
+    }
+    Ok(text)
+}
+
+/// A request, if there is nothing wrong with it.
+fn judged(alloc: Global, request: Request) -> Result<Words, AllocError> {
+    let text = fault_of(alloc, &request)?;
+    if text.is_empty() {
+        return Ok(Words::Request(request));
+    }
+    Ok(Words::Answer {
+        text,
+        is_asked: false,
+    })
+}
+
+/// What all words ask for, the program's name first.
+fn parsed<'a>(alloc: Global, words: &'a [String]) -> Result<Words, AllocError> {
+    match command(alloc)?.try_get_matches_from(words) {
+        Ok(matches) => judged(alloc, request_of(alloc, &matches)?),
+        Err(error) => answer_of(alloc, &error),
+    }
+}
+
+/// What the words after the program's name ask for.
+pub(crate) fn words_of(alloc: Global, given: &[String]) -> Result<Words, AllocError> {
+    let mut words = Vec::new(alloc);
+    words.push(String::from_str(alloc, "manifest_check")?)?;
+    for word in given {
+        words.push(word.clone()?)?;
+    }
+    parsed(alloc, words.as_slice())
+}
