@@ -1,4 +1,4 @@
-# What people type. Nothing has to be built: prebuilt/ has the program and the libraries (README.md).
+# What people type. Nothing has to be built: prebuilt/ has the programs and the libraries (README.md).
 #
 #     make                checks that prebuilt/ fits the sources
 #     make check          tries all that needs no proof and no toolchain: ./test --quick
@@ -9,7 +9,7 @@
 #     make clean          removes what README.md makes in a clone
 PREFIX = /usr/local
 FROM =
-MADE = check.py greet hello hello-rust hello.c hello.py mend mend.c mend.py shop
+MADE = check.py faulty greet hello hello-rust hello.c hello.py mend mend.c mend.py shop
 
 export DESTDIR LIBDIR
 

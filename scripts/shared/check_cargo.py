@@ -1,9 +1,10 @@
 """What the command cargo says of manifests in made folders: when it reads them, as warnings, and when it builds.
 
-Each question is asked once. Nothing is fetched: where a dependency is absent because nothing may be fetched, that is no answer
-about the manifest. Cargo has an empty home of its own, so no configuration of the machine is read, and several runs do not
-wait for one another.
+Each question is asked once, and by as few runs as answer it. Nothing is fetched: where a dependency is absent because nothing
+may be fetched, that is no answer about the manifest. Cargo has an empty home of its own, so no configuration of the machine is
+read, and several runs do not wait for one another.
 """
+import functools
 import os
 import re
 import shutil
@@ -15,7 +16,7 @@ from pathlib import Path
 from typing import NamedTuple
 
 # how many runs of Cargo there are at a time
-POOL = 3
+POOL = len(os.sched_getaffinity(0))
 # what Cargo says where it only lacks what it may not fetch, or where a workspace has nothing to build
 ABSENT = re.compile(
     r"no matching package named `.*` found\nlocation searched: .* index|can't checkout from '.*': you are in the offline mode"
@@ -38,6 +39,8 @@ BUILD = ("check", "--all-targets")
 NO_BINARY = "no-such-binary"
 RESOLVE = ("check", "--bin", NO_BINARY)
 PACK = ("package", "--no-verify", "--allow-dirty")
+# what Cargo says only of a package that it has read
+IS_READ = re.compile(f"no bin target named|{ABSENT.pattern}")
 
 
 class Answer(NamedTuple):
@@ -48,6 +51,15 @@ class Answer(NamedTuple):
     warned: str = ""
     built: str = ""
     is_open: bool = False
+
+
+@functools.cache
+def commands():
+    """The commands cargo and rustc: those of the toolchain, where rustup would look it up at each run."""
+    said = subprocess.run(["rustc", "--print", "sysroot"], capture_output=True, text=True) if shutil.which("rustc") else None
+    folder = Path(said.stdout.strip()) / "bin" if said and said.returncode == 0 else Path()
+    found = {name: folder / name for name in ("cargo", "rustc")}
+    return found if all(os.access(path, os.X_OK) for path in found.values()) else {"cargo": "cargo"}
 
 
 class Room:
@@ -74,8 +86,10 @@ class Room:
         settings = {name: value for name, value in os.environ.items() if not name.startswith("CARGO_")}
         own = {"CARGO_TARGET_DIR": str(self.own("target")), "CARGO_HOME": str(self.own("home"))}
         settings |= {**own, "CARGO_TERM_COLOR": "never"}
+        if "rustc" in commands():
+            settings["RUSTC"] = os.fspath(commands()["rustc"])
         done = subprocess.run(
-            ["nice", "cargo", *words, "--offline"], cwd=folder, env=settings, capture_output=True, timeout=600
+            [commands()["cargo"], *words, "--offline"], cwd=folder, env=settings, capture_output=True, timeout=600
         )
         said = done.stderr.decode("utf-8", "replace").replace(f"{os.path.realpath(folder)}/", "")
         return done.returncode, "\n".join(line for line in said.split("\n") if not OWN_WORK.match(line)).strip()
@@ -84,13 +98,22 @@ class Room:
         """Why Cargo refuses, or an empty text."""
         return refusal(*self.run(folder, words))
 
-    def asked(self, folder, builds=True):
-        """All that Cargo says of the package in a folder; whether it builds it only where this is asked for."""
-        read = self.refusal(folder, READ)
+    def read(self, folder, words, is_refused):
+        """Why Cargo refuses to read the package in a folder; or, where it reads it, what it says to these words, for which it
+        reads it too. Where no refusal is expected these come first, and are all that is asked if they show that it is read."""
+        said = "" if is_refused else self.run(folder, words)
+        if said and (said[0] == 0 or IS_READ.search(said[1])):
+            return "", said[1]
+        refused = self.refusal(folder, READ)
+        return (refused, "") if refused else ("", (said or self.run(folder, words))[1])
+
+    def asked(self, folder, has_errors=True):
+        """All that Cargo says of the package in a folder; whether it builds it only where errors are reported."""
+        read, said = self.read(folder, WARN, has_errors)
         if read:
             return Answer(read)
-        warned = warnings_of(self.run(folder, WARN)[1])
-        built = self.refusal(folder, BUILD) if builds else ""
+        warned = warnings_of(said)
+        built = self.refusal(folder, BUILD) if has_errors else ""
         is_open = ABSENT.search(built) is not None
         return Answer("", warned, "" if is_open else built, is_open)
 

@@ -50,7 +50,7 @@ FAULTS = {
         'd-# = { version = "1", package = «invalid-dependency-name»"a b" }',
         'd-# = { version = "1", registry = «invalid-registry-name»"1r" }', 'd-# = «metadata-in-requirement warning»"1.0.#+x"',
         'd-# = { path = «missing-path-package»"nope-#" }',
-        'd-# = { git = "https://example.com/#", «conflicting-sources»path = "b" }',
+        'd-# = { git = "https://example.com/#", «conflicting-sources»path = "b", package = "b" }',
     ],
     "dev-dependencies": [
         'v-# = { version = "1", optional = «optional-dev-dependency»true }', "v-# = { version = «wrong-kind»1 }",
@@ -199,5 +199,7 @@ def planted(bases, count, seed):
                 text = more
                 done.add(fault)
         text, expected = places(text)
-        made[str(number)] = ({**files, "Cargo.toml": text.encode("utf-8")}, expected)
+        # (a library that is planted has its file)
+        library = {} if "[lib]" not in text else {"src/lib.rs": b""}
+        made[str(number)] = ({**library, **files, "Cargo.toml": text.encode("utf-8")}, expected)
     return made
