@@ -30,9 +30,7 @@ pub(crate) fn sources_around(look: &Look<'_>, out: &mut Out) -> Result<(), Alloc
 }
 
 /// The packages that are known, by the paths that lead to them.
-fn packages_by_path<'a>(
-    look: &Look<'a>,
-) -> Result<BTreeMap<String, &'a PathPackage>, AllocError> {
+fn packages_by_path<'a>(look: &Look<'a>) -> Result<BTreeMap<String, &'a PathPackage>, AllocError> {
     let mut packages = BTreeMap::new(look.alloc);
     for package in look.around.packages.unwrap_or(&[]) {
         let _other = packages.insert(package.path.clone()?, package)?;
@@ -91,9 +89,7 @@ fn unknown_registry(
     let Some(config) = look.around.config else {
         return Ok(());
     };
-    if registry == "crates-io"
-        || is_configured(config, registry)
-    {
+    if registry == "crates-io" || is_configured(config, registry) {
         return Ok(());
     }
     let message = format!(in look.alloc;

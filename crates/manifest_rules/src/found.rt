@@ -92,10 +92,7 @@ impl Declared<'_> {
 }
 
 /// The targets of this kind that the manifest declares.
-pub(crate) fn declared_of<'a>(
-    look: &'a Look<'_>,
-    kind: Kind,
-) -> Result<Declared<'a>, AllocError> {
+pub(crate) fn declared_of<'a>(look: &'a Look<'_>, kind: Kind) -> Result<Declared<'a>, AllocError> {
     let mut declared = Declared {
         names: BTreeMap::new(look.alloc),
         paths: BTreeSet::new(look.alloc),

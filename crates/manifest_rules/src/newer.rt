@@ -199,9 +199,11 @@ fn newer_platforms(look: &Look<'_>, minor: u64, out: &mut Out) -> Result<(), All
 
 fn has_boolean(alloc: Global, text: &str) -> Result<bool, AllocError> {
     match facts(alloc, text)? {
-        Ok(facts) => Ok(facts.iter().any(|fact| {
-            !fact.is_raw && fact.value.is_none() && matches!(fact.name, "true" | "false")
-        })),
+        Ok(facts) => Ok(
+            facts.iter().any(|fact| {
+                !fact.is_raw && fact.value.is_none() && matches!(fact.name, "true" | "false")
+            }),
+        ),
         Err(_) => Ok(false),
     }
 }

@@ -34,10 +34,8 @@ impl<'a> Users<'a> {
 
     /// Notes the file of the library, where it stands at its place.
     fn find_library(&mut self, look: &Look<'_>) -> Result<(), AllocError> {
-        let has_path = look
-            .targets
-            .iter()
-            .any(|target| target.kind == Kind::Lib && target.table.contains_key("path"));
+        let has_path = look.targets.iter().any(|target| target.kind == Kind::Lib
+            && target.table.contains_key("path"));
         let is_meant = declares(look, Kind::Lib) || finds(look, Kind::Lib);
         if is_meant && !has_path && has_file(look, "src", "lib.rs") {
             let path = String::from_str(look.alloc, "src/lib.rs")?;

@@ -97,7 +97,8 @@ fn is_license_name(word: &str) -> bool {
         },
         None => word,
     };
-    own.strip_prefix("LicenseRef-").is_some_and(|name| is_plain(name))
+    own.strip_prefix("LicenseRef-")
+        .is_some_and(|name| is_plain(name))
 }
 
 /// Whether a name is of letters, digits, `-` and `.`.

@@ -173,10 +173,7 @@ enum Said {
 
 fn cargo_features(look: &Look<'_>, out: &mut Out) -> Result<(), AllocError> {
     let mut names = BTreeSet::new(look.alloc);
-    for (index, item) in items_in(look.document, "cargo-features")
-        .iter()
-        .enumerate()
-    {
+    for (index, item) in items_in(look.document, "cargo-features").iter().enumerate() {
         if let Value::String(name) = item {
             let name = name.as_str();
             if names.insert(name)? {

@@ -162,10 +162,7 @@ fn default_members(look: &Look<'_>, members: &[Member], out: &mut Out) -> Result
     for member in members {
         let _is_new = paths.insert(member.path.clone()?)?;
     }
-    for (index, item) in items_in(workspace, "default-members")
-        .iter()
-        .enumerate()
-    {
+    for (index, item) in items_in(workspace, "default-members").iter().enumerate() {
         let Some(path) = item.as_str() else {
             continue;
         };
