@@ -18,6 +18,8 @@ OPEN, CLOSE = "\ue000", "\ue001"
 MARK = re.compile(f"{OPEN}([a-z0-9-]+) ([a-z]+){CLOSE}")
 WRITTEN = re.compile(r"«([a-z0-9-]+)( warning| note|)»")
 KEY = re.compile(rf"(?:{OPEN}[^{CLOSE}]*{CLOSE})?([\w-]+) = ")
+# the line of a header, with a mark before it where the fault is the table itself
+HEADER = re.compile(rf"^(?:{OPEN}[^{CLOSE}]*{CLOSE})?\[", re.M)
 
 # the faults: the table, and its lines, where # stands for the number of the fault. Those in the tables of KEYS_ONCE take the
 # place of a key, and are planted once
@@ -113,7 +115,7 @@ def with_lines(text, table, lines):
     found = re.search(rf"^\[{re.escape(table)}\]\n", text, re.M)
     if found is None:
         return f"{text}\n[{table}]\n{lines}\n"
-    end = re.search(r"^\[", text[found.end():] + "\n[", re.M).start() + found.end()
+    end = HEADER.search(text[found.end():] + "\n[").start() + found.end()
     kept = []
     for line in text[found.end():end].split("\n"):
         key = KEY.match(line)
