@@ -375,12 +375,14 @@ pub const UNUSED_WORKSPACE_DEPENDENCY: Code = code!(Note, "unused-workspace-depe
 /// The workspace has lints, and the member does not take them.
 pub const LINTS_NOT_INHERITED: Code = code!(Note, "lints-not-inherited", Root);
 
-// Text and time
+// Text, time and settings
 
 /// Characters that turn the direction of a text.
 pub const DIRECTION_CHARACTERS: Code = code!(Warning, "direction-characters", Text);
 /// Something that is newer than `rust-version` says.
 pub const NEWER_THAN_RUST_VERSION: Code = code!(Note, "newer-than-rust-version", Text);
+/// What stands in the metadata for this program, and is no setting.
+pub const IGNORED_SETTING: Code = code!(Warning, "ignored-setting", Text);
 
 // Publishing (said by --publish only)
 
@@ -544,6 +546,7 @@ pub const ALL: &[Code] = &[
     LINTS_NOT_INHERITED,
     DIRECTION_CHARACTERS,
     NEWER_THAN_RUST_VERSION,
+    IGNORED_SETTING,
     PATH_WITHOUT_VERSION,
     MISSING_DESCRIPTION,
     MISSING_LICENSE,

@@ -23,6 +23,7 @@ mod profiles;
 mod publish;
 mod replace;
 mod report;
+mod settings;
 mod shared_files;
 mod sources;
 mod spdx;
@@ -48,6 +49,7 @@ use crate::profiles::profiles;
 use crate::publish::publishing;
 use crate::replace::replace;
 use crate::report::Out;
+use crate::settings::settings;
 use crate::sources::sources;
 use crate::spellings::spellings;
 use crate::target_files::target_files;
@@ -88,6 +90,7 @@ pub fn judged(
     sources_around(&look, &mut out)?;
     workspace(&look, &mut out)?;
     newer(&look, &mut out)?;
+    settings(&look, &mut out)?;
     publishing(&look, &mut out)?;
     drop(look);
     Ok(out.reports)
