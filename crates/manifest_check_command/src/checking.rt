@@ -274,9 +274,14 @@ impl Run {
         old: &str,
         fixed: &Fixed,
     ) -> Result<(), AllocError> {
-        if fixed.is_refused {
+        if fixed.is_refused() {
             push_escaped(&mut self.messages, name)?;
             let reason = "suggestions that cannot be made, or would make new errors, are left out";
+            write!(self.messages, ": {reason}\n")?;
+        }
+        if fixed.has_given_up {
+            push_escaped(&mut self.messages, name)?;
+            let reason = "too many suggestions cannot be made together, and not all were tried";
             write!(self.messages, ": {reason}\n")?;
         }
         if fixed.made == 0 {
@@ -329,6 +334,7 @@ impl Run {
             &mut self.context.state,
             path,
             &placed,
+            true,
         )?;
         self.tell_unread_configuration()?;
         if !is_fixing {

@@ -2,15 +2,38 @@
 
 use crate::judging::{Placed, State, judge, place};
 use crate::options::Options;
-use manifest_lint::{Diagnostic, Document, Fix};
-use manifest_places::{Edit, EditError, Edited, Step, with_edits};
-use manifest_rules::Level;
+use manifest_lint::{Diagnostic, Document, Fix, Unread};
+use manifest_places::{Edit, EditError, Edited, with_edits};
+use manifest_rules::{Level, copied_edits};
 use std::alloc::{AllocError, Global};
 use std::collections::BTreeMap;
 use std::rt::Files;
 
 /// How often suggestions are made of a manifest that the ones before have changed.
 const ROUNDS: usize = 16;
+
+/// How often a manifest is tried with suggestions, at most. One that has to be left out is found by halves, so that among a
+/// thousand it takes some twenty tries.
+const MOST_TRIES: usize = 256;
+
+/// The bytes that may be read in all tries of a manifest, which a long one has used up earlier.
+const MOST_READ: usize = 64 << 20;
+
+/// How often a manifest of this text is tried: each round once, even if the text is long.
+fn most_tries(text: &str) -> usize {
+    match MOST_READ.checked_div(text.len()) {
+        Some(count) => count.min(MOST_TRIES).max(ROUNDS),
+        None => MOST_TRIES,
+    }
+}
+
+/// A suggestion that is left out. Its edits alone would not do: an item that is removed gives its index to the next one.
+#[derive(Drop)]
+struct Refused {
+    /// That of its diagnostic.
+    message: String,
+    edits: Vec<Edit>,
+}
 
 /// A manifest with suggestions made.
 #[derive(Drop)]
@@ -21,40 +44,31 @@ pub(crate) struct Fixed {
     pub(crate) text: String,
     /// How many were made.
     pub(crate) made: usize,
-    /// Whether some were left out, since they would have made new errors or cannot be made.
-    pub(crate) is_refused: bool,
+    /// Those that are left out, since they would have made new errors or cannot be made.
+    refused: Vec<Refused>,
+    /// How often the manifest may still be tried.
+    tries: usize,
+    /// Whether there are suggestions that were not tried any more.
+    pub(crate) has_given_up: bool,
 }
 
-fn copied_path(alloc: Global, path: &[Step]) -> Result<Vec<Step>, AllocError> {
-    let mut steps = Vec::new(alloc);
-    for step in path {
-        steps.push(match step {
-            Step::Key(key) => Step::Key(key.clone()?),
-            Step::Index(index) => Step::Index(*index),
-        })?;
+impl Fixed {
+    /// Whether suggestions are left out.
+    pub(crate) fn is_refused(&self) -> bool {
+        !self.refused.is_empty()
     }
-    Ok(steps)
-}
 
-fn copied(alloc: Global, edit: &Edit) -> Result<Edit, AllocError> {
-    match edit {
-        Edit::Set(path, text) => {
-            let path = copied_path(alloc, path.as_slice())?;
-            Ok(Edit::Set(path, text.clone()?))
-        }
-        Edit::Insert(path, text) => {
-            let path = copied_path(alloc, path.as_slice())?;
-            Ok(Edit::Insert(path, text.clone()?))
-        }
-        Edit::Remove(path) => Ok(Edit::Remove(copied_path(alloc, path.as_slice())?)),
-        Edit::Rename(path, key) => {
-            let path = copied_path(alloc, path.as_slice())?;
-            Ok(Edit::Rename(path, key.clone()?))
-        }
+    /// Whether this suggestion of a diagnostic is one of those that are left out.
+    fn is_left_out(&self, diagnostic: &Diagnostic, fix: &Fix) -> bool {
+        let message = diagnostic.message.as_str();
+        let edits = fix.edits.as_slice();
+        self.refused.iter().any(|one| one.message.as_str() == message
+            && one.edits.as_slice() == edits)
     }
 }
 
-/// The ranges that a suggestion replaces, from the first byte to the last.
+/// The ranges that a suggestion replaces, from the first byte to the last; the first is after the last where they are not
+/// known.
 fn reach(fix: &Fix) -> (usize, usize) {
     let mut from = usize::MAX;
     let mut to = 0usize;
@@ -74,69 +88,74 @@ struct Choice {
     to: usize,
 }
 
-/// The suggestions that are certain, by where they begin.
-fn certain(alloc: Global, diagnostics: &[Diagnostic]) -> Result<Vec<Choice>, AllocError> {
+/// The first suggestion of a diagnostic that is certain, and that is not left out.
+fn certain_fix<'a>(fixed: &Fixed, diagnostic: &'a Diagnostic) -> Option<(usize, &'a Fix)> {
+    for (index, fix) in diagnostic.fixes.iter().enumerate() {
+        if fix.is_certain && !fix.edits.is_empty() && !fixed.is_left_out(diagnostic, fix) {
+            return Some((index, fix));
+        }
+    }
+    None
+}
+
+/// The suggestions that are certain, by where they begin; those of which that is not known come last.
+fn certain(alloc: Global, fixed: &Fixed) -> Result<Vec<Choice>, AllocError> {
     let mut all = Vec::new(alloc);
-    for (diagnostic, one) in diagnostics.iter().enumerate() {
-        for (fix, suggestion) in one.fixes.iter().enumerate() {
-            if suggestion.is_certain && !suggestion.edits.is_empty() {
-                let (from, to) = reach(suggestion);
-                all.push(Choice {
-                    diagnostic,
-                    fix,
-                    from,
-                    to,
-                })?;
-            }
+    for (index, diagnostic) in fixed.diagnostics.iter().enumerate() {
+        if let Some((fix, suggestion)) = certain_fix(fixed, diagnostic) {
+            let (from, to) = reach(suggestion);
+            all.push(Choice {
+                diagnostic: index,
+                fix,
+                from,
+                to,
+            })?;
         }
     }
     all.sort_by_key(|choice| (choice.from, choice.to))?;
     Ok(all)
 }
 
-/// Suggestions that are certain and do not touch one another, from the beginning of the text to its end.
-fn chosen(alloc: Global, diagnostics: &[Diagnostic]) -> Result<Vec<Choice>, AllocError> {
+/// Suggestions that are certain and, as far as that is known, do not touch one another, from the beginning of the text to
+/// its end.
+fn chosen(alloc: Global, fixed: &Fixed) -> Result<Vec<Choice>, AllocError> {
     let mut chosen = Vec::new(alloc);
     let mut last = 0usize;
-    for choice in &certain(alloc, diagnostics)? {
-        let is_free = chosen.is_empty() || choice.from > last;
-        if choice.from <= choice.to && is_free {
+    for choice in &certain(alloc, fixed)? {
+        let is_known = choice.from <= choice.to;
+        if !is_known || chosen.is_empty() || choice.from > last {
             chosen.push(*choice)?;
-            last = choice.to;
+        }
+        if is_known {
+            last = last.max(choice.to);
         }
     }
     Ok(chosen)
 }
 
-/// Notes the edits of one suggestion.
-fn push_edits(
-    alloc: Global,
-    diagnostics: &[Diagnostic],
-    choice: Choice,
-    edits: &mut Vec<Edit>,
-) -> Result<(), AllocError> {
-    let Some(diagnostic) = diagnostics.get(choice.diagnostic) else {
-        return Ok(());
-    };
-    let Some(fix) = diagnostic.fixes.get(choice.fix) else {
-        return Ok(());
-    };
-    for edit in &fix.edits {
-        edits.push(copied(alloc, edit)?)?;
-    }
-    Ok(())
+/// A suggestion, and the diagnostic that it is of.
+fn suggestion<'a>(
+    diagnostics: &'a [Diagnostic],
+    choice: &Choice,
+) -> Option<(&'a Diagnostic, &'a Fix)> {
+    let diagnostic = diagnostics.get(choice.diagnostic)?;
+    let fix = diagnostic.fixes.get(choice.fix)?;
+    Some((diagnostic, fix))
 }
 
-/// The edits of the first `count` of these suggestions.
-fn edits_of(
+/// The edits of these suggestions.
+fn all_edits(
     alloc: Global,
     diagnostics: &[Diagnostic],
     choices: &[Choice],
-    count: usize,
 ) -> Result<Vec<Edit>, AllocError> {
     let mut edits = Vec::new(alloc);
-    for choice in choices.iter().take(count) {
-        push_edits(alloc, diagnostics, *choice, &mut edits)?;
+    for choice in choices {
+        if let Some((_, fix)) = suggestion(diagnostics, choice) {
+            for edit in copied_edits(alloc, fix.edits.as_slice())? {
+                edits.push(edit)?;
+            }
+        }
     }
     Ok(edits)
 }
@@ -185,71 +204,174 @@ fn edited(alloc: Global, text: &str, edits: Vec<Edit>) -> Result<Option<String>,
     }
 }
 
-/// One round: the text with suggestions made, and how many; `None` where there are none, or they cannot be made. Where they
-/// cannot be made together, the first one is made alone.
-fn next_text(alloc: Global, fixed: &mut Fixed) -> Result<Option<(String, usize)>, AllocError> {
-    let diagnostics = fixed.diagnostics.as_slice();
-    let choices = chosen(alloc, diagnostics)?;
-    if choices.is_empty() {
-        return Ok(None);
-    }
-    for count in [choices.len(), 1] {
-        let edits = edits_of(alloc, diagnostics, choices.as_slice(), count)?;
-        if let Some(text) = edited(alloc, fixed.text.as_str(), edits)? {
-            return Ok(Some((text, count)));
-        }
-    }
-    fixed.is_refused = true;
-    Ok(None)
+/// A manifest to be mended: where it is, and how it is judged.
+#[derive(Clone, Copy)]
+struct Task<'a> {
+    options: &'a Options,
+    path: &'a str,
 }
 
-/// What is said of a manifest with this text, in place of the one before.
-fn judge_text<H: Files + AllocGlobal + Clone + Drop>(
+/// What comes of some suggestions.
+#[derive(Drop)]
+enum Outcome {
+    /// The text with them.
+    Fine(String),
+    /// There is an error that was not there.
+    NewError,
+    /// They cannot be made, or not together.
+    NotMade,
+}
+
+/// The document that a text is, where it is one.
+fn document_of(alloc: Global, text: &str) -> Result<Option<Document>, AllocError> {
+    match Document::read(alloc, text.as_bytes()) {
+        Ok(document) => Ok(Some(document)),
+        Err(Unread::Memory(refused)) => Err(refused),
+        Err(_) => Ok(None),
+    }
+}
+
+/// What comes of these suggestions together.
+fn outcome_of<H: Files + AllocGlobal + Clone + Drop>(
     rt: &H,
-    options: &Options,
+    task: &Task<'_>,
     state: &mut State,
-    path: &str,
-    text: &str,
-) -> Result<Option<(Placed, Vec<Diagnostic>)>, AllocError> {
-    let Ok(document) = Document::read(rt.alloc(), text.as_bytes()) else {
-        return Ok(None);
+    fixed: &Fixed,
+    choices: &[Choice],
+) -> Result<Outcome, AllocError> {
+    let alloc = rt.alloc();
+    let before = fixed.diagnostics.as_slice();
+    let edits = all_edits(alloc, before, choices)?;
+    let Some(text) = edited(alloc, fixed.text.as_str(), edits)? else {
+        return Ok(Outcome::NotMade);
     };
-    let placed = place(rt, options, state, path, document)?;
-    let diagnostics = judge(rt, options, state, path, &placed)?;
-    Ok(Some((placed, diagnostics)))
+    let Some(document) = document_of(alloc, text.as_str())? else {
+        return Ok(Outcome::NotMade);
+    };
+    let placed = place(rt, task.options, state, task.path, document)?;
+    let after = judge(rt, task.options, state, task.path, &placed, false)?;
+    if has_new_error(alloc, before, after.as_slice())? {
+        return Ok(Outcome::NewError);
+    }
+    Ok(Outcome::Fine(text))
+}
+
+/// A round of suggestions.
+#[derive(Drop)]
+struct Round<'a> {
+    /// Those that are fine together.
+    kept: Vec<Choice>,
+    /// The text with them; `None` where there are none.
+    best: Option<String>,
+    /// Those that are still to be tried, the next ones last.
+    waiting: Vec<&'a [Choice]>,
+}
+
+/// Leaves a suggestion out from now on.
+fn refuse(alloc: Global, fixed: &mut Fixed, choice: &Choice) -> Result<(), AllocError> {
+    if let Some((diagnostic, fix)) = suggestion(fixed.diagnostics.as_slice(), choice) {
+        let message = diagnostic.message.clone()?;
+        let edits = copied_edits(alloc, fix.edits.as_slice())?;
+        fixed.refused.push(Refused { message, edits })?;
+    }
+    Ok(())
+}
+
+/// Tries some suggestions together with those that are kept. Where that fails, each half of them is to be tried, and one by
+/// itself is left out; but one that only cannot be made together with those that are kept may be made in a later round.
+fn try_part<'a, H: Files + AllocGlobal + Clone + Drop>(
+    rt: &H,
+    task: &Task<'_>,
+    state: &mut State,
+    fixed: &mut Fixed,
+    round: &mut Round<'a>,
+    part: &'a [Choice],
+) -> Result<(), AllocError> {
+    let alloc = rt.alloc();
+    let mut choices = round.kept.clone()?;
+    for choice in part {
+        choices.push(*choice)?;
+    }
+    let outcome = outcome_of(rt, task, state, fixed, choices.as_slice())?;
+    let is_made = !matches!(&outcome, Outcome::NotMade);
+    if let Outcome::Fine(text) = outcome {
+        round.kept = choices;
+        round.best = Some(text);
+        return Ok(());
+    }
+    if let [choice] = part {
+        if is_made || round.kept.is_empty() {
+            refuse(alloc, fixed, choice)?;
+        }
+        return Ok(());
+    }
+    let (front, back) = part.split_at(part.len() / 2);
+    round.waiting.push(back)?;
+    round.waiting.push(front)?;
+    Ok(())
+}
+
+/// Tries these suggestions: all together first, so that a manifest of which all are fine is judged once.
+fn try_all<'a, H: Files + AllocGlobal + Clone + Drop>(
+    rt: &H,
+    task: &Task<'_>,
+    state: &mut State,
+    fixed: &mut Fixed,
+    choices: &'a [Choice],
+) -> Result<Round<'a>, AllocError> {
+    let alloc = rt.alloc();
+    let mut round = Round {
+        kept: Vec::new(alloc),
+        best: None,
+        waiting: Vec::new(alloc),
+    };
+    round.waiting.push(choices)?;
+    for _ in 0..fixed.tries {
+        let Some(part) = round.waiting.pop() else {
+            return Ok(round);
+        };
+        fixed.tries = fixed.tries.saturating_sub(1);
+        try_part(rt, task, state, fixed, &mut round, part)?;
+    }
+    fixed.has_given_up = !round.waiting.is_empty();
+    Ok(round)
 }
 
 /// Makes one round of suggestions. It says whether there may be more.
 fn fix_once<H: Files + AllocGlobal + Clone + Drop>(
     rt: &H,
-    options: &Options,
+    task: &Task<'_>,
     state: &mut State,
-    path: &str,
     fixed: &mut Fixed,
 ) -> Result<bool, AllocError> {
     let alloc = rt.alloc();
-    let Some((text, count)) = next_text(alloc, fixed)? else {
+    let choices = chosen(alloc, fixed)?;
+    if choices.is_empty() {
+        return Ok(false);
+    }
+    let Round {
+        kept,
+        best,
+        waiting: _,
+    } = try_all(rt, task, state, fixed, choices.as_slice())?;
+    let is_changed = best.is_some();
+    if let Some(text) = best {
+        fixed.text = text;
+        fixed.made = fixed.made.saturating_add(kept.len());
+    }
+    // (what is kept of a root is the document that was tried last)
+    let Some(document) = document_of(alloc, fixed.text.as_str())? else {
         return Ok(false);
     };
-    if let Some((placed, diagnostics)) = judge_text(rt, options, state, path, text.as_str())? {
-        let before = fixed.diagnostics.as_slice();
-        if !has_new_error(alloc, before, diagnostics.as_slice())? {
-            fixed.placed = placed;
-            fixed.diagnostics = diagnostics;
-            fixed.text = text;
-            fixed.made = fixed.made.saturating_add(count);
-            return Ok(true);
-        }
+    fixed.placed = place(rt, task.options, state, task.path, document)?;
+    if is_changed {
+        fixed.diagnostics = judge(rt, task.options, state, task.path, &fixed.placed, true)?;
     }
-    fixed.is_refused = true;
-    if let Some((placed, _)) = judge_text(rt, options, state, path, fixed.text.as_str())? {
-        fixed.placed = placed;
-    }
-    Ok(false)
+    Ok(is_changed)
 }
 
-/// Makes the suggestions that are certain, and looks at the manifest anew each time, until there are none left. A round
-/// that would make an error that was not there is left out, and ends it.
+/// Makes the suggestions that are certain, and looks at the manifest anew each time, until there are none left. Those that
+/// cannot be made, or would make an error that was not there, are left out.
 pub(crate) fn with_fixes<H: Files + AllocGlobal + Clone + Drop>(
     rt: &H,
     options: &Options,
@@ -259,17 +381,22 @@ pub(crate) fn with_fixes<H: Files + AllocGlobal + Clone + Drop>(
     placed: Placed,
     diagnostics: Vec<Diagnostic>,
 ) -> Result<Fixed, AllocError> {
+    let alloc = rt.alloc();
     let mut fixed = Fixed {
         placed,
         diagnostics,
+        tries: most_tries(text.as_str()),
         text,
         made: 0,
-        is_refused: false,
+        refused: Vec::new(alloc),
+        has_given_up: false,
     };
+    let task = Task { options, path };
     for _ in 0..ROUNDS {
-        if !fix_once(rt, options, state, path, &mut fixed)? {
+        if !fix_once(rt, &task, state, &mut fixed)? {
             return Ok(fixed);
         }
     }
+    fixed.has_given_up = !chosen(alloc, &fixed)?.is_empty();
     Ok(fixed)
 }

@@ -237,34 +237,38 @@ fn levels_for(
     Ok(levels)
 }
 
-/// What the rules say of a document.
+/// What the rules say of a document; of suggestions also what they replace, if that is to be shown.
 pub(crate) fn said(
     alloc: Global,
     document: &Document,
     around: &Surroundings<'_>,
     root_text: Option<&str>,
+    shows_edits: bool,
 ) -> Result<Vec<Diagnostic>, AllocError> {
     let input = Input {
         document,
         around,
         root_text,
+        shows_edits,
     };
     let found = diagnostics(alloc, &input);
     let Input {
         document: _,
         around: _,
         root_text: _,
+        shows_edits: _,
     } = input;
     found
 }
 
-/// What is said of a manifest, in the order of its text.
+/// What is said of a manifest, in the order of its text; of suggestions also what they replace, if that is to be shown.
 pub(crate) fn judge<H: Files + AllocGlobal + Clone + Drop>(
     rt: &H,
     options: &Options,
     state: &mut State,
     path: &str,
     placed: &Placed,
+    shows_edits: bool,
 ) -> Result<Vec<Diagnostic>, AllocError> {
     let alloc = rt.alloc();
     let Some(gathered) = gather(rt, options, state, folder_of(path), placed)? else {
@@ -278,7 +282,7 @@ pub(crate) fn judge<H: Files + AllocGlobal + Clone + Drop>(
     let root_text = placed
         .other_root(state)
         .map(|root| root.document.text.as_str());
-    let found = said(alloc, document, &around, root_text)?;
+    let found = said(alloc, document, &around, root_text, shows_edits)?;
     let levels = levels_for(alloc, options, state, placed, document)?;
     let mut kept = levels.applied(alloc, found)?;
     sort(&mut kept)?;

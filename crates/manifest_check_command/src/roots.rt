@@ -70,7 +70,7 @@ fn is_faulty(alloc: Global, document: &Document) -> Result<bool, AllocError> {
         config: None,
         publishes: false,
     };
-    let found = said(alloc, document, &around, None)?;
+    let found = said(alloc, document, &around, None, false)?;
     Ok(found.iter().any(|one| is_fault(one)))
 }
 

@@ -40,6 +40,8 @@ pub struct Input<'a> {
     pub around: &'a Surroundings<'a>,
     /// The text of the workspace's root, where second places may be.
     pub root_text: Option<&'a str>,
+    /// Whether it is found what suggestions replace: that takes some readings of the text for each of them.
+    pub shows_edits: bool,
 }
 
 /// Whether the table has the key.
@@ -72,7 +74,8 @@ pub fn diagnostics(alloc: Global, input: &Input<'_>) -> Result<Vec<Diagnostic>, 
     let text = document.text.as_str();
     let found = found_in(alloc, &document.table, input.around)?;
     let reports = judged(alloc, text, &document.table, input.around)?;
-    let all = placed_all(alloc, text, input.root_text, found, reports)?;
+    let shows_edits = input.shows_edits;
+    let all = placed_all(alloc, text, input.root_text, shows_edits, found, reports)?;
     Ok(all)
 }
 
@@ -99,6 +102,7 @@ fn placed_all(
     alloc: Global,
     own: &str,
     root: Option<&str>,
+    shows_edits: bool,
     found: Vec<Diagnostic>,
     reports: Vec<Report>,
 ) -> Result<Vec<Diagnostic>, AllocError>
@@ -110,7 +114,7 @@ fn placed_all(
         return Ok(found);
     }
     let texts = texts_of(alloc, own, root, reports.as_slice())?;
-    let mut shown = 0usize;
+    let mut shown = if shows_edits { 0usize } else { usize::MAX };
     let all = placed_findings(alloc, &texts, found, &mut shown)?;
     let all = with_rules(alloc, &texts, all, reports, &mut shown)?;
     drop(texts);
