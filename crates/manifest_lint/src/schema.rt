@@ -8,7 +8,7 @@ ghost use Rattle.manifest_fault.specs.Placed.{place_of};
 ghost use Rattle.manifest_lint.specs.Lint.{reported_by, findings_reported, ReportFindings};
 
 use crate::diagnostic::{Diagnostic, Subject};
-use crate::tables::{key_at, value_at};
+use crate::tables::{TableKind, key_at, table_kind, value_at};
 use crate::unused::unused_key;
 use crate::words::fault_message;
 use cargo_manifest::inspect;
@@ -24,6 +24,9 @@ use toml::{Table, Value};
 /// The code of a fault with this cause at a path.
 fn fault_code(document: &Table, cause: Cause, path: &[Step]) -> Code {
     let key = key_at(path);
+    if is_refused_value(cause) && is_ignored_key(document, path) {
+        return IGNORED_VALUE;
+    }
     match cause {
         // of a text: rustc says which words there are
         Cause::NotAChoice if key == "strip" => UNKNOWN_STRIP,
@@ -38,6 +41,36 @@ fn fault_code(document: &Table, cause: Cause, path: &[Step]) -> Code {
         Cause::NotTrue => NOT_TRUE,
         Cause::HoldsFloat => FLOAT_IN_METADATA,
         Cause::Metadata => WRONG_KIND,
+    }
+}
+
+/// Whether a fault is one of the value itself.
+fn is_refused_value(cause: Cause) -> bool {
+    matches!(
+        cause,
+        Cause::WrongKind | Cause::NotAChoice | Cause::OutOfRange
+    )
+}
+
+/// Whether the value at a path is that of a key, or an item in it, that this library reads and Cargo ignores.
+fn is_ignored_key(document: &Table, path: &[Step]) -> bool {
+    match path.split_last() {
+        Some((Step::Index(_), above)) => is_ignored_in(document, above),
+        _ => is_ignored_in(document, path),
+    }
+}
+
+fn is_ignored_in(document: &Table, path: &[Step]) -> bool {
+    let Some((Step::Key(key), above)) = path.split_last() else {
+        return false;
+    };
+    match table_kind(document, above) {
+        TableKind::Workspace => key.as_str() == "default_members",
+        TableKind::Target => matches!(key.as_str(), "required_features" | "plugin"),
+        TableKind::Dependency | TableKind::MemberDependency | TableKind::SharedDependency => {
+            key.as_str() == "registry_index"
+        },
+        _ => false,
     }
 }
 
