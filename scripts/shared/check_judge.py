@@ -21,6 +21,8 @@ WARNED = [
     (r"unused manifest key `lints\.", ("unknown-lint-tool", "unstable-lint-tool")),
     (r"unused manifest key: lints\.", ("unknown-lint-tool", "unknown-key", "misspelled-key", "ignored-lint-key")),
     (r"unrecognized lint tool", ("unknown-lint-tool",)),
+    # (of a whole table that is not read)
+    (r"unused manifest key: project\.", ("old-spelling",)),
     (
         r"unused manifest key: ",
         (
@@ -65,6 +67,21 @@ DIFFERENCES = [
         "Cargo's reader takes an array for these tables, with its items as the fields in their order, by accident",
         codes=("wrong-kind",),
         pattern=r"(?m)^(?:hints|build-override|profile[.\w]*|release|dev|test|bench|doc) = \[|^\[\[(?:hints|profile[.\w]*)\]\]",
+    ),
+    Difference(
+        "a date in place of a table",
+        "Cargo's reader takes a date for a table with one key, by accident",
+        codes=("wrong-kind",),
+        pattern=r"= \d{4}-\d\d-\d\d",
+    ),
+    Difference(
+        "a fault of what a workspace has for its members, and no member inherits",
+        "Cargo looks at it as soon as a member inherits it",
+        codes=(
+            "artifact-without-artifact", "base-without-path", "conflicting-sources", "revision-without-git", "several-revisions",
+            "unknown-word",
+        ),
+        pattern=r"(?m)^\[workspace\.(?:dependencies|package)\]",
     ),
     Difference(
         "files of binaries, benches and libraries in the old places of the edition 2015",
