@@ -3,7 +3,7 @@
 use crate::judging::{Placed, State, judge, place};
 use crate::options::Options;
 use manifest_lint::{Diagnostic, Document, Fix, Unread};
-use manifest_places::{Edit, EditError, Edited, with_edits};
+use manifest_places::{Edit, EditError, Edited, Step, with_edits};
 use manifest_rules::{Level, copied_edits};
 use std::alloc::{AllocError, Global};
 use std::collections::BTreeMap;
@@ -160,35 +160,93 @@ fn all_edits(
     Ok(edits)
 }
 
-/// How many errors there are of each message.
-fn errors_of<'a>(
-    alloc: Global,
-    diagnostics: &'a [Diagnostic],
-) -> Result<BTreeMap<(&'a str, &'a str), usize>, AllocError> {
-    let mut all = BTreeMap::new(alloc);
-    for diagnostic in diagnostics {
-        if diagnostic.level == Level::Error {
-            let key = (diagnostic.code.name, diagnostic.message.as_str());
-            let count = all.entry(key)?.or_insert(0usize);
-            *count = count.saturating_add(1);
-        }
-    }
-    Ok(all)
+/// The errors that are reported: how many there are, and how many of each message and at each place.
+#[derive(Drop)]
+struct Errors {
+    count: usize,
+    of_messages: BTreeMap<String, usize>,
+    of_places: BTreeMap<String, usize>,
 }
 
-/// Whether there is an error after a change that was not there before it.
+/// An error by its code and its message.
+fn by_message(alloc: Global, diagnostic: &Diagnostic) -> Result<String, AllocError> {
+    let mut name = String::from_str(alloc, diagnostic.code.name)?;
+    name.push(' ')?;
+    name.push_str(diagnostic.message.as_str())?;
+    Ok(name)
+}
+
+/// An error by its code and its key path, which is the same whatever the spelling of the keys is. A message can name the key
+/// as it is written, so that the same error has another one after the key is renamed.
+fn by_place(alloc: Global, diagnostic: &Diagnostic) -> Result<String, AllocError> {
+    let mut name = String::from_str(alloc, diagnostic.code.name)?;
+    for step in &diagnostic.path.steps {
+        name.push(' ')?;
+        match step {
+            Step::Key(key) if key.as_str() == "project" => name.push_str("package")?,
+            Step::Key(key) => {
+                for ch in key.chars() {
+                    name.push(if ch == '_' { '-' } else { ch })?;
+                }
+            },
+            Step::Index(index) => write!(name, "{index}")?,
+        }
+    }
+    Ok(name)
+}
+
+fn count_one(counts: &mut BTreeMap<String, usize>, name: String) -> Result<(), AllocError> {
+    let count = counts.entry(name)?.or_insert(0usize);
+    *count = count.saturating_add(1);
+    Ok(())
+}
+
+/// Whether there is one more of this name, which then counts no more.
+fn takes_one(counts: &mut BTreeMap<String, usize>, name: &str) -> bool {
+    match counts.get_mut(name) {
+        Some(count) if *count > 0 => {
+            *count = count.saturating_sub(1);
+            true
+        },
+        _ => false,
+    }
+}
+
+fn errors_of(alloc: Global, diagnostics: &[Diagnostic]) -> Result<Errors, AllocError> {
+    let mut errors = Errors {
+        count: 0,
+        of_messages: BTreeMap::new(alloc),
+        of_places: BTreeMap::new(alloc),
+    };
+    for diagnostic in diagnostics {
+        if diagnostic.level == Level::Error {
+            errors.count = errors.count.saturating_add(1);
+            count_one(&mut errors.of_messages, by_message(alloc, diagnostic)?)?;
+            count_one(&mut errors.of_places, by_place(alloc, diagnostic)?)?;
+        }
+    }
+    Ok(errors)
+}
+
+/// Whether there is an error after a change that was not there before it: one more than there were, or one that is neither
+/// by its message nor by its place one of them.
 fn has_new_error(
     alloc: Global,
     before: &[Diagnostic],
     after: &[Diagnostic],
 ) -> Result<bool, AllocError> {
-    let old = errors_of(alloc, before)?;
-    for (key, count) in &errors_of(alloc, after)? {
-        let known = match old.get(key) {
-            Some(known) => *known,
-            None => 0,
-        };
-        if *count > known {
+    let mut old = errors_of(alloc, before)?;
+    let mut count = 0usize;
+    for diagnostic in after {
+        if diagnostic.level != Level::Error {
+            continue;
+        }
+        count = count.saturating_add(1);
+        let message = by_message(alloc, diagnostic)?;
+        let place = by_place(alloc, diagnostic)?;
+        let has_message = takes_one(&mut old.of_messages, message.as_str());
+        let has_place = takes_one(&mut old.of_places, place.as_str());
+        if !has_message && !has_place || count > old.count {
             return Ok(true);
         }
     }
