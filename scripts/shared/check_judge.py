@@ -89,9 +89,14 @@ DIFFERENCES = [
         words=r"was erroneously implicitly accepted",
     ),
     Difference(
-        "names of packages with `::`, editions to come, several build scripts",
+        "names of packages with `::`, editions to come, several build scripts, an empty `base`",
         "they rest on unstable features of Cargo, so that another Cargo may take them",
-        words=r"feature `(?:open-namespaces|unstable-editions|multiple-build-scripts)` is required",
+        words=r"feature `(?:open-namespaces|unstable-editions|multiple-build-scripts)` is required|path base name cannot be empty",
+    ),
+    Difference(
+        "a pattern of `default-members` that leads to no member",
+        "it is not looked up where such a pattern leads; without `*`, `?` and `[` the same is an error",
+        words=r"package `[^`]*` is listed in default-members but is not a member",
     ),
 ]
 

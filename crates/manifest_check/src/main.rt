@@ -1,7 +1,30 @@
-//! Tells everything that is wrong with Cargo manifests: all that can be said of it stands at [`run`].
+//! The program `manifest_check`: words and streams come in; messages and a status come out. Begin with `src/run.rt`: it works
+//! over any reader and writers, and over the files of a runtime, and `main` only takes the words and the streams, and calls
+//! [`run`].
 #![tactic(auto)]
 
-use manifest_check_command::run::{Terminals, run};
+mod checking;
+mod config;
+mod dependencies;
+mod explaining;
+mod files;
+mod fixing;
+mod judging;
+mod levels;
+mod members;
+mod options;
+mod packages;
+mod paths;
+mod patterns;
+mod progress;
+mod roots;
+mod run;
+mod showing;
+mod tables;
+mod walk;
+mod words;
+
+use crate::run::{Terminals, run};
 use std::io::{ErrorKind, IsTerminal, Write};
 use std::process::ExitCode;
 use std::{env, io};

@@ -39,14 +39,13 @@ fn packages_by_path<'a>(look: &Look<'a>) -> Result<BTreeMap<String, &'a PathPack
 }
 
 /// The `path` of a dependency leads to a package of its name.
-fn path_package(
-    packages: &BTreeMap<String, &PathPackage>,
+fn path_package<'a>(
+    packages: &BTreeMap<String, &'a PathPackage>,
     base: &[At<'_>],
-    name: &str,
-    dependency: &Table,
+    name: &'a str,
+    dependency: &'a Table,
     out: &mut Out,
 ) -> Result<(), AllocError> {
-    let alloc = out.alloc;
     let Some(path) = text_in(dependency, "path") else {
         return Ok(());
     };
@@ -55,17 +54,29 @@ fn path_package(
     };
     let wanted = text_in(dependency, "package").unwrap_or(name);
     let rest = [At::Key(name), At::Key("path")];
-    let message = match &package.name {
-        None => format!(in alloc; "no package at `{path}`: there is no Cargo.toml with a package")?,
-        Some(there) if there.as_str() == wanted => return Ok(()),
-        Some(there) => {
-            let there = there.as_str();
-            format!(in alloc;
-                "no matching package named `{wanted}` at `{path}`: the package there is `{there}`"
-            )?
+    match &package.name {
+        None => {
+            let words = [
+                "no package at `",
+                path,
+                "`: there is no Cargo.toml with a package",
+            ];
+            out.value(MISSING_PATH_PACKAGE, base, &rest, &words)
         }
-    };
-    out.value(MISSING_PATH_PACKAGE, base, &rest, message)
+        Some(there) if there.as_str() == wanted => Ok(()),
+        Some(there) => {
+            let words = [
+                "no matching package named `",
+                wanted,
+                "` at `",
+                path,
+                "`: the package there is `",
+                there.as_str(),
+                "`",
+            ];
+            out.value(MISSING_PATH_PACKAGE, base, &rest, &words)
+        }
+    }
 }
 
 /// Whether the configuration has this registry.
@@ -92,13 +103,11 @@ fn unknown_registry(
     if registry == "crates-io" || is_configured(config, registry) {
         return Ok(());
     }
-    let message = format!(in look.alloc;
-        "registry index was not found in any configuration: `{registry}`"
-    )?;
-    out.value(
-        UNKNOWN_REGISTRY,
-        base,
-        &[At::Key(name), At::Key("registry")],
-        message,
-    )
+    let words = [
+        "registry index was not found in any configuration: `",
+        registry,
+        "`",
+    ];
+    let rest = [At::Key(name), At::Key("registry")];
+    out.value(UNKNOWN_REGISTRY, base, &rest, &words)
 }

@@ -5,7 +5,7 @@ use std::alloc::{AllocError, Global};
 use std::fmt;
 
 /// What an expression asks of the platform: a name, and its value where it has one.
-#[derive(Clone, Copy, Debug, PartialEq, Eq)]
+#[derive(Clone, Copy)]
 pub(crate) struct Fact<'a> {
     pub(crate) name: &'a str,
     /// Whether the name is written with `r#` before it.
@@ -14,7 +14,7 @@ pub(crate) struct Fact<'a> {
 }
 
 /// Why a text is no expression.
-#[derive(Clone, Copy, Debug, PartialEq, Eq)]
+#[derive(Clone, Copy)]
 pub(crate) enum CfgFault<'a> {
     /// No token begins with this character.
     Character(char),
@@ -43,7 +43,7 @@ impl fmt::Display for CfgFault<'_> {
 }
 
 /// A token of an expression.
-#[derive(Clone, Copy, Debug, PartialEq, Eq)]
+#[derive(Clone, Copy, PartialEq, Eq)]
 pub(crate) enum Token<'a> {
     Open,
     Close,
@@ -117,7 +117,7 @@ fn named_token(text: &str, is_raw: bool) -> Result<(Token<'_>, &str), CfgFault<'
 }
 
 /// What may stand at a place of an expression.
-#[derive(Clone, Copy, Debug, PartialEq, Eq)]
+#[derive(Clone, Copy)]
 enum State<'a> {
     /// An expression begins; in a list the list may end.
     Start { may_close: bool },
@@ -132,7 +132,7 @@ enum State<'a> {
 }
 
 /// What is open: a list of expressions, or one alone.
-#[derive(Clone, Copy, Debug, PartialEq, Eq)]
+#[derive(Clone, Copy, PartialEq, Eq)]
 enum Group {
     List,
     Single,

@@ -9,10 +9,11 @@ use crate::codes::{
 };
 use crate::inherited::inherited_dependencies;
 use crate::look::{Look, Section, flag_in, inherits, items_in, table_in, text_in};
-use crate::report::{At, Out, Part, Report, Spot, place_of, quoted, steps};
-use crate::words::{Word, WordFault, name_fault, requirement_fault, url_fault, word_message};
-use manifest_places::{Edit, Step};
-use std::alloc::{AllocError, Global};
+use crate::report::{At, File, Out, Part, shown};
+use crate::words::{
+    UrlFault, Word, WrongWord, name_fault, requirement_fault, say_wrong_word, url_fault,
+};
+use std::alloc::AllocError;
 use toml::{Table, Value};
 
 /// A dependency, as a table declares it.
@@ -48,49 +49,13 @@ impl<'a> Dependency<'a> {
         }
     }
 
-    /// Its requirement of a version, and the key where that stands in its table.
-    pub(crate) fn requirement(&self) -> Option<(&'a str, &'static [At<'static>])> {
+    /// Its requirement of a version, and whether that is all that is written of it, and not a key of its table.
+    pub(crate) fn requirement(&self) -> Option<(&'a str, bool)> {
         if let Some(text) = text_in(self.table, self.name) {
-            return Some((text, &[]));
+            return Some((text, true));
         }
         let text = text_in(self.detail()?, "version")?;
-        Some((text, &[At::Key("version")]))
-    }
-
-    /// The steps to something in it.
-    fn steps(&self, alloc: Global, rest: &[At<'_>]) -> Result<Vec<Step>, AllocError> {
-        let mut path = steps(alloc, self.base, &[At::Key(self.name)])?;
-        for step in steps(alloc, &[], rest)? {
-            path.push(step)?;
-        }
-        Ok(path)
-    }
-
-    /// The place of its own key.
-    pub(crate) fn own_key(&self, alloc: Global) -> Result<Spot, AllocError> {
-        place_of(alloc, self.base, &[At::Key(self.name)], Part::Key)
-    }
-
-    /// The place of a key in its table.
-    fn key(&self, alloc: Global, key: &str) -> Result<Spot, AllocError> {
-        place_of(
-            alloc,
-            self.base,
-            &[At::Key(self.name), At::Key(key)],
-            Part::Key,
-        )
-    }
-
-    /// A diagnostic at something in it.
-    fn report(
-        &self,
-        alloc: Global,
-        code: Code,
-        rest: &[At<'_>],
-        message: String,
-    ) -> Result<Report, AllocError> {
-        let place = Spot::Path(self.steps(alloc, rest)?, Part::Value);
-        Ok(Report::new(alloc, code, place, message))
+        Some((text, false))
     }
 }
 
@@ -149,9 +114,15 @@ fn invalid_dependency_name(dependency: &Dependency<'_>, out: &mut Out) -> Result
     let Some(fault) = name_fault(dependency.name) else {
         return Ok(());
     };
-    let message = word_message(out.alloc, "dependency name", dependency.name, fault)?;
-    let place = dependency.own_key(out.alloc)?;
-    out.with_note(INVALID_DEPENDENCY_NAME, place, message, Word::Name.rule())
+    let wrong = WrongWord {
+        what: "dependency name",
+        word: dependency.name,
+        fault,
+    };
+    let rest = [At::Key(dependency.name)];
+    let code = INVALID_DEPENDENCY_NAME;
+    say_wrong_word(code, Part::Key, dependency.base, &rest, &wrong, out)?;
+    out.note(&[Word::Name.rule()])
 }
 
 fn invalid_package(
@@ -162,8 +133,15 @@ fn invalid_package(
     let Some(package) = text_in(detail, "package") else {
         return Ok(());
     };
-    let fault = name_fault(package);
-    invalid_word(dependency, "package", "package name", package, fault, out)
+    let Some(fault) = name_fault(package) else {
+        return Ok(());
+    };
+    let wrong = WrongWord {
+        what: "package name",
+        word: package,
+        fault,
+    };
+    wrong_name(dependency, INVALID_DEPENDENCY_NAME, "package", &wrong, out)
 }
 
 fn invalid_registry_name(
@@ -174,37 +152,28 @@ fn invalid_registry_name(
     let Some(registry) = text_in(detail, "registry") else {
         return Ok(());
     };
-    let fault = Word::Name.fault(registry);
-    invalid_word(
-        dependency,
-        "registry",
-        "registry name",
-        registry,
+    let Some(fault) = Word::Name.fault(registry) else {
+        return Ok(());
+    };
+    let wrong = WrongWord {
+        what: "registry name",
+        word: registry,
         fault,
-        out,
-    )
+    };
+    wrong_name(dependency, INVALID_REGISTRY_NAME, "registry", &wrong, out)
 }
 
 /// Says what is wrong with the name at a key.
-fn invalid_word(
+fn wrong_name(
     dependency: &Dependency<'_>,
+    code: Code,
     key: &str,
-    what: &str,
-    word: &str,
-    fault: Option<WordFault>,
+    wrong: &WrongWord<'_>,
     out: &mut Out,
 ) -> Result<(), AllocError> {
-    let Some(fault) = fault else {
-        return Ok(());
-    };
-    let code = if key == "registry" {
-        INVALID_REGISTRY_NAME
-    } else {
-        INVALID_DEPENDENCY_NAME
-    };
-    let message = word_message(out.alloc, what, word, fault)?;
-    let report = dependency.report(out.alloc, code, &[At::Key(key)], message)?;
-    out.tell(report.with_note_str(Word::Name.rule())?)
+    let rest = [At::Key(dependency.name), At::Key(key)];
+    say_wrong_word(code, Part::Value, dependency.base, &rest, wrong, out)?;
+    out.note(&[Word::Name.rule()])
 }
 
 fn no_source(dependency: &Dependency<'_>, detail: &Table, out: &mut Out) -> Result<(), AllocError> {
@@ -213,15 +182,10 @@ fn no_source(dependency: &Dependency<'_>, detail: &Table, out: &mut Out) -> Resu
             return Ok(());
         }
     }
-    let message = format!(in out.alloc; "dependency `{}` has no source", dependency.name)?;
-    let rest = [At::Key(dependency.name)];
-    let place = place_of(out.alloc, dependency.base, &rest, Part::Header)?;
-    out.with_note(
-        NO_SOURCE,
-        place,
-        message,
-        "a dependency has one of `version`, `path`, `git` and `workspace = true`",
-    )
+    let name = dependency.name;
+    let words = ["dependency `", name, "` has no source"];
+    out.header(NO_SOURCE, dependency.base, &[At::Key(name)], &words)?;
+    out.note(&["a dependency has one of `version`, `path`, `git` and `workspace = true`"])
 }
 
 fn conflicting_sources(
@@ -244,22 +208,27 @@ fn conflicting_sources(
 }
 
 /// Says that two keys exclude each other.
-fn ambiguous(
-    dependency: &Dependency<'_>,
+fn ambiguous<'a>(
+    dependency: &Dependency<'a>,
     code: Code,
-    first: &str,
-    second: &str,
+    first: &'a str,
+    second: &'a str,
     out: &mut Out,
 ) -> Result<(), AllocError> {
-    let name = dependency.name;
-    let message = format!(in out.alloc;
-        "dependency `{name}` is ambiguous: only one of `{first}` and `{second}` is allowed"
-    )?;
-    let place = dependency.key(out.alloc, second)?;
-    let label = format!(in out.alloc; "`{first}` is here")?;
-    let other = dependency.key(out.alloc, first)?;
-    let report = Report::new(out.alloc, code, place, message);
-    out.tell(report.with_label_str(other, label.as_str())?)
+    let Dependency { base, name, .. } = *dependency;
+    let words = [
+        "dependency `",
+        name,
+        "` is ambiguous: only one of `",
+        first,
+        "` and `",
+        second,
+        "` is allowed",
+    ];
+    out.key(code, base, &[At::Key(name), At::Key(second)], &words)?;
+    let other = [At::Key(name), At::Key(first)];
+    let label = ["`", first, "` is here"];
+    out.label(File::Own, Part::Key, base, &other, &label)
 }
 
 fn revision_without_git(
@@ -267,30 +236,21 @@ fn revision_without_git(
     detail: &Table,
     out: &mut Out,
 ) -> Result<(), AllocError> {
-    let keys = ["branch", "tag", "rev"];
-    keys_without(dependency, detail, REVISION_WITHOUT_GIT, &keys, "git", out)
-}
-
-/// Says of each of the keys that it needs the other one, which is not there.
-fn keys_without(
-    dependency: &Dependency<'_>,
-    detail: &Table,
-    code: Code,
-    keys: &[&str],
-    other: &str,
-    out: &mut Out,
-) -> Result<(), AllocError> {
-    if detail.contains_key(other) {
+    if detail.contains_key("git") {
         return Ok(());
     }
-    for key in keys {
-        if detail.contains_key(*key) {
-            let name = dependency.name;
-            let message = format!(in out.alloc;
-                "`{key}` of dependency `{name}` stands without `{other}`"
-            )?;
-            let place = dependency.key(out.alloc, key)?;
-            out.tell(Report::new(out.alloc, code, place, message))?;
+    let name = dependency.name;
+    for key in ["branch", "tag", "rev"] {
+        if detail.contains_key(key) {
+            let words = [
+                "`",
+                key,
+                "` of dependency `",
+                name,
+                "` stands without `git`",
+            ];
+            let rest = [At::Key(name), At::Key(key)];
+            out.key(REVISION_WITHOUT_GIT, dependency.base, &rest, &words)?;
         }
     }
     Ok(())
@@ -329,25 +289,34 @@ fn invalid_url(
     let Some(fault) = url_fault(out.alloc, url)? else {
         return Ok(());
     };
-    let message = format!(in out.alloc; "invalid URL `{url}`: {fault}")?;
-    let report = dependency.report(out.alloc, INVALID_URL, &[At::Key(key)], message)?;
+    let rest = [At::Key(dependency.name), At::Key(key)];
+    say_invalid_url(dependency.base, &rest, url, fault, out)?;
     match url.split_once(':') {
         Some((host, path)) if host.starts_with("git@") => {
-            let instead = format!(in out.alloc; "ssh://{host}/{path}")?;
-            let edit = Edit::Set(
-                dependency.steps(out.alloc, &[At::Key(key)])?,
-                quoted(out.alloc, instead.as_str())?,
-            );
-            let help = format!(in out.alloc; "write `{instead}`")?;
-            out.tell(report.with_fix(out.alloc, help, edit, false)?)
+            let instead = ["ssh://", host, "/", path].concat(out.alloc)?;
+            let instead = instead.as_str();
+            let help = ["write `", instead, "`"];
+            out.set_text(dependency.base, &rest, instead, false, &help)
         }
-        _ => out.tell(report),
+        _ => Ok(()),
     }
 }
 
-fn fragment_in_url(
-    dependency: &Dependency<'_>,
-    detail: &Table,
+fn say_invalid_url(
+    base: &[At<'_>],
+    rest: &[At<'_>],
+    url: &str,
+    fault: UrlFault,
+    out: &mut Out,
+) -> Result<(), AllocError> {
+    let fault = shown(out.alloc, &fault)?;
+    let words = ["invalid URL `", url, "`: ", fault.as_str()];
+    out.value(INVALID_URL, base, rest, &words)
+}
+
+fn fragment_in_url<'a>(
+    dependency: &Dependency<'a>,
+    detail: &'a Table,
     out: &mut Out,
 ) -> Result<(), AllocError> {
     let Some(url) = text_in(detail, "git") else {
@@ -359,59 +328,102 @@ fn fragment_in_url(
     if url_fault(out.alloc, url)?.is_some() {
         return Ok(());
     }
-    let name = dependency.name;
-    let message = format!(in out.alloc;
-        "URL fragment `#{fragment}` of dependency `{name}` is ignored"
+    let Dependency { base, name, .. } = *dependency;
+    let words = [
+        "URL fragment `#",
+        fragment,
+        "` of dependency `",
+        name,
+        "` is ignored",
+    ];
+    out.value(
+        FRAGMENT_IN_URL,
+        base,
+        &[At::Key(name), At::Key("git")],
+        &words,
     )?;
-    let report = dependency.report(out.alloc, FRAGMENT_IN_URL, &[At::Key("git")], message)?;
-    let help = format!(in out.alloc; "write `rev = \"{fragment}\"` if a revision is meant")?;
-    out.tell(report.with_help(out.alloc, help)?)
+    out.help(&["write `rev = \"", fragment, "\"` if a revision is meant"])
 }
 
 fn invalid_requirement(dependency: &Dependency<'_>, out: &mut Out) -> Result<(), AllocError> {
-    let Some((text, rest)) = dependency.requirement() else {
-        return Ok(());
-    };
+    let Dependency { base, name, .. } = *dependency;
+    match dependency.requirement() {
+        Some((text, true)) => requirement(base, &[At::Key(name)], text, out),
+        Some((text, false)) => requirement(base, &[At::Key(name), At::Key("version")], text, out),
+        None => Ok(()),
+    }
+}
+
+/// The rules of a requirement that stands there.
+fn requirement(
+    base: &[At<'_>],
+    rest: &[At<'_>],
+    text: &str,
+    out: &mut Out,
+) -> Result<(), AllocError> {
     let Some(fault) = requirement_fault(out.alloc, text)? else {
-        return metadata_in_requirement(dependency, text, rest, out);
+        return metadata_in_requirement(base, rest, text, out);
     };
-    let message = format!(in out.alloc; "invalid version requirement `{text}`: {fault}")?;
-    let report = dependency.report(out.alloc, INVALID_REQUIREMENT, rest, message)?;
+    say_invalid_requirement(base, rest, text, fault, out)?;
     let bare = text.strip_prefix('v').unwrap_or("");
     if bare.is_empty() || requirement_fault(out.alloc, bare)?.is_some() {
-        return out.tell(report);
+        return Ok(());
     }
-    let edit = Edit::Set(dependency.steps(out.alloc, rest)?, quoted(out.alloc, bare)?);
-    let help = format!(in out.alloc; "write `{bare}`")?;
-    out.tell(report.with_fix(out.alloc, help, edit, false)?)
+    out.set_text(base, rest, bare, false, &["write `", bare, "`"])
+}
+
+fn say_invalid_requirement(
+    base: &[At<'_>],
+    rest: &[At<'_>],
+    text: &str,
+    fault: semver::Error,
+    out: &mut Out,
+) -> Result<(), AllocError> {
+    let fault = shown(out.alloc, &fault)?;
+    let words = ["invalid version requirement `", text, "`: ", fault.as_str()];
+    out.value(INVALID_REQUIREMENT, base, rest, &words)
 }
 
 /// What stands after `+` says nothing of a version that is required.
 fn metadata_in_requirement(
-    dependency: &Dependency<'_>,
-    text: &str,
+    base: &[At<'_>],
     rest: &[At<'_>],
+    text: &str,
     out: &mut Out,
 ) -> Result<(), AllocError> {
     let Some((bare, _metadata)) = text.split_once('+') else {
         return Ok(());
     };
-    let message = format!(in out.alloc;
-        "version requirement `{text}` includes build metadata, which is ignored"
-    )?;
-    let report = dependency.report(out.alloc, METADATA_IN_REQUIREMENT, rest, message)?;
+    let words = [
+        "version requirement `",
+        text,
+        "` includes build metadata, which is ignored",
+    ];
+    out.value(METADATA_IN_REQUIREMENT, base, rest, &words)?;
     if text.contains(',') {
-        return out.tell(report);
+        return Ok(());
     }
-    let edit = Edit::Set(dependency.steps(out.alloc, rest)?, quoted(out.alloc, bare)?);
-    let help = format!(in out.alloc; "write `{bare}`")?;
-    out.tell(report.with_fix(out.alloc, help, edit, true)?)
+    out.set_text(base, rest, bare, true, &["write `", bare, "`"])
 }
 
-fn invalid_dependency_feature(
-    dependency: &Dependency<'_>,
+/// Why a feature cannot be one of a dependency; nothing where it can.
+fn feature_note(feature: &str) -> Option<&'static str> {
+    if feature.contains('/') {
+        return Some(
+            "only features of the dependency itself can be enabled here, and none of what it depends on",
+        );
+    }
+    if feature.starts_with("dep:") {
+        return Some("a feature of the dependency is named without `dep:`");
+    }
+    None
+}
+
+fn invalid_dependency_feature<'a>(
+    dependency: &Dependency<'a>,
     out: &mut Out,
 ) -> Result<(), AllocError> {
+    let Dependency { base, name, .. } = *dependency;
     let Some(Value::Table(table)) = dependency.value() else {
         return Ok(());
     };
@@ -420,18 +432,13 @@ fn invalid_dependency_feature(
             continue;
         };
         let feature = feature.as_str();
-        let note = if feature.contains('/') {
-            "only features of the dependency itself can be enabled here, and none of what it depends on"
-        } else if feature.starts_with("dep:") {
-            "a feature of the dependency is named without `dep:`"
-        } else {
+        let Some(note) = feature_note(feature) else {
             continue;
         };
-        let name = dependency.name;
-        let message = format!(in out.alloc; "invalid feature `{feature}` of dependency `{name}`")?;
-        let rest = [At::Key("features"), At::Index(index)];
-        let report = dependency.report(out.alloc, INVALID_DEPENDENCY_FEATURE, &rest, message)?;
-        out.tell(report.with_note_str(note)?)?;
+        let words = ["invalid feature `", feature, "` of dependency `", name, "`"];
+        let rest = [At::Key(name), At::Key("features"), At::Index(index)];
+        out.value(INVALID_DEPENDENCY_FEATURE, base, &rest, &words)?;
+        out.note(&[note])?;
     }
     Ok(())
 }
@@ -443,11 +450,11 @@ fn optional_dev_dependency(dependency: &Dependency<'_>, out: &mut Out) -> Result
     if dependency.section != Section::Dev || flag_in(table, "optional") != Some(true) {
         return Ok(());
     }
-    let name = dependency.name;
-    let message = format!(in out.alloc; "dev-dependency `{name}` cannot be optional")?;
-    let rest = [At::Key("optional")];
-    let report = dependency.report(out.alloc, OPTIONAL_DEV_DEPENDENCY, &rest, message)?;
-    remove_key(dependency, "optional", report, out)
+    let Dependency { base, name, .. } = *dependency;
+    let rest = [At::Key(name), At::Key("optional")];
+    let words = ["dev-dependency `", name, "` cannot be optional"];
+    out.value(OPTIONAL_DEV_DEPENDENCY, base, &rest, &words)?;
+    out.remove(base, &rest, false, &["remove `optional`"])
 }
 
 fn optional_in_workspace(
@@ -460,26 +467,21 @@ fn optional_in_workspace(
     }
     for key in ["optional", "public"] {
         if flag_in(detail, key) == Some(true) {
-            let name = dependency.name;
-            let message = format!(in out.alloc; "workspace dependency `{name}` cannot be {key}")?;
-            let rest = [At::Key(key)];
-            let report = dependency
-                .report(out.alloc, OPTIONAL_IN_WORKSPACE, &rest, message)?
-                .with_note_str("the members that inherit it say this")?;
-            remove_key(dependency, key, report, out)?;
+            not_in_workspace(dependency, key, out)?;
         }
     }
     Ok(())
 }
 
-/// Says this with the suggestion to remove the key.
-fn remove_key(
+fn not_in_workspace(
     dependency: &Dependency<'_>,
     key: &str,
-    report: Report,
     out: &mut Out,
 ) -> Result<(), AllocError> {
-    let edit = Edit::Remove(dependency.steps(out.alloc, &[At::Key(key)])?);
-    let help = format!(in out.alloc; "remove `{key}`")?;
-    out.tell(report.with_fix(out.alloc, help, edit, false)?)
+    let Dependency { base, name, .. } = *dependency;
+    let rest = [At::Key(name), At::Key(key)];
+    let words = ["workspace dependency `", name, "` cannot be ", &*key];
+    out.value(OPTIONAL_IN_WORKSPACE, base, &rest, &words)?;
+    out.note(&["the members that inherit it say this"])?;
+    out.remove(base, &rest, false, &["remove `", key, "`"])
 }

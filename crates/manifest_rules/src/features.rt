@@ -1,19 +1,18 @@
 //! Rules of [`[features]`](https://doc.rust-lang.org/cargo/reference/features.html).
 
 use crate::codes::{
-    Code, DEFAULT_FEATURES_FEATURE, DEPENDENCY_NOT_OPTIONAL, FEATURE_ENABLES_ITSELF,
+    DEFAULT_FEATURES_FEATURE, DEPENDENCY_NOT_OPTIONAL, FEATURE_ENABLES_ITSELF,
     INVALID_FEATURE_NAME, INVALID_FEATURE_REFERENCE, UNKNOWN_FEATURE, UNREACHABLE_DEPENDENCY,
 };
 use crate::look::{Look, flag_in, items_in, table_in};
-use crate::report::{At, Out, Part, Report, Spot, place_of, quoted, steps};
-use crate::words::{Word, word_message};
-use manifest_places::Edit;
+use crate::report::{At, File, Out, Part};
+use crate::words::{Word, WrongWord, say_wrong_word};
 use std::alloc::{AllocError, Global};
 use std::collections::{BTreeMap, BTreeSet};
 use toml::{Table, Value};
 
 /// What an item of a feature's list names.
-#[derive(Clone, Copy, Debug, PartialEq, Eq)]
+#[derive(Clone, Copy)]
 pub(crate) enum Reference<'a> {
     /// `x`
     Feature(&'a str),
@@ -67,7 +66,7 @@ impl<'a> Reference<'a> {
 }
 
 /// A dependency of the package.
-#[derive(Clone, Copy, Debug, PartialEq, Eq)]
+#[derive(Clone, Copy)]
 struct Declared {
     /// The index of a table where it is declared; of one where it is optional, if there is any.
     table: usize,
@@ -165,6 +164,15 @@ impl<'a> Known<'a> {
         }
         Ok(nearest.found())
     }
+
+    /// The dependency whose name is nearest to this one.
+    fn nearest_dependency(&self, name: &'a str, out: &Out) -> Result<Option<&'a str>, AllocError> {
+        let mut nearest = out.nearest(name);
+        for (other, _declared) in &self.dependencies {
+            nearest.offer(self.alloc, *other)?;
+        }
+        Ok(nearest.found())
+    }
 }
 
 /// An item of a feature's list.
@@ -185,16 +193,9 @@ impl<'a> Item<'a> {
         ]
     }
 
-    /// A diagnostic at the item.
-    fn report(&self, alloc: Global, code: Code, message: String) -> Result<Report, AllocError> {
-        let place = place_of(alloc, &self.path(), &[], Part::Value)?;
-        Ok(Report::new(alloc, code, place, message))
-    }
-
     /// The suggestion to write another item.
-    fn instead(&self, alloc: Global, report: Report, text: &str) -> Result<Report, AllocError> {
-        let edit = Edit::Set(steps(alloc, &self.path(), &[])?, quoted(alloc, text)?);
-        report.with_fix(alloc, format!(in alloc; "write `{text}`")?, edit, false)
+    fn instead(&self, text: &str, out: &mut Out) -> Result<(), AllocError> {
+        out.set_text(&self.path(), &[], text, false, &["write `", text, "`"])
     }
 }
 
@@ -243,32 +244,33 @@ fn invalid_feature_name(name: &str, out: &mut Out) -> Result<(), AllocError> {
     let Some(fault) = Word::Feature.fault(name) else {
         return Ok(());
     };
-    let place = place_of(
-        out.alloc,
-        &[At::Key("features")],
-        &[At::Key(name)],
-        Part::Key,
-    )?;
+    let path = [At::Key("features"), At::Key(name)];
     if name.starts_with("dep:") {
-        let message = format!(in out.alloc;
-            "feature named `{name}` is not allowed to start with `dep:`"
-        )?;
-        return out.tell(Report::new(out.alloc, INVALID_FEATURE_NAME, place, message));
+        let words = [
+            "feature named `",
+            name,
+            "` is not allowed to start with `dep:`",
+        ];
+        return out.key(INVALID_FEATURE_NAME, &path, &[], &words);
     }
-    let message = word_message(out.alloc, "feature name", name, fault)?;
-    out.with_note(INVALID_FEATURE_NAME, place, message, Word::Feature.rule())
+    let wrong = WrongWord {
+        what: "feature name",
+        word: name,
+        fault,
+    };
+    say_wrong_word(INVALID_FEATURE_NAME, Part::Key, &path, &[], &wrong, out)?;
+    out.note(&[Word::Feature.rule()])
 }
 
 fn feature_enables_itself(item: &Item<'_>, out: &mut Out) -> Result<(), AllocError> {
-    if item.text == item.feature {
-        let message = format!(in out.alloc; "feature `{}` depends on itself", item.feature)?;
-        let report = item.report(out.alloc, FEATURE_ENABLES_ITSELF, message)?;
-        let report = report.with_note_str("Cargo refuses this where the feature is enabled")?;
-        let edit = Edit::Remove(steps(out.alloc, &item.path(), &[])?);
-        let text = String::from_str(out.alloc, "remove it from its own list")?;
-        out.tell(report.with_fix(out.alloc, text, edit, true)?)?;
+    if item.text != item.feature {
+        return Ok(());
     }
-    Ok(())
+    let path = item.path();
+    let words = ["feature `", item.feature, "` depends on itself"];
+    out.value(FEATURE_ENABLES_ITSELF, &path, &[], &words)?;
+    out.note(&["Cargo refuses this where the feature is enabled"])?;
+    out.remove(&path, &[], true, &["remove it from its own list"])
 }
 
 fn default_features_feature(
@@ -280,41 +282,38 @@ fn default_features_feature(
         return Ok(());
     }
     let path = [At::Key("features"), At::Key(name)];
-    let message = String::from_str(out.alloc, "`default-features` is a feature like any other")?;
-    let place = place_of(out.alloc, &path, &[], Part::Key)?;
-    let report = Report::new(out.alloc, DEFAULT_FEATURES_FEATURE, place, message).with_note_str(
-        "the feature that is enabled by default is named `default`",
-    )?;
+    let words = ["`default-features` is a feature like any other"];
+    out.key(DEFAULT_FEATURES_FEATURE, &path, &[], &words)?;
+    out.note(&["the feature that is enabled by default is named `default`"])?;
     if known.has_feature("default") {
-        return out.tell(report);
+        return Ok(());
     }
-    let edit = Edit::Rename(
-        steps(out.alloc, &path, &[])?,
-        String::from_str(out.alloc, "default")?,
-    );
-    let text = String::from_str(out.alloc, "name it `default`")?;
-    out.tell(report.with_fix(out.alloc, text, edit, false)?)
+    out.rename(&path, &[], "default", false, &["name it `default`"])
 }
 
 fn invalid_feature_reference(item: &Item<'_>, out: &mut Out) -> Result<(), AllocError> {
     let Item { feature, text, .. } = *item;
-    let message = if text.starts_with("dep:") {
-        format!(in out.alloc; "feature `{feature}` includes `{text}` with both `dep:` and `/`")?
-    } else {
-        format!(in out.alloc;
-            "multiple slashes in feature `{text}` (included by feature `{feature}`)"
-        )?
-    };
-    let report = item.report(out.alloc, INVALID_FEATURE_REFERENCE, message)?;
+    let path = item.path();
     let Some(bare) = text.strip_prefix("dep:") else {
-        return out.tell(report);
+        let words = [
+            "multiple slashes in feature `",
+            text,
+            "` (included by feature `",
+            feature,
+            "`)",
+        ];
+        return out.value(INVALID_FEATURE_REFERENCE, &path, &[], &words);
     };
-    let help = format!(in out.alloc; "write `{bare}`, which enables the dependency too")?;
-    let edit = Edit::Set(
-        steps(out.alloc, &item.path(), &[])?,
-        quoted(out.alloc, bare)?,
-    );
-    out.tell(report.with_fix(out.alloc, help, edit, false)?)
+    let words = [
+        "feature `",
+        feature,
+        "` includes `",
+        text,
+        "` with both `dep:` and `/`",
+    ];
+    out.value(INVALID_FEATURE_REFERENCE, &path, &[], &words)?;
+    let help = ["write `", bare, "`, which enables the dependency too"];
+    out.set_text(&path, &[], bare, false, &help)
 }
 
 /// `x` is a feature, or an optional dependency that has its feature.
@@ -326,33 +325,50 @@ fn unknown_feature<'a>(
     let Reference::Feature(name) = item.reference else {
         return Ok(());
     };
-    let feature = item.feature;
     if known.has_feature(name) {
         return Ok(());
     }
-    let Some(dependency) = known.dependencies.get(&name) else {
-        let message = format!(in out.alloc;
-            "feature `{feature}` includes `{name}` which is neither a dependency nor another feature"
-        )?;
-        let report = item.report(out.alloc, UNKNOWN_FEATURE, message)?;
-        return match known.nearest(item, out)? {
-            Some(near) => out.tell(item.instead(out.alloc, report, near)?),
-            None => out.tell(report),
-        };
-    };
-    if dependency.is_optional && known.named.contains(&name) {
-        let message = format!(in out.alloc;
-            "feature `{feature}` includes `{name}`, but `{name}` is an optional dependency without an implicit feature"
-        )?;
-        let report = item
-            .report(out.alloc, UNKNOWN_FEATURE, message)?
-            .with_note_str(
-                "a dependency that is named by `dep:` anywhere has no feature of its own name",
-            )?;
-        let text = format!(in out.alloc; "dep:{name}")?;
-        return out.tell(item.instead(out.alloc, report, text.as_str())?);
+    match known.dependencies.get(&name) {
+        None => unknown_name(known, item, out),
+        Some(declared) if declared.is_optional && known.named.contains(&name) => {
+            without_feature(item, out)
+        }
+        Some(_declared) => Ok(()),
     }
-    Ok(())
+}
+
+fn unknown_name<'a>(known: &Known<'a>, item: &Item<'a>, out: &mut Out) -> Result<(), AllocError> {
+    let near = known.nearest(item, out)?;
+    let words = [
+        "feature `",
+        item.feature,
+        "` includes `",
+        item.text,
+        "` which is neither a dependency nor another feature",
+    ];
+    out.value(UNKNOWN_FEATURE, &item.path(), &[], &words)?;
+    match near {
+        Some(near) => item.instead(near, out),
+        None => Ok(()),
+    }
+}
+
+/// Says that an optional dependency has no feature of its name.
+fn without_feature(item: &Item<'_>, out: &mut Out) -> Result<(), AllocError> {
+    let Item { feature, text, .. } = *item;
+    let words = [
+        "feature `",
+        feature,
+        "` includes `",
+        text,
+        "`, but `",
+        text,
+        "` is an optional dependency without an implicit feature",
+    ];
+    out.value(UNKNOWN_FEATURE, &item.path(), &[], &words)?;
+    out.note(&["a dependency that is named by `dep:` anywhere has no feature of its own name"])?;
+    let instead = ["dep:", text].concat(out.alloc)?;
+    item.instead(instead.as_str(), out)
 }
 
 /// What stands after `dep:` and before `/` is a dependency.
@@ -367,35 +383,35 @@ fn feature_of_unknown_dependency<'a>(
     if known.dependencies.contains_key(&name) {
         return Ok(());
     }
-    let Item { feature, text, .. } = *item;
-    let message = format!(in out.alloc;
-        "feature `{feature}` includes `{text}`, but `{name}` is not a dependency"
-    )?;
-    let report = item.report(out.alloc, UNKNOWN_FEATURE, message)?;
-    let mut nearest = out.nearest(name);
-    for (other, _declared) in &known.dependencies {
-        nearest.offer(out.alloc, *other)?;
-    }
-    match nearest.found() {
-        Some(near) => {
-            let help = format!(in out.alloc; "a dependency with a similar name exists: `{near}`")?;
-            out.tell(report.with_help(out.alloc, help)?)
-        }
-        None => out.tell(report),
+    let near = known.nearest_dependency(name, out)?;
+    let words = [
+        "feature `",
+        item.feature,
+        "` includes `",
+        item.text,
+        "`, but `",
+        name,
+        "` is not a dependency",
+    ];
+    out.value(UNKNOWN_FEATURE, &item.path(), &[], &words)?;
+    match near {
+        Some(near) => out.help(&["a dependency with a similar name exists: `", near, "`"]),
+        None => Ok(()),
     }
 }
 
-/// The key of a dependency where it is declared.
-fn declared_at(
-    look: &Look<'_>,
-    name: &str,
-    declared: Declared,
-) -> Result<Option<Spot>, AllocError> {
-    let Some(table) = look.dependencies.get(declared.table) else {
-        return Ok(None);
-    };
-    let path = table.path.as_slice();
-    Ok(Some(place_of(look.alloc, path, &[At::Key(name)], Part::Key)?))
+/// The dependency that the item names and that has to be optional: by `x`, `dep:x` or `x?/feature`.
+fn wanted_optional<'a>(known: &Known<'a>, item: &Item<'a>) -> Option<&'a str> {
+    match item.reference {
+        Reference::Feature(name) if !known.has_feature(name) => Some(name),
+        Reference::Dependency(name) => Some(name),
+        Reference::FeatureOf {
+            dependency,
+            is_weak: true,
+            ..
+        } => Some(dependency),
+        _ => None,
+    }
 }
 
 /// A dependency that `x`, `dep:x` or `x?/feature` names is optional.
@@ -405,15 +421,8 @@ fn dependency_not_optional<'a>(
     item: &Item<'a>,
     out: &mut Out,
 ) -> Result<(), AllocError> {
-    let name = match item.reference {
-        Reference::Feature(name) if !known.has_feature(name) => name,
-        Reference::Dependency(name) => name,
-        Reference::FeatureOf {
-            dependency,
-            is_weak: true,
-            ..
-        } => dependency,
-        _ => return Ok(()),
+    let Some(name) = wanted_optional(known, item) else {
+        return Ok(());
     };
     let Some(declared) = known.dependencies.get(&name) else {
         return Ok(());
@@ -421,21 +430,36 @@ fn dependency_not_optional<'a>(
     if declared.is_optional {
         return Ok(());
     }
-    let Item { feature, text, .. } = *item;
-    let message = format!(in out.alloc;
-        "feature `{feature}` includes `{text}`, but `{name}` is not an optional dependency"
-    )?;
-    let report = item.report(out.alloc, DEPENDENCY_NOT_OPTIONAL, message)?;
-    let Some(place) = declared_at(look, name, *declared)? else {
-        return out.tell(report);
-    };
-    let report = report.with_label_str(place, "it is declared here without `optional = true`")?;
-    if let Some((bare, of)) = text.split_once("?/") {
-        let strong = format!(in out.alloc; "{bare}/{of}")?;
-        return out.tell(item.instead(out.alloc, report, strong.as_str())?);
+    let words = [
+        "feature `",
+        item.feature,
+        "` includes `",
+        item.text,
+        "`, but `",
+        name,
+        "` is not an optional dependency",
+    ];
+    out.value(DEPENDENCY_NOT_OPTIONAL, &item.path(), &[], &words)?;
+    match look.dependencies.get(declared.table) {
+        Some(table) => make_optional(table.path.as_slice(), name, item, out),
+        None => Ok(()),
     }
-    let help = format!(in out.alloc; "add `optional = true` to the dependency `{name}`")?;
-    out.tell(report.with_help(out.alloc, help)?)
+}
+
+/// Where the dependency is declared, and what to write there or in its place.
+fn make_optional(
+    table: &[At<'_>],
+    name: &str,
+    item: &Item<'_>,
+    out: &mut Out,
+) -> Result<(), AllocError> {
+    let label = ["it is declared here without `optional = true`"];
+    out.label(File::Own, Part::Key, table, &[At::Key(name)], &label)?;
+    if let Some((bare, of)) = item.text.split_once("?/") {
+        let strong = [bare, "/", of].concat(out.alloc)?;
+        return item.instead(strong.as_str(), out);
+    }
+    out.help(&["add `optional = true` to the dependency `", name, "`"])
 }
 
 /// A feature that hides the optional dependency of its name does not keep it from being enabled.
@@ -451,24 +475,21 @@ fn unreachable_dependency<'a>(
     if !declared.is_optional || known.enabled.contains(&name) {
         return Ok(());
     }
-    let Some(place) = declared_at(look, name, *declared)? else {
+    let Some(table) = look.dependencies.get(declared.table) else {
         return Ok(());
     };
-    let message = format!(in out.alloc;
-        "optional dependency `{name}` is not included in any feature"
-    )?;
+    let words = [
+        "optional dependency `",
+        name,
+        "` is not included in any feature",
+    ];
+    let base = table.path.as_slice();
+    out.key(UNREACHABLE_DEPENDENCY, base, &[At::Key(name)], &words)?;
     let path = [At::Key("features"), At::Key(name)];
-    let hider = place_of(out.alloc, &path, &[], Part::Key)?;
-    let report = Report::new(out.alloc, UNREACHABLE_DEPENDENCY, place, message).with_label_str(
-        hider,
-        "this feature stands in place of the one that would enable it",
-    )?;
-    let count = items_in(known.features, name).len();
-    let item = format!(in out.alloc; "dep:{name}")?;
-    let edit = Edit::Insert(
-        steps(out.alloc, &path, &[At::Index(count)])?,
-        quoted(out.alloc, item.as_str())?,
-    );
-    let text = format!(in out.alloc; "include `{item}` in a feature")?;
-    out.tell(report.with_fix(out.alloc, text, edit, false)?)
+    let label = ["this feature stands in place of the one that would enable it"];
+    out.label(File::Own, Part::Key, &path, &[], &label)?;
+    let end = At::Index(items_in(known.features, name).len());
+    let item = ["dep:", name].concat(out.alloc)?;
+    let help = ["include `dep:", name, "` in a feature"];
+    out.insert_text(&path, &[end], item.as_str(), false, &help)
 }

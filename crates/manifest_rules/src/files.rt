@@ -5,7 +5,7 @@ use std::alloc::{AllocError, Global};
 use std::collections::BTreeSet;
 
 /// Whether a file is there.
-#[derive(Clone, Copy, Debug, PartialEq, Eq)]
+#[derive(Clone, Copy, PartialEq, Eq)]
 pub(crate) enum FileState {
     There,
     /// It is a folder.
@@ -21,6 +21,15 @@ pub(crate) fn split_path(path: &str) -> (&str, &str) {
         Some((folder, name)) => (folder, name),
         None => ("", path),
     }
+}
+
+/// The path of what has this name in a folder.
+pub(crate) fn below<'a>(
+    alloc: Global,
+    folder: &'a str,
+    name: &'a str,
+) -> Result<String, AllocError> {
+    [folder, "/", name].concat(alloc)
 }
 
 /// The names in the folder, where it was listed and is there.

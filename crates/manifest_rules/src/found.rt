@@ -1,7 +1,7 @@
 //! The targets that Cargo finds in the folders of a package.
 //! (<https://doc.rust-lang.org/cargo/guide/project-layout.html>)
 
-use crate::files::{names_in, plain_path};
+use crate::files::{below, names_in, plain_path};
 use crate::look::{DeclaredTarget, Edition, Kind, Look, flag_in, text_in};
 use std::alloc::{AllocError, Global};
 use std::collections::{BTreeMap, BTreeSet};
@@ -15,7 +15,7 @@ pub(crate) struct FoundFile {
 
 impl Kind {
     /// The folder whose files are targets of this kind.
-    pub(crate) fn folder(self) -> &'static str {
+    pub(crate) fn folder<'a>(self) -> &'a str {
         match self {
             Kind::Lib => "src",
             Kind::Bin => "src/bin",
@@ -36,8 +36,19 @@ impl Kind {
         }
     }
 
+    /// The key by which a target of this kind says where its file is.
+    pub(crate) fn path_key<'a>(self) -> &'a str {
+        match self {
+            Kind::Lib => "lib.path",
+            Kind::Bin => "bin.path",
+            Kind::Example => "example.path",
+            Kind::Test => "test.path",
+            Kind::Bench => "bench.path",
+        }
+    }
+
     /// What it is called.
-    pub(crate) fn words(self) -> &'static str {
+    pub(crate) fn words<'a>(self) -> &'a str {
         match self {
             Kind::Lib => "library",
             Kind::Bin => "binary",
@@ -84,7 +95,22 @@ pub(crate) struct Declared<'a> {
     paths: BTreeSet<String>,
 }
 
-impl Declared<'_> {
+impl<'a> Declared<'a> {
+    fn add(&mut self, alloc: Global, target: &'a DeclaredTarget<'a>) -> Result<(), AllocError> {
+        if let Some(path) = text_in(target.table, "path") {
+            let path = plain_path(alloc, path)?;
+            let _is_new = self.paths.insert(path)?;
+        }
+        match text_in(target.table, "name") {
+            Some(name) if !self.names.contains_key(name) => {
+                let name = String::from_str(alloc, name)?;
+                let _none = self.names.insert(name, target)?;
+            }
+            _ => {}
+        }
+        Ok(())
+    }
+
     /// Whether the target that a file would be is declared, by its name or by its path.
     pub(crate) fn has(&self, file: &FoundFile) -> bool {
         self.names.contains_key(file.name.as_str()) || self.paths.contains(file.path.as_str())
@@ -98,17 +124,8 @@ pub(crate) fn declared_of<'a>(look: &'a Look<'_>, kind: Kind) -> Result<Declared
         paths: BTreeSet::new(look.alloc),
     };
     for target in &look.targets {
-        if target.kind != kind {
-            continue;
-        }
-        if let Some(path) = text_in(target.table, "path") {
-            let _is_new = declared.paths.insert(plain_path(look.alloc, path)?)?;
-        }
-        if let Some(name) = text_in(target.table, "name") {
-            if !declared.names.contains_key(name) {
-                let name = String::from_str(look.alloc, name)?;
-                let _none = declared.names.insert(name, target)?;
-            }
+        if target.kind == kind {
+            declared.add(look.alloc, target)?;
         }
     }
     Ok(declared)
@@ -117,51 +134,65 @@ pub(crate) fn declared_of<'a>(look: &'a Look<'_>, kind: Kind) -> Result<Declared
 /// The files that are targets of this kind by where they stand, whether or not they are found: of a binary that of the
 /// package first.
 pub(crate) fn files_of(look: &Look<'_>, kind: Kind) -> Result<Vec<FoundFile>, AllocError> {
-    let alloc = look.alloc;
-    let mut all = Vec::new(alloc);
+    let mut all = Vec::new(look.alloc);
     if kind == Kind::Bin {
         if let Some(name) = package_name(look) {
-            if has_file(look, "src", "main.rs") {
-                all.push(found(alloc, name, "src", "main.rs")?)?;
-            }
+            push_main(look, name, "src", &mut all)?;
         }
     }
     let folder = kind.folder();
-    let Some(names) = names_in(look, folder) else {
-        return Ok(all);
-    };
-    for name in names {
-        if let Some(file) = file_named(look, folder, name.as_str())? {
-            all.push(file)?;
+    if let Some(names) = names_in(look, folder) {
+        for name in names {
+            push_named(look, folder, name.as_str(), &mut all)?;
         }
     }
     Ok(all)
 }
 
 /// The target of this entry of a folder: `NAME.rs`, or the folder `NAME` with a file `main.rs`.
-fn file_named(look: &Look<'_>, folder: &str, name: &str) -> Result<Option<FoundFile>, AllocError> {
-    let alloc = look.alloc;
+fn push_named(
+    look: &Look<'_>,
+    folder: &str,
+    name: &str,
+    all: &mut Vec<FoundFile>,
+) -> Result<(), AllocError> {
     if name.starts_with('.') {
-        return Ok(None);
+        return Ok(());
     }
-    let inner = format!(in alloc; "{folder}/{name}")?;
+    let inner = below(look.alloc, folder, name)?;
     if names_in(look, inner.as_str()).is_some() {
-        if has_file(look, inner.as_str(), "main.rs") {
-            return Ok(Some(found(alloc, name, inner.as_str(), "main.rs")?));
-        }
-        return Ok(None);
+        return push_main(look, name, inner.as_str(), all);
     }
     match name.strip_suffix(".rs") {
-        Some(stem) => Ok(Some(found(alloc, stem, folder, name)?)),
-        None => Ok(None),
+        Some(stem) => push_found(look.alloc, stem, folder, name, all),
+        None => Ok(()),
     }
 }
 
-fn found(alloc: Global, name: &str, folder: &str, file: &str) -> Result<FoundFile, AllocError> {
-    Ok(FoundFile {
-        name: String::from_str(alloc, name)?,
-        path: format!(in alloc; "{folder}/{file}")?,
-    })
+/// The target of this name whose file is the `main.rs` of a folder, where that is there.
+fn push_main(
+    look: &Look<'_>,
+    name: &str,
+    folder: &str,
+    all: &mut Vec<FoundFile>,
+) -> Result<(), AllocError> {
+    if has_file(look, folder, "main.rs") {
+        push_found(look.alloc, name, folder, "main.rs", all)?;
+    }
+    Ok(())
+}
+
+fn push_found(
+    alloc: Global,
+    name: &str,
+    folder: &str,
+    file: &str,
+    all: &mut Vec<FoundFile>,
+) -> Result<(), AllocError> {
+    let name = String::from_str(alloc, name)?;
+    let path = below(alloc, folder, file)?;
+    all.push(FoundFile { name, path })?;
+    Ok(())
 }
 
 /// Whether a listed folder has an entry of this name.

@@ -3,8 +3,7 @@
 
 use crate::codes::{IGNORED_DEFAULT_FEATURES, NO_WORKSPACE, NOT_IN_WORKSPACE, OLD_SPELLING};
 use crate::look::{Look, Root, flag_in, inherits, table_in};
-use crate::report::{At, File, Out, Part, Report, Spot, steps};
-use manifest_places::Edit;
+use crate::report::{At, File, Out, Part};
 use std::alloc::AllocError;
 use std::collections::BTreeSet;
 use toml::{Table, Value};
@@ -48,42 +47,32 @@ static FIELDS: [&str; 16] = [
 
 /// The first thing that is inherited where there is no workspace. (One is said of it: the others have the same reason.)
 fn no_workspace(look: &Look<'_>, out: &mut Out) -> Result<(), AllocError> {
-    let alloc = look.alloc;
-    let words = "failed to find a workspace root";
+    let words = ["failed to find a workspace root"];
     if let Some(package) = look.package {
         for field in &FIELDS {
             if inherits(package, *field) {
-                let message = String::from_str(alloc, words)?;
                 let path = [At::Key(look.package_key), At::Key(*field)];
-                return out.key(NO_WORKSPACE, &path, &[], message);
+                return out.key(NO_WORKSPACE, &path, &[], &words);
             }
         }
     }
     for section in &look.dependencies {
         for (name, _dependency) in section.table {
             if section.section.is_of_package() && inherits(section.table, name.as_str()) {
-                let message = String::from_str(alloc, words)?;
                 let rest = [At::Key(name.as_str())];
-                return out.key(NO_WORKSPACE, section.path.as_slice(), &rest, message);
+                return out.key(NO_WORKSPACE, section.path.as_slice(), &rest, &words);
             }
         }
     }
     if inherits(look.document, "lints") {
-        let message = String::from_str(alloc, words)?;
-        return out.key(NO_WORKSPACE, &[At::Key("lints")], &[], message);
+        return out.key(NO_WORKSPACE, &[At::Key("lints")], &[], &words);
     }
     Ok(())
 }
 
 /// The second place of what a workspace lacks: a table of the root.
-fn in_root(
-    look: &Look<'_>,
-    report: Report,
-    path: &[At<'_>],
-    words: &str,
-) -> Result<Report, AllocError> {
-    let spot = Spot::Path(steps(look.alloc, path, &[])?, Part::Header);
-    report.with_label(File::Root, spot, String::from_str(look.alloc, words)?)
+fn not_in_root(path: &[At<'_>], out: &mut Out) -> Result<(), AllocError> {
+    out.label(File::Root, Part::Header, path, &[], &["it is not here"])
 }
 
 fn fields(look: &Look<'_>, workspace: &Table, out: &mut Out) -> Result<(), AllocError> {
@@ -99,13 +88,16 @@ fn fields(look: &Look<'_>, workspace: &Table, out: &mut Out) -> Result<(), Alloc
         if shared.is_some_and(|shared| is_shared(shared, field)) {
             continue;
         }
-        let message = format!(in look.alloc;
-            "error inheriting `{field}` from workspace root manifest's `workspace.package.{field}`: it is not defined"
-        )?;
+        let words = [
+            "error inheriting `",
+            field,
+            "` from workspace root manifest's `workspace.package.",
+            field,
+            "`: it is not defined",
+        ];
         let path = [At::Key(look.package_key), At::Key(field)];
-        let report = Report::at(look.alloc, NOT_IN_WORKSPACE, Part::Key, &path, &[], message)?;
-        let root = [At::Key("workspace"), At::Key("package")];
-        out.tell(in_root(look, report, &root, "it is not here")?)?;
+        out.key(NOT_IN_WORKSPACE, &path, &[], &words)?;
+        not_in_root(&[At::Key("workspace"), At::Key("package")], out)?;
     }
     Ok(())
 }
@@ -151,7 +143,7 @@ fn dependencies(look: &Look<'_>, workspace: &Table, out: &mut Out) -> Result<(),
             let name = name.as_str();
             let base = section.path.as_slice();
             match shared.and_then(|shared| shared.get(name)) {
-                None => unknown_dependency(look, base, name, shared, out)?,
+                None => unknown_dependency(base, name, shared, out)?,
                 Some(shared) => default_features(look, base, name, dependency, shared, out)?,
             }
         }
@@ -159,43 +151,42 @@ fn dependencies(look: &Look<'_>, workspace: &Table, out: &mut Out) -> Result<(),
     Ok(())
 }
 
-fn unknown_dependency(
-    look: &Look<'_>,
+fn unknown_dependency<'a>(
     base: &[At<'_>],
-    name: &str,
-    shared: Option<&Table>,
+    name: &'a str,
+    shared: Option<&'a Table>,
     out: &mut Out,
 ) -> Result<(), AllocError> {
-    let alloc = look.alloc;
-    let message = format!(in alloc;
-        "`dependency.{name}` was not found in `workspace.dependencies`"
-    )?;
-    let report = Report::at(
-        alloc,
-        NOT_IN_WORKSPACE,
-        Part::Key,
-        base,
-        &[At::Key(name)],
-        message,
-    )?;
-    let root = [At::Key("workspace"), At::Key("dependencies")];
-    let report = in_root(look, report, &root, "it is not here")?;
-    let Some(shared) = shared else {
-        return out.tell(report);
+    let near = match shared {
+        Some(shared) => nearest_key(name, shared, out)?,
+        None => None,
     };
+    let rest = [At::Key(name)];
+    let words = [
+        "`dependency.",
+        name,
+        "` was not found in `workspace.dependencies`",
+    ];
+    out.key(NOT_IN_WORKSPACE, base, &rest, &words)?;
+    not_in_root(&[At::Key("workspace"), At::Key("dependencies")], out)?;
+    let Some(word) = near else {
+        return Ok(());
+    };
+    let help = ["a dependency with a similar name exists: `", word, "`"];
+    out.rename(base, &rest, word, false, &help)
+}
+
+/// The key of the table that is nearest to a name.
+fn nearest_key<'a>(
+    name: &'a str,
+    table: &'a Table,
+    out: &Out,
+) -> Result<Option<&'a str>, AllocError> {
     let mut nearest = out.nearest(name);
-    for (key, _dependency) in shared {
-        nearest.offer(alloc, key.as_str())?;
+    for (key, _value) in table {
+        nearest.offer(out.alloc, key.as_str())?;
     }
-    match nearest.found() {
-        Some(word) => {
-            let help = format!(in alloc; "a dependency with a similar name exists: `{word}`")?;
-            let at = steps(alloc, base, &[At::Key(name)])?;
-            let edit = Edit::Rename(at, String::from_str(alloc, word)?);
-            out.tell(report.with_fix(alloc, help, edit, false)?)
-        }
-        None => out.tell(report),
-    }
+    Ok(nearest.found())
 }
 
 /// The key by which a table says whether the default features are wanted.
@@ -208,6 +199,11 @@ fn default_features_key(table: &Table) -> Option<&'static str> {
     None
 }
 
+/// What a table says of the default features.
+fn default_features_of(table: &Table) -> Option<bool> {
+    flag_in(table, default_features_key(table)?)
+}
+
 /// `default-features = false` of a member counts for nothing where the workspace does not say false.
 fn default_features(
     look: &Look<'_>,
@@ -217,14 +213,10 @@ fn default_features(
     shared: &Value,
     out: &mut Out,
 ) -> Result<(), AllocError> {
-    let alloc = look.alloc;
     let shared = match shared.as_table() {
         Some(table) => {
             old_spelling_in_root(look, base, name, table, out)?;
-            match default_features_key(table) {
-                Some(key) => flag_in(table, key),
-                None => None,
-            }
+            default_features_of(table)
         }
         None => None,
     };
@@ -237,28 +229,29 @@ fn default_features(
     if flag_in(own, key) != Some(false) || shared == Some(false) {
         return Ok(());
     }
-    let message = format!(in alloc;
-        "`{key}` is ignored for {name}, since it is not false for `workspace.dependencies.{name}`, and this is refused in the 2024 edition"
-    )?;
+    ignored_default_features(base, name, key, out)
+}
+
+fn ignored_default_features(
+    base: &[At<'_>],
+    name: &str,
+    key: &'static str,
+    out: &mut Out,
+) -> Result<(), AllocError> {
     let rest = [At::Key(name), At::Key(key)];
-    let report = Report::at(
-        alloc,
-        IGNORED_DEFAULT_FEATURES,
-        Part::Key,
-        base,
-        &rest,
-        message,
-    )?;
+    let words = [
+        "`",
+        key,
+        "` is ignored for ",
+        name,
+        ", since it is not false for `workspace.dependencies.",
+        name,
+        "`, and this is refused in the 2024 edition",
+    ];
+    out.key(IGNORED_DEFAULT_FEATURES, base, &rest, &words)?;
     let root = [At::Key("workspace"), At::Key("dependencies"), At::Key(name)];
-    let spot = Spot::Path(steps(alloc, &root, &[])?, Part::Value);
-    let report = report.with_label(
-        File::Root,
-        spot,
-        String::from_str(alloc, "what is inherited")?,
-    )?;
-    let help = String::from_str(alloc, "remove it")?;
-    let edit = Edit::Remove(steps(alloc, base, &rest)?);
-    out.tell(report.with_fix(alloc, help, edit, true)?)
+    out.label(File::Root, Part::Value, &root, &[], &["what is inherited"])?;
+    out.remove(base, &rest, true, &["remove it"])
 }
 
 /// `default_features` of a dependency of the workspace, which a member inherits.
@@ -275,41 +268,27 @@ fn old_spelling_in_root(
     {
         return Ok(());
     }
-    let alloc = look.alloc;
-    let message = format!(in alloc;
-        "`default_features` of `workspace.dependencies.{name}` is deprecated in favor of `default-features`"
-    )?;
-    let report = Report::at(
-        alloc,
-        OLD_SPELLING,
-        Part::Key,
-        base,
-        &[At::Key(name)],
-        message,
-    )?;
-    let root = [
-        At::Key("workspace"),
-        At::Key("dependencies"),
-        At::Key(name),
-        At::Key("default_features"),
+    let words = [
+        "`default_features` of `workspace.dependencies.",
+        name,
+        "` is deprecated in favor of `default-features`",
     ];
-    let spot = Spot::Path(steps(alloc, &root, &[])?, Part::Key);
-    out.tell(report.with_label(File::Root, spot, String::from_str(alloc, "it stands here")?)?)
+    out.key(OLD_SPELLING, base, &[At::Key(name)], &words)?;
+    let root = [At::Key("workspace"), At::Key("dependencies"), At::Key(name)];
+    let rest = [At::Key("default_features")];
+    out.label(File::Root, Part::Key, &root, &rest, &["it stands here"])
 }
 
 fn lints(look: &Look<'_>, workspace: &Table, out: &mut Out) -> Result<(), AllocError> {
-    let alloc = look.alloc;
     let Some(own) = table_in(look.document, "lints") else {
         return Ok(());
     };
     if flag_in(own, "workspace") != Some(true) || workspace.contains_key("lints") {
         return Ok(());
     }
-    let message = String::from_str(
-        alloc,
+    let words = [
         "error inheriting `lints` from workspace root manifest's `workspace.lints`: it is not defined",
-    )?;
-    let path = [At::Key("lints")];
-    let report = Report::at(alloc, NOT_IN_WORKSPACE, Part::Key, &path, &[], message)?;
-    out.tell(in_root(look, report, &[At::Key("workspace")], "it is not here")?)
+    ];
+    out.key(NOT_IN_WORKSPACE, &[At::Key("lints")], &[], &words)?;
+    not_in_root(&[At::Key("workspace")], out)
 }

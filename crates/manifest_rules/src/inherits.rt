@@ -6,9 +6,8 @@ use crate::codes::{
 };
 use crate::look::{Look, table_in, text_in};
 use crate::profiles::is_profile_name;
-use crate::report::{At, Out, Part, Report, Spot, place_of, quoted, steps};
-use manifest_places::Edit;
-use std::alloc::{AllocError, Global};
+use crate::report::{At, File, Out, Part};
+use std::alloc::AllocError;
 use std::collections::BTreeSet;
 use toml::{Table, Value};
 
@@ -57,41 +56,39 @@ fn rules_of_parent<'a>(
     unknown_inherits(look, profiles, name, parent, out)
 }
 
-/// The place of `inherits` in a profile.
-fn inherits_place(alloc: Global, name: &str, part: Part) -> Result<Spot, AllocError> {
-    let path = [At::Key("profile"), At::Key(name), At::Key("inherits")];
-    place_of(alloc, &path, &[], part)
+/// The path of `inherits` in a profile.
+fn inherits_path(name: &str) -> [At<'_>; 3] {
+    [At::Key("profile"), At::Key(name), At::Key("inherits")]
 }
 
-/// The same with the suggestion to inherit from another profile.
-fn with_parent(
-    alloc: Global,
-    report: Report,
+/// The suggestion to inherit from another profile.
+fn inherit_from(
     name: &str,
     parent: &str,
     is_certain: bool,
-) -> Result<Report, AllocError> {
-    let path = [At::Key("profile"), At::Key(name), At::Key("inherits")];
-    let edit = Edit::Set(steps(alloc, &path, &[])?, quoted(alloc, parent)?);
-    let help = format!(in alloc; "inherit from `{parent}`")?;
-    report.with_fix(alloc, help, edit, is_certain)
+    out: &mut Out,
+) -> Result<(), AllocError> {
+    let help = ["inherit from `", parent, "`"];
+    out.set_text(&inherits_path(name), &[], parent, is_certain, &help)
 }
 
 fn inherits_debug(name: &str, out: &mut Out) -> Result<(), AllocError> {
-    let place = inherits_place(out.alloc, name, Part::Value)?;
-    let message = format!(in out.alloc;
-        "profile `{name}` inherits from `debug`, which is named `dev`"
-    )?;
-    let report = Report::new(out.alloc, INHERITS_DEBUG, place, message);
-    out.tell(with_parent(out.alloc, report, name, "dev", true)?)
+    let words = [
+        "profile `",
+        name,
+        "` inherits from `debug`, which is named `dev`",
+    ];
+    out.value(INHERITS_DEBUG, &inherits_path(name), &[], &words)?;
+    inherit_from(name, "dev", true, out)
 }
 
 fn inherits_of_built_in(name: &str, out: &mut Out) -> Result<(), AllocError> {
-    let place = inherits_place(out.alloc, name, Part::Key)?;
-    let message = format!(in out.alloc;
-        "`inherits` must not be specified in root profile `{name}`"
-    )?;
-    out.tell(Report::new(out.alloc, INHERITS_OF_BUILT_IN, place, message))
+    let words = [
+        "`inherits` must not be specified in root profile `",
+        name,
+        "`",
+    ];
+    out.key(INHERITS_OF_BUILT_IN, &inherits_path(name), &[], &words)
 }
 
 /// The profile of this name in the configuration.
@@ -115,17 +112,11 @@ fn missing_inherits(
         return Ok(());
     }
     let path = [At::Key("profile"), At::Key(name)];
-    let place = place_of(out.alloc, &path, &[], Part::Header)?;
-    let message = format!(in out.alloc; "profile `{name}` is missing `inherits`")?;
-    let report = Report::new(out.alloc, MISSING_INHERITS, place, message).with_note_str(
-        "each profile but those of Cargo itself inherits from another one",
-    )?;
-    let edit = Edit::Insert(
-        steps(out.alloc, &path, &[At::Key("inherits")])?,
-        quoted(out.alloc, "release")?,
-    );
-    let help = String::from_str(out.alloc, "inherit from `release`")?;
-    out.tell(report.with_fix(out.alloc, help, edit, false)?)
+    let words = ["profile `", name, "` is missing `inherits`"];
+    out.header(MISSING_INHERITS, &path, &[], &words)?;
+    out.note(&["each profile but those of Cargo itself inherits from another one"])?;
+    let help = ["inherit from `release`"];
+    out.insert_text(&path, &[At::Key("inherits")], "release", false, &help)
 }
 
 fn unknown_inherits<'a>(
@@ -139,6 +130,28 @@ fn unknown_inherits<'a>(
     if is_known || configured(look, parent).is_some() {
         return Ok(());
     }
+    let near = nearest_profile(profiles, name, parent, out)?;
+    let words = [
+        "profile `",
+        name,
+        "` inherits from `",
+        parent,
+        "`, but that profile is not defined",
+    ];
+    out.value(UNKNOWN_INHERITS, &inherits_path(name), &[], &words)?;
+    match near {
+        Some(near) => inherit_from(name, near, false, out),
+        None => Ok(()),
+    }
+}
+
+/// The profile whose name is nearest to that from which a profile inherits.
+fn nearest_profile<'a>(
+    profiles: &'a Table,
+    name: &str,
+    parent: &'a str,
+    out: &Out,
+) -> Result<Option<&'a str>, AllocError> {
     let mut nearest = out.nearest(parent);
     for other in BUILT_IN {
         nearest.offer(out.alloc, other)?;
@@ -148,15 +161,7 @@ fn unknown_inherits<'a>(
             nearest.offer(out.alloc, other.as_str())?;
         }
     }
-    let place = inherits_place(out.alloc, name, Part::Value)?;
-    let message = format!(in out.alloc;
-        "profile `{name}` inherits from `{parent}`, but that profile is not defined"
-    )?;
-    let report = Report::new(out.alloc, UNKNOWN_INHERITS, place, message);
-    match nearest.found() {
-        Some(near) => out.tell(with_parent(out.alloc, report, name, near, false)?),
-        None => out.tell(report),
-    }
+    Ok(nearest.found())
 }
 
 /// The profile from which another one inherits, where that is written here.
@@ -171,27 +176,37 @@ fn parent_of<'a>(profiles: &'a Table, name: &str) -> Option<&'a str> {
 fn circular_inherits(profiles: &Table, out: &mut Out) -> Result<(), AllocError> {
     let mut done = BTreeSet::new(out.alloc);
     for (start, _profile) in profiles {
-        let mut way = BTreeSet::new(out.alloc);
-        let mut name = start.as_str();
-        for _step in 0..=profiles.len() {
-            if done.contains(&name) {
-                break;
-            }
-            way.insert(name)?;
-            let Some(parent) = parent_of(profiles, name) else {
-                break;
-            };
-            if way.contains(&parent) {
-                all_of_circle(profiles, parent, out)?;
-                break;
-            }
-            name = parent;
-        }
-        for seen in way {
+        for seen in way_from(profiles, start.as_str(), &done, out)? {
             done.insert(seen)?;
         }
     }
     Ok(())
+}
+
+/// The profiles from which one inherits, and itself, up to one that was looked at; a circle to which they lead is reported.
+fn way_from<'a>(
+    profiles: &'a Table,
+    start: &'a str,
+    done: &BTreeSet<&'a str>,
+    out: &mut Out,
+) -> Result<BTreeSet<&'a str>, AllocError> {
+    let mut way = BTreeSet::new(out.alloc);
+    let mut name = start;
+    for _step in 0..=profiles.len() {
+        if done.contains(&name) {
+            break;
+        }
+        way.insert(name)?;
+        let Some(parent) = parent_of(profiles, name) else {
+            break;
+        };
+        if way.contains(&parent) {
+            all_of_circle(profiles, parent, out)?;
+            break;
+        }
+        name = parent;
+    }
+    Ok(way)
 }
 
 /// Reports each profile of the circle to which this one belongs.
@@ -210,15 +225,26 @@ fn all_of_circle(profiles: &Table, first: &str, out: &mut Out) -> Result<(), All
     Ok(())
 }
 
-fn circle(name: &str, parent: &str, out: &mut Out) -> Result<(), AllocError> {
-    let place = inherits_place(out.alloc, name, Part::Value)?;
-    let message = format!(in out.alloc;
-        "profile inheritance loop: `{name}` inherits from `{parent}`, which inherits from `{name}`"
-    )?;
-    let report = Report::new(out.alloc, CIRCULAR_INHERITS, place, message);
+fn circle<'a>(name: &'a str, parent: &'a str, out: &mut Out) -> Result<(), AllocError> {
+    let words = [
+        "profile inheritance loop: `",
+        name,
+        "` inherits from `",
+        parent,
+        "`, which inherits from `",
+        name,
+        "`",
+    ];
+    out.value(CIRCULAR_INHERITS, &inherits_path(name), &[], &words)?;
     if name == parent {
-        return out.tell(report);
+        return Ok(());
     }
-    let other = inherits_place(out.alloc, parent, Part::Value)?;
-    out.tell(report.with_label_str(other, "the loop goes on here")?)
+    let other = inherits_path(parent);
+    out.label(
+        File::Own,
+        Part::Value,
+        &other,
+        &[],
+        &["the loop goes on here"],
+    )
 }

@@ -1,9 +1,8 @@
 //! Keys that Cargo reads and the schema does not know: of which kind their values are, and which keys these have.
 
-use crate::codes::{MISSPELLED_KEY, UNKNOWN_KEY, WRONG_KIND};
+use crate::codes::{Code, MISSPELLED_KEY, UNKNOWN_KEY, WRONG_KIND};
 use crate::look::{Look, table_in};
-use crate::report::{At, Out, Part, Report, steps};
-use manifest_places::Edit;
+use crate::report::{At, Out};
 use std::alloc::AllocError;
 use toml::{Table, Value};
 
@@ -12,28 +11,143 @@ pub(crate) fn keys(look: &Look<'_>, out: &mut Out) -> Result<(), AllocError> {
     hints(look, out)?;
     replacements(look, out)?;
     for target in &look.targets {
-        let key = "doc-scrape-examples";
-        match target.table.get(key) {
-            Some(value) if !value.is_bool() => {
-                wrong_kind(target.path.as_slice(), key, "a boolean", value, out)?
-            }
-            _ => {}
+        kinds(target.path.as_slice(), None, target.table, &OF_TARGETS, out)?;
+    }
+    keys_of_dependencies(look, out)?;
+    project(look, out)?;
+    badges(look, out)
+}
+
+/// Of which kind the value of a key is.
+#[derive(Clone, Copy)]
+enum Wanted {
+    Flag,
+    Text,
+    /// A text, or a list of texts.
+    Texts,
+}
+
+static OF_TARGETS: [(&str, Wanted); 2] = [
+    ("doc-scrape-examples", Wanted::Flag),
+    ("filename", Wanted::Text),
+];
+
+static OF_DEPENDENCIES: [(&str, Wanted); 5] = [
+    ("artifact", Wanted::Texts),
+    ("base", Wanted::Text),
+    ("lib", Wanted::Flag),
+    ("public", Wanted::Flag),
+    ("target", Wanted::Text),
+];
+
+/// Of a dependency that is inherited Cargo reads no other one of them.
+static OF_INHERITED: [(&str, Wanted); 1] = [("public", Wanted::Flag)];
+
+impl Wanted {
+    fn fits(self, value: &Value) -> bool {
+        match (self, value) {
+            (Wanted::Flag, Value::Boolean(_)) => true,
+            (Wanted::Text | Wanted::Texts, Value::String(_)) => true,
+            (Wanted::Texts, Value::Array(items)) => items.iter().all(|item| item.is_str()),
+            _ => false,
         }
     }
-    badges_of_workspace(look, out)
+
+    fn name(self) -> &'static str {
+        match self {
+            Wanted::Flag => "a boolean",
+            Wanted::Text => "a string",
+            Wanted::Texts => "a string or a list of strings",
+        }
+    }
+}
+
+/// The values of these keys are of their kinds, in the table at a path, or below it in that of a name.
+fn kinds(
+    base: &[At<'_>],
+    name: Option<&str>,
+    table: &Table,
+    keys: &[(&'static str, Wanted)],
+    out: &mut Out,
+) -> Result<(), AllocError> {
+    for (key, wanted) in keys {
+        let key = *key;
+        let Some(value) = table.get(key) else {
+            continue;
+        };
+        if wanted.fits(value) {
+            continue;
+        }
+        match name {
+            Some(name) => {
+                let rest = [At::Key(name), At::Key(key)];
+                wrong_kind_at(base, &rest, key, wanted.name(), value, out)?;
+            }
+            None => wrong_kind(base, key, wanted.name(), value, out)?,
+        }
+    }
+    Ok(())
+}
+
+fn keys_of_dependencies(look: &Look<'_>, out: &mut Out) -> Result<(), AllocError> {
+    for section in &look.dependencies {
+        let may_inherit = section.section.is_of_package();
+        for (name, dependency) in section.table {
+            let Value::Table(table) = dependency else {
+                continue;
+            };
+            let keys: &[(&str, Wanted)] = if may_inherit && table.contains_key("workspace") {
+                &OF_INHERITED
+            } else {
+                &OF_DEPENDENCIES
+            };
+            kinds(
+                section.path.as_slice(),
+                Some(name.as_str()),
+                table,
+                keys,
+                out,
+            )?;
+        }
+    }
+    Ok(())
+}
+
+/// What kind of value it is.
+pub(crate) fn kind_of(value: &Value) -> &str {
+    value.type_str()
 }
 
 /// Says that the value of a key is of another kind than Cargo reads there.
-fn wrong_kind(
+pub(crate) fn wrong_kind<'a>(
     base: &[At<'_>],
-    key: &str,
-    wanted: &str,
-    value: &Value,
+    key: &'a str,
+    wanted: &'a str,
+    value: &'a Value,
     out: &mut Out,
 ) -> Result<(), AllocError> {
-    let kind = value.type_str();
-    let message = format!(in out.alloc; "invalid type: {kind}, expected {wanted} for `{key}`")?;
-    out.value(WRONG_KIND, base, &[At::Key(key)], message)
+    wrong_kind_at(base, &[At::Key(key)], key, wanted, value, out)
+}
+
+/// The same for a key to which all these steps lead.
+pub(crate) fn wrong_kind_at<'a>(
+    base: &[At<'_>],
+    rest: &[At<'_>],
+    key: &'a str,
+    wanted: &'a str,
+    value: &'a Value,
+    out: &mut Out,
+) -> Result<(), AllocError> {
+    let words = [
+        "invalid type: ",
+        kind_of(value),
+        ", expected ",
+        wanted,
+        " for `",
+        key,
+        "`",
+    ];
+    out.value(WRONG_KIND, base, rest, &words)
 }
 
 /// Says of each key of a table that it is none of these, and which of them it may be meant for.
@@ -59,31 +173,28 @@ fn unknown_key(
     known: &[&'static str],
     out: &mut Out,
 ) -> Result<(), AllocError> {
-    let alloc = out.alloc;
-    let mut nearest = out.nearest(key);
-    for other in known {
-        nearest.offer(alloc, *other)?;
+    let Some(word) = out.nearest_of(key, known)? else {
+        return unused_key(UNKNOWN_KEY, base, key, out);
+    };
+    unused_key(MISSPELLED_KEY, base, key, out)?;
+    let help = ["a key with a similar name exists: `", word, "`"];
+    if table.contains_key(word) {
+        return out.help(&help);
     }
-    let mut name = String::new(alloc);
+    out.rename(base, &[At::Key(key)], word, false, &help)
+}
+
+/// Says that nothing reads this key, whose whole name has those above it.
+fn unused_key(code: Code, base: &[At<'_>], key: &str, out: &mut Out) -> Result<(), AllocError> {
+    let mut above = String::new(out.alloc);
     for at in base {
         if let At::Key(step) = at {
-            name.push_str(step)?;
-            name.push_str(".")?;
+            above.push_str(step)?;
+            above.push_str(".")?;
         }
     }
-    name.push_str(key)?;
-    let message = format!(in alloc; "unused manifest key: {name}")?;
-    let rest = [At::Key(key)];
-    let Some(word) = nearest.found() else {
-        return out.key(UNKNOWN_KEY, base, &rest, message);
-    };
-    let report = Report::at(alloc, MISSPELLED_KEY, Part::Key, base, &rest, message)?;
-    let help = format!(in alloc; "a key with a similar name exists: `{word}`")?;
-    if table.contains_key(word) {
-        return out.tell(report.with_help(alloc, help)?);
-    }
-    let edit = Edit::Rename(steps(alloc, base, &rest)?, String::from_str(alloc, word)?);
-    out.tell(report.with_fix(alloc, help, edit, false)?)
+    let words = ["unused manifest key: ", above.as_str(), key];
+    out.key(code, base, &[At::Key(key)], &words)
 }
 
 /// `[hints]`, which Cargo reads since 1.90.
@@ -106,8 +217,34 @@ fn replacements(look: &Look<'_>, out: &mut Out) -> Result<(), AllocError> {
     }
 }
 
-/// The badges of `workspace.package` are tables of texts.
-fn badges_of_workspace(look: &Look<'_>, out: &mut Out) -> Result<(), AllocError> {
+/// `[project]` is a table, also where there is a package.
+fn project(look: &Look<'_>, out: &mut Out) -> Result<(), AllocError> {
+    match look.document.get("project") {
+        Some(value) if !value.is_table() && look.document.contains_key("package") => {
+            wrong_kind(&[], "project", "a table", value, out)
+        }
+        _ => Ok(()),
+    }
+}
+
+/// The badges that the schema knows: it says of which kind they are.
+static KNOWN_BADGES: [&str; 9] = [
+    "appveyor",
+    "circle-ci",
+    "gitlab",
+    "travis-ci",
+    "codecov",
+    "coveralls",
+    "is-it-maintained-issue-resolution",
+    "is-it-maintained-open-issues",
+    "maintenance",
+];
+
+/// The badges of a package, and those of `workspace.package`, are tables of texts.
+fn badges(look: &Look<'_>, out: &mut Out) -> Result<(), AllocError> {
+    if let Some(badges) = table_in(look.document, "badges") {
+        rules_of_badges(&[], badges, &KNOWN_BADGES, out)?;
+    }
     let Some(workspace) = look.workspace else {
         return Ok(());
     };
@@ -115,38 +252,44 @@ fn badges_of_workspace(look: &Look<'_>, out: &mut Out) -> Result<(), AllocError>
         return Ok(());
     };
     let base = [At::Key("workspace"), At::Key("package")];
-    let badges = match package.get("badges") {
-        Some(Value::Table(badges)) => badges,
-        Some(value) => return wrong_kind(&base, "badges", "a table", value, out),
-        None => return Ok(()),
-    };
+    match package.get("badges") {
+        Some(Value::Table(badges)) => rules_of_badges(&base, badges, &[], out),
+        Some(value) => wrong_kind(&base, "badges", "a table", value, out),
+        None => Ok(()),
+    }
+}
+
+/// Each of these badges, but for those that are known, is a table of texts.
+fn rules_of_badges(
+    base: &[At<'_>],
+    badges: &Table,
+    known: &[&str],
+    out: &mut Out,
+) -> Result<(), AllocError> {
     for (name, badge) in badges {
         let name = name.as_str();
-        let path = [
-            At::Key("workspace"),
-            At::Key("package"),
-            At::Key("badges"),
-            At::Key(name),
-        ];
-        match badge {
-            Value::Table(attributes) => texts_alone(&path, attributes, out)?,
-            other => {
-                let kind = other.type_str();
-                let message = format!(in out.alloc;
-                    "invalid type: {kind}, expected a table for `{name}`"
-                )?;
-                out.value(WRONG_KIND, &path, &[], message)?
-            }
+        if !known.iter().any(|known| *known == name) {
+            rules_of_badge(base, name, badge, out)?;
         }
     }
     Ok(())
 }
 
-/// Each value of the table is a text.
-fn texts_alone(base: &[At<'_>], table: &Table, out: &mut Out) -> Result<(), AllocError> {
-    for (key, value) in table {
+fn rules_of_badge<'a>(
+    base: &[At<'_>],
+    name: &'a str,
+    badge: &'a Value,
+    out: &mut Out,
+) -> Result<(), AllocError> {
+    let Value::Table(attributes) = badge else {
+        let rest = [At::Key("badges"), At::Key(name)];
+        return wrong_kind_at(base, &rest, name, "a table", badge, out);
+    };
+    for (key, value) in attributes {
         if !value.is_str() {
-            wrong_kind(base, key.as_str(), "a string", value, out)?;
+            let key = key.as_str();
+            let rest = [At::Key("badges"), At::Key(name), At::Key(key)];
+            wrong_kind_at(base, &rest, key, "a string", value, out)?;
         }
     }
     Ok(())

@@ -57,7 +57,9 @@ use crate::targets::targets;
 use crate::workspace::workspace;
 pub use asked::{asked_folders, asked_packages};
 pub use codes::{ALL, Code, Level, Needs, code_named};
-pub use look::{Edition, Folders, Member, PathPackage, Root, Surroundings, edition_in, member_of};
+pub use look::{
+    Edition, Folders, Member, PathPackage, Root, Surroundings, edition_in, member_of, unread_member,
+};
 pub use report::{At, File, Label, Part, Report, Spot, Suggestion, copied, copied_edits};
 use std::alloc::{AllocError, Global};
 use toml::Table;
@@ -72,26 +74,30 @@ pub fn judged(
 ) -> Result<Vec<Report>, AllocError> {
     let look = Look::new(alloc, text, document, around)?;
     let mut out = Out::new(alloc, look.edition);
-    crate::text::text(&look, &mut out)?;
-    spellings(&look, &mut out)?;
-    keys(&look, &mut out)?;
-    package(&look, &mut out)?;
-    targets(&look, &mut out)?;
-    target_files(&look, &mut out)?;
-    dependencies(&look, &mut out)?;
-    sources(&look, &mut out)?;
-    platforms(&look, &mut out)?;
-    features(&look, &mut out)?;
-    profiles(&look, &mut out)?;
-    inherited_profiles(&look, &mut out)?;
-    lints(&look, &mut out)?;
-    replace(&look, &mut out)?;
-    inherited(&look, &mut out)?;
-    sources_around(&look, &mut out)?;
-    workspace(&look, &mut out)?;
-    newer(&look, &mut out)?;
-    settings(&look, &mut out)?;
-    publishing(&look, &mut out)?;
+    all_rules(&look, &mut out)?;
     drop(look);
     Ok(out.reports)
+}
+
+fn all_rules(look: &Look<'_>, out: &mut Out) -> Result<(), AllocError> {
+    crate::text::text(look, out)?;
+    spellings(look, out)?;
+    keys(look, out)?;
+    package(look, out)?;
+    targets(look, out)?;
+    target_files(look, out)?;
+    dependencies(look, out)?;
+    sources(look, out)?;
+    platforms(look, out)?;
+    features(look, out)?;
+    profiles(look, out)?;
+    inherited_profiles(look, out)?;
+    lints(look, out)?;
+    replace(look, out)?;
+    inherited(look, out)?;
+    sources_around(look, out)?;
+    workspace(look, out)?;
+    newer(look, out)?;
+    settings(look, out)?;
+    publishing(look, out)
 }

@@ -6,13 +6,12 @@ use crate::codes::{
     UNSTABLE_LINT_TOOL,
 };
 use crate::look::{Look, flag_in, items_in, table_in, text_in};
-use crate::report::{At, Out, Part, Report, place_of, quoted, steps};
-use manifest_places::Edit;
+use crate::report::{At, File, Out, Part, quoted};
 use std::alloc::AllocError;
 use toml::{Table, Value};
 
 /// The tools whose lints Cargo knows.
-const TOOLS: [&str; 4] = ["cargo", "clippy", "rust", "rustdoc"];
+static TOOLS: [&str; 4] = ["cargo", "clippy", "rust", "rustdoc"];
 
 fn is_known(tool: &str) -> bool {
     matches!(tool, "cargo" | "clippy" | "rust" | "rustdoc")
@@ -87,37 +86,25 @@ fn rules_of_tool(of: &Tool<'_>, out: &mut Out) -> Result<(), AllocError> {
 }
 
 fn lints_beside_workspace(of: &Tool<'_>, out: &mut Out) -> Result<(), AllocError> {
-    let tool = of.tool;
-    let place = place_of(out.alloc, of.base, &[At::Key(tool)], Part::Key)?;
-    let message = format!(in out.alloc; "lints of `{tool}` stand next to `workspace = true`")?;
-    let other = place_of(out.alloc, of.base, &[At::Key("workspace")], Part::Key)?;
-    let report = Report::new(out.alloc, LINTS_BESIDE_WORKSPACE, place, message)
-        .with_label_str(other, "all lints are inherited here")?
-        .with_note_str("a package inherits the lints of its workspace or has its own, not both")?;
-    out.tell(report)
+    let words = ["lints of `", of.tool, "` stand next to `workspace = true`"];
+    out.key(LINTS_BESIDE_WORKSPACE, of.base, &[At::Key(of.tool)], &words)?;
+    let other = [At::Key("workspace")];
+    let label = ["all lints are inherited here"];
+    out.label(File::Own, Part::Key, of.base, &other, &label)?;
+    out.note(&["a package inherits the lints of its workspace or has its own, not both"])
 }
 
 fn unknown_lint_tool(of: &Tool<'_>, out: &mut Out) -> Result<(), AllocError> {
-    let tool = of.tool;
-    let place = place_of(out.alloc, of.base, &[At::Key(tool)], Part::Key)?;
-    let message = format!(in out.alloc; "unrecognized lint tool `{tool}`")?;
-    let report = Report::new(out.alloc, UNKNOWN_LINT_TOOL, place, message).with_note_str(
-        "the tools are `cargo`, `clippy`, `rust` and `rustdoc`",
-    )?;
-    let mut nearest = out.nearest(tool);
-    for other in TOOLS {
-        nearest.offer(out.alloc, other)?;
-    }
-    match nearest.found() {
+    let rest = [At::Key(of.tool)];
+    let near = out.nearest_of(of.tool, &TOOLS)?;
+    let words = ["unrecognized lint tool `", of.tool, "`"];
+    out.key(UNKNOWN_LINT_TOOL, of.base, &rest, &words)?;
+    out.note(&["the tools are `cargo`, `clippy`, `rust` and `rustdoc`"])?;
+    match near {
         Some(near) if !of.tools.contains_key(near) => {
-            let edit = Edit::Rename(
-                steps(out.alloc, of.base, &[At::Key(tool)])?,
-                String::from_str(out.alloc, near)?,
-            );
-            let help = format!(in out.alloc; "write `{near}`")?;
-            out.tell(report.with_fix(out.alloc, help, edit, false)?)
+            out.rename(of.base, &rest, near, false, &["write `", near, "`"])
         }
-        _ => out.tell(report),
+        _ => Ok(()),
     }
 }
 
@@ -125,44 +112,36 @@ fn unstable_lint_tool(of: &Tool<'_>, out: &mut Out) -> Result<(), AllocError> {
     if of.tool != "cargo" {
         return Ok(());
     }
-    let place = place_of(out.alloc, of.base, &[At::Key("cargo")], Part::Key)?;
-    let message = String::from_str(out.alloc, "lints of `cargo` are unstable")?;
-    let note = "Cargo 1.95 ignores them; a nightly Cargo takes them with `-Z cargo-lints`";
-    out.with_note(UNSTABLE_LINT_TOOL, place, message, note)
+    let words = ["lints of `cargo` are unstable"];
+    out.key(UNSTABLE_LINT_TOOL, of.base, &[At::Key("cargo")], &words)?;
+    out.note(&["Cargo 1.95 ignores them; a nightly Cargo takes them with `-Z cargo-lints`"])
 }
 
 /// The name of a lint has no tool before it: the key above it is the tool.
-fn tool_in_lint_name(of: &Tool<'_>, lint: &str, out: &mut Out) -> Result<(), AllocError> {
+fn tool_in_lint_name<'a>(of: &Tool<'a>, lint: &'a str, out: &mut Out) -> Result<(), AllocError> {
     match lint.split_once("::") {
         Some((front, bare)) => tool_in_front(of, lint, front, bare, out),
         None => Ok(()),
     }
 }
 
-fn tool_in_front(
-    of: &Tool<'_>,
-    lint: &str,
-    front: &str,
-    bare: &str,
+fn tool_in_front<'a>(
+    of: &Tool<'a>,
+    lint: &'a str,
+    front: &'a str,
+    bare: &'a str,
     out: &mut Out,
 ) -> Result<(), AllocError> {
     let rest = [At::Key(of.tool), At::Key(lint)];
-    let place = place_of(out.alloc, of.base, &rest, Part::Key)?;
-    let message = format!(in out.alloc; "`{lint}` is no valid name of a lint of `{}`", of.tool)?;
-    let report = Report::new(out.alloc, TOOL_IN_LINT_NAME, place, message);
+    let words = ["`", lint, "` is no valid name of a lint of `", of.tool, "`"];
+    out.key(TOOL_IN_LINT_NAME, of.base, &rest, &words)?;
     if front == of.tool {
-        let edit = Edit::Rename(
-            steps(out.alloc, of.base, &rest)?,
-            String::from_str(out.alloc, bare)?,
-        );
-        let help = format!(in out.alloc; "write `{bare}`")?;
-        return out.tell(report.with_fix(out.alloc, help, edit, false)?);
+        return out.rename(of.base, &rest, bare, false, &["write `", bare, "`"]);
     }
     if of.tool != "rust" || !is_known(front) {
-        return out.tell(report);
+        return Ok(());
     }
-    let help = format!(in out.alloc; "write it as `{bare}` among the lints of `{front}`")?;
-    out.tell(report.with_help(out.alloc, help)?)
+    out.help(&["write it as `", bare, "` among the lints of `", front, "`"])
 }
 
 /// `check-cfg` of a lint. (Of the keys that nothing reads the schema tells.)
@@ -194,8 +173,8 @@ fn items_of_check_cfg<'a>(
                 At::Key("check-cfg"),
                 At::Index(index),
             ];
-            let message = String::from_str(out.alloc, "an item of `check-cfg` must be a string")?;
-            out.value(INVALID_CHECK_CFG, of.base, &rest, message)?;
+            let words = ["an item of `check-cfg` must be a string"];
+            out.value(INVALID_CHECK_CFG, of.base, &rest, &words)?;
         }
     }
     Ok(())
@@ -216,15 +195,12 @@ fn check_cfg_without_list<'a>(
         return Ok(());
     }
     let rest = [At::Key(of.tool), At::Key(lint), At::Key("check-cfg")];
-    let message = String::from_str(out.alloc, "`check-cfg` must be a list of strings")?;
-    let place = place_of(out.alloc, of.base, &rest, Part::Value)?;
-    let report = Report::new(out.alloc, INVALID_CHECK_CFG, place, message);
+    let words = ["`check-cfg` must be a list of strings"];
+    out.value(INVALID_CHECK_CFG, of.base, &rest, &words)?;
     let Some(text) = text_in(detail, "check-cfg") else {
-        return out.tell(report);
+        return Ok(());
     };
     let text = quoted(out.alloc, text)?;
-    let list = format!(in out.alloc; "[{text}]")?;
-    let edit = Edit::Set(steps(out.alloc, of.base, &rest)?, list);
-    let help = String::from_str(out.alloc, "write a list of it")?;
-    out.tell(report.with_fix(out.alloc, help, edit, true)?)
+    let list = ["[", text.as_str(), "]"];
+    out.set(of.base, &rest, &list, true, &["write a list of it"])
 }

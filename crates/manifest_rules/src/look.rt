@@ -54,8 +54,8 @@ pub struct Folders {
 pub struct Member {
     /// The path of its folder from that of the root.
     pub path: String,
-    /// The index of the pattern in `workspace.members` that leads to it; `None` where a `path` dependency does.
-    pub pattern: Option<usize>,
+    /// The indexes of the patterns in `workspace.members` that lead to it; none where a `path` dependency does.
+    pub patterns: Vec<usize>,
     /// Whether its folder has a `Cargo.toml`, as each folder has to that a pattern fits.
     pub has_manifest: bool,
     /// Its name, where it has one.
@@ -111,7 +111,7 @@ impl Surroundings<'static> {
 }
 
 /// Where a table of dependencies stands.
-#[derive(Clone, Copy, Debug, PartialEq, Eq)]
+#[derive(Clone, Copy, PartialEq, Eq)]
 pub(crate) enum Section {
     Normal,
     Dev,
@@ -144,7 +144,7 @@ impl DependencyTable<'_> {
 }
 
 /// A kind of target.
-#[derive(Clone, Copy, Debug, PartialEq, Eq)]
+#[derive(Clone, Copy, PartialEq, Eq)]
 pub(crate) enum Kind {
     Lib,
     Bin,
@@ -285,12 +285,21 @@ fn dependency_tables<'a>(
     document: &'a Table,
 ) -> Result<Vec<DependencyTable<'a>>, AllocError> {
     let mut all = Vec::new(alloc);
-    push_sections(alloc, &[], document, &mut all)?;
+    push_dependency_tables(alloc, document, &mut all)?;
+    Ok(all)
+}
+
+fn push_dependency_tables<'a>(
+    alloc: Global,
+    document: &'a Table,
+    all: &mut Vec<DependencyTable<'a>>,
+) -> Result<(), AllocError> {
+    push_sections(alloc, &[], document, all)?;
     if let Some(platforms) = table_in(document, "target") {
         for (name, platform) in platforms {
             if let Value::Table(inner) = platform {
                 let base = [At::Key("target"), At::Key(name.as_str())];
-                push_sections(alloc, &base, inner, &mut all)?;
+                push_sections(alloc, &base, inner, all)?;
             }
         }
     }
@@ -302,24 +311,16 @@ fn dependency_tables<'a>(
             &base,
             "dependencies",
             workspace,
-            &mut all,
+            all,
         )?;
     }
     if let Some(patches) = table_in(document, "patch") {
         for (name, _patch) in patches {
             let base = [At::Key("patch")];
-            push_section(
-                alloc,
-                Section::Patch,
-                &base,
-                name.as_str(),
-                patches,
-                &mut all,
-            )?;
+            push_section(alloc, Section::Patch, &base, name.as_str(), patches, all)?;
         }
     }
-    push_section(alloc, Section::Replace, &[], "replace", document, &mut all)?;
-    Ok(all)
+    push_section(alloc, Section::Replace, &[], "replace", document, all)
 }
 
 fn push_targets<'a>(
@@ -347,6 +348,18 @@ fn declared_targets<'a>(
     document: &'a Table,
 ) -> Result<Vec<DeclaredTarget<'a>>, AllocError> {
     let mut all = Vec::new(alloc);
+    push_library(alloc, document, &mut all)?;
+    for kind in [Kind::Bin, Kind::Example, Kind::Test, Kind::Bench] {
+        push_targets(alloc, kind, document, &mut all)?;
+    }
+    Ok(all)
+}
+
+fn push_library<'a>(
+    alloc: Global,
+    document: &'a Table,
+    all: &mut Vec<DeclaredTarget<'a>>,
+) -> Result<(), AllocError> {
     if let Some(table) = table_in(document, "lib") {
         let mut path = Vec::new(alloc);
         path.push(At::Key("lib"))?;
@@ -356,11 +369,7 @@ fn declared_targets<'a>(
             table,
         })?;
     }
-    push_targets(alloc, Kind::Bin, document, &mut all)?;
-    push_targets(alloc, Kind::Example, document, &mut all)?;
-    push_targets(alloc, Kind::Test, document, &mut all)?;
-    push_targets(alloc, Kind::Bench, document, &mut all)?;
-    Ok(all)
+    Ok(())
 }
 
 /// The workspace of the root, where there is one.
@@ -426,7 +435,7 @@ impl<'a> Look<'a> {
 pub fn member_of(
     alloc: Global,
     path: &str,
-    pattern: Option<usize>,
+    patterns: &[usize],
     document: &Table,
     root: Root<'_>,
 ) -> Result<Member, AllocError> {
@@ -437,12 +446,30 @@ pub fn member_of(
     };
     Ok(Member {
         path: String::from_str(alloc, path)?,
-        pattern,
+        patterns: Vec::from_slice(alloc, patterns)?,
         has_manifest: true,
         name,
         edition: edition_of(package, root),
         is_root: document.contains_key("workspace"),
         inherited: inherited_names(alloc, document)?,
+    })
+}
+
+/// A member whose manifest cannot be read, or is not there.
+pub fn unread_member(
+    alloc: Global,
+    path: &str,
+    patterns: &[usize],
+    has_manifest: bool,
+) -> Result<Member, AllocError> {
+    Ok(Member {
+        path: String::from_str(alloc, path)?,
+        patterns: Vec::from_slice(alloc, patterns)?,
+        has_manifest,
+        name: None,
+        edition: Edition::E2015,
+        is_root: false,
+        inherited: Vec::new(alloc),
     })
 }
 

@@ -6,7 +6,7 @@ use crate::codes::NEWER_THAN_RUST_VERSION;
 use crate::look::{Look, items_in, table_in, text_in};
 use crate::package::rust_version_numbers;
 use crate::platforms::expression;
-use crate::report::{At, Out};
+use crate::report::{At, Out, Part};
 use std::alloc::{AllocError, Global};
 use toml::{Table, Value};
 
@@ -21,20 +21,9 @@ pub(crate) fn newer(look: &Look<'_>, out: &mut Out) -> Result<(), AllocError> {
     let Some((1, minor)) = rust_version_numbers(text) else {
         return Ok(());
     };
-    let base = [At::Key(look.package_key)];
-    key(look, minor, 83, package, &base, "autolib", out)?;
-    resolver(look, minor, package, &base, out)?;
-    if !package.contains_key("version") {
-        missing_version(look, minor, &base, out)?;
-    }
-    key(look, minor, 74, look.document, &[], "lints", out)?;
+    newer_in_package(look, minor, package, out)?;
     if let Some(workspace) = look.workspace {
-        let base = [At::Key("workspace")];
-        key(look, minor, 64, workspace, &base, "package", out)?;
-        key(look, minor, 64, workspace, &base, "dependencies", out)?;
-        key(look, minor, 74, workspace, &base, "lints", out)?;
-        key(look, minor, 46, workspace, &base, "metadata", out)?;
-        resolver(look, minor, workspace, &base, out)?;
+        newer_in_workspace(minor, workspace, out)?;
     }
     newer_profiles(look, minor, out)?;
     newer_features(look, minor, out)?;
@@ -42,69 +31,73 @@ pub(crate) fn newer(look: &Look<'_>, out: &mut Out) -> Result<(), AllocError> {
     newer_names(look, minor, out)
 }
 
-/// Says that this, which stands at the path, is newer, where it is.
-fn say(
+fn newer_in_package(
     look: &Look<'_>,
     minor: u64,
+    package: &Table,
+    out: &mut Out,
+) -> Result<(), AllocError> {
+    let base = [At::Key(look.package_key)];
+    key(minor, 83, package, &base, "autolib", out)?;
+    resolver(minor, package, &base, out)?;
+    if !package.contains_key("version") {
+        missing_version(minor, &base, out)?;
+    }
+    key(minor, 74, look.document, &[], "lints", out)
+}
+
+fn newer_in_workspace(minor: u64, workspace: &Table, out: &mut Out) -> Result<(), AllocError> {
+    let base = [At::Key("workspace")];
+    key(minor, 64, workspace, &base, "package", out)?;
+    key(minor, 64, workspace, &base, "dependencies", out)?;
+    key(minor, 74, workspace, &base, "lints", out)?;
+    key(minor, 46, workspace, &base, "metadata", out)?;
+    resolver(minor, workspace, &base, out)
+}
+
+/// Says that this, which stands at a path, is newer, where it is.
+fn say(
+    minor: u64,
     since: u64,
-    path: &[At<'_>],
+    part: Part,
+    base: &[At<'_>],
+    rest: &[At<'_>],
     what: &str,
     out: &mut Out,
 ) -> Result<(), AllocError> {
     if minor >= since {
         return Ok(());
     }
-    let message = format!(in look.alloc;
-        "{what} is known since Rust 1.{since}, and `rust-version` is 1.{minor}"
+    let ages = format!(in out.alloc;
+        " is known since Rust 1.{since}, and `rust-version` is 1.{minor}"
     )?;
-    out.key(NEWER_THAN_RUST_VERSION, path, &[], message)
+    out.say(
+        NEWER_THAN_RUST_VERSION,
+        part,
+        base,
+        rest,
+        &[what, ages.as_str()],
+    )
 }
 
 /// A package without a version.
-fn missing_version(
-    look: &Look<'_>,
-    minor: u64,
-    base: &[At<'_>],
-    out: &mut Out,
-) -> Result<(), AllocError> {
-    if minor >= 75 {
-        return Ok(());
-    }
-    let message = format!(in look.alloc;
-        "a package without a version is known since Rust 1.75, and `rust-version` is 1.{minor}"
-    )?;
-    out.header(NEWER_THAN_RUST_VERSION, base, &[], message)
+fn missing_version(minor: u64, base: &[At<'_>], out: &mut Out) -> Result<(), AllocError> {
+    let what = "a package without a version";
+    say(minor, 75, Part::Header, base, &[], what, out)
 }
 
 /// The resolver, whose versions are of different ages.
-fn resolver(
-    look: &Look<'_>,
-    minor: u64,
-    table: &Table,
-    base: &[At<'_>],
-    out: &mut Out,
-) -> Result<(), AllocError> {
+fn resolver(minor: u64, table: &Table, base: &[At<'_>], out: &mut Out) -> Result<(), AllocError> {
     let since = match text_in(table, "resolver") {
         Some("3") => 84,
         Some(_) => 51,
         None => return Ok(()),
     };
-    if minor >= since {
-        return Ok(());
-    }
-    let message = format!(in look.alloc;
-        "this resolver is known since Rust 1.{since}, and `rust-version` is 1.{minor}"
-    )?;
-    out.value(
-        NEWER_THAN_RUST_VERSION,
-        base,
-        &[At::Key("resolver")],
-        message,
-    )
+    let rest = [At::Key("resolver")];
+    say(minor, since, Part::Value, base, &rest, "this resolver", out)
 }
 
 fn key(
-    look: &Look<'_>,
     minor: u64,
     since: u64,
     table: &Table,
@@ -115,10 +108,9 @@ fn key(
     if minor >= since || !table.contains_key(key) {
         return Ok(());
     }
-    let message = format!(in look.alloc;
-        "`{key}` is known since Rust 1.{since}, and `rust-version` is 1.{minor}"
-    )?;
-    out.key(NEWER_THAN_RUST_VERSION, base, &[At::Key(key)], message)
+    let what = ["`", key, "`"].concat(out.alloc)?;
+    let rest = [At::Key(key)];
+    say(minor, since, Part::Key, base, &rest, what.as_str(), out)
 }
 
 fn newer_profiles(look: &Look<'_>, minor: u64, out: &mut Out) -> Result<(), AllocError> {
@@ -129,10 +121,11 @@ fn newer_profiles(look: &Look<'_>, minor: u64, out: &mut Out) -> Result<(), Allo
         let name = name.as_str();
         let path = [At::Key("profile"), At::Key(name)];
         if !matches!(name, "dev" | "release" | "test" | "bench" | "doc") {
-            say(look, minor, 57, &path, "a profile of one's own", out)?;
+            let what = "a profile of one's own";
+            say(minor, 57, Part::Key, &path, &[], what, out)?;
         }
         if let Value::Table(profile) = profile {
-            key(look, minor, 59, profile, &path, "strip", out)?;
+            key(minor, 59, profile, &path, "strip", out)?;
         }
     }
     Ok(())
@@ -151,32 +144,15 @@ fn newer_features(look: &Look<'_>, minor: u64, out: &mut Out) -> Result<(), Allo
                 At::Index(index),
             ];
             if item.as_str().is_some_and(|text| text.starts_with("dep:")) {
-                say_of_item(look, minor, &path, "`dep:`", out)?;
+                say(minor, 60, Part::Value, &path, &[], "`dep:`", out)?;
             }
             if item.as_str().is_some_and(|text| text.contains("?/")) {
-                say_of_item(look, minor, &path, "`?/`", out)?;
+                say(minor, 60, Part::Value, &path, &[], "`?/`", out)?;
             }
             index = index.saturating_add(1);
         }
     }
     Ok(())
-}
-
-/// Says that an item of a feature is newer, where it is.
-fn say_of_item(
-    look: &Look<'_>,
-    minor: u64,
-    path: &[At<'_>],
-    what: &str,
-    out: &mut Out,
-) -> Result<(), AllocError> {
-    if minor >= 60 {
-        return Ok(());
-    }
-    let message = format!(in look.alloc;
-        "{what} is known since Rust 1.60, and `rust-version` is 1.{minor}"
-    )?;
-    out.value(NEWER_THAN_RUST_VERSION, path, &[], message)
 }
 
 /// Platforms whose expression has `true` or `false` in it.
@@ -191,7 +167,8 @@ fn newer_platforms(look: &Look<'_>, minor: u64, out: &mut Out) -> Result<(), All
         };
         if minor < 88 && has_boolean(look.alloc, text)? {
             let path = [At::Key("target"), At::Key(name)];
-            say(look, minor, 88, &path, "a boolean in a `cfg`", out)?;
+            let what = "a boolean in a `cfg`";
+            say(minor, 88, Part::Key, &path, &[], what, out)?;
         }
     }
     Ok(())
@@ -213,17 +190,11 @@ fn newer_names(look: &Look<'_>, minor: u64, out: &mut Out) -> Result<(), AllocEr
     for section in &look.dependencies {
         for (name, dependency) in section.table {
             if let Value::Table(table) = dependency {
-                if section.section.is_of_package() && minor < 31 && table.contains_key("package") {
-                    let message = format!(in look.alloc;
-                        "`package` of a dependency is known since Rust 1.31, and `rust-version` is 1.{minor}"
-                    )?;
+                if section.section.is_of_package() && table.contains_key("package") {
+                    let base = section.path.as_slice();
                     let rest = [At::Key(name.as_str()), At::Key("package")];
-                    out.key(
-                        NEWER_THAN_RUST_VERSION,
-                        section.path.as_slice(),
-                        &rest,
-                        message,
-                    )?;
+                    let what = "`package` of a dependency";
+                    say(minor, 31, Part::Key, base, &rest, what, out)?;
                 }
             }
         }

@@ -9,10 +9,9 @@ use crate::codes::{
 };
 use crate::files::{FileState, file_state};
 use crate::look::{Edition, Look, flag_in, table_in, text_in};
-use crate::report::{At, File, Out, Part, Report, Spot, steps};
-use crate::words::{name_fault, version_fault, word_message};
-use manifest_places::Edit;
-use std::alloc::AllocError;
+use crate::report::{At, File, Out, Part, shown};
+use crate::words::{WrongWord, name_fault, say_wrong_word, version_fault};
+use std::alloc::{AllocError, Global};
 use toml::{Table, Value};
 
 /// All rules of a package.
@@ -20,54 +19,49 @@ pub(crate) fn package(look: &Look<'_>, out: &mut Out) -> Result<(), AllocError> 
     let workspace_path = [At::Key("workspace"), At::Key("package")];
     if let Some(workspace) = look.workspace {
         if let Some(shared) = table_in(workspace, "package") {
-            version(look, &workspace_path, shared, false, out)?;
-            rust_version(look, &workspace_path, shared, out)?;
+            version(&workspace_path, shared, false, out)?;
+            rust_version(&workspace_path, shared, out)?;
         }
     }
     let Some(package) = look.package else {
         return Ok(());
     };
     let path = [At::Key(look.package_key)];
-    package_name(look, &path, package, out)?;
-    version(look, &path, package, true, out)?;
-    missing_version(look, &path, package, out)?;
-    rust_version(look, &path, package, out)?;
-    missing_edition(look, &path, package, out)?;
+    package_name(&path, package, out)?;
+    version(&path, package, true, out)?;
+    missing_version(&path, package, out)?;
+    rust_version(&path, package, out)?;
+    missing_edition(&path, package, out)?;
     rust_version_below_edition(look, &path, package, out)?;
-    license_and_license_file(look, &path, package, out)?;
+    license_and_license_file(&path, package, out)?;
     build_script(look, &path, package, out)?;
     links_without_build_script(look, &path, package, out)?;
     two_resolvers(look, &path, package, out)?;
     workspace_beside_root(look, &path, package, out)
 }
 
-fn package_name(
-    look: &Look<'_>,
-    path: &[At<'_>],
-    package: &Table,
-    out: &mut Out,
-) -> Result<(), AllocError> {
+fn package_name(path: &[At<'_>], package: &Table, out: &mut Out) -> Result<(), AllocError> {
     let Some(name) = text_in(package, "name") else {
         return Ok(());
     };
-    let alloc = look.alloc;
+    let rest = [At::Key("name")];
     if let Some(fault) = name_fault(name) {
-        let message = word_message(alloc, "package name", name, fault)?;
-        let rest = [At::Key("name")];
-        return out.value(INVALID_PACKAGE_NAME, path, &rest, message);
+        let wrong = WrongWord {
+            what: "package name",
+            word: name,
+            fault,
+        };
+        return say_wrong_word(INVALID_PACKAGE_NAME, Part::Value, path, &rest, &wrong, out);
     }
     if name.contains("::") {
-        let message = format!(in alloc;
-            "`::` in a package name wants the unstable feature `open-namespaces`"
-        )?;
-        return out.value(UNSTABLE_KEY, path, &[At::Key("name")], message);
+        let words = ["`::` in a package name wants the unstable feature `open-namespaces`"];
+        return out.value(UNSTABLE_KEY, path, &rest, &words);
     }
     Ok(())
 }
 
 /// A version is a whole semantic version; of a package white space around it is cut off.
 fn version(
-    look: &Look<'_>,
     path: &[At<'_>],
     table: &Table,
     is_trimmed: bool,
@@ -76,40 +70,50 @@ fn version(
     let Some(written) = text_in(table, "version") else {
         return Ok(());
     };
-    let alloc = look.alloc;
     let text = if is_trimmed { written.trim() } else { written };
-    let Some(fault) = version_fault(alloc, text)? else {
+    let Some(fault) = version_fault(out.alloc, text)? else {
         return Ok(());
     };
-    let message = format!(in alloc; "invalid version `{written}`: {fault}")?;
-    let report = Report::at(
-        alloc,
-        INVALID_VERSION,
-        Part::Value,
-        path,
-        &[At::Key("version")],
-        message,
-    )?;
-    match whole_version(look, text)? {
-        Some(whole) => {
-            let help = format!(in alloc; "a version has three numbers: `{whole}`")?;
-            let at = steps(alloc, path, &[At::Key("version")])?;
-            let value = format!(in alloc; "\"{whole}\"")?;
-            out.tell(report.with_fix(alloc, help, Edit::Set(at, value), false)?)
+    say_invalid_version(path, written, fault, out)?;
+    for more in [".0", ".0.0"] {
+        if say_whole_version(path, text, more, out)? {
+            break;
         }
-        None => out.tell(report),
     }
+    Ok(())
 }
 
-/// The text with the numbers that it lacks to be a version, where that makes one.
-fn whole_version(look: &Look<'_>, text: &str) -> Result<Option<String>, AllocError> {
-    for more in [".0", ".0.0"] {
-        let longer = format!(in look.alloc; "{text}{more}")?;
-        if version_fault(look.alloc, longer.as_str())?.is_none() {
-            return Ok(Some(longer));
-        }
+fn say_invalid_version(
+    path: &[At<'_>],
+    written: &str,
+    fault: semver::Error,
+    out: &mut Out,
+) -> Result<(), AllocError> {
+    let fault = shown(out.alloc, &fault)?;
+    let words = ["invalid version `", written, "`: ", fault.as_str()];
+    out.value(INVALID_VERSION, path, &[At::Key("version")], &words)
+}
+
+/// Whether the text with more numbers is a version, which is suggested then.
+fn say_whole_version<'a>(
+    path: &[At<'_>],
+    text: &'a str,
+    more: &'a str,
+    out: &mut Out,
+) -> Result<bool, AllocError> {
+    if !is_version(out.alloc, text, more)? {
+        return Ok(false);
     }
-    Ok(None)
+    let words = ["a version has three numbers: `", text, more, "`"];
+    let value = ["\"", text, more, "\""];
+    out.set(path, &[At::Key("version")], &value, false, &words)?;
+    Ok(true)
+}
+
+/// Whether the text with more after it is a version.
+fn is_version<'a>(alloc: Global, text: &'a str, more: &'a str) -> Result<bool, AllocError> {
+    let longer = [text, more].concat(alloc)?;
+    version_fault(alloc, longer.as_str()).map(|fault| fault.is_none())
 }
 
 /// Whether the package is to be published: `publish` is true, or a list that is not empty.
@@ -121,20 +125,12 @@ fn is_published(package: &Table) -> bool {
     }
 }
 
-fn missing_version(
-    look: &Look<'_>,
-    path: &[At<'_>],
-    package: &Table,
-    out: &mut Out,
-) -> Result<(), AllocError> {
+fn missing_version(path: &[At<'_>], package: &Table, out: &mut Out) -> Result<(), AllocError> {
     if package.contains_key("version") || !is_published(package) {
         return Ok(());
     }
-    let message = String::from_str(
-        look.alloc,
-        "`package.publish` requires `package.version` be specified",
-    )?;
-    out.header(MISSING_VERSION, path, &[], message)
+    let words = ["`package.publish` requires `package.version` be specified"];
+    out.header(MISSING_VERSION, path, &[], &words)
 }
 
 /// The numbers of a `rust-version`, of which there are one to three: the first two, where the second may be absent.
@@ -162,36 +158,28 @@ fn plain_number(text: &str) -> Option<u64> {
     Some(number)
 }
 
-fn rust_version(
-    look: &Look<'_>,
-    path: &[At<'_>],
-    table: &Table,
-    out: &mut Out,
-) -> Result<(), AllocError> {
+fn rust_version(path: &[At<'_>], table: &Table, out: &mut Out) -> Result<(), AllocError> {
     let Some(text) = text_in(table, "rust-version") else {
         return Ok(());
     };
     if rust_version_numbers(text).is_some() {
         return Ok(());
     }
-    let message = format!(in look.alloc;
-        "invalid `rust-version` `{text}`: it has one, two or three numbers and nothing else, as `1.70`"
-    )?;
+    let words = [
+        "invalid `rust-version` `",
+        text,
+        "`: it has one, two or three numbers and nothing else, as `1.70`",
+    ];
     out.value(
         INVALID_RUST_VERSION,
         path,
         &[At::Key("rust-version")],
-        message,
+        &words,
     )
 }
 
 /// A package without an edition has that of 2015, which Cargo warns of, unless its `rust-version` knows no other.
-fn missing_edition(
-    look: &Look<'_>,
-    path: &[At<'_>],
-    package: &Table,
-    out: &mut Out,
-) -> Result<(), AllocError> {
+fn missing_edition(path: &[At<'_>], package: &Table, out: &mut Out) -> Result<(), AllocError> {
     if package.contains_key("edition") {
         return Ok(());
     }
@@ -202,25 +190,19 @@ fn missing_edition(
             _ => {}
         }
     }
-    let alloc = look.alloc;
-    let message = String::from_str(
-        alloc,
-        "no edition set: defaulting to the 2015 edition while the latest is 2024",
-    )?;
-    let report = Report::at(alloc, MISSING_EDITION, Part::Header, path, &[], message)?;
-    let help = String::from_str(alloc, "say which edition is meant, as `edition = \"2015\"`")?;
-    let at = steps(alloc, path, &[At::Key("edition")])?;
-    let value = String::from_str(alloc, "\"2015\"")?;
-    out.tell(report.with_fix(alloc, help, Edit::Insert(at, value), false)?)
+    let words = ["no edition set: defaulting to the 2015 edition while the latest is 2024"];
+    out.header(MISSING_EDITION, path, &[], &words)?;
+    let help = ["say which edition is meant, as `edition = \"2015\"`"];
+    out.insert_text(path, &[At::Key("edition")], "2015", false, &help)
 }
 
-/// The minor version of Rust 1 from which on an edition is known.
-fn first_of_edition(edition: Edition) -> u64 {
+/// The minor version of Rust 1 from which on an edition is known, and its digits; nothing where each knows it.
+fn first_of_edition<'a>(edition: Edition) -> Option<(u64, &'a str)> {
     match edition {
-        Edition::E2015 => 0,
-        Edition::E2018 => 31,
-        Edition::E2021 => 56,
-        Edition::E2024 => 85,
+        Edition::E2015 => None,
+        Edition::E2018 => Some((31, "31")),
+        Edition::E2021 => Some((56, "56")),
+        Edition::E2024 => Some((85, "85")),
     }
 }
 
@@ -236,30 +218,30 @@ fn rust_version_below_edition(
     let Some((major, minor)) = rust_version_numbers(text) else {
         return Ok(());
     };
-    let first = first_of_edition(look.edition);
-    if first == 0 || (major == 1 && minor >= first) {
+    let Some((first, digits)) = first_of_edition(look.edition) else {
+        return Ok(());
+    };
+    if major == 1 && minor >= first {
         return Ok(());
     }
-    let alloc = look.alloc;
-    let message = format!(in alloc;
-        "`rust-version` `{text}` is incompatible with the edition, which needs 1.{first} or a later 1.x"
-    )?;
-    let rest = [At::Key("rust-version")];
-    let report = Report::at(
-        alloc,
+    let words = [
+        "`rust-version` `",
+        text,
+        "` is incompatible with the edition, which needs 1.",
+        digits,
+        " or a later 1.x",
+    ];
+    out.value(
         RUST_VERSION_BELOW_EDITION,
-        Part::Value,
         path,
-        &rest,
-        message,
+        &[At::Key("rust-version")],
+        &words,
     )?;
-    let edition = Spot::Path(steps(alloc, path, &[At::Key("edition")])?, Part::Value);
-    let words = String::from_str(alloc, "the edition")?;
-    out.tell(report.with_label(File::Own, edition, words)?)
+    let edition = [At::Key("edition")];
+    out.label(File::Own, Part::Value, path, &edition, &["the edition"])
 }
 
 fn license_and_license_file(
-    look: &Look<'_>,
     path: &[At<'_>],
     package: &Table,
     out: &mut Out,
@@ -267,23 +249,15 @@ fn license_and_license_file(
     if !package.contains_key("license") || !package.contains_key("license-file") {
         return Ok(());
     }
-    let alloc = look.alloc;
-    let message = String::from_str(
-        alloc,
-        "only one of `license` or `license-file` is necessary",
-    )?;
-    let rest = [At::Key("license-file")];
-    let report = Report::at(
-        alloc,
+    let words = ["only one of `license` or `license-file` is necessary"];
+    out.key(
         LICENSE_AND_LICENSE_FILE,
-        Part::Key,
         path,
-        &rest,
-        message,
+        &[At::Key("license-file")],
+        &words,
     )?;
-    let license = Spot::Path(steps(alloc, path, &[At::Key("license")])?, Part::Key);
-    let words = String::from_str(alloc, "this is for a license that SPDX knows")?;
-    out.tell(report.with_label(File::Own, license, words)?)
+    let label = ["this is for a license that SPDX knows"];
+    out.label(File::Own, Part::Key, path, &[At::Key("license")], &label)
 }
 
 /// The path of the build script that `build` names: a path, or `build.rs` where it is true.
@@ -313,15 +287,14 @@ fn build_script(
     let Some(file) = build_path(package) else {
         return Ok(());
     };
-    let alloc = look.alloc;
     let rest = [At::Key("build")];
     if !has_file_name(file) {
-        let message = format!(in alloc; "the build script `{file}` has no file name")?;
-        return out.value(INVALID_BUILD_PATH, path, &rest, message);
+        let words = ["the build script `", file, "` has no file name"];
+        return out.value(INVALID_BUILD_PATH, path, &rest, &words);
     }
     if file_state(look, file)? == FileState::Absent {
-        let message = format!(in alloc; "couldn't find the build script `{file}`")?;
-        return out.value(MISSING_BUILD_SCRIPT, path, &rest, message);
+        let words = ["couldn't find the build script `", file, "`"];
+        return out.value(MISSING_BUILD_SCRIPT, path, &rest, &words);
     }
     Ok(())
 }
@@ -342,15 +315,12 @@ fn links_without_build_script(
     {
         return Ok(());
     }
-    let message = String::from_str(
-        look.alloc,
-        "package specifies `links` but does not have a custom build script",
-    )?;
+    let words = ["package specifies `links` but does not have a custom build script"];
     out.key(
         LINKS_WITHOUT_BUILD_SCRIPT,
         path,
         &[At::Key("links")],
-        message,
+        &words,
     )
 }
 
@@ -366,23 +336,11 @@ fn two_resolvers(
     if !package.contains_key("resolver") || !workspace.contains_key("resolver") {
         return Ok(());
     }
-    let alloc = look.alloc;
-    let message = String::from_str(
-        alloc,
-        "cannot specify `resolver` in both `[workspace]` and `[package]`",
-    )?;
-    let report = Report::at(
-        alloc,
-        TWO_RESOLVERS,
-        Part::Key,
-        path,
-        &[At::Key("resolver")],
-        message,
-    )?;
+    let words = ["cannot specify `resolver` in both `[workspace]` and `[package]`"];
+    out.key(TWO_RESOLVERS, path, &[At::Key("resolver")], &words)?;
     let other = [At::Key("workspace"), At::Key("resolver")];
-    let spot = Spot::Path(steps(alloc, &other, &[])?, Part::Key);
-    let words = String::from_str(alloc, "the resolver of the workspace")?;
-    out.tell(report.with_label(File::Own, spot, words)?)
+    let label = ["the resolver of the workspace"];
+    out.label(File::Own, Part::Key, &other, &[], &label)
 }
 
 fn workspace_beside_root(
@@ -394,14 +352,8 @@ fn workspace_beside_root(
     if look.workspace.is_none() || !package.contains_key("workspace") {
         return Ok(());
     }
-    let message = String::from_str(
-        look.alloc,
+    let words = [
         "cannot configure both `package.workspace` and `[workspace]`, only one can be specified",
-    )?;
-    out.key(
-        WORKSPACE_BESIDE_ROOT,
-        path,
-        &[At::Key("workspace")],
-        message,
-    )
+    ];
+    out.key(WORKSPACE_BESIDE_ROOT, path, &[At::Key("workspace")], &words)
 }

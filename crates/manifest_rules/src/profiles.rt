@@ -4,88 +4,52 @@
 use crate::codes::{
     Code, DOC_PROFILE, INVALID_LTO, INVALID_PACKAGE_SPEC, INVALID_PROFILE_NAME,
     INVALID_PROFILE_OVERRIDE, NO_CODEGEN_UNITS, OPT_LEVEL_TOO_HIGH, OUT_OF_RANGE, PANIC_OF_TESTS,
-    RESERVED_PROFILE_NAME, UNKNOWN_STRIP, UNKNOWN_WORD, WRONG_KIND,
+    RESERVED_PROFILE_NAME, UNKNOWN_STRIP, UNKNOWN_WORD,
 };
-use crate::keys::unknown_keys;
+use crate::keys::{unknown_keys, wrong_kind_at};
 use crate::look::{Look, table_in, text_in};
-use crate::report::{At, Out, Part, Report, Spot, place_of, quoted, steps};
-use crate::words::{Word, package_id, word_message};
-use manifest_places::Edit;
+use crate::report::{At, Out, Part, quoted, shown};
+use crate::words::{Word, WrongWord, package_id, say_wrong_word};
 use std::alloc::{AllocError, Global};
 use toml::{Table, Value};
 
 /// A table of settings: a profile, or one of its overrides.
-#[derive(Drop)]
+#[derive(Clone, Copy)]
 struct Settings<'a> {
     /// The name of the profile.
     profile: &'a str,
-    path: Vec<At<'a>>,
+    path: &'a [At<'a>],
     table: &'a Table,
     is_override: bool,
 }
 
-impl<'a> Settings<'a> {
-    /// The settings of a profile, or those below it at these steps.
-    fn new(
-        alloc: Global,
-        profile: &'a str,
-        below: &[At<'a>],
-        table: &'a Table,
-    ) -> Result<Settings<'a>, AllocError> {
-        let mut path = Vec::new(alloc);
-        path.push(At::Key("profile"))?;
-        path.push(At::Key(profile))?;
-        for at in below {
-            path.push(*at)?;
-        }
-        Ok(Settings {
-            profile,
-            path,
-            table,
-            is_override: !below.is_empty(),
-        })
-    }
-
-    fn place(&self, alloc: Global, key: &str, part: Part) -> Result<Spot, AllocError> {
-        place_of(alloc, self.path.as_slice(), &[At::Key(key)], part)
-    }
-
-    /// A diagnostic at the value of a key.
-    fn at_value(
+impl Settings<'_> {
+    /// Says this of the value of a key.
+    fn value(
         &self,
-        alloc: Global,
         code: Code,
         key: &str,
-        message: String,
-    ) -> Result<Report, AllocError> {
-        let place = self.place(alloc, key, Part::Value)?;
-        Ok(Report::new(alloc, code, place, message))
+        words: &[&str],
+        out: &mut Out,
+    ) -> Result<(), AllocError> {
+        out.value(code, self.path, &[At::Key(key)], words)
     }
 
-    /// A diagnostic at a key.
-    fn at_key(
-        &self,
-        alloc: Global,
-        code: Code,
-        key: &str,
-        message: String,
-    ) -> Result<Report, AllocError> {
-        let place = self.place(alloc, key, Part::Key)?;
-        Ok(Report::new(alloc, code, place, message))
+    /// Says this of a key.
+    fn key(&self, code: Code, key: &str, words: &[&str], out: &mut Out) -> Result<(), AllocError> {
+        out.key(code, self.path, &[At::Key(key)], words)
     }
 
-    /// The same with the suggestion to write this value at the key.
-    fn with_value(
+    /// The suggestion to write this value at the key.
+    fn instead(
         &self,
-        alloc: Global,
-        report: Report,
         key: &str,
-        value: String,
+        value: &str,
         is_certain: bool,
-    ) -> Result<Report, AllocError> {
-        let help = format!(in alloc; "write `{value}`")?;
-        let edit = Edit::Set(steps(alloc, self.path.as_slice(), &[At::Key(key)])?, value);
-        report.with_fix(alloc, help, edit, is_certain)
+        out: &mut Out,
+    ) -> Result<(), AllocError> {
+        let help = ["write `", value, "`"];
+        out.set(self.path, &[At::Key(key)], &[value], is_certain, &help)
     }
 }
 
@@ -96,42 +60,68 @@ pub(crate) fn profiles(look: &Look<'_>, out: &mut Out) -> Result<(), AllocError>
     };
     for (name, value) in profiles {
         let name = name.as_str();
-        invalid_profile_name(look, profiles, name, out)?;
+        invalid_profile_name(profiles, name, out)?;
         doc_profile(name, out)?;
         if let Value::Table(table) = value {
-            let settings = Settings::new(look.alloc, name, &[], table)?;
+            let settings = Settings {
+                profile: name,
+                path: &[At::Key("profile"), At::Key(name)],
+                table,
+                is_override: false,
+            };
             rules_of_settings(&settings, out)?;
             panic_of_tests(&settings, out)?;
-            overrides(look, name, table, out)?;
+            overrides(name, table, out)?;
         }
     }
     Ok(())
 }
 
 /// The rules of what overrides a profile, for a package or for what builds.
-fn overrides<'a>(
-    look: &Look<'_>,
-    profile: &'a str,
-    table: &'a Table,
-    out: &mut Out,
-) -> Result<(), AllocError> {
-    if let Some(inner) = table_in(table, "build-override") {
-        let below = [At::Key("build-override")];
-        let settings = Settings::new(look.alloc, profile, &below, inner)?;
-        rules_of_override(&settings, out)?;
+fn overrides<'a>(profile: &'a str, table: &'a Table, out: &mut Out) -> Result<(), AllocError> {
+    if let Some(value) = table.get("build-override") {
+        let path = [
+            At::Key("profile"),
+            At::Key(profile),
+            At::Key("build-override"),
+        ];
+        override_at(profile, &path, "build-override", value, out)?;
     }
     let Some(packages) = table_in(table, "package") else {
         return Ok(());
     };
     for (id, value) in packages {
-        invalid_package_spec(profile, id.as_str(), out)?;
-        if let Value::Table(inner) = value {
-            let below = [At::Key("package"), At::Key(id.as_str())];
-            let settings = Settings::new(look.alloc, profile, &below, inner)?;
-            rules_of_override(&settings, out)?;
-        }
+        let id = id.as_str();
+        invalid_package_spec(profile, id, out)?;
+        let path = [
+            At::Key("profile"),
+            At::Key(profile),
+            At::Key("package"),
+            At::Key(id),
+        ];
+        override_at(profile, &path, id, value, out)?;
     }
     Ok(())
+}
+
+/// The rules of an override at a path that ends with this key: it is a table.
+fn override_at<'a>(
+    profile: &'a str,
+    path: &'a [At<'a>],
+    key: &'a str,
+    value: &'a Value,
+    out: &mut Out,
+) -> Result<(), AllocError> {
+    let Value::Table(table) = value else {
+        return wrong_kind_at(path, &[], key, "a table", value, out);
+    };
+    let settings = Settings {
+        profile,
+        path,
+        table,
+        is_override: true,
+    };
+    rules_of_override(&settings, out)
 }
 
 /// The keys of settings that Cargo knows, some of which it refuses or ignores, as other rules say.
@@ -165,7 +155,7 @@ static KEYS: [&str; 23] = [
 fn rules_of_override(settings: &Settings<'_>, out: &mut Out) -> Result<(), AllocError> {
     rules_of_settings(settings, out)?;
     invalid_profile_override(settings, out)?;
-    unknown_keys(settings.path.as_slice(), settings.table, &KEYS, out)
+    unknown_keys(settings.path, settings.table, &KEYS, out)
 }
 
 fn rules_of_settings(settings: &Settings<'_>, out: &mut Out) -> Result<(), AllocError> {
@@ -175,40 +165,49 @@ fn rules_of_settings(settings: &Settings<'_>, out: &mut Out) -> Result<(), Alloc
     invalid_lto(settings, out)?;
     no_codegen_units(settings, out)?;
     unknown_strip(settings, out)?;
+    rustflags(settings, out)?;
     kinds_of_override(settings, out)
 }
+
+/// `rustflags`, which is unstable, is a list of texts.
+fn rustflags(settings: &Settings<'_>, out: &mut Out) -> Result<(), AllocError> {
+    match settings.table.get("rustflags") {
+        Some(Value::Array(items)) if items.iter().all(|item| item.is_str()) => Ok(()),
+        Some(value) => wrong_kind(settings, "rustflags", "a list of strings", value, out),
+        None => Ok(()),
+    }
+}
+
+/// The names that Cargo keeps, in addition to those that begin with its own.
+static RESERVED: [&str; 21] = [
+    "debug",
+    "build-override",
+    "build",
+    "check",
+    "clean",
+    "config",
+    "fetch",
+    "fix",
+    "install",
+    "metadata",
+    "package",
+    "publish",
+    "report",
+    "root",
+    "run",
+    "rust",
+    "rustc",
+    "rustdoc",
+    "target",
+    "tmp",
+    "uninstall",
+];
 
 /// Whether the name is one that Cargo keeps, whatever the case of its letters.
 fn is_reserved(alloc: Global, name: &str) -> Result<bool, AllocError> {
     let mut lower = String::from_str(alloc, name)?;
     lower.make_ascii_lowercase();
-    Ok(
-        lower.as_str().starts_with("cargo")
-            || matches!(
-                lower.as_str(),
-                "debug"
-                    | "build-override"
-                    | "build"
-                    | "check"
-                    | "clean"
-                    | "config"
-                    | "fetch"
-                    | "fix"
-                    | "install"
-                    | "metadata"
-                    | "package"
-                    | "publish"
-                    | "report"
-                    | "root"
-                    | "run"
-                    | "rust"
-                    | "rustc"
-                    | "rustdoc"
-                    | "target"
-                    | "tmp"
-                    | "uninstall"
-            ),
-    )
+    Ok(lower.as_str().starts_with("cargo") || RESERVED.contains(&lower.as_str()))
 }
 
 /// Whether Cargo takes the name for a profile.
@@ -216,55 +215,44 @@ pub(crate) fn is_profile_name(alloc: Global, name: &str) -> Result<bool, AllocEr
     Ok(Word::Profile.fault(name).is_none() && !is_reserved(alloc, name)?)
 }
 
-fn invalid_profile_name(
-    look: &Look<'_>,
-    profiles: &Table,
-    name: &str,
-    out: &mut Out,
-) -> Result<(), AllocError> {
-    let place = place_of(
-        out.alloc,
-        &[At::Key("profile")],
-        &[At::Key(name)],
-        Part::Key,
-    )?;
+fn invalid_profile_name(profiles: &Table, name: &str, out: &mut Out) -> Result<(), AllocError> {
     if let Some(fault) = Word::Profile.fault(name) {
-        let message = word_message(out.alloc, "profile name", name, fault)?;
-        return out.with_note(INVALID_PROFILE_NAME, place, message, Word::Profile.rule());
+        let path = [At::Key("profile"), At::Key(name)];
+        let wrong = WrongWord {
+            what: "profile name",
+            word: name,
+            fault,
+        };
+        say_wrong_word(INVALID_PROFILE_NAME, Part::Key, &path, &[], &wrong, out)?;
+        return out.note(&[Word::Profile.rule()]);
     }
-    if !is_reserved(look.alloc, name)? {
-        return Ok(());
+    if is_reserved(out.alloc, name)? {
+        return reserved_profile_name(profiles, name, out);
     }
-    let message = format!(in out.alloc; "profile name `{name}` is reserved")?;
-    let report = Report::new(out.alloc, RESERVED_PROFILE_NAME, place, message);
+    Ok(())
+}
+
+fn reserved_profile_name(profiles: &Table, name: &str, out: &mut Out) -> Result<(), AllocError> {
+    let path = [At::Key("profile"), At::Key(name)];
+    let words = ["profile name `", name, "` is reserved"];
+    out.key(RESERVED_PROFILE_NAME, &path, &[], &words)?;
     if name.eq_ignore_ascii_case("build-override") {
-        return out.tell(report.with_note_str(
-            "what builds has settings of its own in `[profile.dev.build-override]`",
-        )?);
+        return out.note(&["what builds has settings of its own in `[profile.dev.build-override]`"]);
     }
     if !name.eq_ignore_ascii_case("debug") || profiles.contains_key("dev") {
-        return out.tell(report);
+        return Ok(());
     }
-    let edit = Edit::Rename(
-        steps(out.alloc, &[At::Key("profile")], &[At::Key(name)])?,
-        String::from_str(out.alloc, "dev")?,
-    );
-    let help = String::from_str(out.alloc, "the profile of `cargo build` is named `dev`")?;
-    out.tell(report.with_fix(out.alloc, help, edit, false)?)
+    let help = ["the profile of `cargo build` is named `dev`"];
+    out.rename(&path, &[], "dev", false, &help)
 }
 
 fn doc_profile(name: &str, out: &mut Out) -> Result<(), AllocError> {
-    if name == "doc" {
-        let place = place_of(
-            out.alloc,
-            &[At::Key("profile")],
-            &[At::Key(name)],
-            Part::Key,
-        )?;
-        let message = String::from_str(out.alloc, "profile `doc` is deprecated and has no effect")?;
-        out.tell(Report::new(out.alloc, DOC_PROFILE, place, message))?;
+    if name != "doc" {
+        return Ok(());
     }
-    Ok(())
+    let path = [At::Key("profile"), At::Key(name)];
+    let words = ["profile `doc` is deprecated and has no effect"];
+    out.key(DOC_PROFILE, &path, &[], &words)
 }
 
 /// `opt-level` is a whole number from 0 to 3, `"s"` or `"z"`.
@@ -274,24 +262,15 @@ fn opt_level(settings: &Settings<'_>, out: &mut Out) -> Result<(), AllocError> {
         None => Ok(()),
         Some(Value::Integer(level)) if *level >= 0 && *level <= 3 => Ok(()),
         Some(Value::Integer(level)) => {
-            let message = format!(in out.alloc;
-                "`opt-level` must be from 0 to 3, `\"s\"` or `\"z\"`, and not {level}"
-            )?;
-            out.tell(settings.at_value(out.alloc, OPT_LEVEL_TOO_HIGH, key, message)?)
+            let level = shown(out.alloc, level)?;
+            let words = [
+                "`opt-level` must be from 0 to 3, `\"s\"` or `\"z\"`, and not ",
+                level.as_str(),
+            ];
+            settings.value(OPT_LEVEL_TOO_HIGH, key, &words, out)
         }
         Some(Value::String(word)) if matches!(word.as_str(), "s" | "z") => Ok(()),
-        Some(Value::String(word)) => {
-            let word = word.as_str();
-            let message = format!(in out.alloc;
-                "`opt-level` must be a whole number, `\"s\"` or `\"z\"`, and not `{word:?}`"
-            )?;
-            let report = settings.at_value(out.alloc, UNKNOWN_WORD, key, message)?;
-            if !matches!(word, "0" | "1" | "2" | "3") {
-                return out.tell(report);
-            }
-            let value = String::from_str(out.alloc, word)?;
-            out.tell(settings.with_value(out.alloc, report, key, value, true)?)
-        }
+        Some(Value::String(word)) => opt_level_word(settings, word.as_str(), out),
         Some(value) => wrong_kind(
             settings,
             key,
@@ -302,6 +281,35 @@ fn opt_level(settings: &Settings<'_>, out: &mut Out) -> Result<(), AllocError> {
     }
 }
 
+fn opt_level_word(settings: &Settings<'_>, word: &str, out: &mut Out) -> Result<(), AllocError> {
+    let key = "opt-level";
+    say_of_word(
+        settings,
+        UNKNOWN_WORD,
+        key,
+        "`opt-level` must be a whole number, `\"s\"` or `\"z\"`, and not `",
+        word,
+        out,
+    )?;
+    if !matches!(word, "0" | "1" | "2" | "3") {
+        return Ok(());
+    }
+    settings.instead(key, word, true, out)
+}
+
+/// Says these words and then the word that stands there, as Rust writes it.
+fn say_of_word(
+    settings: &Settings<'_>,
+    code: Code,
+    key: &str,
+    before: &str,
+    word: &str,
+    out: &mut Out,
+) -> Result<(), AllocError> {
+    let word = format!(in out.alloc; "{word:?}")?;
+    settings.value(code, key, &[before, word.as_str(), "`"], out)
+}
+
 /// `debug` is a boolean, a whole number from 0 to 2, or a word.
 fn debug(settings: &Settings<'_>, out: &mut Out) -> Result<(), AllocError> {
     let key = "debug";
@@ -310,23 +318,13 @@ fn debug(settings: &Settings<'_>, out: &mut Out) -> Result<(), AllocError> {
         Some(Value::Boolean(_)) => Ok(()),
         Some(Value::Integer(level)) if *level >= 0 && *level <= 2 => Ok(()),
         Some(Value::Integer(level)) => {
-            let message = format!(in out.alloc; "`debug` must be from 0 to 2, and not {level}")?;
-            out.tell(settings.at_value(out.alloc, OUT_OF_RANGE, key, message)?)
+            let level = shown(out.alloc, level)?;
+            let words = ["`debug` must be from 0 to 2, and not ", level.as_str()];
+            settings.value(OUT_OF_RANGE, key, &words, out)
         }
-        Some(Value::String(word)) => one_of(
-            settings,
-            UNKNOWN_WORD,
-            key,
-            word.as_str(),
-            &[
-                "none",
-                "limited",
-                "full",
-                "line-tables-only",
-                "line-directives-only",
-            ],
-            out,
-        ),
+        Some(Value::String(word)) => {
+            one_of(settings, UNKNOWN_WORD, key, word.as_str(), &DEBUG, out)
+        }
         Some(value) => wrong_kind(
             settings,
             key,
@@ -336,6 +334,15 @@ fn debug(settings: &Settings<'_>, out: &mut Out) -> Result<(), AllocError> {
         ),
     }
 }
+
+/// The words of `debug`.
+static DEBUG: [&str; 5] = [
+    "none",
+    "limited",
+    "full",
+    "line-tables-only",
+    "line-directives-only",
+];
 
 fn panic_word(settings: &Settings<'_>, out: &mut Out) -> Result<(), AllocError> {
     let Some(word) = text_in(settings.table, "panic") else {
@@ -355,47 +362,49 @@ fn one_of(
     code: Code,
     key: &str,
     word: &str,
-    words: &[&str],
+    words: &[&'static str],
     out: &mut Out,
 ) -> Result<(), AllocError> {
-    let mut list = String::new(out.alloc);
-    let mut nearest = out.nearest(word);
-    for other in words {
-        if *other == word {
-            return Ok(());
-        }
-        nearest.offer(out.alloc, other)?;
-        if !list.is_empty() {
-            list.push_str(", ")?;
-        }
-        list.push_str("`\"")?;
-        list.push_str(other)?;
-        list.push_str("\"`")?;
+    if words.iter().any(|known| *known == word) {
+        return Ok(());
     }
-    let message = format!(in out.alloc; "unknown `{key}` setting `{word:?}`")?;
-    let note = format!(in out.alloc; "it is one of {list}")?;
-    let report = settings
-        .at_value(out.alloc, code, key, message)?
-        .with_note(note)?;
-    match nearest.found() {
+    let near = out.nearest_of(word, words)?;
+    unknown_word(settings, code, key, word, out)?;
+    note_of_words(words, out)?;
+    match near {
         Some(near) => {
             let value = quoted(out.alloc, near)?;
-            out.tell(settings.with_value(out.alloc, report, key, value, false)?)
+            settings.instead(key, value.as_str(), false, out)
         }
-        None => out.tell(report),
+        None => Ok(()),
     }
 }
 
-fn wrong_kind(
+fn unknown_word(
     settings: &Settings<'_>,
+    code: Code,
     key: &str,
-    wanted: &str,
-    value: &Value,
+    word: &str,
     out: &mut Out,
 ) -> Result<(), AllocError> {
-    let kind = value.type_str();
-    let message = format!(in out.alloc; "invalid type: {kind}, expected {wanted} for `{key}`")?;
-    out.tell(settings.at_value(out.alloc, WRONG_KIND, key, message)?)
+    let before = ["unknown `", key, "` setting `"].concat(out.alloc)?;
+    say_of_word(settings, code, key, before.as_str(), word, out)
+}
+
+/// The note that says which words a key has.
+fn note_of_words(words: &[&str], out: &mut Out) -> Result<(), AllocError> {
+    let list = words.join(out.alloc, "\"`, `\"")?;
+    out.note(&["it is one of `\"", list.as_str(), "\"`"])
+}
+
+fn wrong_kind<'a>(
+    settings: &Settings<'_>,
+    key: &'a str,
+    wanted: &'a str,
+    value: &'a Value,
+    out: &mut Out,
+) -> Result<(), AllocError> {
+    wrong_kind_at(settings.path, &[At::Key(key)], key, wanted, value, out)
 }
 
 /// `lto` is a boolean, or one of some words.
@@ -409,14 +418,7 @@ fn invalid_lto(settings: &Settings<'_>, out: &mut Out) -> Result<(), AllocError>
         None => Ok(()),
         Some(Value::Boolean(_)) => Ok(()),
         Some(Value::String(word)) => match word.as_str() {
-            "true" | "false" => {
-                let message = format!(in out.alloc;
-                    "`lto` is a boolean without quotes, and not `{word:?}`"
-                )?;
-                let report = settings.at_value(out.alloc, INVALID_LTO, key, message)?;
-                let value = word.clone()?;
-                out.tell(settings.with_value(out.alloc, report, key, value, true)?)
-            }
+            "true" | "false" => boolean_in_quotes(settings, word.as_str(), out),
             // Cargo or rustc takes these for a boolean.
             "n" | "no" | "none" | "y" | "yes" | "on" => Ok(()),
             _ => one_of(
@@ -432,12 +434,18 @@ fn invalid_lto(settings: &Settings<'_>, out: &mut Out) -> Result<(), AllocError>
     }
 }
 
+fn boolean_in_quotes(settings: &Settings<'_>, word: &str, out: &mut Out) -> Result<(), AllocError> {
+    let before = "`lto` is a boolean without quotes, and not `";
+    say_of_word(settings, INVALID_LTO, "lto", before, word, out)?;
+    settings.instead("lto", word, true, out)
+}
+
 fn no_codegen_units(settings: &Settings<'_>, out: &mut Out) -> Result<(), AllocError> {
     if settings.table.get("codegen-units") != Some(&Value::Integer(0)) {
         return Ok(());
     }
-    let message = String::from_str(out.alloc, "`codegen-units` must be at least 1")?;
-    out.tell(settings.at_value(out.alloc, NO_CODEGEN_UNITS, "codegen-units", message)?)
+    let words = ["`codegen-units` must be at least 1"];
+    settings.value(NO_CODEGEN_UNITS, "codegen-units", &words, out)
 }
 
 /// `strip` of an override, which is read as any value: the schema says this of a profile.
@@ -468,8 +476,8 @@ fn kinds_of_override(settings: &Settings<'_>, out: &mut Out) -> Result<(), Alloc
     }
     match settings.table.get("codegen-units") {
         Some(Value::Integer(count)) if *count < 0 => {
-            let message = String::from_str(out.alloc, "`codegen-units` must be at least 1")?;
-            out.tell(settings.at_value(out.alloc, OUT_OF_RANGE, "codegen-units", message)?)
+            let words = ["`codegen-units` must be at least 1"];
+            settings.value(OUT_OF_RANGE, "codegen-units", &words, out)
         }
         Some(Value::Integer(_)) => Ok(()),
         Some(value) => wrong_kind(settings, "codegen-units", "a whole number", value, out),
@@ -482,26 +490,31 @@ fn panic_of_tests(settings: &Settings<'_>, out: &mut Out) -> Result<(), AllocErr
     if !matches!(profile, "test" | "bench") || !settings.table.contains_key("panic") {
         return Ok(());
     }
-    let message = format!(in out.alloc; "`panic` setting is ignored for `{profile}` profile")?;
-    let report = settings.at_key(out.alloc, PANIC_OF_TESTS, "panic", message)?;
-    let path = steps(out.alloc, settings.path.as_slice(), &[At::Key("panic")])?;
-    let help = String::from_str(out.alloc, "remove `panic`")?;
-    out.tell(report.with_fix(out.alloc, help, Edit::Remove(path), true)?)
+    let words = ["`panic` setting is ignored for `", profile, "` profile"];
+    settings.key(PANIC_OF_TESTS, "panic", &words, out)?;
+    out.remove(
+        settings.path,
+        &[At::Key("panic")],
+        true,
+        &["remove `panic`"],
+    )
 }
 
 fn invalid_profile_override(settings: &Settings<'_>, out: &mut Out) -> Result<(), AllocError> {
     for key in ["panic", "lto", "rpath"] {
         if settings.table.contains_key(key) {
-            let message = format!(in out.alloc;
-                "`{key}` may not be specified in an override of a profile"
-            )?;
-            out.tell(settings.at_key(out.alloc, INVALID_PROFILE_OVERRIDE, key, message)?)?;
+            let words = [
+                "`",
+                key,
+                "` may not be specified in an override of a profile",
+            ];
+            settings.key(INVALID_PROFILE_OVERRIDE, key, &words, out)?;
         }
     }
     for key in ["package", "build-override"] {
         if settings.table.contains_key(key) {
-            let message = format!(in out.alloc; "`{key}` cannot be nested in an override")?;
-            out.tell(settings.at_key(out.alloc, INVALID_PROFILE_OVERRIDE, key, message)?)?;
+            let words = ["`", key, "` cannot be nested in an override"];
+            settings.key(INVALID_PROFILE_OVERRIDE, key, &words, out)?;
         }
     }
     Ok(())
@@ -513,12 +526,7 @@ fn invalid_package_spec(profile: &str, id: &str, out: &mut Out) -> Result<(), Al
         return Ok(());
     }
     let path = [At::Key("profile"), At::Key(profile), At::Key("package")];
-    let place = place_of(out.alloc, &path, &[At::Key(id)], Part::Key)?;
-    let message = format!(in out.alloc; "invalid package ID specification `{id}`")?;
-    out.with_note(
-        INVALID_PACKAGE_SPEC,
-        place,
-        message,
-        "it is `*`, `name`, `name@version` or a URL",
-    )
+    let words = ["invalid package ID specification `", id, "`"];
+    out.key(INVALID_PACKAGE_SPEC, &path, &[At::Key(id)], &words)?;
+    out.note(&["it is `*`, `name`, `name@version` or a URL"])
 }

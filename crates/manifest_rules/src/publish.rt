@@ -22,13 +22,13 @@ pub(crate) fn publishing(look: &Look<'_>, out: &mut Out) -> Result<(), AllocErro
         return Ok(());
     }
     let path = [At::Key(look.package_key)];
-    missing_description(look, &path, package, out)?;
-    license(look, &path, package, out)?;
-    missing_links(look, &path, package, out)?;
-    include_and_exclude(look, &path, package, out)?;
+    missing_description(&path, package, out)?;
+    license(&path, package, out)?;
+    missing_links(&path, package, out)?;
+    include_and_exclude(&path, package, out)?;
     package_files(look, &path, package, out)?;
-    keywords(look, &path, package, out)?;
-    categories(look, &path, package, out)?;
+    keywords(&path, package, out)?;
+    categories(&path, package, out)?;
     requirements(look, out)
 }
 
@@ -50,29 +50,22 @@ fn has(table: &Table, key: &str) -> bool {
     }
 }
 
-fn missing_description(
-    look: &Look<'_>,
-    path: &[At<'_>],
-    package: &Table,
-    out: &mut Out,
-) -> Result<(), AllocError> {
+fn missing_description(path: &[At<'_>], package: &Table, out: &mut Out) -> Result<(), AllocError> {
     if has(package, "description") {
         return Ok(());
     }
-    let message = String::from_str(look.alloc, "manifest has no description")?;
-    out.header(MISSING_DESCRIPTION, path, &[], message)
+    out.header(
+        MISSING_DESCRIPTION,
+        path,
+        &[],
+        &["manifest has no description"],
+    )
 }
 
-fn license(
-    look: &Look<'_>,
-    path: &[At<'_>],
-    package: &Table,
-    out: &mut Out,
-) -> Result<(), AllocError> {
-    let alloc = look.alloc;
+fn license(path: &[At<'_>], package: &Table, out: &mut Out) -> Result<(), AllocError> {
     if !has(package, "license") && !has(package, "license-file") {
-        let message = String::from_str(alloc, "manifest has no license or license-file")?;
-        return out.header(MISSING_LICENSE, path, &[], message);
+        let words = ["manifest has no license or license-file"];
+        return out.header(MISSING_LICENSE, path, &[], &words);
     }
     let Some(text) = text_in(package, "license") else {
         return Ok(());
@@ -80,44 +73,32 @@ fn license(
     if text.is_empty() || is_license(text) {
         return Ok(());
     }
-    let message = format!(in alloc;
-        "`{text}` is no SPDX license expression, as `MIT OR Apache-2.0` is one"
-    )?;
-    out.value(INVALID_LICENSE, path, &[At::Key("license")], message)
+    let words = [
+        "`",
+        text,
+        "` is no SPDX license expression, as `MIT OR Apache-2.0` is one",
+    ];
+    out.value(INVALID_LICENSE, path, &[At::Key("license")], &words)
 }
 
-fn missing_links(
-    look: &Look<'_>,
-    path: &[At<'_>],
-    package: &Table,
-    out: &mut Out,
-) -> Result<(), AllocError> {
+fn missing_links(path: &[At<'_>], package: &Table, out: &mut Out) -> Result<(), AllocError> {
     for key in ["documentation", "homepage", "repository"] {
         if has(package, key) {
             return Ok(());
         }
     }
-    let message = String::from_str(
-        look.alloc,
-        "manifest has no documentation, homepage or repository",
-    )?;
-    out.header(MISSING_LINKS, path, &[], message)
+    let words = ["manifest has no documentation, homepage or repository"];
+    out.header(MISSING_LINKS, path, &[], &words)
 }
 
-fn include_and_exclude(
-    look: &Look<'_>,
-    path: &[At<'_>],
-    package: &Table,
-    out: &mut Out,
-) -> Result<(), AllocError> {
+fn include_and_exclude(path: &[At<'_>], package: &Table, out: &mut Out) -> Result<(), AllocError> {
     if !package.contains_key("include") || !package.contains_key("exclude") {
         return Ok(());
     }
-    let message = String::from_str(
-        look.alloc,
+    let words = [
         "both package.include and package.exclude are specified; the exclude list will be ignored",
-    )?;
-    out.key(INCLUDE_AND_EXCLUDE, path, &[At::Key("exclude")], message)
+    ];
+    out.key(INCLUDE_AND_EXCLUDE, path, &[At::Key("exclude")], &words)
 }
 
 fn package_files(
@@ -131,10 +112,13 @@ fn package_files(
             continue;
         };
         if file_state(look, file)? == FileState::Absent {
-            let message = format!(in look.alloc;
-                "{key} `{file}` does not appear to exist (relative to the manifest)"
-            )?;
-            out.value(MISSING_PACKAGE_FILE, path, &[At::Key(key)], message)?;
+            let words = [
+                key,
+                " `",
+                file,
+                "` does not appear to exist (relative to the manifest)",
+            ];
+            out.value(MISSING_PACKAGE_FILE, path, &[At::Key(key)], &words)?;
         }
     }
     Ok(())
@@ -153,51 +137,42 @@ fn is_keyword(text: &str) -> bool {
     !text.is_empty() && text.len() <= 20
 }
 
-fn keywords(
-    look: &Look<'_>,
-    path: &[At<'_>],
-    package: &Table,
-    out: &mut Out,
-) -> Result<(), AllocError> {
-    let alloc = look.alloc;
+fn keywords(path: &[At<'_>], package: &Table, out: &mut Out) -> Result<(), AllocError> {
     let items = items_in(package, "keywords");
     if items.len() > 5 {
-        let message = String::from_str(alloc, "a registry takes five keywords at most")?;
-        out.value(
-            INVALID_KEYWORDS,
-            path,
-            &[At::Key("keywords"), At::Index(5)],
-            message,
-        )?;
+        let rest = [At::Key("keywords"), At::Index(5)];
+        let words = ["a registry takes five keywords at most"];
+        out.value(INVALID_KEYWORDS, path, &rest, &words)?;
     }
     let mut index = 0usize;
     for item in items {
         if let Value::String(word) = item {
-            let word = word.as_str();
-            if !is_keyword(word) {
-                let message = format!(in alloc;
-                    "`{word}` is no keyword: it has at most 20 ASCII letters, digits, `_`, `-` and `+`, and begins with a letter or a digit"
-                )?;
-                let rest = [At::Key("keywords"), At::Index(index)];
-                out.value(INVALID_KEYWORDS, path, &rest, message)?;
-            }
+            keyword(path, index, word.as_str(), out)?;
         }
         index = index.saturating_add(1);
     }
     Ok(())
 }
 
-fn categories(
-    look: &Look<'_>,
-    path: &[At<'_>],
-    package: &Table,
-    out: &mut Out,
-) -> Result<(), AllocError> {
+fn keyword(path: &[At<'_>], index: usize, word: &str, out: &mut Out) -> Result<(), AllocError> {
+    if is_keyword(word) {
+        return Ok(());
+    }
+    let words = [
+        "`",
+        word,
+        "` is no keyword: it has at most 20 ASCII letters, digits, `_`, `-` and `+`, and begins with a letter or a digit",
+    ];
+    let rest = [At::Key("keywords"), At::Index(index)];
+    out.value(INVALID_KEYWORDS, path, &rest, &words)
+}
+
+fn categories(path: &[At<'_>], package: &Table, out: &mut Out) -> Result<(), AllocError> {
     if items_in(package, "categories").len() <= 5 {
         return Ok(());
     }
-    let message = String::from_str(look.alloc, "a registry takes five categories at most")?;
-    out.value(TOO_MANY_CATEGORIES, path, &[At::Key("categories")], message)
+    let words = ["a registry takes five categories at most"];
+    out.value(TOO_MANY_CATEGORIES, path, &[At::Key("categories")], &words)
 }
 
 /// Each dependency is published with a version: one of a `path` has one, and none is `*`.
@@ -209,38 +184,35 @@ fn requirements(look: &Look<'_>, out: &mut Out) -> Result<(), AllocError> {
         for (name, dependency) in section.table {
             let base = section.path.as_slice();
             let is_dev = section.section == Section::Dev;
-            requirement(look, base, name.as_str(), dependency, is_dev, out)?;
+            requirement(base, name.as_str(), dependency, is_dev, out)?;
         }
     }
     Ok(())
 }
 
 fn requirement(
-    look: &Look<'_>,
     base: &[At<'_>],
     name: &str,
     dependency: &Value,
     is_dev: bool,
     out: &mut Out,
 ) -> Result<(), AllocError> {
-    let alloc = look.alloc;
     let version = match dependency {
         Value::String(text) => Some(text.as_str()),
         Value::Table(table) => text_in(table, "version"),
         _ => return Ok(()),
     };
     if version.is_some_and(|version| version.trim() == "*") && !is_dev {
-        let message = format!(in alloc;
-            "wildcard (`*`) dependency constraints are not allowed on crates.io: `{name}`"
-        )?;
-        return wildcard(base, name, dependency, message, out);
+        return wildcard(base, name, dependency, out);
     }
     let is_path = dependency.get("path").is_some();
     if is_path && version.is_none() && !is_dev {
-        let message = format!(in alloc;
-            "all dependencies must have a version specified when packaging: `{name}` has none"
-        )?;
-        return out.header(PATH_WITHOUT_VERSION, base, &[At::Key(name)], message);
+        let words = [
+            "all dependencies must have a version specified when packaging: `",
+            name,
+            "` has none",
+        ];
+        return out.header(PATH_WITHOUT_VERSION, base, &[At::Key(name)], &words);
     }
     Ok(())
 }
@@ -250,13 +222,17 @@ fn wildcard(
     base: &[At<'_>],
     name: &str,
     dependency: &Value,
-    message: String,
     out: &mut Out,
 ) -> Result<(), AllocError> {
+    let words = [
+        "wildcard (`*`) dependency constraints are not allowed on crates.io: `",
+        name,
+        "`",
+    ];
     if dependency.is_table() {
         let rest = [At::Key(name), At::Key("version")];
-        out.value(WILDCARD_REQUIREMENT, base, &rest, message)
+        out.value(WILDCARD_REQUIREMENT, base, &rest, &words)
     } else {
-        out.value(WILDCARD_REQUIREMENT, base, &[At::Key(name)], message)
+        out.value(WILDCARD_REQUIREMENT, base, &[At::Key(name)], &words)
     }
 }

@@ -6,9 +6,8 @@ use crate::codes::{
     UNKNOWN_PATCH_SOURCE, VERSION_IN_REPLACE,
 };
 use crate::look::{Look, flag_in, inherits, items_in, table_in};
-use crate::report::{At, Out, Part, Report, place_of, steps};
-use crate::words::{IdVersion, Word, package_id, url_fault};
-use manifest_places::Edit;
+use crate::report::{At, File, Out, Part, shown};
+use crate::words::{IdVersion, UrlFault, Word, package_id, url_fault};
 use std::alloc::AllocError;
 use toml::{Table, Value};
 
@@ -54,13 +53,11 @@ fn replace_beside_patch(look: &Look<'_>, out: &mut Out) -> Result<(), AllocError
     if !look.document.contains_key("replace") || !look.document.contains_key("patch") {
         return Ok(());
     }
-    let place = place_of(out.alloc, &[At::Key("replace")], &[], Part::Key)?;
-    let message = String::from_str(out.alloc, "`[replace]` stands next to `[patch]`")?;
-    let other = place_of(out.alloc, &[At::Key("patch")], &[], Part::Key)?;
-    let report = Report::new(out.alloc, REPLACE_BESIDE_PATCH, place, message)
-        .with_label_str(other, "`[patch]` is here")?
-        .with_note_str("`[replace]` is deprecated: what it does, `[patch]` does too")?;
-    out.tell(report)
+    let words = ["`[replace]` stands next to `[patch]`"];
+    out.key(REPLACE_BESIDE_PATCH, &[At::Key("replace")], &[], &words)?;
+    let other = [At::Key("patch")];
+    out.label(File::Own, Part::Key, &other, &[], &["`[patch]` is here"])?;
+    out.note(&["`[replace]` is deprecated: what it does, `[patch]` does too"])
 }
 
 /// What is patched is `crates-io`, a URL, or a registry of the configuration.
@@ -77,30 +74,38 @@ fn unknown_patch_source(
         return Ok(());
     };
     let path = [At::Key("patch"), At::Key(source)];
-    let place = place_of(out.alloc, &path, &[], Part::Key)?;
-    let (message, level) = if Word::Name.fault(source).is_none() {
-        let message = format!(in out.alloc; "`{source}` is no registry that is known here")?;
-        (message, Level::Warning)
-    } else {
-        let message = format!(in out.alloc;
-            "`{source}` is neither a URL nor the name of a registry: {fault}"
-        )?;
-        (message, Level::Error)
-    };
-    let report = Report::new(out.alloc, UNKNOWN_PATCH_SOURCE, place, message)
-        .at_level(level)
-        .with_note_str("a source is `crates-io`, a URL, or a registry of `.cargo/config.toml`")?;
+    say_unknown_source(&path, source, fault, out)?;
+    out.note(&["a source is `crates-io`, a URL, or a registry of `.cargo/config.toml`"])?;
     if !matches!(source, "crates" | "crates.io" | "crates_io")
         || sources.contains_key("crates-io")
     {
-        return out.tell(report);
+        return Ok(());
     }
-    let edit = Edit::Rename(
-        steps(out.alloc, &path, &[])?,
-        String::from_str(out.alloc, "crates-io")?,
-    );
-    let help = String::from_str(out.alloc, "write `crates-io`, with a dash")?;
-    out.tell(report.with_fix(out.alloc, help, edit, false)?)
+    let help = ["write `crates-io`, with a dash"];
+    out.rename(&path, &[], "crates-io", false, &help)
+}
+
+/// Says that a source is no registry: one of its name may be known elsewhere, if it is a name.
+fn say_unknown_source(
+    path: &[At<'_>],
+    source: &str,
+    fault: UrlFault,
+    out: &mut Out,
+) -> Result<(), AllocError> {
+    if Word::Name.fault(source).is_none() {
+        let words = ["`", source, "` is no registry that is known here"];
+        return out.key(UNKNOWN_PATCH_SOURCE, path, &[], &words);
+    }
+    let fault = shown(out.alloc, &fault)?;
+    let words = [
+        "`",
+        source,
+        "` is neither a URL nor the name of a registry: ",
+        fault.as_str(),
+    ];
+    out.key(UNKNOWN_PATCH_SOURCE, path, &[], &words)?;
+    out.at_level(Level::Error);
+    Ok(())
 }
 
 /// Whether the configuration has a registry of this name.
@@ -120,25 +125,15 @@ fn inherited_patch(path: &[At<'_>], detail: &Table, out: &mut Out) -> Result<(),
     let has_source = ["version", "path", "git"]
         .iter()
         .any(|key| detail.contains_key(*key));
-    let level = if has_source {
-        Level::Warning
-    } else {
-        Level::Error
-    };
     let rest = [At::Key("workspace")];
-    let place = place_of(out.alloc, path, &rest, Part::Key)?;
-    let message = String::from_str(out.alloc, "a patch is not inherited from the workspace")?;
-    let report = Report::new(out.alloc, INHERITED_PATCH, place, message)
-        .at_level(level)
-        .with_note_str(
-            "`[patch]` ignores `workspace = true`, and needs `path`, `git` or `version`",
-        )?;
+    let words = ["a patch is not inherited from the workspace"];
+    out.key(INHERITED_PATCH, path, &rest, &words)?;
+    out.note(&["`[patch]` ignores `workspace = true`, and needs `path`, `git` or `version`"])?;
     if !has_source {
-        return out.tell(report);
+        return Ok(());
     }
-    let edit = Edit::Remove(steps(out.alloc, path, &rest)?);
-    let help = String::from_str(out.alloc, "remove `workspace`")?;
-    out.tell(report.with_fix(out.alloc, help, edit, true)?)
+    out.at_level(Level::Warning);
+    out.remove(path, &rest, true, &["remove `workspace`"])
 }
 
 fn ignored_in_patch(path: &[At<'_>], detail: &Table, out: &mut Out) -> Result<(), AllocError> {
@@ -151,19 +146,18 @@ fn ignored_in_patch(path: &[At<'_>], detail: &Table, out: &mut Out) -> Result<()
     ];
     for (key, is_used) in keys {
         if is_used {
-            let rest = [At::Key(key)];
-            let place = place_of(out.alloc, path, &rest, Part::Key)?;
-            let message = format!(in out.alloc; "`{key}` has no effect in `[patch]`")?;
-            let note = "the dependency that is patched says which features are enabled";
-            let report = Report::new(out.alloc, IGNORED_IN_PATCH, place, message).with_note_str(
-                note,
-            )?;
-            let edit = Edit::Remove(steps(out.alloc, path, &rest)?);
-            let help = format!(in out.alloc; "remove `{key}`")?;
-            out.tell(report.with_fix(out.alloc, help, edit, true)?)?;
+            without_effect(path, key, out)?;
         }
     }
     Ok(())
+}
+
+fn without_effect(path: &[At<'_>], key: &str, out: &mut Out) -> Result<(), AllocError> {
+    let rest = [At::Key(key)];
+    let words = ["`", key, "` has no effect in `[patch]`"];
+    out.key(IGNORED_IN_PATCH, path, &rest, &words)?;
+    out.note(&["the dependency that is patched says which features are enabled"])?;
+    out.remove(path, &rest, true, &["remove `", key, "`"])
 }
 
 /// A key of `[replace]` is a package id with a whole version.
@@ -173,24 +167,26 @@ fn invalid_replace_key(id: &str, out: &mut Out) -> Result<(), AllocError> {
         Some(_version) => "the version that is replaced stands after the name, as in `name:1.2.3`",
         None => "it is `name:version`, or a URL and `#name:version`",
     };
-    let message = format!(in out.alloc;
-        "`{id}` does not say which version of a package to replace"
-    )?;
-    let place = place_of(out.alloc, &[At::Key("replace")], &[At::Key(id)], Part::Key)?;
-    out.with_note(INVALID_REPLACE_KEY, place, message, note)
+    let path = [At::Key("replace"), At::Key(id)];
+    let words = [
+        "`",
+        id,
+        "` does not say which version of a package to replace",
+    ];
+    out.key(INVALID_REPLACE_KEY, &path, &[], &words)?;
+    out.note(&[note])
 }
 
 /// The key says which version is replaced, and by which it is replaced the source says.
 fn version_in_replace(id: &str, element: &Value, out: &mut Out) -> Result<(), AllocError> {
     let path = [At::Key("replace"), At::Key(id)];
-    let place = match element {
-        Value::String(_version) => place_of(out.alloc, &path, &[], Part::Value)?,
+    let words = ["replacement of `", id, "` has a version requirement"];
+    match element {
+        Value::String(_version) => out.value(VERSION_IN_REPLACE, &path, &[], &words)?,
         Value::Table(detail) if detail.contains_key("version") => {
-            place_of(out.alloc, &path, &[At::Key("version")], Part::Key)?
+            out.key(VERSION_IN_REPLACE, &path, &[At::Key("version")], &words)?
         }
         _ => return Ok(()),
-    };
-    let message = format!(in out.alloc; "replacement of `{id}` has a version requirement")?;
-    let note = "a replacement has `path` or `git`, and the version stands in its key";
-    out.with_note(VERSION_IN_REPLACE, place, message, note)
+    }
+    out.note(&["a replacement has `path` or `git`, and the version stands in its key"])
 }

@@ -8,6 +8,7 @@ use crate::look::Edition;
 use crate::words::Nearest;
 use manifest_places::{Edit, Step};
 use std::alloc::{AllocError, Global};
+use std::fmt;
 use toml::Value;
 
 /// A step to a value: to the entry of a table, or to the item of an array.
@@ -79,11 +80,7 @@ pub struct Report {
 }
 
 /// The steps of one path after those of another, in memory of their own.
-pub(crate) fn steps(
-    alloc: Global,
-    base: &[At<'_>],
-    rest: &[At<'_>],
-) -> Result<Vec<Step>, AllocError> {
+fn steps(alloc: Global, base: &[At<'_>], rest: &[At<'_>]) -> Result<Vec<Step>, AllocError> {
     let mut path = Vec::new(alloc);
     for at in base {
         path.push(step(alloc, *at)?)?;
@@ -101,14 +98,9 @@ fn step(alloc: Global, at: At<'_>) -> Result<Step, AllocError> {
     }
 }
 
-/// The place of a part of what stands at a path.
-pub(crate) fn place_of(
-    alloc: Global,
-    base: &[At<'_>],
-    rest: &[At<'_>],
-    part: Part,
-) -> Result<Spot, AllocError> {
-    Ok(Spot::Path(steps(alloc, base, rest)?, part))
+/// A value as it is printed.
+pub(crate) fn shown<T: fmt::Display>(alloc: Global, value: &T) -> Result<String, AllocError> {
+    format!(in alloc; "{value}")
 }
 
 /// A text as TOML writes it, in quotes.
@@ -157,21 +149,8 @@ pub fn copied_edits(alloc: Global, edits: &[Edit]) -> Result<Vec<Edit>, AllocErr
 }
 
 impl Report {
-    /// This message of what stands at a path.
-    pub(crate) fn at(
-        alloc: Global,
-        code: Code,
-        part: Part,
-        base: &[At<'_>],
-        rest: &[At<'_>],
-        message: String,
-    ) -> Result<Report, AllocError> {
-        let spot = Spot::Path(steps(alloc, base, rest)?, part);
-        Ok(Report::new(alloc, code, spot, message))
-    }
-
     /// This message, of the code's level, at this place.
-    pub(crate) fn new(alloc: Global, code: Code, spot: Spot, message: String) -> Report {
+    fn new(alloc: Global, code: Code, spot: Spot, message: String) -> Report {
         Report {
             code,
             level: code.level,
@@ -181,74 +160,6 @@ impl Report {
             notes: Vec::new(alloc),
             suggestions: Vec::new(alloc),
         }
-    }
-
-    /// The same at another level.
-    pub(crate) fn at_level(self, level: Level) -> Report {
-        let mut report = self;
-        report.level = level;
-        report
-    }
-
-    /// The same with one more note.
-    pub(crate) fn with_note(self, note: String) -> Result<Report, AllocError> {
-        let mut report = self;
-        report.notes.push(note)?;
-        Ok(report)
-    }
-
-    /// The same with one more note, of these words.
-    pub(crate) fn with_note_str(self, note: &str) -> Result<Report, AllocError> {
-        let note = String::from_str(*self.notes.allocator(), note)?;
-        self.with_note(note)
-    }
-
-    /// The same with one more place of the manifest, and these words there.
-    pub(crate) fn with_label_str(self, spot: Spot, text: &str) -> Result<Report, AllocError> {
-        let text = String::from_str(*self.labels.allocator(), text)?;
-        self.with_label(File::Own, spot, text)
-    }
-
-    /// The same with one more place.
-    pub(crate) fn with_label(
-        self,
-        file: File,
-        spot: Spot,
-        text: String,
-    ) -> Result<Report, AllocError> {
-        let mut report = self;
-        report.labels.push(Label { file, spot, text })?;
-        Ok(report)
-    }
-
-    /// The same with a suggestion of one edit.
-    pub(crate) fn with_fix(
-        self,
-        alloc: Global,
-        text: String,
-        edit: Edit,
-        is_certain: bool,
-    ) -> Result<Report, AllocError> {
-        let mut edits = Vec::new(alloc);
-        edits.push(edit)?;
-        let mut report = self;
-        report.suggestions.push(Suggestion {
-            text,
-            edits,
-            is_certain,
-        })?;
-        Ok(report)
-    }
-
-    /// The same with words of what can be written, and no edit.
-    pub(crate) fn with_help(self, alloc: Global, text: String) -> Result<Report, AllocError> {
-        let mut report = self;
-        report.suggestions.push(Suggestion {
-            text,
-            edits: Vec::new(alloc),
-            is_certain: false,
-        })?;
-        Ok(report)
     }
 }
 
@@ -288,9 +199,8 @@ impl Out {
         }
     }
 
-    /// Says this, at the level that its code has in the edition, unless a level was given to it. Out of memory where all
-    /// that is said takes too much.
-    pub(crate) fn tell(&mut self, report: Report) -> Result<(), AllocError> {
+    /// Says this, at the level that its code has in the edition. Out of memory where all that is said takes too much.
+    fn tell(&mut self, report: Report) -> Result<(), AllocError> {
         let path = match &report.spot {
             Spot::Path(path, _) => bytes_of(path.as_slice()),
             Spot::Bytes(_, _) => 0,
@@ -301,9 +211,7 @@ impl Out {
         };
         self.room = room;
         let mut report = report;
-        if report.level == report.code.level {
-            report.level = report.code.level_in(self.edition);
-        }
+        report.level = report.code.level_in(self.edition);
         self.reports.push(report)?;
         Ok(())
     }
@@ -318,28 +226,30 @@ impl Out {
         }
     }
 
-    /// Says this at a place, with a note.
-    pub(crate) fn with_note(
-        &mut self,
-        code: Code,
-        spot: Spot,
-        message: String,
-        note: &str,
-    ) -> Result<(), AllocError> {
-        let report = Report::new(self.alloc, code, spot, message).with_note_str(note)?;
-        self.tell(report)
+    /// The nearest of these names to a text.
+    pub(crate) fn nearest_of<'a>(
+        &self,
+        text: &'a str,
+        names: &[&'static str],
+    ) -> Result<Option<&'a str>, AllocError> {
+        let mut nearest = self.nearest(text);
+        for name in names {
+            nearest.offer(self.alloc, *name)?;
+        }
+        Ok(nearest.found())
     }
 
-    /// Says this of the header of the table at a path, as something is missing in it.
-    pub(crate) fn header(
+    /// Says this, in these words, of a part of what stands at a path.
+    pub(crate) fn say(
         &mut self,
         code: Code,
+        part: Part,
         base: &[At<'_>],
         rest: &[At<'_>],
-        message: String,
+        words: &[&str],
     ) -> Result<(), AllocError> {
-        let spot = place_of(self.alloc, base, rest, Part::Header)?;
-        self.tell(Report::new(self.alloc, code, spot, message))
+        let path = steps(self.alloc, base, rest)?;
+        self.say_at(code, Spot::Path(path, part), words)
     }
 
     /// Says this of the value at a path.
@@ -348,10 +258,9 @@ impl Out {
         code: Code,
         base: &[At<'_>],
         rest: &[At<'_>],
-        message: String,
+        words: &[&str],
     ) -> Result<(), AllocError> {
-        let spot = place_of(self.alloc, base, rest, Part::Value)?;
-        self.tell(Report::new(self.alloc, code, spot, message))
+        self.say(code, Part::Value, base, rest, words)
     }
 
     /// Says this of the key at a path.
@@ -360,9 +269,170 @@ impl Out {
         code: Code,
         base: &[At<'_>],
         rest: &[At<'_>],
-        message: String,
+        words: &[&str],
     ) -> Result<(), AllocError> {
-        let spot = place_of(self.alloc, base, rest, Part::Key)?;
+        self.say(code, Part::Key, base, rest, words)
+    }
+
+    /// Says this of the header of the table at a path, as something is missing in it.
+    pub(crate) fn header(
+        &mut self,
+        code: Code,
+        base: &[At<'_>],
+        rest: &[At<'_>],
+        words: &[&str],
+    ) -> Result<(), AllocError> {
+        self.say(code, Part::Header, base, rest, words)
+    }
+
+    /// Says this of the bytes of the text from the first offset to the second.
+    pub(crate) fn bytes(
+        &mut self,
+        code: Code,
+        start: usize,
+        end: usize,
+        words: &[&str],
+    ) -> Result<(), AllocError> {
+        self.say_at(code, Spot::Bytes(start, end), words)
+    }
+
+    fn say_at(&mut self, code: Code, spot: Spot, words: &[&str]) -> Result<(), AllocError> {
+        let message = words.concat(self.alloc)?;
         self.tell(Report::new(self.alloc, code, spot, message))
+    }
+
+    /// Of what was said last: it has another level than its code.
+    pub(crate) fn at_level(&mut self, level: Level) {
+        if let Some(last) = self.reports.last_mut() {
+            last.level = level;
+        }
+    }
+
+    /// Of what was said last: one more note.
+    pub(crate) fn note(&mut self, words: &[&str]) -> Result<(), AllocError> {
+        let note = words.concat(self.alloc)?;
+        if let Some(last) = self.reports.last_mut() {
+            last.notes.push(note)?;
+        }
+        Ok(())
+    }
+
+    /// Of what was said last: one more place, and these words there.
+    pub(crate) fn label(
+        &mut self,
+        file: File,
+        part: Part,
+        base: &[At<'_>],
+        rest: &[At<'_>],
+        words: &[&str],
+    ) -> Result<(), AllocError> {
+        let spot = Spot::Path(steps(self.alloc, base, rest)?, part);
+        let text = words.concat(self.alloc)?;
+        if let Some(last) = self.reports.last_mut() {
+            last.labels.push(Label { file, spot, text })?;
+        }
+        Ok(())
+    }
+
+    /// Of what was said last: words of what can be written, and no edit.
+    pub(crate) fn help(&mut self, words: &[&str]) -> Result<(), AllocError> {
+        self.suggest(Vec::new(self.alloc), false, words)
+    }
+
+    /// Of what was said last: what is at a path can have this key.
+    pub(crate) fn rename(
+        &mut self,
+        base: &[At<'_>],
+        rest: &[At<'_>],
+        key: &str,
+        is_certain: bool,
+        words: &[&str],
+    ) -> Result<(), AllocError> {
+        let path = steps(self.alloc, base, rest)?;
+        let edit = Edit::Rename(path, String::from_str(self.alloc, key)?);
+        self.suggest_edit(edit, is_certain, words)
+    }
+
+    /// Of what was said last: this can be written as the value at a path.
+    pub(crate) fn set(
+        &mut self,
+        base: &[At<'_>],
+        rest: &[At<'_>],
+        value: &[&str],
+        is_certain: bool,
+        words: &[&str],
+    ) -> Result<(), AllocError> {
+        let path = steps(self.alloc, base, rest)?;
+        let edit = Edit::Set(path, value.concat(self.alloc)?);
+        self.suggest_edit(edit, is_certain, words)
+    }
+
+    /// Of what was said last: this text can be written, in quotes, at a path.
+    pub(crate) fn set_text(
+        &mut self,
+        base: &[At<'_>],
+        rest: &[At<'_>],
+        text: &str,
+        is_certain: bool,
+        words: &[&str],
+    ) -> Result<(), AllocError> {
+        let path = steps(self.alloc, base, rest)?;
+        let edit = Edit::Set(path, quoted(self.alloc, text)?);
+        self.suggest_edit(edit, is_certain, words)
+    }
+
+    /// Of what was said last: this text can be inserted, in quotes, at a path.
+    pub(crate) fn insert_text(
+        &mut self,
+        base: &[At<'_>],
+        rest: &[At<'_>],
+        text: &str,
+        is_certain: bool,
+        words: &[&str],
+    ) -> Result<(), AllocError> {
+        let path = steps(self.alloc, base, rest)?;
+        let edit = Edit::Insert(path, quoted(self.alloc, text)?);
+        self.suggest_edit(edit, is_certain, words)
+    }
+
+    /// Of what was said last: what is at a path can be removed.
+    pub(crate) fn remove(
+        &mut self,
+        base: &[At<'_>],
+        rest: &[At<'_>],
+        is_certain: bool,
+        words: &[&str],
+    ) -> Result<(), AllocError> {
+        let edit = Edit::Remove(steps(self.alloc, base, rest)?);
+        self.suggest_edit(edit, is_certain, words)
+    }
+
+    fn suggest_edit(
+        &mut self,
+        edit: Edit,
+        is_certain: bool,
+        words: &[&str],
+    ) -> Result<(), AllocError> {
+        let mut edits = Vec::new(self.alloc);
+        edits.push(edit)?;
+        self.suggest(edits, is_certain, words)
+    }
+
+    fn suggest(
+        &mut self,
+        edits: Vec<Edit>,
+        is_certain: bool,
+        words: &[&str],
+    ) -> Result<(), AllocError> {
+        let text = words.concat(self.alloc)?;
+        let suggestion = Suggestion {
+            text,
+            edits,
+            is_certain,
+        };
+        if let Some(last) = self.reports.last_mut() {
+            last.suggestions.push(suggestion)?;
+        }
+        Ok(())
     }
 }

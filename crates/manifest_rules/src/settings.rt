@@ -3,13 +3,12 @@
 
 use crate::codes::{ALL, IGNORED_SETTING, code_named};
 use crate::look::{Look, table_in};
-use crate::report::{At, Out, Part, Report, place_of, quoted, steps};
-use manifest_places::Edit;
+use crate::report::{At, Out, quoted};
 use std::alloc::AllocError;
 use toml::{Table, Value};
 
 /// The settings: each has a list of codes.
-const SETTINGS: [&str; 3] = ["allow", "warn", "deny"];
+static SETTINGS: [&str; 3] = ["allow", "warn", "deny"];
 
 /// What is no setting.
 pub(crate) fn settings(look: &Look<'_>, out: &mut Out) -> Result<(), AllocError> {
@@ -32,10 +31,12 @@ fn settings_of(owner: &str, table: &Table, out: &mut Out) -> Result<(), AllocErr
     ];
     match metadata.get("manifest-check") {
         Some(Value::Table(settings)) => rules_of_settings(&base, settings, out),
-        Some(_) => {
-            let message = String::from_str(out.alloc, "`manifest-check` must be a table")?;
-            out.value(IGNORED_SETTING, &base, &[], message)
-        },
+        Some(_) => out.value(
+            IGNORED_SETTING,
+            &base,
+            &[],
+            &["`manifest-check` must be a table"],
+        ),
         None => Ok(()),
     }
 }
@@ -44,9 +45,7 @@ fn rules_of_settings(base: &[At<'_>], settings: &Table, out: &mut Out) -> Result
     for (key, value) in settings {
         let key = key.as_str();
         match value {
-            _ if !matches!(key, "allow" | "warn" | "deny") => {
-                unknown_setting(base, settings, key, out)?;
-            },
+            _ if !SETTINGS.contains(&key) => unknown_setting(base, settings, key, out)?,
             Value::Array(codes) => rules_of_codes(base, key, codes.as_slice(), out)?,
             _ => setting_without_list(base, key, value, out)?,
         }
@@ -60,23 +59,15 @@ fn unknown_setting(
     key: &str,
     out: &mut Out,
 ) -> Result<(), AllocError> {
-    let place = place_of(out.alloc, base, &[At::Key(key)], Part::Key)?;
-    let message = format!(in out.alloc; "no setting has the name `{key}`")?;
-    let report = Report::new(out.alloc, IGNORED_SETTING, place, message).with_note_str(
-        "the settings are `allow`, `warn` and `deny`",
-    )?;
-    let mut nearest = out.nearest(key);
-    for other in SETTINGS {
-        nearest.offer(out.alloc, other)?;
-    }
-    match nearest.found() {
+    let rest = [At::Key(key)];
+    let words = ["no setting has the name `", key, "`"];
+    out.key(IGNORED_SETTING, base, &rest, &words)?;
+    out.note(&["the settings are `allow`, `warn` and `deny`"])?;
+    match out.nearest_of(key, &SETTINGS)? {
         Some(near) if !settings.contains_key(near) => {
-            let path = steps(out.alloc, base, &[At::Key(key)])?;
-            let edit = Edit::Rename(path, String::from_str(out.alloc, near)?);
-            let help = format!(in out.alloc; "write `{near}`")?;
-            out.tell(report.with_fix(out.alloc, help, edit, false)?)
-        },
-        _ => out.tell(report),
+            out.rename(base, &rest, near, false, &["write `", near, "`"])
+        }
+        _ => Ok(()),
     }
 }
 
@@ -87,17 +78,15 @@ fn setting_without_list(
     value: &Value,
     out: &mut Out,
 ) -> Result<(), AllocError> {
-    let place = place_of(out.alloc, base, &[At::Key(key)], Part::Value)?;
-    let message = format!(in out.alloc; "`{key}` must be a list of codes")?;
-    let report = Report::new(out.alloc, IGNORED_SETTING, place, message);
+    let rest = [At::Key(key)];
+    let words = ["`", key, "` must be a list of codes"];
+    out.value(IGNORED_SETTING, base, &rest, &words)?;
     let Value::String(code) = value else {
-        return out.tell(report);
+        return Ok(());
     };
     let code = quoted(out.alloc, code.as_str())?;
-    let list = format!(in out.alloc; "[{code}]")?;
-    let edit = Edit::Set(steps(out.alloc, base, &[At::Key(key)])?, list);
-    let help = String::from_str(out.alloc, "write a list of it")?;
-    out.tell(report.with_fix(out.alloc, help, edit, false)?)
+    let list = ["[", code.as_str(), "]"];
+    out.set(base, &rest, &list, false, &["write a list of it"])
 }
 
 /// The items of a setting are codes, or `all`.
@@ -112,9 +101,9 @@ fn rules_of_codes(
         match code {
             Value::String(name) => unless_code(base, &rest, name.as_str(), out)?,
             _ => {
-                let message = format!(in out.alloc; "an item of `{key}` must be a string")?;
-                out.value(IGNORED_SETTING, base, &rest, message)?;
-            },
+                let words = ["an item of `", key, "` must be a string"];
+                out.value(IGNORED_SETTING, base, &rest, &words)?;
+            }
         }
     }
     Ok(())
@@ -129,20 +118,14 @@ fn unless_code(
     if name == "all" || code_named(name).is_some() {
         return Ok(());
     }
-    let place = place_of(out.alloc, base, rest, Part::Value)?;
-    let message = format!(in out.alloc; "no code has the name `{name}`")?;
-    let report = Report::new(out.alloc, IGNORED_SETTING, place, message);
+    let words = ["no code has the name `", name, "`"];
+    out.value(IGNORED_SETTING, base, rest, &words)?;
     let mut nearest = out.nearest(name);
     for code in ALL {
         nearest.offer(out.alloc, code.name)?;
     }
     match nearest.found() {
-        Some(near) => {
-            let text = quoted(out.alloc, near)?;
-            let edit = Edit::Set(steps(out.alloc, base, rest)?, text);
-            let help = format!(in out.alloc; "write `{near}`")?;
-            out.tell(report.with_fix(out.alloc, help, edit, false)?)
-        },
-        None => out.tell(report),
+        Some(near) => out.set_text(base, rest, near, false, &["write `", near, "`"]),
+        None => Ok(()),
     }
 }

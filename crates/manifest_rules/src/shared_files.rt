@@ -2,10 +2,10 @@
 
 use crate::codes::SHARED_TARGET_FILE;
 use crate::files::plain_path;
-use crate::found::{LISTED, declared_of, declares, files_of, finds, has_file};
+use crate::found::{Declared, FoundFile, LISTED, declared_of, declares, files_of, finds, has_file};
 use crate::look::{DeclaredTarget, Kind, Look, text_in};
-use crate::report::{At, Out, Part, Report, Spot, place_of};
-use std::alloc::AllocError;
+use crate::report::{At, File, Out, Part};
+use std::alloc::{AllocError, Global};
 use std::collections::BTreeMap;
 
 /// The targets that have a file: the path by which it is declared, or that it stands where Cargo finds it.
@@ -20,15 +20,18 @@ impl<'a> Users<'a> {
     /// each declared target that has no path.
     fn find(&mut self, look: &Look<'_>, kind: Kind) -> Result<(), AllocError> {
         let declared = declared_of(look, kind)?;
-        for file in files_of(look, kind)? {
-            let is_used = match declared.names.get(file.name.as_str()) {
-                Some(target) => !target.table.contains_key("path"),
-                None => finds(look, kind) && !declared.has(&file),
-            };
-            if is_used {
-                let _other = self.files.insert(file.path.clone()?, None)?;
+        let files = files_of(look, kind)?;
+        for file in &files {
+            if is_used(look, kind, &declared, file) {
+                self.add_found(look.alloc, file.path.as_str())?;
             }
         }
+        Ok(())
+    }
+
+    fn add_found(&mut self, alloc: Global, path: &str) -> Result<(), AllocError> {
+        let path = String::from_str(alloc, path)?;
+        let _other = self.files.insert(path, None)?;
         Ok(())
     }
 
@@ -38,10 +41,17 @@ impl<'a> Users<'a> {
             && target.table.contains_key("path"));
         let is_meant = declares(look, Kind::Lib) || finds(look, Kind::Lib);
         if is_meant && !has_path && has_file(look, "src", "lib.rs") {
-            let path = String::from_str(look.alloc, "src/lib.rs")?;
-            let _other = self.files.insert(path, None)?;
+            self.add_found(look.alloc, "src/lib.rs")?;
         }
         Ok(())
+    }
+}
+
+/// Whether a file that is found is that of a target: of a declared one that has no path, or of its own.
+fn is_used(look: &Look<'_>, kind: Kind, declared: &Declared<'_>, file: &FoundFile) -> bool {
+    match declared.names.get(file.name.as_str()) {
+        Some(target) => !target.table.contains_key("path"),
+        None => finds(look, kind) && !declared.has(file),
     }
 }
 
@@ -70,33 +80,24 @@ pub(crate) fn shared_files(look: &Look<'_>, out: &mut Out) -> Result<(), AllocEr
     Ok(())
 }
 
-fn path_spot(target: &DeclaredTarget<'_>, out: &Out) -> Result<Spot, AllocError> {
-    place_of(
-        out.alloc,
-        target.path.as_slice(),
-        &[At::Key("path")],
-        Part::Value,
-    )
-}
-
 fn shared_file(
     target: &DeclaredTarget<'_>,
     first: Option<&DeclaredTarget<'_>>,
     path: &str,
     out: &mut Out,
 ) -> Result<(), AllocError> {
-    let message = format!(in out.alloc;
-        "file `{path}` found to be present in multiple build targets"
-    )?;
-    let report = Report::new(
-        out.alloc,
-        SHARED_TARGET_FILE,
-        path_spot(target, out)?,
-        message,
-    );
-    let report = match first {
-        Some(first) => report.with_label_str(path_spot(first, out)?, "the same file")?,
-        None => report.with_note_str("by where it stands it is the file of another target")?,
-    };
-    out.tell(report)
+    let rest = [At::Key("path")];
+    let words = [
+        "file `",
+        path,
+        "` found to be present in multiple build targets",
+    ];
+    out.value(SHARED_TARGET_FILE, target.path.as_slice(), &rest, &words)?;
+    match first {
+        Some(first) => {
+            let base = first.path.as_slice();
+            out.label(File::Own, Part::Value, base, &rest, &["the same file"])
+        }
+        None => out.note(&["by where it stands it is the file of another target"]),
+    }
 }

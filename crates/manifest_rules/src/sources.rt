@@ -4,14 +4,14 @@ use crate::codes::{REPEATED_DEPENDENCY, SELF_DEPENDENCY, TWO_SOURCES};
 use crate::dependencies::Dependency;
 use crate::files::plain_path;
 use crate::look::{Look, Section, text_in};
-use crate::report::{Out, Report};
+use crate::report::{At, File, Out, Part};
 use crate::words::url_fault;
 use std::alloc::{AllocError, Global};
 use std::collections::BTreeMap;
 use toml::Table;
 
 /// Where a dependency comes from, as far as the manifest says.
-#[derive(Debug, PartialEq, Eq, Drop)]
+#[derive(PartialEq, Eq, Drop)]
 enum Source {
     /// The folder, without `.` and, where that can be, without `..`.
     Path(String),
@@ -52,13 +52,13 @@ impl Source {
         }
     }
 
-    /// The source as a text that no other source has.
-    fn text(&self, alloc: Global) -> Result<String, AllocError> {
+    /// The two parts of a text that no other source has.
+    fn words(&self) -> [&str; 2] {
         match self {
-            Source::Path(path) => format!(in alloc; "path {path}"),
-            Source::Git(url) => format!(in alloc; "git {url}"),
-            Source::CratesIo => String::from_str(alloc, "registry"),
-            Source::Registry(name) => format!(in alloc; "registry {name}"),
+            Source::Path(path) => ["path ", path.as_str()],
+            Source::Git(url) => ["git ", url.as_str()],
+            Source::CratesIo => ["registry", ""],
+            Source::Registry(name) => ["registry ", name.as_str()],
         }
     }
 }
@@ -83,6 +83,12 @@ fn git_source(alloc: Global, url: &str, detail: &Table) -> Result<Option<Source>
     if text.as_str().contains("://github.com/") {
         text.make_ascii_lowercase();
     }
+    push_revision(detail, &mut text)?;
+    Ok(Some(Source::Git(text)))
+}
+
+/// Writes the revisions that a dependency names after its URL.
+fn push_revision(detail: &Table, text: &mut String) -> Result<(), AllocError> {
     for key in ["branch", "tag", "rev"] {
         if let Some(name) = text_in(detail, key) {
             text.push_str(" ")?;
@@ -91,7 +97,7 @@ fn git_source(alloc: Global, url: &str, detail: &Table) -> Result<Option<Source>
             text.push_str(name)?;
         }
     }
-    Ok(Some(Source::Git(text)))
+    Ok(())
 }
 
 /// A dependency of the package, and where it comes from.
@@ -149,32 +155,52 @@ fn two_sources(all: &[Sourced<'_>], out: &mut Out) -> Result<(), AllocError> {
             continue;
         };
         if one.source.differs(&first.source) {
-            let message = format!(in out.alloc;
-                "dependency `{name}` has different sources in two tables"
-            )?;
-            let place = one.dependency.own_key(out.alloc)?;
-            let other = first.dependency.own_key(out.alloc)?;
-            let report = Report::new(out.alloc, TWO_SOURCES, place, message)
-                .with_label_str(other, "its other source is here")?
-                .with_note_str("one name has one source; `package` gives one of two another name")?;
-            out.tell(report)?;
+            differing_sources(&one.dependency, &first.dependency, out)?;
         }
     }
     Ok(())
 }
 
+/// Says that two dependencies of one name have two sources.
+fn differing_sources(
+    one: &Dependency<'_>,
+    first: &Dependency<'_>,
+    out: &mut Out,
+) -> Result<(), AllocError> {
+    let name = [At::Key(one.name)];
+    let words = [
+        "dependency `",
+        one.name,
+        "` has different sources in two tables",
+    ];
+    out.key(TWO_SOURCES, one.base, &name, &words)?;
+    let label = ["its other source is here"];
+    out.label(File::Own, Part::Key, first.base, &name, &label)?;
+    out.note(&["one name has one source; `package` gives one of two another name"])
+}
+
 /// What says whether two dependencies are one package: its name, its source and, of a registry, the requirement.
 fn identity(alloc: Global, one: &Sourced<'_>) -> Result<String, AllocError> {
-    let source = one.source.text(alloc)?;
+    let [kind, source] = one.source.words();
     let requirement = match one.source {
         Source::CratesIo | Source::Registry(_) => match one.dependency.requirement() {
-            Some((text, _rest)) => text.trim(),
+            Some((text, _is_alone)) => text.trim(),
             None => "",
         },
         _ => "",
     };
     let package = one.dependency.package();
-    format!(in alloc; "{package}\n{source}\n{requirement}")
+    lines(alloc, package, kind, source, requirement)
+}
+
+fn lines<'a>(
+    alloc: Global,
+    package: &'a str,
+    kind: &'a str,
+    source: &'a str,
+    requirement: &'a str,
+) -> Result<String, AllocError> {
+    [package, "\n", kind, source, "\n", requirement].concat(alloc)
 }
 
 /// Whether Rust code sees two keys as one name.
@@ -193,20 +219,32 @@ fn repeated_dependency(all: &[Sourced<'_>], out: &mut Out) -> Result<(), AllocEr
             seen.insert(identity, one)?;
             continue;
         };
-        let (name, other) = (one.dependency.name, first.dependency.name);
-        if is_one_crate(name, other) {
-            continue;
+        if !is_one_crate(one.dependency.name, first.dependency.name) {
+            two_names(&one.dependency, &first.dependency, out)?;
         }
-        let package = one.dependency.package();
-        let message = format!(in out.alloc;
-            "package `{package}` is a dependency by two names, `{other}` and `{name}`"
-        )?;
-        let place = one.dependency.own_key(out.alloc)?;
-        let label = first.dependency.own_key(out.alloc)?;
-        let report = Report::new(out.alloc, REPEATED_DEPENDENCY, place, message);
-        out.tell(report.with_label_str(label, "it has another name here")?)?;
     }
     Ok(())
+}
+
+/// Says that one package is two dependencies.
+fn two_names(
+    one: &Dependency<'_>,
+    first: &Dependency<'_>,
+    out: &mut Out,
+) -> Result<(), AllocError> {
+    let words = [
+        "package `",
+        one.package(),
+        "` is a dependency by two names, `",
+        &*first.name,
+        "` and `",
+        one.name,
+        "`",
+    ];
+    out.key(REPEATED_DEPENDENCY, one.base, &[At::Key(one.name)], &words)?;
+    let other = [At::Key(first.name)];
+    let label = ["it has another name here"];
+    out.label(File::Own, Part::Key, first.base, &other, &label)
 }
 
 /// A package does not depend on itself, but for its tests.
@@ -224,13 +262,8 @@ fn self_dependency(look: &Look<'_>, one: &Sourced<'_>, out: &mut Out) -> Result<
     if text_in(package, "name") != Some(one.dependency.package()) {
         return Ok(());
     }
-    let name = one.dependency.package();
-    let message = format!(in out.alloc; "package `{name}` depends on itself")?;
-    let place = one.dependency.own_key(out.alloc)?;
-    out.with_note(
-        SELF_DEPENDENCY,
-        place,
-        message,
-        "only a dev-dependency may be the package itself",
-    )
+    let Dependency { base, name, .. } = one.dependency;
+    let words = ["package `", one.dependency.package(), "` depends on itself"];
+    out.key(SELF_DEPENDENCY, base, &[At::Key(name)], &words)?;
+    out.note(&["only a dev-dependency may be the package itself"])
 }

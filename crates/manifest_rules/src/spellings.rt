@@ -1,9 +1,8 @@
 //! Spellings that Cargo ignores or that are of an earlier time.
 
-use crate::codes::{Code, IGNORED_SPELLING, OLD_SPELLING};
+use crate::codes::{IGNORED_SPELLING, OLD_SPELLING};
 use crate::look::{Look, Section, table_in};
-use crate::report::{At, Out, Part, Report, Spot, copied, steps};
-use manifest_places::{Edit, Step};
+use crate::report::{At, Out};
 use std::alloc::AllocError;
 use toml::{Table, Value};
 
@@ -26,10 +25,10 @@ static OLD_SECTIONS: [Spelling; 2] = [
 ];
 
 /// Of a dependency.
-static OLD_OF_DEPENDENCIES: [Spelling; 1] = [Spelling {
+static OLD_OF_DEPENDENCIES: Spelling = Spelling {
     written: "default_features",
     known: "default-features",
-}];
+};
 
 /// Of a target.
 static OLD_OF_TARGETS: [Spelling; 2] = [
@@ -63,44 +62,51 @@ static IGNORED_OF_PROFILES: [Spelling; 4] = [
     },
 ];
 
-static IGNORED_OF_TARGETS: [Spelling; 1] = [Spelling {
+static IGNORED_OF_TARGETS: Spelling = Spelling {
     written: "required_features",
     known: "required-features",
-}];
+};
 
-static IGNORED_OF_DEPENDENCIES: [Spelling; 1] = [Spelling {
+static IGNORED_OF_DEPENDENCIES: Spelling = Spelling {
     written: "registry_index",
     known: "registry-index",
-}];
+};
 
-static IGNORED_OF_WORKSPACES: [Spelling; 1] = [Spelling {
+static IGNORED_OF_WORKSPACES: Spelling = Spelling {
     written: "default_members",
     known: "default-members",
-}];
+};
 
 /// All rules of spellings.
 pub(crate) fn spellings(look: &Look<'_>, out: &mut Out) -> Result<(), AllocError> {
-    old_spellings(look, &[], &[], look.document, &OLD_SECTIONS, out)?;
+    old_spellings(&[], look.document, &OLD_SECTIONS, out)?;
     old_project(look, out)?;
-    if let Some(platforms) = table_in(look.document, "target") {
-        for (name, platform) in platforms {
-            if let Value::Table(platform) = platform {
-                let path = [At::Key("target"), At::Key(name.as_str())];
-                old_spellings(look, &path, &[], platform, &OLD_SECTIONS, out)?;
-            }
-        }
-    }
+    spellings_of_platforms(look, out)?;
     for target in &look.targets {
         let path = target.path.as_slice();
-        old_spellings(look, path, &[], target.table, &OLD_OF_TARGETS, out)?;
-        ignored_spellings(look, path, &[], target.table, &IGNORED_OF_TARGETS, out)?;
-        ignored_plugin(look, path, target.table, out)?;
+        old_spellings(path, target.table, &OLD_OF_TARGETS, out)?;
+        let written = [At::Key(IGNORED_OF_TARGETS.written)];
+        ignored_spelling(path, &written, target.table, &IGNORED_OF_TARGETS, out)?;
+        ignored_plugin(path, target.table, out)?;
     }
     spellings_of_dependencies(look, out)?;
     spellings_of_profiles(look, out)?;
     if let Some(workspace) = look.workspace {
-        let path = [At::Key("workspace")];
-        ignored_spellings(look, &path, &[], workspace, &IGNORED_OF_WORKSPACES, out)?;
+        let path = [At::Key("workspace"), At::Key(IGNORED_OF_WORKSPACES.written)];
+        ignored_spelling(&path, &[], workspace, &IGNORED_OF_WORKSPACES, out)?;
+    }
+    Ok(())
+}
+
+fn spellings_of_platforms(look: &Look<'_>, out: &mut Out) -> Result<(), AllocError> {
+    let Some(platforms) = table_in(look.document, "target") else {
+        return Ok(());
+    };
+    for (name, platform) in platforms {
+        if let Value::Table(platform) = platform {
+            let path = [At::Key("target"), At::Key(name.as_str())];
+            old_spellings(&path, platform, &OLD_SECTIONS, out)?;
+        }
     }
     Ok(())
 }
@@ -112,11 +118,13 @@ fn spellings_of_dependencies(look: &Look<'_>, out: &mut Out) -> Result<(), Alloc
                 continue;
             };
             let base = section.path.as_slice();
-            let rest = [At::Key(name.as_str())];
+            let name = At::Key(name.as_str());
             if section.section != Section::Replace {
-                old_spellings(look, base, &rest, table, &OLD_OF_DEPENDENCIES, out)?;
+                let old = [name, At::Key(OLD_OF_DEPENDENCIES.written)];
+                old_spelling(base, &old, table, &OLD_OF_DEPENDENCIES, out)?;
             }
-            ignored_spellings(look, base, &rest, table, &IGNORED_OF_DEPENDENCIES, out)?;
+            let ignored = [name, At::Key(IGNORED_OF_DEPENDENCIES.written)];
+            ignored_spelling(base, &ignored, table, &IGNORED_OF_DEPENDENCIES, out)?;
         }
     }
     Ok(())
@@ -127,101 +135,118 @@ fn spellings_of_profiles(look: &Look<'_>, out: &mut Out) -> Result<(), AllocErro
         return Ok(());
     };
     for (name, profile) in profiles {
-        let Value::Table(profile) = profile else {
-            continue;
-        };
-        let base = [At::Key("profile"), At::Key(name.as_str())];
-        ignored_spellings(look, &base, &[], profile, &IGNORED_OF_PROFILES, out)?;
-        if let Some(inner) = table_in(profile, "build-override") {
-            let rest = [At::Key("build-override")];
-            ignored_spellings(look, &base, &rest, inner, &IGNORED_OF_PROFILES, out)?;
-        }
-        let Some(packages) = table_in(profile, "package") else {
-            continue;
-        };
-        for (id, inner) in packages {
-            if let Value::Table(inner) = inner {
-                let rest = [At::Key("package"), At::Key(id.as_str())];
-                ignored_spellings(look, &base, &rest, inner, &IGNORED_OF_PROFILES, out)?;
-            }
+        if let Value::Table(profile) = profile {
+            spellings_of_profile(name.as_str(), profile, out)?;
         }
     }
     Ok(())
 }
 
-/// The old spellings of a table that stand there without the new one. (Of both the schema tells.)
+fn spellings_of_profile<'a>(
+    name: &'a str,
+    profile: &'a Table,
+    out: &mut Out,
+) -> Result<(), AllocError> {
+    ignored_in_profile(&[At::Key("profile"), At::Key(name)], profile, out)?;
+    if let Some(inner) = table_in(profile, "build-override") {
+        let path = [At::Key("profile"), At::Key(name), At::Key("build-override")];
+        ignored_in_profile(&path, inner, out)?;
+    }
+    let Some(packages) = table_in(profile, "package") else {
+        return Ok(());
+    };
+    for (id, inner) in packages {
+        if let Value::Table(inner) = inner {
+            let path = [
+                At::Key("profile"),
+                At::Key(name),
+                At::Key("package"),
+                At::Key(id.as_str()),
+            ];
+            ignored_in_profile(&path, inner, out)?;
+        }
+    }
+    Ok(())
+}
+
+/// What Cargo ignores in a profile, or in what overrides one.
+fn ignored_in_profile(base: &[At<'_>], table: &Table, out: &mut Out) -> Result<(), AllocError> {
+    for spelling in &IGNORED_OF_PROFILES {
+        ignored_spelling(base, &[At::Key(spelling.written)], table, spelling, out)?;
+    }
+    Ok(())
+}
+
+/// Whether a spelling stands in a table without the one that Cargo knows. (Of both the schema tells.)
+fn stands_alone(table: &Table, spelling: &Spelling) -> bool {
+    table.contains_key(spelling.written) && !table.contains_key(spelling.known)
+}
+
+/// The old spellings of a table.
 fn old_spellings(
-    look: &Look<'_>,
     base: &[At<'_>],
-    rest: &[At<'_>],
     table: &Table,
     spellings: &[Spelling],
     out: &mut Out,
 ) -> Result<(), AllocError> {
     for spelling in spellings {
-        let (written, known) = (spelling.written, spelling.known);
-        if !table.contains_key(written) || table.contains_key(known) {
-            continue;
-        }
-        let message = format!(in look.alloc;
-            "`{written}` is deprecated in favor of `{known}` and not supported in the 2024 edition"
-        )?;
-        let path = entry(look, base, rest, written)?;
-        renamed(look, OLD_SPELLING, path, known, message, out)?;
+        old_spelling(base, &[At::Key(spelling.written)], table, spelling, out)?;
     }
     Ok(())
 }
 
-/// The spellings of a table that Cargo does not know. Where both stand there the schema tells it.
-fn ignored_spellings(
-    look: &Look<'_>,
+/// An old spelling of a table, and the path of its key.
+fn old_spelling(
     base: &[At<'_>],
     rest: &[At<'_>],
     table: &Table,
-    spellings: &[Spelling],
+    spelling: &Spelling,
     out: &mut Out,
 ) -> Result<(), AllocError> {
-    for spelling in spellings {
-        let (written, known) = (spelling.written, spelling.known);
-        if !table.contains_key(written) || table.contains_key(known) {
-            continue;
-        }
-        let message = format!(in look.alloc; "Cargo ignores `{written}`: the key is `{known}`")?;
-        let path = entry(look, base, rest, written)?;
-        renamed(look, IGNORED_SPELLING, path, known, message, out)?;
+    if !stands_alone(table, spelling) {
+        return Ok(());
     }
-    Ok(())
+    let words = [
+        "`",
+        spelling.written,
+        "` is deprecated in favor of `",
+        spelling.known,
+        "` and not supported in the 2024 edition",
+    ];
+    out.key(OLD_SPELLING, base, rest, &words)?;
+    write_instead(base, rest, spelling.known, out)
 }
 
-/// The key path of an entry.
-fn entry(
-    look: &Look<'_>,
+/// A spelling of a table that Cargo does not know, and the path of its key.
+fn ignored_spelling(
     base: &[At<'_>],
     rest: &[At<'_>],
-    key: &str,
-) -> Result<Vec<Step>, AllocError> {
-    let mut path = steps(look.alloc, base, rest)?;
-    path.push(Step::Key(String::from_str(look.alloc, key)?))?;
-    Ok(path)
+    table: &Table,
+    spelling: &Spelling,
+    out: &mut Out,
+) -> Result<(), AllocError> {
+    if !stands_alone(table, spelling) {
+        return Ok(());
+    }
+    let words = [
+        "Cargo ignores `",
+        spelling.written,
+        "`: the key is `",
+        spelling.known,
+        "`",
+    ];
+    out.key(IGNORED_SPELLING, base, rest, &words)?;
+    write_instead(base, rest, spelling.known, out)
 }
 
-/// Says this of the key at the path, and that it can be written as `known`.
-fn renamed(
-    look: &Look<'_>,
-    code: Code,
-    path: Vec<Step>,
+/// The suggestion to write the key at the path as Cargo knows it.
+fn write_instead(
+    base: &[At<'_>],
+    rest: &[At<'_>],
     known: &str,
-    message: String,
     out: &mut Out,
 ) -> Result<(), AllocError> {
-    let alloc = look.alloc;
-    let edit = Edit::Rename(
-        copied(alloc, path.as_slice())?,
-        String::from_str(alloc, known)?,
-    );
-    let help = format!(in alloc; "write `{known}`")?;
-    let report = Report::new(alloc, code, Spot::Path(path, Part::Key), message);
-    out.tell(report.with_fix(alloc, help, edit, true)?)
+    out.rename(base, rest, known, true, &["write `", known, "`"])
 }
 
 /// `project`, where there is no `package`.
@@ -229,31 +254,19 @@ fn old_project(look: &Look<'_>, out: &mut Out) -> Result<(), AllocError> {
     if look.package.is_none() || look.package_key == "package" {
         return Ok(());
     }
-    let message = format!(in look.alloc; "`[project]` is deprecated in favor of `[package]`")?;
-    let path = entry(look, &[], &[], "project")?;
-    renamed(look, OLD_SPELLING, path, "package", message, out)
+    let path = [At::Key("project")];
+    let words = ["`[project]` is deprecated in favor of `[package]`"];
+    out.key(OLD_SPELLING, &path, &[], &words)?;
+    write_instead(&path, &[], "package", out)
 }
 
 /// `plugin` of a target, which Cargo ignores.
-fn ignored_plugin(
-    look: &Look<'_>,
-    base: &[At<'_>],
-    table: &Table,
-    out: &mut Out,
-) -> Result<(), AllocError> {
+fn ignored_plugin(base: &[At<'_>], table: &Table, out: &mut Out) -> Result<(), AllocError> {
     if !table.contains_key("plugin") {
         return Ok(());
     }
-    let alloc = look.alloc;
-    let message = String::from_str(alloc, "Cargo ignores `plugin`: compiler plugins are gone")?;
-    let path = entry(look, base, &[], "plugin")?;
-    let edit = Edit::Remove(copied(alloc, path.as_slice())?);
-    let help = String::from_str(alloc, "remove it")?;
-    let report = Report::new(
-        alloc,
-        IGNORED_SPELLING,
-        Spot::Path(path, Part::Key),
-        message,
-    );
-    out.tell(report.with_fix(alloc, help, edit, true)?)
+    let rest = [At::Key("plugin")];
+    let words = ["Cargo ignores `plugin`: compiler plugins are gone"];
+    out.key(IGNORED_SPELLING, base, &rest, &words)?;
+    out.remove(base, &rest, true, &["remove it"])
 }

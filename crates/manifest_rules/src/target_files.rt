@@ -10,7 +10,7 @@ use crate::found::{
     says_auto,
 };
 use crate::look::{DeclaredTarget, Edition, Kind, Look, text_in};
-use crate::report::{At, Out, Part, Report, place_of};
+use crate::report::{At, File, Out, Part};
 use crate::shared_files::shared_files;
 use std::alloc::AllocError;
 use std::collections::BTreeMap;
@@ -18,19 +18,32 @@ use std::collections::BTreeMap;
 /// All rules of targets and their files.
 pub(crate) fn target_files(look: &Look<'_>, out: &mut Out) -> Result<(), AllocError> {
     for target in &look.targets {
-        reserved_name(look, target, out)?;
+        reserved_name(target, out)?;
     }
     for kind in LISTED {
-        let declared = declared_of(look, kind)?;
-        repeated_names(look, kind, &declared, out)?;
-        if look.around.folders.is_some() && look.package.is_some() {
-            files_of_kind(look, kind, &declared, out)?;
-        }
+        targets_of_kind(look, kind, out)?;
     }
     shared_files(look, out)?;
     if look.around.folders.is_none() || look.package.is_none() {
         return Ok(());
     }
+    paths(look, out)?;
+    no_targets(look, out)?;
+    unknown_default_run(look, out)
+}
+
+/// The rules of the targets of this kind, declared and found.
+fn targets_of_kind(look: &Look<'_>, kind: Kind, out: &mut Out) -> Result<(), AllocError> {
+    let declared = declared_of(look, kind)?;
+    repeated_names(look, kind, &declared, out)?;
+    if look.around.folders.is_some() && look.package.is_some() {
+        files_of_kind(look, kind, &declared, out)?;
+    }
+    Ok(())
+}
+
+/// The rules of the files of declared targets that have a path, and of that of the library.
+fn paths(look: &Look<'_>, out: &mut Out) -> Result<(), AllocError> {
     for target in &look.targets {
         match text_in(target.table, "path") {
             Some(path) => target_path(look, target, path, out)?,
@@ -38,8 +51,7 @@ pub(crate) fn target_files(look: &Look<'_>, out: &mut Out) -> Result<(), AllocEr
             None => {}
         }
     }
-    no_targets(look, out)?;
-    unknown_default_run(look, out)
+    Ok(())
 }
 
 /// The rules of the files that are targets of this kind by where they stand.
@@ -62,26 +74,35 @@ fn is_reserved(name: &str) -> bool {
     matches!(name, "deps" | "examples" | "build" | "incremental")
 }
 
-fn reserved_name(
-    look: &Look<'_>,
-    target: &DeclaredTarget<'_>,
-    out: &mut Out,
-) -> Result<(), AllocError> {
+fn reserved_name(target: &DeclaredTarget<'_>, out: &mut Out) -> Result<(), AllocError> {
     let Some(name) = text_in(target.table, "name") else {
         return Ok(());
     };
     if target.kind != Kind::Bin || !is_reserved(name) {
         return Ok(());
     }
-    let message = format!(in look.alloc;
-        "the binary target name `{name}` is forbidden, it conflicts with cargo's build directory names"
-    )?;
-    out.value(
-        RESERVED_BINARY_NAME,
+    say_reserved(
+        Part::Value,
         target.path.as_slice(),
         &[At::Key("name")],
-        message,
+        name,
+        out,
     )
+}
+
+fn say_reserved(
+    part: Part,
+    base: &[At<'_>],
+    rest: &[At<'_>],
+    name: &str,
+    out: &mut Out,
+) -> Result<(), AllocError> {
+    let words = [
+        "the binary target name `",
+        name,
+        "` is forbidden, it conflicts with cargo's build directory names",
+    ];
+    out.say(RESERVED_BINARY_NAME, part, base, rest, &words)
 }
 
 /// No two declared targets of one kind have one name.
@@ -111,22 +132,38 @@ fn repeated_name(
     name: &str,
     out: &mut Out,
 ) -> Result<(), AllocError> {
-    let alloc = out.alloc;
-    let words = target.kind.words();
-    let message = format!(in alloc;
-        "found duplicate {words} name {name}, but all {words} targets must have a unique name"
-    )?;
     let rest = [At::Key("name")];
-    let report = Report::at(
-        alloc,
-        REPEATED_TARGET_NAME,
+    say_repeated(
         Part::Value,
         target.path.as_slice(),
         &rest,
-        message,
+        target.kind,
+        name,
+        out,
     )?;
-    let spot = place_of(alloc, first.path.as_slice(), &rest, Part::Value)?;
-    out.tell(report.with_label_str(spot, "the first one of this name")?)
+    let label = ["the first one of this name"];
+    out.label(File::Own, Part::Value, first.path.as_slice(), &rest, &label)
+}
+
+fn say_repeated(
+    part: Part,
+    base: &[At<'_>],
+    rest: &[At<'_>],
+    kind: Kind,
+    name: &str,
+    out: &mut Out,
+) -> Result<(), AllocError> {
+    let of_kind = kind.words();
+    let words = [
+        "found duplicate ",
+        of_kind,
+        " name ",
+        name,
+        ", but all ",
+        of_kind,
+        " targets must have a unique name",
+    ];
+    out.say(REPEATED_TARGET_NAME, part, base, rest, &words)
 }
 
 /// Each declared target of this kind that has no path has one of these files.
@@ -151,7 +188,7 @@ fn declared_files(
         }
         match counts.get(&name) {
             None => missing_file(look, target, name, out)?,
-            Some(count) if *count > 1 => ambiguous_file(look, target, name, out)?,
+            Some(count) if *count > 1 => ambiguous_file(target, name, out)?,
             Some(_) => {}
         }
     }
@@ -164,23 +201,27 @@ fn target_path(
     path: &str,
     out: &mut Out,
 ) -> Result<(), AllocError> {
-    let words = target.kind.words();
-    let message = match file_state(look, path)? {
-        FileState::There => return Ok(()),
-        FileState::Unknown => return Ok(()),
-        FileState::Folder => format!(in look.alloc;
-            "path `{path}` for the {words} is a directory, but a source file was expected"
-        )?,
-        FileState::Absent => format!(in look.alloc;
-            "couldn't read `{path}`: there is no such file"
-        )?,
-    };
-    out.value(
-        WRONG_TARGET_PATH,
-        target.path.as_slice(),
-        &[At::Key("path")],
-        message,
-    )
+    let base = target.path.as_slice();
+    let rest = [At::Key("path")];
+    match file_state(look, path)? {
+        FileState::There => Ok(()),
+        FileState::Unknown => Ok(()),
+        FileState::Folder => {
+            let of_kind = target.kind.words();
+            let words = [
+                "path `",
+                path,
+                "` for the ",
+                of_kind,
+                " is a directory, but a source file was expected",
+            ];
+            out.value(WRONG_TARGET_PATH, base, &rest, &words)
+        }
+        FileState::Absent => {
+            let words = ["couldn't read `", path, "`: there is no such file"];
+            out.value(WRONG_TARGET_PATH, base, &rest, &words)
+        }
+    }
 }
 
 fn library_file(
@@ -188,7 +229,6 @@ fn library_file(
     target: &DeclaredTarget<'_>,
     out: &mut Out,
 ) -> Result<(), AllocError> {
-    let alloc = look.alloc;
     if has_file(look, "src", "lib.rs") {
         return Ok(());
     }
@@ -196,14 +236,21 @@ fn library_file(
         Some(name) => name,
         None => package_name(look).unwrap_or(""),
     };
-    let old = format!(in alloc; "{name}.rs")?;
-    if look.edition == Edition::E2015 && has_file(look, "src", old.as_str()) {
+    if look.edition == Edition::E2015 && has_file_of_name(look, name)? {
         return Ok(());
     }
-    let message = format!(in alloc;
-        "can't find library `{name}`, rename file to `src/lib.rs` or specify lib.path"
-    )?;
-    out.header(MISSING_TARGET_FILE, target.path.as_slice(), &[], message)
+    let words = [
+        "can't find library `",
+        name,
+        "`, rename file to `src/lib.rs` or specify lib.path",
+    ];
+    out.header(MISSING_TARGET_FILE, target.path.as_slice(), &[], &words)
+}
+
+/// Whether the folder `src` has the file `NAME.rs`.
+fn has_file_of_name(look: &Look<'_>, name: &str) -> Result<bool, AllocError> {
+    let file = [name, ".rs"].concat(look.alloc)?;
+    Ok(has_file(look, "src", file.as_str()))
 }
 
 fn missing_file(
@@ -212,23 +259,35 @@ fn missing_file(
     name: &str,
     out: &mut Out,
 ) -> Result<(), AllocError> {
-    let alloc = look.alloc;
     if look.edition == Edition::E2015 && has_old_file(look, target.kind, name)? {
         return Ok(());
     }
     let folder = target.kind.folder();
-    let words = target.kind.words();
-    let key = target.kind.key();
-    let message = format!(in alloc;
-        "can't find `{name}` {words} at `{folder}/{name}.rs` or `{folder}/{name}/main.rs`. Please specify {key}.path if you want to use a non-default path."
-    )?;
-    out.header(MISSING_TARGET_FILE, target.path.as_slice(), &[], message)
+    let of_kind = target.kind.words();
+    let key = target.kind.path_key();
+    let words = [
+        "can't find `",
+        name,
+        "` ",
+        of_kind,
+        " at `",
+        folder,
+        "/",
+        name,
+        ".rs` or `",
+        folder,
+        "/",
+        name,
+        "/main.rs`. Please specify ",
+        key,
+        " if you want to use a non-default path.",
+    ];
+    out.header(MISSING_TARGET_FILE, target.path.as_slice(), &[], &words)
 }
 
 /// Whether a file stands where the edition 2015 looks too.
 fn has_old_file(look: &Look<'_>, kind: Kind, name: &str) -> Result<bool, AllocError> {
-    let file = format!(in look.alloc; "{name}.rs")?;
-    if has_file(look, "src", file.as_str()) {
+    if has_file_of_name(look, name)? {
         return Ok(true);
     }
     match kind {
@@ -239,17 +298,22 @@ fn has_old_file(look: &Look<'_>, kind: Kind, name: &str) -> Result<bool, AllocEr
 }
 
 fn ambiguous_file(
-    look: &Look<'_>,
     target: &DeclaredTarget<'_>,
     name: &str,
     out: &mut Out,
 ) -> Result<(), AllocError> {
-    let words = target.kind.words();
-    let key = target.kind.key();
-    let message = format!(in look.alloc;
-        "cannot infer path for `{name}` {words}: several files fit, so `{key}.path` has to say which"
-    )?;
-    out.header(AMBIGUOUS_TARGET_FILE, target.path.as_slice(), &[], message)
+    let of_kind = target.kind.words();
+    let key = target.kind.path_key();
+    let words = [
+        "cannot infer path for `",
+        name,
+        "` ",
+        of_kind,
+        ": several files fit, so `",
+        key,
+        "` has to say which",
+    ];
+    out.header(AMBIGUOUS_TARGET_FILE, target.path.as_slice(), &[], &words)
 }
 
 /// No two files of one kind are found with one name, and no binary with a name that Cargo keeps; but for those that the
@@ -280,41 +344,33 @@ fn found_names(
 
 /// A binary that is found has a name that Cargo keeps: that of the package, or of its file.
 fn reserved_file(look: &Look<'_>, file: &FoundFile, out: &mut Out) -> Result<(), AllocError> {
-    let alloc = look.alloc;
     let name = file.name.as_str();
     let path = file.path.as_str();
-    let message = format!(in alloc;
-        "the binary target name `{name}` is forbidden, it conflicts with cargo's build directory names"
-    )?;
-    let note = format!(in alloc; "it is that of `{path}`")?;
     let package = [At::Key(look.package_key)];
-    let spot = if path == "src/main.rs" {
-        place_of(alloc, &package, &[At::Key("name")], Part::Value)?
+    if path == "src/main.rs" {
+        say_reserved(Part::Value, &package, &[At::Key("name")], name, out)?;
     } else {
-        place_of(alloc, &package, &[], Part::Header)?
-    };
-    let report = Report::new(alloc, RESERVED_BINARY_NAME, spot, message);
-    out.tell(report.with_note(note)?)
+        say_reserved(Part::Header, &package, &[], name, out)?;
+    }
+    out.note(&["it is that of `", path, "`"])
 }
 
-fn repeated_file(
+fn repeated_file<'a>(
     look: &Look<'_>,
     kind: Kind,
-    file: &FoundFile,
-    first: &str,
+    file: &'a FoundFile,
+    first: &'a str,
     out: &mut Out,
 ) -> Result<(), AllocError> {
-    let alloc = look.alloc;
-    let words = kind.words();
-    let name = file.name.as_str();
-    let path = file.path.as_str();
-    let message = format!(in alloc;
-        "found duplicate {words} name {name}, but all {words} targets must have a unique name"
-    )?;
-    let note = format!(in alloc; "`{first}` and `{path}` are both found")?;
-    let spot = place_of(alloc, &[At::Key(look.package_key)], &[], Part::Header)?;
-    let report = Report::new(alloc, REPEATED_TARGET_NAME, spot, message);
-    out.tell(report.with_note(note)?)
+    let package = [At::Key(look.package_key)];
+    say_repeated(Part::Header, &package, &[], kind, file.name.as_str(), out)?;
+    out.note(&[
+        "`",
+        first,
+        "` and `",
+        file.path.as_str(),
+        "` are both found",
+    ])
 }
 
 /// In the edition 2015 files are not found where targets of their kind are declared, unless the package says so.
@@ -330,16 +386,25 @@ fn undeclared_files(
     }
     for file in files {
         if !declared.has(file) {
-            let words = kind.words();
-            let path = file.path.as_str();
-            let message = format!(in look.alloc;
-                "an explicit {words} section is specified in Cargo.toml which currently disables Cargo from automatically inferring other {words} targets, as `{path}`"
-            )?;
-            let first = [At::Key(kind.key()), At::Index(0)];
-            return out.header(UNDECLARED_TARGET_FILES, &first, &[], message);
+            return undeclared_file(kind, file.path.as_str(), out);
         }
     }
     Ok(())
+}
+
+fn undeclared_file(kind: Kind, path: &str, out: &mut Out) -> Result<(), AllocError> {
+    let of_kind = kind.words();
+    let words = [
+        "an explicit ",
+        of_kind,
+        " section is specified in Cargo.toml which currently disables Cargo from automatically inferring other ",
+        of_kind,
+        " targets, as `",
+        path,
+        "`",
+    ];
+    let first = [At::Key(kind.key()), At::Index(0)];
+    out.header(UNDECLARED_TARGET_FILES, &first, &[], &words)
 }
 
 /// A package has something to build.
@@ -352,16 +417,14 @@ fn no_targets(look: &Look<'_>, out: &mut Out) -> Result<(), AllocError> {
             return Ok(());
         }
     }
-    let message = String::from_str(
-        look.alloc,
+    let words = [
         "no targets specified in the manifest\n  either src/lib.rs, src/main.rs, a [lib] section, or [[bin]] section must be present",
-    )?;
-    out.header(NO_TARGETS, &[At::Key(look.package_key)], &[], message)
+    ];
+    out.header(NO_TARGETS, &[At::Key(look.package_key)], &[], &words)
 }
 
 /// `default-run` names a binary, declared or found.
 fn unknown_default_run(look: &Look<'_>, out: &mut Out) -> Result<(), AllocError> {
-    let alloc = look.alloc;
     let Some(package) = look.package else {
         return Ok(());
     };
@@ -372,6 +435,16 @@ fn unknown_default_run(look: &Look<'_>, out: &mut Out) -> Result<(), AllocError>
     if declared.names.contains_key(name) {
         return Ok(());
     }
+    default_run_of_files(look, &declared, name, out)
+}
+
+/// The same for a name that no binary is declared by: it may be that of one that is found.
+fn default_run_of_files(
+    look: &Look<'_>,
+    declared: &Declared<'_>,
+    name: &str,
+    out: &mut Out,
+) -> Result<(), AllocError> {
     let files = files_of(look, Kind::Bin)?;
     let mut nearest = out.nearest(name);
     if finds(look, Kind::Bin) {
@@ -379,23 +452,28 @@ fn unknown_default_run(look: &Look<'_>, out: &mut Out) -> Result<(), AllocError>
             if file.name.as_str() == name && !declared.has(file) {
                 return Ok(());
             }
-            nearest.offer(alloc, file.name.as_str())?;
+            nearest.offer(out.alloc, file.name.as_str())?;
         }
     }
     for target in &look.targets {
         if target.kind == Kind::Bin {
-            nearest.offer(alloc, text_in(target.table, "name").unwrap_or(""))?;
+            nearest.offer(out.alloc, text_in(target.table, "name").unwrap_or(""))?;
         }
     }
-    let message = format!(in alloc; "default-run target `{name}` not found")?;
-    let base = [At::Key(look.package_key)];
-    let spot = place_of(alloc, &base, &[At::Key("default-run")], Part::Value)?;
-    let report = Report::new(alloc, UNKNOWN_DEFAULT_RUN, spot, message);
-    match nearest.found() {
-        Some(word) => {
-            let help = format!(in alloc; "a target with a similar name exists: `{word}`")?;
-            out.tell(report.with_help(alloc, help)?)
-        }
-        None => out.tell(report),
+    say_unknown_default_run(look.package_key, name, nearest.found(), out)
+}
+
+fn say_unknown_default_run(
+    package: &str,
+    name: &str,
+    near: Option<&str>,
+    out: &mut Out,
+) -> Result<(), AllocError> {
+    let path = [At::Key(package), At::Key("default-run")];
+    let words = ["default-run target `", name, "` not found"];
+    out.value(UNKNOWN_DEFAULT_RUN, &path, &[], &words)?;
+    match near {
+        Some(word) => out.help(&["a target with a similar name exists: `", word, "`"]),
+        None => Ok(()),
     }
 }

@@ -2,87 +2,80 @@
 //! (<https://doc.rust-lang.org/cargo/reference/cargo-targets.html>)
 
 use crate::codes::{
-    CRATE_TYPE_OF_BINARY, Code, DYLIB_AND_CDYLIB, EDITION_OF_TARGET, EMPTY_TARGET_NAME,
+    CRATE_TYPE_OF_BINARY, DYLIB_AND_CDYLIB, EDITION_OF_TARGET, EMPTY_TARGET_NAME,
     INVALID_LIBRARY_NAME, INVALID_LIBRARY_TYPE, INVALID_REQUIRED_FEATURE, INVALID_TARGET_NAME,
     Level, MISSING_TARGET_NAME, PROC_MACRO_BINARY, PROC_MACRO_CRATE_TYPE, UNKNOWN_CRATE_TYPE,
     UNKNOWN_REQUIRED_FEATURE,
 };
 use crate::look::{DeclaredTarget, Kind, Look, flag_in, items_in, table_in, text_in};
-use crate::report::{At, Out, Part, Report, steps};
-use manifest_places::Edit;
-use std::alloc::AllocError;
+use crate::report::{At, Out};
+use std::alloc::{AllocError, Global};
 use toml::Value;
 
 /// All rules of declared targets that look at the text alone.
 pub(crate) fn targets(look: &Look<'_>, out: &mut Out) -> Result<(), AllocError> {
     for target in &look.targets {
-        target_name(look, target, out)?;
-        crate_types(look, target, out)?;
-        proc_macro_binary(look, target, out)?;
-        edition_of_target(look, target, out)?;
+        target_name(target, out)?;
+        crate_types(target, out)?;
+        proc_macro_binary(target, out)?;
+        edition_of_target(target, out)?;
         required_features(look, target, out)?;
     }
     Ok(())
 }
 
-fn target_name(
-    look: &Look<'_>,
-    target: &DeclaredTarget<'_>,
-    out: &mut Out,
-) -> Result<(), AllocError> {
-    let alloc = look.alloc;
+fn target_name(target: &DeclaredTarget<'_>, out: &mut Out) -> Result<(), AllocError> {
     let path = target.path.as_slice();
-    let words = target.kind.words();
+    let of_kind = target.kind.words();
     let Some(name) = text_in(target.table, "name") else {
         if target.kind == Kind::Lib || target.table.contains_key("name") {
             return Ok(());
         }
-        let message = format!(in alloc; "{words} target `{words}.name` is required")?;
-        return out.header(MISSING_TARGET_NAME, path, &[], message);
+        return missing_target_name(path, of_kind, out);
     };
-    let rest = [At::Key("name")];
     if name.trim().is_empty() {
-        let message = format!(in alloc; "{words} target names cannot be empty")?;
-        return out.value(EMPTY_TARGET_NAME, path, &rest, message);
+        return empty_target_name(path, of_kind, out);
     }
     if target.kind == Kind::Lib && name.contains('-') {
-        return library_name_with_hyphen(look, path, name, out);
+        return library_name_with_hyphen(path, name, out);
     }
     if has_other_characters(name) {
-        let message = format!(in alloc; "invalid character in crate name: `{name}`")?;
-        return out.value(INVALID_TARGET_NAME, path, &rest, message);
+        let words = ["invalid character in crate name: `", name, "`"];
+        return out.value(INVALID_TARGET_NAME, path, &[At::Key("name")], &words);
     }
     Ok(())
 }
 
-fn library_name_with_hyphen(
-    look: &Look<'_>,
-    path: &[At<'_>],
-    name: &str,
-    out: &mut Out,
-) -> Result<(), AllocError> {
-    let alloc = look.alloc;
+fn missing_target_name(path: &[At<'_>], of_kind: &str, out: &mut Out) -> Result<(), AllocError> {
+    let words = [of_kind, " target `", of_kind, ".name` is required"];
+    out.header(MISSING_TARGET_NAME, path, &[], &words)
+}
+
+fn empty_target_name(path: &[At<'_>], of_kind: &str, out: &mut Out) -> Result<(), AllocError> {
+    let words = [of_kind, " target names cannot be empty"];
+    out.value(EMPTY_TARGET_NAME, path, &[At::Key("name")], &words)
+}
+
+fn library_name_with_hyphen(path: &[At<'_>], name: &str, out: &mut Out) -> Result<(), AllocError> {
     let rest = [At::Key("name")];
-    let message = format!(in alloc; "library target names cannot contain hyphens: {name}")?;
-    let report = Report::at(
-        alloc,
-        INVALID_LIBRARY_NAME,
-        Part::Value,
-        path,
-        &rest,
-        message,
-    )?;
+    let words = ["library target names cannot contain hyphens: ", name];
+    out.value(INVALID_LIBRARY_NAME, path, &rest, &words)?;
+    if has_other_characters(name) {
+        return Ok(());
+    }
+    let other = without_hyphens(out.alloc, name)?;
+    let other = other.as_str();
+    let help = ["write `", other, "`"];
+    out.set(path, &rest, &["\"", other, "\""], false, &help)
+}
+
+/// The same name with `_` in place of `-`.
+fn without_hyphens(alloc: Global, name: &str) -> Result<String, AllocError> {
     let mut other = String::new(alloc);
     for ch in name.chars() {
         other.push(if ch == '-' { '_' } else { ch })?;
     }
-    if has_other_characters(other.as_str()) {
-        return out.tell(report);
-    }
-    let help = format!(in alloc; "write `{other}`")?;
-    let value = format!(in alloc; "\"{other}\"")?;
-    let edit = Edit::Set(steps(alloc, path, &rest)?, value);
-    out.tell(report.with_fix(alloc, help, edit, false)?)
+    Ok(other)
 }
 
 /// Whether rustc refuses the name of a crate: it has another character than letters, digits, `_` and `-`.
@@ -114,178 +107,131 @@ fn has_type(items: &[Value], name: &str) -> bool {
     false
 }
 
-fn crate_types(
-    look: &Look<'_>,
-    target: &DeclaredTarget<'_>,
-    out: &mut Out,
-) -> Result<(), AllocError> {
+fn crate_types(target: &DeclaredTarget<'_>, out: &mut Out) -> Result<(), AllocError> {
     let Some((key, items)) = types_of(target) else {
         return Ok(());
     };
     match target.kind {
-        Kind::Bin => {
-            if items.is_empty() {
-                return Ok(());
-            }
-            say_of_types(
-                look,
-                CRATE_TYPE_OF_BINARY,
-                target,
-                key,
-                "a binary target cannot have a crate type",
-                out,
-            )
+        Kind::Bin if !items.is_empty() => {
+            let words = ["a binary target cannot have a crate type"];
+            let path = target.path.as_slice();
+            out.value(CRATE_TYPE_OF_BINARY, path, &[At::Key(key)], &words)
         }
-        Kind::Lib => library_types(look, target, key, items, out),
-        Kind::Example => unknown_types(look, target, key, items, out),
+        Kind::Lib => library_types(target, key, items, out),
+        Kind::Example => unknown_types(target, key, items, out),
         _ => Ok(()),
     }
 }
 
-fn say_of_types(
-    look: &Look<'_>,
-    code: Code,
-    target: &DeclaredTarget<'_>,
-    key: &str,
-    says: &str,
-    out: &mut Out,
-) -> Result<(), AllocError> {
-    let message = String::from_str(look.alloc, says)?;
-    out.value(code, target.path.as_slice(), &[At::Key(key)], message)
-}
-
 fn library_types(
-    look: &Look<'_>,
     target: &DeclaredTarget<'_>,
     key: &str,
     items: &[Value],
     out: &mut Out,
 ) -> Result<(), AllocError> {
+    let path = target.path.as_slice();
     if has_type(items, "dylib") && has_type(items, "cdylib") {
-        let says = "library target cannot set the crate type of both `dylib` and `cdylib`";
-        say_of_types(look, DYLIB_AND_CDYLIB, target, key, says, out)?;
+        let words = ["library target cannot set the crate type of both `dylib` and `cdylib`"];
+        out.value(DYLIB_AND_CDYLIB, path, &[At::Key(key)], &words)?;
     }
     if items.is_empty() {
-        let says = "a library target has a crate type at least";
-        return say_of_types(look, INVALID_LIBRARY_TYPE, target, key, says, out);
+        let words = ["a library target has a crate type at least"];
+        return out.value(INVALID_LIBRARY_TYPE, path, &[At::Key(key)], &words);
     }
     if has_type(items, "proc-macro") {
-        proc_macro_type(look, target, key, items, out)?;
+        proc_macro_type(path, key, items, out)?;
     }
-    unknown_types(look, target, key, items, out)
+    unknown_types(target, key, items, out)
 }
 
 /// `proc-macro` is said by its own key; among the crate types Cargo warns of it, and refuses it with others.
 fn proc_macro_type(
-    look: &Look<'_>,
-    target: &DeclaredTarget<'_>,
+    path: &[At<'_>],
     key: &str,
     items: &[Value],
     out: &mut Out,
 ) -> Result<(), AllocError> {
-    let alloc = look.alloc;
-    let path = target.path.as_slice();
     let index = items
         .iter()
         .position(|item| item.as_str() == Some("proc-macro"))
         .unwrap_or(0);
     let rest = [At::Key(key), At::Index(index)];
     if items.len() > 1 {
-        let says = "cannot mix `proc-macro` crate type with others";
-        let message = String::from_str(alloc, says)?;
-        let report = Report::at(
-            alloc,
-            PROC_MACRO_CRATE_TYPE,
-            Part::Value,
-            path,
-            &rest,
-            message,
-        )?;
-        return out.tell(report.at_level(Level::Error));
+        let words = ["cannot mix `proc-macro` crate type with others"];
+        out.value(PROC_MACRO_CRATE_TYPE, path, &rest, &words)?;
+        out.at_level(Level::Error);
+        return Ok(());
     }
-    let message = String::from_str(
-        alloc,
-        "library should only specify `proc-macro = true` instead of setting `crate-type`",
-    )?;
-    out.value(PROC_MACRO_CRATE_TYPE, path, &rest, message)
+    let words = ["library should only specify `proc-macro = true` instead of setting `crate-type`"];
+    out.value(PROC_MACRO_CRATE_TYPE, path, &rest, &words)
 }
 
 fn unknown_types(
-    look: &Look<'_>,
     target: &DeclaredTarget<'_>,
     key: &str,
     items: &[Value],
     out: &mut Out,
 ) -> Result<(), AllocError> {
-    let alloc = look.alloc;
     let mut index = 0usize;
     for item in items {
-        let rest = [At::Key(key), At::Index(index)];
-        let path = target.path.as_slice();
-        match item.as_str() {
-            Some("lib" | "rlib" | "dylib" | "cdylib" | "staticlib" | "proc-macro") => {}
-            Some("bin") if target.kind == Kind::Lib => {
-                let message = String::from_str(
-                    alloc,
-                    "a library target cannot have the crate type `bin`",
-                )?;
-                out.value(INVALID_LIBRARY_TYPE, path, &rest, message)?;
-            }
-            Some("bin") => {}
-            Some(name) => {
-                let message = format!(in alloc; "unknown crate type: `{name}`")?;
-                out.value(UNKNOWN_CRATE_TYPE, path, &rest, message)?;
-            }
-            None => {}
+        if let Some(name) = item.as_str() {
+            unknown_type(target, &[At::Key(key), At::Index(index)], name, out)?;
         }
         index = index.saturating_add(1);
     }
     Ok(())
 }
 
-fn proc_macro_binary(
-    look: &Look<'_>,
+/// The crate types that rustc knows, but for `bin`.
+static CRATE_TYPES: [&str; 6] = ["lib", "rlib", "dylib", "cdylib", "staticlib", "proc-macro"];
+
+fn unknown_type(
     target: &DeclaredTarget<'_>,
+    rest: &[At<'_>],
+    name: &str,
     out: &mut Out,
 ) -> Result<(), AllocError> {
+    let path = target.path.as_slice();
+    if name == "bin" && target.kind == Kind::Lib {
+        let words = ["a library target cannot have the crate type `bin`"];
+        return out.value(INVALID_LIBRARY_TYPE, path, rest, &words);
+    }
+    if name == "bin" || CRATE_TYPES.contains(&name) {
+        return Ok(());
+    }
+    let words = ["unknown crate type: `", name, "`"];
+    out.value(UNKNOWN_CRATE_TYPE, path, rest, &words)
+}
+
+fn proc_macro_binary(target: &DeclaredTarget<'_>, out: &mut Out) -> Result<(), AllocError> {
     if target.kind != Kind::Bin {
         return Ok(());
     }
+    let path = target.path.as_slice();
     for key in ["proc-macro", "proc_macro"] {
         if flag_in(target.table, key) == Some(true) {
-            let message = String::from_str(
-                look.alloc,
-                "a binary target cannot be a procedural macro",
-            )?;
-            out.value(
-                PROC_MACRO_BINARY,
-                target.path.as_slice(),
-                &[At::Key(key)],
-                message,
-            )?;
+            let words = ["a binary target cannot be a procedural macro"];
+            out.value(PROC_MACRO_BINARY, path, &[At::Key(key)], &words)?;
         }
     }
     Ok(())
 }
 
-fn edition_of_target(
-    look: &Look<'_>,
-    target: &DeclaredTarget<'_>,
-    out: &mut Out,
-) -> Result<(), AllocError> {
+fn edition_of_target(target: &DeclaredTarget<'_>, out: &mut Out) -> Result<(), AllocError> {
     if !target.table.contains_key("edition") {
         return Ok(());
     }
-    let words = target.kind.words();
-    let message = format!(in look.alloc;
-        "`edition` is set on the {words}, which is deprecated: it is set on the package"
-    )?;
-    out.key(
-        EDITION_OF_TARGET,
-        target.path.as_slice(),
-        &[At::Key("edition")],
-        message,
-    )
+    let of_kind = target.kind.words();
+    say_edition(target.path.as_slice(), of_kind, out)
+}
+
+fn say_edition(path: &[At<'_>], of_kind: &str, out: &mut Out) -> Result<(), AllocError> {
+    let words = [
+        "`edition` is set on the ",
+        of_kind,
+        ", which is deprecated: it is set on the package",
+    ];
+    out.key(EDITION_OF_TARGET, path, &[At::Key("edition")], &words)
 }
 
 fn required_features(
@@ -317,10 +263,9 @@ fn required_feature(
     name: &str,
     out: &mut Out,
 ) -> Result<(), AllocError> {
-    let alloc = look.alloc;
     if name.starts_with("dep:") || name.contains("?/") {
-        let message = format!(in alloc; "`{name}` is not a valid required feature")?;
-        return out.value(INVALID_REQUIRED_FEATURE, path, rest, message);
+        let words = ["`", name, "` is not a valid required feature"];
+        return out.value(INVALID_REQUIRED_FEATURE, path, rest, &words);
     }
     let known = match name.split_once('/') {
         Some((dependency, _feature)) => has_dependency(look, dependency),
@@ -329,10 +274,12 @@ fn required_feature(
     if known {
         return Ok(());
     }
-    let message = format!(in alloc;
-        "invalid feature `{name}` in required-features: it is not present in [features] section"
-    )?;
-    out.value(UNKNOWN_REQUIRED_FEATURE, path, rest, message)
+    let words = [
+        "invalid feature `",
+        name,
+        "` in required-features: it is not present in [features] section",
+    ];
+    out.value(UNKNOWN_REQUIRED_FEATURE, path, rest, &words)
 }
 
 /// Whether the package has this feature: one of its own, or that of an optional dependency.

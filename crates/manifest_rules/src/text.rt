@@ -6,8 +6,7 @@ use crate::codes::{
     UNSTABLE_CARGO_FEATURE,
 };
 use crate::look::{Look, items_in};
-use crate::report::{At, Out, Part, Report, Spot, steps};
-use manifest_places::Edit;
+use crate::report::{At, Out};
 use std::alloc::AllocError;
 use std::collections::BTreeSet;
 use toml::Value;
@@ -29,21 +28,29 @@ fn direction_characters(look: &Look<'_>, out: &mut Out) -> Result<(), AllocError
     let mut at = 0usize;
     for ch in look.text.chars() {
         let end = at.saturating_add(ch.len_utf8());
-        if matches!(ch, '\u{202a}'..='\u{202e}' | '\u{2066}'..='\u{2069}') {
-            let code = u32::from(ch);
-            let message = format!(in look.alloc;
-                "the character U+{code:04X} turns the direction of the text"
-            )?;
-            out.tell(Report::new(
-                look.alloc,
-                DIRECTION_CHARACTERS,
-                Spot::Bytes(at, end),
-                message,
-            ))?;
+        if let Some(code) = direction_code(ch) {
+            let words = ["the character U+", code, " turns the direction of the text"];
+            out.bytes(DIRECTION_CHARACTERS, at, end, &words)?;
         }
         at = end;
     }
     Ok(())
+}
+
+/// The number of a character that turns the direction of a text.
+fn direction_code(ch: char) -> Option<&'static str> {
+    match ch {
+        '\u{202a}' => Some("202A"),
+        '\u{202b}' => Some("202B"),
+        '\u{202c}' => Some("202C"),
+        '\u{202d}' => Some("202D"),
+        '\u{202e}' => Some("202E"),
+        '\u{2066}' => Some("2066"),
+        '\u{2067}' => Some("2067"),
+        '\u{2068}' => Some("2068"),
+        '\u{2069}' => Some("2069"),
+        _ => None,
+    }
 }
 
 /// A manifest has a package or is a workspace. A table of nearly that name is meant as one.
@@ -51,38 +58,31 @@ fn no_package(look: &Look<'_>, out: &mut Out) -> Result<(), AllocError> {
     if has_any(look, &["package", "project", "workspace"]) {
         return Ok(());
     }
-    let alloc = look.alloc;
-    let message = String::from_str(
-        alloc,
-        "manifest is missing either a `[package]` or a `[workspace]`",
+    out.value(
+        NO_PACKAGE,
+        &[],
+        &[],
+        &["manifest is missing either a `[package]` or a `[workspace]`"],
     )?;
-    let nowhere = Spot::Path(Vec::new(alloc), Part::Value);
-    out.tell(Report::new(alloc, NO_PACKAGE, nowhere, message))?;
     for (key, value) in look.document {
         if value.is_table() {
-            misspelled_table(look, key.as_str(), out)?;
+            misspelled_table(key.as_str(), out)?;
         }
     }
     Ok(())
 }
 
-fn misspelled_table(look: &Look<'_>, key: &str, out: &mut Out) -> Result<(), AllocError> {
-    let alloc = look.alloc;
+fn misspelled_table(key: &str, out: &mut Out) -> Result<(), AllocError> {
     if OF_PACKAGES.contains(&key) {
         return Ok(());
     }
-    let mut nearest = out.nearest(key);
-    nearest.offer(alloc, "package")?;
-    nearest.offer(alloc, "workspace")?;
-    let Some(word) = nearest.found() else {
+    let Some(word) = out.nearest_of(key, &["package", "workspace"])? else {
         return Ok(());
     };
     let path = [At::Key(key)];
-    let message = format!(in alloc; "unused manifest key: {key}")?;
-    let edit = Edit::Rename(steps(alloc, &path, &[])?, String::from_str(alloc, word)?);
-    let help = format!(in alloc; "a key with a similar name exists: `{word}`")?;
-    let report = Report::at(alloc, MISSPELLED_KEY, Part::Key, &path, &[], message)?;
-    out.tell(report.with_fix(alloc, help, edit, false)?)
+    out.key(MISSPELLED_KEY, &path, &[], &["unused manifest key: ", key])?;
+    let help = ["a key with a similar name exists: `", word, "`"];
+    out.rename(&path, &[], word, false, &help)
 }
 
 fn has_any(look: &Look<'_>, keys: &[&str]) -> bool {
@@ -121,55 +121,51 @@ fn tables_without_package(look: &Look<'_>, out: &mut Out) -> Result<(), AllocErr
     for key in &OF_PACKAGES {
         let key = *key;
         if look.document.contains_key(key) {
-            let message = format!(in look.alloc;
-                "this virtual manifest specifies a `{key}` section, which is not allowed"
-            )?;
-            out.key(TABLE_WITHOUT_PACKAGE, &[At::Key(key)], &[], message)?;
+            let words = [
+                "this virtual manifest specifies a `",
+                key,
+                "` section, which is not allowed",
+            ];
+            out.key(TABLE_WITHOUT_PACKAGE, &[At::Key(key)], &[], &words)?;
         }
     }
     Ok(())
 }
 
-/// What there is to say of a name in `cargo-features`.
+/// The names in `cargo-features` that every Cargo has by now.
 /// (<https://doc.rust-lang.org/cargo/reference/unstable.html>)
-fn said_of_cargo_feature(name: &str) -> Option<Said> {
-    match name {
-        "test-dummy-stable"
-        | "alternative-registries"
-        | "edition"
-        | "rename-dependency"
-        | "profile-overrides"
-        | "default-run"
-        | "named-profiles"
-        | "resolver"
-        | "strip"
-        | "rust-version"
-        | "edition2021"
-        | "workspace-inheritance"
-        | "edition2024" => { Some(Said::Stable) }
-        "test-dummy-unstable"
-        | "metabuild"
-        | "public-dependency"
-        | "per-package-target"
-        | "codegen-backend"
-        | "different-binary-name"
-        | "profile-rustflags"
-        | "trim-paths"
-        | "open-namespaces"
-        | "path-bases"
-        | "unstable-editions"
-        | "multiple-build-scripts"
-        | "panic-immediate-abort" => Some(Said::Unstable),
-        "publish-lockfile" => Some(Said::Removed),
-        _ => None,
-    }
-}
+static STABLE: [&str; 13] = [
+    "test-dummy-stable",
+    "alternative-registries",
+    "edition",
+    "rename-dependency",
+    "profile-overrides",
+    "default-run",
+    "named-profiles",
+    "resolver",
+    "strip",
+    "rust-version",
+    "edition2021",
+    "workspace-inheritance",
+    "edition2024",
+];
 
-enum Said {
-    Stable,
-    Unstable,
-    Removed,
-}
+/// Those that a nightly Cargo has.
+static UNSTABLE: [&str; 13] = [
+    "test-dummy-unstable",
+    "metabuild",
+    "public-dependency",
+    "per-package-target",
+    "codegen-backend",
+    "different-binary-name",
+    "profile-rustflags",
+    "trim-paths",
+    "open-namespaces",
+    "path-bases",
+    "unstable-editions",
+    "multiple-build-scripts",
+    "panic-immediate-abort",
+];
 
 fn cargo_features(look: &Look<'_>, out: &mut Out) -> Result<(), AllocError> {
     let mut names = BTreeSet::new(look.alloc);
@@ -177,53 +173,37 @@ fn cargo_features(look: &Look<'_>, out: &mut Out) -> Result<(), AllocError> {
         if let Value::String(name) = item {
             let name = name.as_str();
             if names.insert(name)? {
-                cargo_feature(look, name, index, out)?;
+                cargo_feature(name, index, out)?;
             } else {
-                repeated_cargo_feature(look, name, index, out)?;
+                repeated_cargo_feature(name, index, out)?;
             }
         }
     }
     Ok(())
 }
 
-fn cargo_feature(
-    look: &Look<'_>,
-    name: &str,
-    index: usize,
-    out: &mut Out,
-) -> Result<(), AllocError> {
-    let alloc = look.alloc;
-    let path = [At::Key("cargo-features"), At::Index(index)];
-    let (code, message) = match said_of_cargo_feature(name) {
-        Some(Said::Stable) => (
-            STABLE_CARGO_FEATURE,
-            format!(in alloc;
-                "the cargo feature `{name}` has been stabilized and is no longer necessary"
-            )?,
-        ),
-        Some(Said::Unstable) => (
-            UNSTABLE_CARGO_FEATURE,
-            format!(in alloc; "the cargo feature `{name}` requires a nightly version of Cargo")?,
-        ),
-        Some(Said::Removed) => (
+fn cargo_feature(name: &str, index: usize, out: &mut Out) -> Result<(), AllocError> {
+    let (code, before, after) = if STABLE.contains(&name) {
+        let after = "` has been stabilized and is no longer necessary";
+        (STABLE_CARGO_FEATURE, "the cargo feature `", after)
+    } else if UNSTABLE.contains(&name) {
+        let after = "` requires a nightly version of Cargo";
+        (UNSTABLE_CARGO_FEATURE, "the cargo feature `", after)
+    } else if name == "publish-lockfile" {
+        (
             REMOVED_CARGO_FEATURE,
-            format!(in alloc; "the cargo feature `{name}` has been removed")?,
-        ),
-        None => (
-            UNKNOWN_CARGO_FEATURE,
-            format!(in alloc; "unknown Cargo.toml feature `{name}`")?,
-        ),
+            "the cargo feature `",
+            "` has been removed",
+        )
+    } else {
+        (UNKNOWN_CARGO_FEATURE, "unknown Cargo.toml feature `", "`")
     };
-    out.value(code, &path, &[], message)
+    let path = [At::Key("cargo-features"), At::Index(index)];
+    out.value(code, &path, &[], &[before, name, after])
 }
 
-fn repeated_cargo_feature(
-    look: &Look<'_>,
-    name: &str,
-    index: usize,
-    out: &mut Out,
-) -> Result<(), AllocError> {
+fn repeated_cargo_feature(name: &str, index: usize, out: &mut Out) -> Result<(), AllocError> {
     let path = [At::Key("cargo-features"), At::Index(index)];
-    let message = format!(in look.alloc; "the cargo feature `{name}` is listed twice")?;
-    out.value(REPEATED_CARGO_FEATURE, &path, &[], message)
+    let words = ["the cargo feature `", name, "` is listed twice"];
+    out.value(REPEATED_CARGO_FEATURE, &path, &[], &words)
 }

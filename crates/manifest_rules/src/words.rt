@@ -2,13 +2,15 @@
 
 ghost use Rattle.std.specs.Prelude.{◌≤◌};
 
+use crate::codes::Code;
+use crate::report::{At, Out, Part, shown};
 use semver::{Op, Version, VersionReq};
 use std::alloc::{AllocError, Global};
 use std::fmt;
 use url::{ParseError, Url};
 
 /// A kind of words.
-#[derive(Clone, Copy, Debug, PartialEq, Eq)]
+#[derive(Clone, Copy, PartialEq, Eq)]
 pub(crate) enum Word {
     /// A name of a package, of a dependency or of a registry.
     Name,
@@ -17,7 +19,7 @@ pub(crate) enum Word {
 }
 
 /// What is wrong with a word.
-#[derive(Clone, Copy, Debug, PartialEq, Eq)]
+#[derive(Clone, Copy)]
 pub(crate) enum WordFault {
     Empty,
     /// It may not begin with this character.
@@ -88,20 +90,52 @@ pub(crate) fn name_fault(name: &str) -> Option<WordFault> {
     None
 }
 
-/// What is said of such a word: `what` is the kind of it, as "package name".
-pub(crate) fn word_message(
-    alloc: Global,
-    what: &str,
-    word: &str,
-    fault: WordFault,
-) -> Result<String, AllocError> {
+/// A word that is wrong.
+#[derive(Clone, Copy)]
+pub(crate) struct WrongWord<'a> {
+    /// The kind of it, as "package name".
+    pub(crate) what: &'a str,
+    pub(crate) word: &'a str,
+    pub(crate) fault: WordFault,
+}
+
+/// Says what is wrong with the word that stands there.
+pub(crate) fn say_wrong_word(
+    code: Code,
+    part: Part,
+    base: &[At<'_>],
+    rest: &[At<'_>],
+    wrong: &WrongWord<'_>,
+    out: &mut Out,
+) -> Result<(), AllocError> {
+    let WrongWord { what, word, fault } = *wrong;
     match fault {
-        WordFault::Empty if word.is_empty() => format!(in alloc; "{what} cannot be empty"),
-        WordFault::Empty => format!(in alloc; "empty part in {what} `{word}`"),
-        WordFault::First(ch) => {
-            format!(in alloc; "{what} `{word}` cannot begin with the character `{ch}`")
+        WordFault::Empty if word.is_empty() => {
+            out.say(code, part, base, rest, &[what, " cannot be empty"])
         }
-        WordFault::Other(ch) => format!(in alloc; "invalid character `{ch}` in {what} `{word}`"),
+        WordFault::Empty => {
+            let words = ["empty part in ", what, " `", word, "`"];
+            out.say(code, part, base, rest, &words)
+        }
+        WordFault::First(ch) => {
+            let ch = shown(out.alloc, &ch)?;
+            let before = "` cannot begin with the character `";
+            let words = [what, " `", word, before, ch.as_str(), "`"];
+            out.say(code, part, base, rest, &words)
+        }
+        WordFault::Other(ch) => {
+            let ch = shown(out.alloc, &ch)?;
+            let words = [
+                "invalid character `",
+                ch.as_str(),
+                "` in ",
+                what,
+                " `",
+                word,
+                "`",
+            ];
+            out.say(code, part, base, rest, &words)
+        }
     }
 }
 
@@ -136,7 +170,7 @@ pub(crate) fn requirement_fault(
 }
 
 /// Why Cargo takes a text for no URL.
-#[derive(Clone, Copy, Debug, PartialEq, Eq)]
+#[derive(Clone, Copy)]
 pub(crate) enum UrlFault {
     NoUrl(ParseError),
     /// Nothing can stand below it, as in `a:b`.
@@ -171,7 +205,7 @@ pub(crate) fn url_fault(alloc: Global, text: &str) -> Result<Option<UrlFault>, A
 }
 
 /// The version of a package id.
-#[derive(Clone, Copy, Debug, PartialEq, Eq)]
+#[derive(Clone, Copy)]
 pub(crate) enum IdVersion {
     Absent,
     /// As `1` or `1.2`.

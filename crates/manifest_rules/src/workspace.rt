@@ -2,7 +2,7 @@
 //! (<https://doc.rust-lang.org/cargo/reference/workspaces.html>)
 
 use crate::codes::{
-    IGNORED_IN_MEMBER, INVALID_MEMBER_PATTERN, LINTS_NOT_INHERITED, MISSING_MEMBER,
+    Code, IGNORED_IN_MEMBER, INVALID_MEMBER_PATTERN, LINTS_NOT_INHERITED, MISSING_MEMBER,
     MISSING_RESOLVER, NESTED_WORKSPACE, NOT_A_MEMBER, REPEATED_PACKAGE_NAME,
     UNKNOWN_DEFAULT_MEMBER, UNREADABLE_ROOT, UNUSED_WORKSPACE_DEPENDENCY, WRONG_WORKSPACE_PATH,
 };
@@ -10,7 +10,7 @@ use crate::files::plain_path;
 use crate::found::package_name;
 use crate::inherited::inherited_dependencies;
 use crate::look::{Edition, Look, Member, Root, items_in, table_in, text_in};
-use crate::report::{At, File, Out, Part, Report, Spot, steps};
+use crate::report::{At, File, Out, Part};
 use std::alloc::{AllocError, Global};
 use std::collections::{BTreeMap, BTreeSet};
 use toml::{Table, Value};
@@ -35,7 +35,7 @@ pub(crate) fn workspace(look: &Look<'_>, out: &mut Out) -> Result<(), AllocError
 
 /// Where the fault of a pattern is, which is one of the crate `glob`: `*` may stand once or twice in a row, twice as a
 /// whole part alone, and brackets are closed.
-fn pattern_fault(pattern: &str) -> Option<&'static str> {
+fn pattern_fault(pattern: &str) -> Option<&str> {
     for part in pattern.split('/') {
         if part.contains("***") {
             return Some("wildcards are either regular `*` or recursive `**`");
@@ -48,7 +48,7 @@ fn pattern_fault(pattern: &str) -> Option<&'static str> {
 }
 
 /// A bracket that is not closed: after `[`, or `[!`, comes one character at least, and then `]`.
-fn bracket_fault(pattern: &str) -> Option<&'static str> {
+fn bracket_fault(pattern: &str) -> Option<&str> {
     let mut rest = pattern;
     for _ in 0..pattern.len() {
         let Some((_before, after)) = rest.split_once('[') else {
@@ -75,7 +75,7 @@ fn member_patterns(look: &Look<'_>, out: &mut Out) -> Result<(), AllocError> {
         let mut index = 0usize;
         for item in items_in(workspace, key) {
             if let Value::String(pattern) = item {
-                member_pattern(look, key, index, pattern.as_str(), out)?;
+                member_pattern(key, index, pattern.as_str(), out)?;
             }
             index = index.saturating_add(1);
         }
@@ -83,19 +83,13 @@ fn member_patterns(look: &Look<'_>, out: &mut Out) -> Result<(), AllocError> {
     Ok(())
 }
 
-fn member_pattern(
-    look: &Look<'_>,
-    key: &str,
-    index: usize,
-    pattern: &str,
-    out: &mut Out,
-) -> Result<(), AllocError> {
+fn member_pattern(key: &str, index: usize, pattern: &str, out: &mut Out) -> Result<(), AllocError> {
     let Some(fault) = pattern_fault(pattern) else {
         return Ok(());
     };
-    let message = format!(in look.alloc; "could not parse pattern `{pattern}`: {fault}")?;
+    let words = ["could not parse pattern `", pattern, "`: ", fault];
     let path = [At::Key("workspace"), At::Key(key), At::Index(index)];
-    out.value(INVALID_MEMBER_PATTERN, &path, &[], message)
+    out.value(INVALID_MEMBER_PATTERN, &path, &[], &words)
 }
 
 /// What the patterns of `members` lead to.
@@ -113,13 +107,12 @@ fn fitted<'a>(alloc: Global, members: &'a [Member]) -> Result<PatternFolders<'a>
         bare: BTreeMap::new(alloc),
     };
     for member in members {
-        let Some(index) = member.pattern else {
-            continue;
-        };
-        if member.has_manifest {
-            let _is_new = fitted.patterns.insert(index)?;
-        } else if !fitted.bare.contains_key(&index) {
-            let _none = fitted.bare.insert(index, member.path.as_str())?;
+        for index in &member.patterns {
+            if member.has_manifest {
+                let _is_new = fitted.patterns.insert(*index)?;
+            } else if !fitted.bare.contains_key(index) {
+                let _none = fitted.bare.insert(*index, member.path.as_str())?;
+            }
         }
     }
     Ok(fitted)
@@ -130,105 +123,157 @@ fn missing_members(look: &Look<'_>, members: &[Member], out: &mut Out) -> Result
     let Some(workspace) = look.workspace else {
         return Ok(());
     };
-    let alloc = look.alloc;
-    let found = fitted(alloc, members)?;
+    let found = fitted(look.alloc, members)?;
     for (index, item) in items_in(workspace, "members").iter().enumerate() {
-        let Some(pattern) = item.as_str() else {
-            continue;
-        };
-        let message = if let Some(folder) = found.bare.get(&index) {
-            format!(in alloc;
-                "failed to load manifest for workspace member `{pattern}`: the folder `{folder}` has no Cargo.toml"
-            )?
-        } else if found.patterns.contains(&index) || pattern_fault(pattern).is_some() {
-            continue;
-        } else {
-            format!(in alloc;
-                "failed to load manifest for workspace member `{pattern}`: it leads to no Cargo.toml"
-            )?
-        };
-        let path = [At::Key("workspace"), At::Key("members"), At::Index(index)];
-        out.value(MISSING_MEMBER, &path, &[], message)?;
+        if let Some(pattern) = item.as_str() {
+            missing_member(&found, index, pattern, out)?;
+        }
     }
     Ok(())
+}
+
+fn missing_member(
+    found: &PatternFolders<'_>,
+    index: usize,
+    pattern: &str,
+    out: &mut Out,
+) -> Result<(), AllocError> {
+    let path = [At::Key("workspace"), At::Key("members"), At::Index(index)];
+    if let Some(folder) = found.bare.get(&index) {
+        let words = [
+            "failed to load manifest for workspace member `",
+            pattern,
+            "`: the folder `",
+            &**folder,
+            "` has no Cargo.toml",
+        ];
+        return out.value(MISSING_MEMBER, &path, &[], &words);
+    }
+    // (the root itself may stand there too)
+    if found.patterns.contains(&index)
+        || pattern_fault(pattern).is_some()
+        || plain_path(out.alloc, pattern)?.is_empty()
+    {
+        return Ok(());
+    }
+    let words = [
+        "failed to load manifest for workspace member `",
+        pattern,
+        "`: it leads to no Cargo.toml",
+    ];
+    out.value(MISSING_MEMBER, &path, &[], &words)
 }
 
 fn default_members(look: &Look<'_>, members: &[Member], out: &mut Out) -> Result<(), AllocError> {
     let Some(workspace) = look.workspace else {
         return Ok(());
     };
-    let alloc = look.alloc;
-    let mut paths = BTreeSet::new(alloc);
+    let mut paths = BTreeSet::new(look.alloc);
     for member in members {
-        let _is_new = paths.insert(member.path.clone()?)?;
+        let path = member.path.clone()?;
+        let _is_new = paths.insert(path)?;
     }
     for (index, item) in items_in(workspace, "default-members").iter().enumerate() {
-        let Some(path) = item.as_str() else {
-            continue;
-        };
-        let plain = plain_path(alloc, path)?;
-        let is_pattern = path.contains('*') || path.contains('?') || path.contains('[');
-        let is_root = plain.is_empty() && look.package.is_some();
-        if !is_pattern && !is_root && !paths.contains(plain.as_str()) {
-            let message = format!(in alloc;
-                "package `{path}` is listed in default-members but is not a member"
-            )?;
-            let at = [
-                At::Key("workspace"),
-                At::Key("default-members"),
-                At::Index(index),
-            ];
-            out.value(UNKNOWN_DEFAULT_MEMBER, &at, &[], message)?;
+        if let Some(path) = item.as_str() {
+            if !is_default_member(look, &paths, path)? {
+                unknown_default_member(index, path, out)?;
+            }
         }
     }
     Ok(())
 }
 
-/// The place of a member in the root: that of the pattern that leads to it.
-fn member_spot(look: &Look<'_>, member: &Member) -> Result<Spot, AllocError> {
-    let alloc = look.alloc;
-    let path = match member.pattern {
+/// Whether the path is that of a member or of the root, or a pattern.
+fn is_default_member(
+    look: &Look<'_>,
+    paths: &BTreeSet<String>,
+    path: &str,
+) -> Result<bool, AllocError> {
+    let plain = plain_path(look.alloc, path)?;
+    let is_pattern = path.contains('*') || path.contains('?') || path.contains('[');
+    let is_root = plain.is_empty() && look.package.is_some();
+    Ok(is_pattern || is_root || paths.contains(plain.as_str()))
+}
+
+fn unknown_default_member(index: usize, path: &str, out: &mut Out) -> Result<(), AllocError> {
+    let words = [
+        "package `",
+        path,
+        "` is listed in default-members but is not a member",
+    ];
+    let at = [
+        At::Key("workspace"),
+        At::Key("default-members"),
+        At::Index(index),
+    ];
+    out.value(UNKNOWN_DEFAULT_MEMBER, &at, &[], &words)
+}
+
+/// Says this of a member in the root: at the pattern that leads to it.
+fn say_of_member(
+    code: Code,
+    member: &Member,
+    words: &[&str],
+    out: &mut Out,
+) -> Result<(), AllocError> {
+    match member.patterns.first().copied() {
         Some(index) => {
             let path = [At::Key("workspace"), At::Key("members"), At::Index(index)];
-            steps(alloc, &path, &[])?
+            out.value(code, &path, &[], words)
         }
-        None => steps(alloc, &[At::Key("workspace")], &[])?,
-    };
-    Ok(Spot::Path(path, Part::Value))
+        None => out.value(code, &[At::Key("workspace")], &[], words),
+    }
 }
 
 /// No two members have one name, and none is a root itself.
 fn members_alone(look: &Look<'_>, members: &[Member], out: &mut Out) -> Result<(), AllocError> {
-    let alloc = look.alloc;
-    let mut names = BTreeMap::new(alloc);
+    let mut names = BTreeMap::new(look.alloc);
     if let Some(own) = package_name(look) {
         let _none = names.insert(own, ".")?;
     }
     for member in members {
-        let path = member.path.as_str();
-        if member.is_root && !path.is_empty() {
-            let message = format!(in alloc;
-                "multiple workspace roots found in the same workspace: `{path}` is one too"
-            )?;
-            let spot = member_spot(look, member)?;
-            out.tell(Report::new(alloc, NESTED_WORKSPACE, spot, message))?;
-        }
+        nested_workspace(member, out)?;
         let Some(name) = &member.name else {
             continue;
         };
         let name = name.as_str();
-        match names.insert(name, path)? {
-            Some(other) => {
-                let message = format!(in alloc;
-                    "two packages named `{name}` in this workspace: `{other}` and `{path}`"
-                )?;
-                let spot = member_spot(look, member)?;
-                out.tell(Report::new(alloc, REPEATED_PACKAGE_NAME, spot, message))?;
-            }
+        match names.insert(name, member.path.as_str())? {
+            Some(other) => repeated_package_name(member, name, other, out)?,
             None => {}
         }
     }
     Ok(())
+}
+
+fn nested_workspace(member: &Member, out: &mut Out) -> Result<(), AllocError> {
+    let path = member.path.as_str();
+    if !member.is_root || path.is_empty() {
+        return Ok(());
+    }
+    let words = [
+        "multiple workspace roots found in the same workspace: `",
+        path,
+        "` is one too",
+    ];
+    say_of_member(NESTED_WORKSPACE, member, &words, out)
+}
+
+fn repeated_package_name<'a>(
+    member: &'a Member,
+    name: &'a str,
+    other: &'a str,
+    out: &mut Out,
+) -> Result<(), AllocError> {
+    let words = [
+        "two packages named `",
+        name,
+        "` in this workspace: `",
+        other,
+        "` and `",
+        member.path.as_str(),
+        "`",
+    ];
+    say_of_member(REPEATED_PACKAGE_NAME, member, &words, out)
 }
 
 /// Where there is no package and no resolver, Cargo takes the first one, whatever the editions of the members are.
@@ -251,10 +296,14 @@ fn missing_resolver(look: &Look<'_>, members: &[Member], out: &mut Out) -> Resul
         Edition::E2021 => ("2021", "2"),
         Edition::E2024 => ("2024", "3"),
     };
-    let message = format!(in look.alloc;
-        "virtual workspace defaulting to `resolver = \"1\"` despite one or more workspace members being on edition {edition} which implies `resolver = \"{resolver}\"`"
-    )?;
-    out.header(MISSING_RESOLVER, &[At::Key("workspace")], &[], message)
+    let words = [
+        "virtual workspace defaulting to `resolver = \"1\"` despite one or more workspace members being on edition ",
+        edition,
+        " which implies `resolver = \"",
+        resolver,
+        "\"`",
+    ];
+    out.header(MISSING_RESOLVER, &[At::Key("workspace")], &[], &words)
 }
 
 fn unused_dependencies(look: &Look<'_>, out: &mut Out) -> Result<(), AllocError> {
@@ -264,41 +313,44 @@ fn unused_dependencies(look: &Look<'_>, out: &mut Out) -> Result<(), AllocError>
     let Some(shared) = table_in(workspace, "dependencies") else {
         return Ok(());
     };
-    let alloc = look.alloc;
     let used = inherited_dependencies(look)?;
     for (name, _dependency) in shared {
         let name = name.as_str();
         if !used.contains(name) {
-            let message = format!(in alloc; "no member inherits `workspace.dependencies.{name}`")?;
+            let words = ["no member inherits `workspace.dependencies.", name, "`"];
             let path = [At::Key("workspace"), At::Key("dependencies"), At::Key(name)];
-            out.key(UNUSED_WORKSPACE_DEPENDENCY, &path, &[], message)?;
+            out.key(UNUSED_WORKSPACE_DEPENDENCY, &path, &[], &words)?;
         }
     }
     Ok(())
 }
 
-/// The place by which a package says that it belongs to a workspace: `package.workspace`, or the package itself.
-fn package_spot(look: &Look<'_>) -> Result<Spot, AllocError> {
-    let alloc = look.alloc;
+/// Says this where a package says that it belongs to a workspace: at `package.workspace`, or at the package itself.
+fn say_of_package(
+    look: &Look<'_>,
+    code: Code,
+    words: &[&str],
+    out: &mut Out,
+) -> Result<(), AllocError> {
     let says = match look.package {
         Some(package) => package.contains_key("workspace"),
         None => false,
     };
+    let base = [At::Key(look.package_key)];
     if says {
-        let path = [At::Key(look.package_key), At::Key("workspace")];
-        Ok(Spot::Path(steps(alloc, &path, &[])?, Part::Value))
+        out.value(code, &base, &[At::Key("workspace")], words)
     } else {
-        let path = [At::Key(look.package_key)];
-        Ok(Spot::Path(steps(alloc, &path, &[])?, Part::Header))
+        out.header(code, &base, &[], words)
     }
 }
 
 fn unreadable_root(look: &Look<'_>, file: &str, out: &mut Out) -> Result<(), AllocError> {
-    let message = format!(in look.alloc;
-        "Cargo cannot read `{file}`, where it looks for the root of the workspace"
-    )?;
-    let spot = package_spot(look)?;
-    out.tell(Report::new(look.alloc, UNREADABLE_ROOT, spot, message))
+    let words = [
+        "Cargo cannot read `",
+        file,
+        "`, where it looks for the root of the workspace",
+    ];
+    say_of_package(look, UNREADABLE_ROOT, &words, out)
 }
 
 fn wrong_workspace_path(look: &Look<'_>, out: &mut Out) -> Result<(), AllocError> {
@@ -311,11 +363,13 @@ fn wrong_workspace_path(look: &Look<'_>, out: &mut Out) -> Result<(), AllocError
     if look.workspace.is_some() {
         return Ok(());
     }
-    let message = format!(in look.alloc;
-        "`package.workspace` leads to `{path}`, where no workspace is"
-    )?;
+    let words = [
+        "`package.workspace` leads to `",
+        path,
+        "`, where no workspace is",
+    ];
     let at = [At::Key(look.package_key), At::Key("workspace")];
-    out.value(WRONG_WORKSPACE_PATH, &at, &[], message)
+    out.value(WRONG_WORKSPACE_PATH, &at, &[], &words)
 }
 
 /// The rules of a package whose root is known.
@@ -327,12 +381,10 @@ fn of_member(look: &Look<'_>, root: &Table, out: &mut Out) -> Result<(), AllocEr
         return lints_not_inherited(look, root, out);
     }
     if look.around.is_listed == Some(false) {
-        let message = String::from_str(
-            look.alloc,
+        let words = [
             "current package believes it's in a workspace when it's not: the root neither lists nor excludes it",
-        )?;
-        let spot = package_spot(look)?;
-        return out.tell(Report::new(look.alloc, NOT_A_MEMBER, spot, message));
+        ];
+        return say_of_package(look, NOT_A_MEMBER, &words, out);
     }
     if look.around.is_listed != Some(true) {
         return Ok(());
@@ -343,13 +395,9 @@ fn of_member(look: &Look<'_>, root: &Table, out: &mut Out) -> Result<(), AllocEr
 
 /// What counts in the root alone.
 fn ignored_in_member(look: &Look<'_>, root: &Table, out: &mut Out) -> Result<(), AllocError> {
-    let alloc = look.alloc;
     for key in ["profile", "patch", "replace"] {
         if look.document.contains_key(key) {
-            let message = format!(in alloc;
-                "`{key}` for the non root package will be ignored, specify it at the workspace root"
-            )?;
-            out.key(IGNORED_IN_MEMBER, &[At::Key(key)], &[], message)?;
+            say_ignored(&[At::Key(key)], key, out)?;
         }
     }
     let Some(package) = look.package else {
@@ -361,12 +409,17 @@ fn ignored_in_member(look: &Look<'_>, root: &Table, out: &mut Out) -> Result<(),
     if Some(own) == resolver_of(root) {
         return Ok(());
     }
-    let message = String::from_str(
-        alloc,
-        "`resolver` for the non root package will be ignored, specify it at the workspace root",
-    )?;
     let path = [At::Key(look.package_key), At::Key("resolver")];
-    out.key(IGNORED_IN_MEMBER, &path, &[], message)
+    say_ignored(&path, "resolver", out)
+}
+
+fn say_ignored(path: &[At<'_>], key: &str, out: &mut Out) -> Result<(), AllocError> {
+    let words = [
+        "`",
+        key,
+        "` for the non root package will be ignored, specify it at the workspace root",
+    ];
+    out.key(IGNORED_IN_MEMBER, path, &[], &words)
 }
 
 /// The resolver that a root says.
@@ -382,27 +435,15 @@ fn resolver_of<'a>(root: &'a Table) -> Option<&'a str> {
 }
 
 fn lints_not_inherited(look: &Look<'_>, root: &Table, out: &mut Out) -> Result<(), AllocError> {
-    let alloc = look.alloc;
     let Some(workspace) = table_in(root, "workspace") else {
         return Ok(());
     };
     if !workspace.contains_key("lints") || look.document.contains_key("lints") {
         return Ok(());
     }
-    let message = String::from_str(
-        alloc,
-        "the lints of the workspace are not taken: `lints.workspace = true` takes them",
-    )?;
+    let words = ["the lints of the workspace are not taken: `lints.workspace = true` takes them"];
     let path = [At::Key(look.package_key)];
-    let report = Report::at(
-        alloc,
-        LINTS_NOT_INHERITED,
-        Part::Header,
-        &path,
-        &[],
-        message,
-    )?;
-    let at = [At::Key("workspace"), At::Key("lints")];
-    let spot = Spot::Path(steps(alloc, &at, &[])?, Part::Header);
-    out.tell(report.with_label(File::Root, spot, String::from_str(alloc, "these")?)?)
+    out.header(LINTS_NOT_INHERITED, &path, &[], &words)?;
+    let lints = [At::Key("workspace"), At::Key("lints")];
+    out.label(File::Root, Part::Header, &lints, &[], &["these"])
 }

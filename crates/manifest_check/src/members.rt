@@ -6,9 +6,9 @@ use crate::paths::{MANIFEST, below, folder_of, join, names_of, resolved};
 use crate::patterns::{is_pattern, matches_name, matches_path};
 use crate::tables::{items_in, table_in, text_of};
 use manifest_lint::Document;
-use manifest_rules::{Edition, Member, Root, member_of};
+use manifest_rules::{Member, Root, member_of, unread_member};
 use std::alloc::{AllocError, Global};
-use std::collections::BTreeSet;
+use std::collections::BTreeMap;
 use std::rt::Files;
 use toml::Table;
 
@@ -18,14 +18,25 @@ pub(crate) struct Members {
     pub(crate) all: Vec<Member>,
     /// The path of the manifest of each of them.
     pub(crate) manifests: Vec<String>,
-    /// Their folders.
-    folders: BTreeSet<String>,
+    /// Their folders, each with the index of its member.
+    folders: BTreeMap<String, usize>,
 }
 
 impl Members {
     /// Whether the folder is that of a member.
     pub(crate) fn has(&self, folder: &str) -> bool {
-        self.folders.contains(folder)
+        self.folders.contains_key(folder)
+    }
+
+    /// Notes that a pattern leads to the member in a folder, where there is one. It says whether there is.
+    fn note_pattern(&mut self, folder: &str, pattern: Option<usize>) -> Result<bool, AllocError> {
+        let Some(index) = self.folders.get(folder).copied() else {
+            return Ok(false);
+        };
+        if let (Some(member), Some(pattern)) = (self.all.get_mut(index), pattern) {
+            member.patterns.push(pattern)?;
+        }
+        Ok(true)
     }
 
     /// Notes a member in a folder, with the path of its manifest.
@@ -36,7 +47,9 @@ impl Members {
         member: Member,
         manifest: String,
     ) -> Result<(), AllocError> {
-        self.folders.insert(String::from_str(alloc, folder)?)?;
+        let index = self.all.len();
+        self.folders
+            .insert(String::from_str(alloc, folder)?, index)?;
         self.all.push(member)?;
         self.manifests.push(manifest)?;
         Ok(())
@@ -149,24 +162,6 @@ struct Gathering {
     next: Vec<String>,
 }
 
-/// A member whose manifest cannot be read, or is not there.
-fn unread_member(
-    alloc: Global,
-    path: &str,
-    pattern: Option<usize>,
-    has_manifest: bool,
-) -> Result<Member, AllocError> {
-    Ok(Member {
-        path: String::from_str(alloc, path)?,
-        pattern,
-        has_manifest,
-        name: None,
-        edition: Edition::E2015,
-        is_root: false,
-        inherited: Vec::new(alloc),
-    })
-}
-
 /// Notes the package in a folder as a member, if it is not one yet and has a manifest. The manifest is read, and not kept.
 fn note_member<H: Files + AllocGlobal>(
     rt: &H,
@@ -179,7 +174,7 @@ fn note_member<H: Files + AllocGlobal>(
 ) -> Result<(), AllocError> {
     let alloc = rt.alloc();
     let manifest = join(alloc, folder, MANIFEST)?;
-    if gathering.members.has(folder) || !is_file(rt, manifest.as_str()) {
+    if gathering.members.note_pattern(folder, pattern)? || !is_file(rt, manifest.as_str()) {
         return Ok(());
     }
     let read = match read_file(rt, manifest.as_str(), most) {
@@ -187,13 +182,14 @@ fn note_member<H: Files + AllocGlobal>(
         Err(_) => None,
     };
     let path = below(folder, root).unwrap_or(folder);
+    let patterns = pattern.as_slice();
     let member = match &read {
         Some(read) => {
             let inherited = inherited_from(root, document);
             push_folders(alloc, folder, &read.table, inherited, &mut gathering.next)?;
-            member_of(alloc, path, pattern, &read.table, Root::Found(document))?
+            member_of(alloc, path, patterns, &read.table, Root::Found(document))?
         }
-        None => unread_member(alloc, path, pattern, true)?,
+        None => unread_member(alloc, path, patterns, true)?,
     };
     gathering.members.push(alloc, folder, member, manifest)
 }
@@ -215,7 +211,7 @@ fn note_bare<H: Files + AllocGlobal + Clone + Drop>(
         return Ok(());
     }
     let path = below(folder, root).unwrap_or(folder);
-    let member = unread_member(alloc, path, Some(pattern), false)?;
+    let member = unread_member(alloc, path, &[pattern], false)?;
     gathering.members.push(alloc, folder, member, manifest)
 }
 
@@ -283,7 +279,7 @@ pub(crate) fn members_of<H: Files + AllocGlobal + Clone + Drop>(
         members: Members {
             all: Vec::new(alloc),
             manifests: Vec::new(alloc),
-            folders: BTreeSet::new(alloc),
+            folders: BTreeMap::new(alloc),
         },
         next: Vec::new(alloc),
     };
