@@ -9,7 +9,7 @@
 #     make clean          removes what README.md makes in a clone
 PREFIX = /usr/local
 FROM =
-MADE = check.py faulty greet hello hello-rust hello.c hello.py mend mend.c mend.py shop
+MADE = check.py checked faulty greet hello hello-rust hello.c hello.py mend mend.c mend.py shop wrong.py
 
 export DESTDIR LIBDIR
 

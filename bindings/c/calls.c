@@ -562,6 +562,20 @@ static int count_threads(void)
     return 1;
 }
 
+static void print_layout_of_check(void)
+{
+    printf("check_request: %zu, bytes %zu, root %zu, config %zu, folders %zu, members %zu, packages %zu, most %zu, ",
+           sizeof(struct manifest_check_request), offsetof(struct manifest_check_request, bytes),
+           offsetof(struct manifest_check_request, root), offsetof(struct manifest_check_request, config),
+           offsetof(struct manifest_check_request, folders), offsetof(struct manifest_check_request, members),
+           offsetof(struct manifest_check_request, packages), offsetof(struct manifest_check_request, most));
+    printf("has_root %zu, is_listed %zu, has_config %zu, has_folders %zu, has_members %zu, has_packages %zu, publishes %zu\n",
+           offsetof(struct manifest_check_request, has_root), offsetof(struct manifest_check_request, is_listed),
+           offsetof(struct manifest_check_request, has_config), offsetof(struct manifest_check_request, has_folders),
+           offsetof(struct manifest_check_request, has_members), offsetof(struct manifest_check_request, has_packages),
+           offsetof(struct manifest_check_request, publishes));
+}
+
 static void print_layout(void)
 {
     printf("answer: %zu, status %zu, cause %zu, length %zu, start %zu, end %zu\n", sizeof(struct manifest_answer),
@@ -588,6 +602,19 @@ static void print_layout(void)
            offsetof(struct manifest_request, folders), offsetof(struct manifest_request, most),
            offsetof(struct manifest_request, input), offsetof(struct manifest_request, output),
            offsetof(struct manifest_request, has_root), offsetof(struct manifest_request, has_folders));
+    printf("member: %zu, path %zu, bytes %zu, patterns %zu, has_manifest %zu\n", sizeof(struct manifest_member),
+           offsetof(struct manifest_member, path), offsetof(struct manifest_member, bytes),
+           offsetof(struct manifest_member, patterns), offsetof(struct manifest_member, has_manifest));
+    printf("package: %zu, path %zu, name %zu, has_name %zu\n", sizeof(struct manifest_package),
+           offsetof(struct manifest_package, path), offsetof(struct manifest_package, name),
+           offsetof(struct manifest_package, has_name));
+    printf("indexes: %zu, at %zu, length %zu\n", sizeof(struct manifest_indexes), offsetof(struct manifest_indexes, at),
+           offsetof(struct manifest_indexes, length));
+    printf("members: %zu, at %zu, length %zu\n", sizeof(struct manifest_members), offsetof(struct manifest_members, at),
+           offsetof(struct manifest_members, length));
+    printf("packages: %zu, at %zu, length %zu\n", sizeof(struct manifest_packages), offsetof(struct manifest_packages, at),
+           offsetof(struct manifest_packages, length));
+    print_layout_of_check();
 }
 
 int main(int words_length, char **words)

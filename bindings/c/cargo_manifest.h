@@ -52,7 +52,8 @@
 
    A call takes at most 111 KiB of stack on all inputs that were tried, so a thread with 128 KiB makes it, which is what musl
    gives its threads if nothing is said. Where a place or an edit is looked for below 126 keys in one another, the calls for
-   places and `manifest_edited` take 136 KiB: a thread with 160 KiB makes each call.
+   places and `manifest_edited` take 136 KiB: a thread with 160 KiB makes each of them. `manifest_diagnostics` takes 178 KiB
+   below headers of arrays of tables that are as deep as is read: a thread with 192 KiB makes it.
 
    A call has at most 768 bytes of memory at once for each byte that is passed in (a name of a folder counts as 16 more), and
    64 for each byte of `most`, on all inputs that were tried.
@@ -143,10 +144,12 @@ enum manifest_status {
     MANIFEST_OVERLAP = 35,
     /* the new text would not be the document with these changes, as where a new key is there already */
     MANIFEST_NOT_EDITED = 36,
-    /* a key or a text of an edit is not UTF-8 */
+    /* a key or a text of an edit is not UTF-8, or a path or a name of what is around a manifest */
     MANIFEST_NOT_TEXT = 37,
     /* the offsets do not ascend, or one is over the end of the bytes */
-    MANIFEST_OFFSETS = 38
+    MANIFEST_OFFSETS = 38,
+    /* the configuration of Cargo is no TOML, or nests too deep */
+    MANIFEST_CONFIGURATION = 39
 };
 
 /* How deep arrays and tables may stand in one another, the whole table not counted: see LIMITS. */
@@ -414,6 +417,127 @@ struct manifest_answer manifest_edited(const uint8_t *bytes, size_t bytes_length
                                        size_t edits_length, uint8_t as_replacements, size_t most, uint8_t *out,
                                        size_t out_length);
 
+/* Borrowed indexes. */
+struct manifest_indexes {
+    const size_t *at;
+    size_t length;
+};
+
+/* A member of the workspace whose root is checked, as the patterns of `workspace.members` and `path` dependencies lead to it: the
+   path of its folder from that of the root, as `crates/a`, and the bytes of its Cargo.toml. `patterns` are the indexes in
+   `workspace.members` of all patterns that lead to it, from the first one on: of `members = ["m", "./m"]` both; none where a `path`
+   dependency leads to it. What is wrong with the member is reported at the first of them. Where has_manifest is 0, its folder has
+   no Cargo.toml, and the bytes are not looked at. The path is UTF-8. */
+struct manifest_member {
+    struct manifest_bytes path;
+    struct manifest_bytes bytes;
+    struct manifest_indexes patterns;
+    uint8_t has_manifest;
+};
+
+/* Borrowed members. */
+struct manifest_members {
+    const struct manifest_member *at;
+    size_t length;
+};
+
+/* A package to which the `path` of a dependency leads: that path as it is written in the manifest, and the name of the package in
+   the Cargo.toml there. Where has_name is 0 there is none. Path and name are UTF-8. */
+struct manifest_package {
+    struct manifest_bytes path;
+    struct manifest_bytes name;
+    uint8_t has_name;
+};
+
+/* Borrowed packages. */
+struct manifest_packages {
+    const struct manifest_package *at;
+    size_t length;
+};
+
+/* What is known of something: each number but 0 and 1 is MANIFEST_IS_NOT. */
+enum manifest_known {
+    MANIFEST_UNKNOWN = 0, /* nobody looked */
+    MANIFEST_IS = 1,
+    MANIFEST_IS_NOT = 2
+};
+
+/* What is asked of manifest_diagnostics: a manifest, and what is known of the files around it. What is not known is 0, and the rules
+   that need it say nothing, so a program begins with `struct manifest_check_request request = {0};`. */
+struct manifest_check_request {
+    /* the text of the Cargo.toml */
+    struct manifest_bytes bytes;
+    /* where has_root is MANIFEST_IS: that of the root of its workspace. It is not looked at where the manifest has a `workspace`,
+       so it is not refused then, and a second place in the root has no range */
+    struct manifest_bytes root;
+    /* where has_config is not 0: the configuration of Cargo, `.cargo/config.toml`: that of the folder with, of each entry that it
+       does not have, that of the nearest folder above */
+    struct manifest_bytes config;
+    /* where has_folders is not 0: the folders of the manifest. The rules ask for those that a completion asks for, for each folder
+       and each file that a path of the manifest leads to, as if it were a folder, and for `.`. What is not passed in is not there;
+       of a folder with a fault that is not MANIFEST_NOT_FOUND nothing is known, and nothing is said of the files in it */
+    struct manifest_folders folders;
+    /* where has_members is not 0: all members, where the manifest is the root of a workspace */
+    struct manifest_members members;
+    /* where has_packages is not 0: the packages to which the `path`s of its dependencies lead */
+    struct manifest_packages packages;
+    /* how many bytes the tagged array may take: see LIMITS */
+    size_t most;
+    uint8_t has_root;  /* one of enum manifest_known: MANIFEST_IS_NOT where Cargo looks for a root and there is none */
+    uint8_t is_listed; /* one of enum manifest_known: whether the root lists the package, or leaves it out by `exclude` */
+    uint8_t has_config;
+    uint8_t has_folders;
+    uint8_t has_members;
+    uint8_t has_packages;
+    uint8_t publishes; /* not 0: say also what a registry wants of the package */
+};
+
+/* The level of a diagnostic. */
+enum manifest_level {
+    MANIFEST_ERROR = 0,   /* Cargo refuses to read the manifest, or to build the package */
+    MANIFEST_WARNING = 1, /* Cargo warns of it, or refuses it only by its version, its channel or its configuration */
+    MANIFEST_NOTE = 2     /* it is worth knowing, and needs no change */
+};
+
+/* The file of a second place. */
+enum manifest_file {
+    MANIFEST_OF_MANIFEST = 0, /* the manifest itself */
+    MANIFEST_OF_ROOT = 1,     /* the root that is passed in */
+    MANIFEST_OF_MEMBER = 2    /* one of the members that are passed in */
+};
+
+/* Everything that is wrong with the manifest, as the program manifest_check reports it: docs/CHECKS.md of the repository has a
+   section for each code. The status is MANIFEST_ACCEPTED whatever is wrong. Bytes that are not UTF-8, no TOML or too deep have one
+   diagnostic, which says so. Refused is what is around the manifest: a root that is no document (MANIFEST_ROOT_NO_TOML,
+   MANIFEST_ROOT_NOT_UTF8, MANIFEST_ROOT_TOO_DEEP), folders that are no listings, a path or a name of a member or a package that is
+   not UTF-8 (MANIFEST_NOT_TEXT), and a configuration that is no document. A member that is no document is known to be there, and
+   no more. Levels that a manifest sets in its metadata change nothing: they are for the program that shows what is wrong.
+
+   It is a tagged array of diagnostics: first what manifest_findings finds, in its order, and then what the rules say. Each is an
+   array of nine:
+
+      the code         a text, as `unknown-feature`
+      the level        a number of enum manifest_level
+      the message      a text: what is wrong. Few have more lines than one, as that of `no-targets`
+      the path         an array of its steps, a text for a key or a number for an index, as `["features", "default", 0]`; empty
+                       where it is about a range of the text, or about the whole of it
+      the range        that is meant, an array of two offsets of bytes, where it begins and where it ends; the empty array where it
+                       is the whole text, or where it has no place
+      the places       of the path: an array of three ranges, as manifest_placed_findings has them; the empty array where nothing
+                       has a place
+      second places    an array of arrays of four: a number of enum manifest_file, the index of the member (else 0), a range in the
+                       text of that file, which may be the empty array, and a text that says what is there
+      notes            an array of texts
+      suggestions      an array of arrays of three: a text that says what to write; true where it is certain to be what was meant,
+                       else false; and what it replaces, as manifest_edited has it: an array of arrays of three, where a range begins,
+                       where it ends, and the text that takes its place. They ascend and do not overlap; there are none where
+                       the text alone says what to do
+
+   That the diagnostics of the schema are what is found, and that the places are those of the paths, is proved; codes, levels, words
+   and what the rules say are tested. Of `a = ` it is one of nine, 7 1 7 9 1 12 `invalid-toml` 2 0, its message, 7 0 for its path,
+   and so on. */
+struct manifest_answer manifest_diagnostics(struct manifest_check_request request, uint8_t *out, size_t out_length);
+
 /* The calls of earlier versions, each by the request that it is. */
 static inline struct manifest_request manifest_request_of(const uint8_t *bytes, size_t bytes_length, uint8_t input,
                                                             uint8_t output, size_t most)
@@ -575,7 +699,7 @@ void rattle_dealloc(void *block);
 #elif !defined __cplusplus && defined __STDC_VERSION__ && __STDC_VERSION__ >= 201112L
 #define MANIFEST_CHECK(name, is_so) _Static_assert(is_so, #name)
 #else
-#define MANIFEST_CHECK(name, is_so) typedef char manifest_check_##name[(is_so) ? 1 : -1]
+#define MANIFEST_CHECK(name, is_so) typedef char manifest_checked_##name[(is_so) ? 1 : -1]
 #endif
 
 MANIFEST_CHECK(answer, sizeof(struct manifest_answer) == 32 && offsetof(struct manifest_answer, status) == 0
@@ -607,6 +731,34 @@ MANIFEST_CHECK(path, sizeof(struct manifest_path) == 16 && offsetof(struct manif
                          && offsetof(struct manifest_path, length) == 8);
 MANIFEST_CHECK(edit, sizeof(struct manifest_edit) == 40 && offsetof(struct manifest_edit, path) == 0
                          && offsetof(struct manifest_edit, text) == 16 && offsetof(struct manifest_edit, kind) == 32);
+MANIFEST_CHECK(indexes, sizeof(struct manifest_indexes) == 16 && offsetof(struct manifest_indexes, at) == 0
+                            && offsetof(struct manifest_indexes, length) == 8);
+MANIFEST_CHECK(member, sizeof(struct manifest_member) == 56 && offsetof(struct manifest_member, path) == 0
+                           && offsetof(struct manifest_member, bytes) == 16
+                           && offsetof(struct manifest_member, patterns) == 32
+                           && offsetof(struct manifest_member, has_manifest) == 48);
+MANIFEST_CHECK(members, sizeof(struct manifest_members) == 16 && offsetof(struct manifest_members, at) == 0
+                            && offsetof(struct manifest_members, length) == 8);
+MANIFEST_CHECK(package, sizeof(struct manifest_package) == 40 && offsetof(struct manifest_package, path) == 0
+                            && offsetof(struct manifest_package, name) == 16
+                            && offsetof(struct manifest_package, has_name) == 32);
+MANIFEST_CHECK(packages, sizeof(struct manifest_packages) == 16 && offsetof(struct manifest_packages, at) == 0
+                             && offsetof(struct manifest_packages, length) == 8);
+MANIFEST_CHECK(check_request, sizeof(struct manifest_check_request) == 112
+                                  && offsetof(struct manifest_check_request, bytes) == 0
+                                  && offsetof(struct manifest_check_request, root) == 16
+                                  && offsetof(struct manifest_check_request, config) == 32
+                                  && offsetof(struct manifest_check_request, folders) == 48
+                                  && offsetof(struct manifest_check_request, members) == 64
+                                  && offsetof(struct manifest_check_request, packages) == 80
+                                  && offsetof(struct manifest_check_request, most) == 96
+                                  && offsetof(struct manifest_check_request, has_root) == 104
+                                  && offsetof(struct manifest_check_request, is_listed) == 105
+                                  && offsetof(struct manifest_check_request, has_config) == 106
+                                  && offsetof(struct manifest_check_request, has_folders) == 107
+                                  && offsetof(struct manifest_check_request, has_members) == 108
+                                  && offsetof(struct manifest_check_request, has_packages) == 109
+                                  && offsetof(struct manifest_check_request, publishes) == 110);
 MANIFEST_CHECK(tried, sizeof(struct rattle_tried) == 16 && offsetof(struct rattle_tried, is_there) == 0
                           && offsetof(struct rattle_tried, block) == 8);
 #undef MANIFEST_CHECK

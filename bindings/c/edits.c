@@ -1,5 +1,5 @@
-/* Edits, places, refusals, unfound targets and positions, called as a program in C does; each answer is compared with the one
-   that is written here. */
+/* Edits, places, refusals, unfound targets, positions and diagnostics, called as a program in C does; each answer is compared with
+   the one that is written here. */
 #include "cargo_manifest.h"
 
 #include <stdio.h>
@@ -77,6 +77,80 @@ static const struct refusals {
     {MEMBER, "[package]\nname = 'b'\n", MANIFEST_NO_WORKSPACE, BYTES("")},
 };
 
+#define SOUND "[package]\nname = 'a'\nversion = '0.1.0'\nedition = '2021'\n"
+#define BRACKETS "[[[[[[[[[[[[[[[["
+#define DEEP BRACKETS BRACKETS BRACKETS BRACKETS BRACKETS BRACKETS BRACKETS BRACKETS BRACKETS
+#define ALL(type, ...) {(const type[]){__VA_ARGS__}, COUNT_OF(type, __VA_ARGS__)}
+#define FOLDERS_OF(...) .folders = ALL(struct manifest_folder, __VA_ARGS__), .has_folders = 1
+#define MEMBERS_OF(...) .members = ALL(struct manifest_member, __VA_ARGS__), .has_members = 1
+#define LED_BY(...) ALL(size_t, __VA_ARGS__)
+#define PACKAGES_OF(...) .packages = ALL(struct manifest_package, __VA_ARGS__), .has_packages = 1
+#define FOLDER(path, ...) {TEXT(path), ALL(struct manifest_bytes, __VA_ARGS__), MANIFEST_NO_FAULT}
+#define FAULTY(path, fault) {TEXT(path), {NULL, 0}, fault}
+#define READ SOUND "[[bin]]\nname = 'b'\npath = 'docs/b.rs'\n"
+#define SOURCES FOLDER(".", TEXT("docs"), TEXT("src")), FOLDER("src", TEXT("lib.rs"))
+#define TWICE "[workspace]\nmembers = ['a', './a']\nresolver = '2'\n"
+
+/* What is asked of diagnostics, the status, and how the tagged bytes begin. (`most` is any number where it is 0.) */
+static const struct checks {
+    struct manifest_check_request request;
+    int status;
+    const char *wanted;
+    size_t length;
+} CHECKS_OF[] = {
+    {{.bytes = TEXT(SOUND)}, 0, BYTES("\7\0")},
+    /* [['wrong-kind', 0, ..], ..] */
+    {{.bytes = TEXT("[package]\nname = 1\nversion = '0.1.0'\nedition = '2021'\n")}, 0,
+     BYTES("\7\1\7\11\1\12wrong-kind\2\0")},
+    {{.bytes = TEXT("a = \n")}, 0, BYTES("\7\1\7\11\1\14invalid-toml\2\0")},
+    {{.bytes = TEXT("a = '\xff'")}, 0, BYTES("\7\1\7\11\1\10not-utf8\2\0")},
+    {{.bytes = TEXT("a = " DEEP)}, 0, BYTES("\7\1\7\11\1\16nests-too-deep\2\0")},
+    /* what is wrong around bytes that are no document is not looked at */
+    {{.bytes = TEXT("a = \n"), .root = TEXT("\xff"), .has_root = MANIFEST_IS}, 0, BYTES("\7\1\7\11\1\14invalid-toml\2\0")},
+    {{.bytes = TEXT(SOUND), .root = TEXT("[workspace]\n"), .has_root = MANIFEST_IS, .is_listed = MANIFEST_IS}, 0, BYTES("\7\0")},
+    {{.bytes = TEXT(SOUND), .root = TEXT("[workspace]\n"), .has_root = MANIFEST_IS, .is_listed = MANIFEST_IS_NOT}, 0,
+     BYTES("\7\1\7\11\1\14not-a-member\2\0")},
+    {{.bytes = TEXT(SOUND), .root = TEXT("\xff"), .has_root = MANIFEST_IS_NOT}, 0, BYTES("\7\0")},
+    {{.bytes = TEXT(SOUND), .root = TEXT("\xff"), .has_root = MANIFEST_IS}, MANIFEST_ROOT_NOT_UTF8, BYTES("")},
+    {{.bytes = TEXT(SOUND), .root = TEXT("[workspace"), .has_root = MANIFEST_IS}, MANIFEST_ROOT_NO_TOML, NULL, 0},
+    {{.bytes = TEXT(SOUND), .root = TEXT("a = " DEEP), .has_root = MANIFEST_IS}, MANIFEST_ROOT_TOO_DEEP, BYTES("")},
+    {{.bytes = TEXT(SOUND), .config = TEXT("a = "), .has_config = 1}, MANIFEST_CONFIGURATION, BYTES("")},
+    {{.bytes = TEXT(SOUND), .config = TEXT("\xff"), .has_config = 255}, MANIFEST_CONFIGURATION, BYTES("")},
+    {{.bytes = TEXT(SOUND), .config = TEXT("a = ")}, 0, BYTES("\7\0")},
+    {{.bytes = TEXT(SOUND), FOLDERS_OF(FOLDER("src", TEXT("lib.rs")), FOLDER(".", TEXT("src")))}, 0, BYTES("\7\0")},
+    {{.bytes = TEXT(SOUND), FOLDERS_OF(FOLDER(".", TEXT("README.md")))}, 0, BYTES("\7\1\7\11\1\12no-targets\2\0")},
+    {{.bytes = TEXT(SOUND), FOLDERS_OF(FOLDER("src", TEXT("b"), TEXT("a")))}, MANIFEST_LISTINGS, BYTES("")},
+    /* a folder that is not passed in is not there, and neither is one that is not found; of one with another fault nothing is
+       known */
+    {{.bytes = TEXT(READ), FOLDERS_OF(SOURCES)}, 0, BYTES("\7\1\7\11\1\21wrong-target-path\2\0")},
+    {{.bytes = TEXT(READ), FOLDERS_OF(SOURCES, FAULTY("docs", MANIFEST_NOT_FOUND))}, 0,
+     BYTES("\7\1\7\11\1\21wrong-target-path\2\0")},
+    {{.bytes = TEXT(READ), FOLDERS_OF(SOURCES, FAULTY("docs", MANIFEST_OTHER_FAULT))}, 0, BYTES("\7\0")},
+    {{.bytes = TEXT(READ), FOLDERS_OF(SOURCES, FAULTY("docs", 255))}, 0, BYTES("\7\0")},
+    /* each pattern has to lead to a member, and several may lead to one; none leads to what a dependency leads to */
+    {{.bytes = TEXT(TWICE), MEMBERS_OF({TEXT("a"), TEXT(SOUND), LED_BY(0, 1), 1})}, 0, BYTES("\7\0")},
+    {{.bytes = TEXT(TWICE), MEMBERS_OF({TEXT("a"), TEXT(SOUND), LED_BY(0), 1})}, 0,
+     BYTES("\7\1\7\11\1\16missing-member\2\0")},
+    {{.bytes = TEXT(TWICE), MEMBERS_OF({TEXT("a"), TEXT(SOUND), {NULL, 0}, 1})}, 0,
+     BYTES("\7\2\7\11\1\16missing-member\2\0")},
+    {{.bytes = TEXT(TWICE), MEMBERS_OF({TEXT("a"), TEXT(""), LED_BY(0, 1), 0})}, 0,
+     BYTES("\7\2\7\11\1\16missing-member\2\0")},
+    {{.bytes = TEXT(TWICE), MEMBERS_OF({TEXT(CUT), TEXT(SOUND), LED_BY(0, 1), 1})}, MANIFEST_NOT_TEXT, BYTES("")},
+    /* what is passed in as the root of a root is not looked at */
+    {{.bytes = TEXT(TWICE), .root = TEXT("\xff"), .has_root = MANIFEST_IS}, 0, BYTES("\7\0")},
+    {{.bytes = TEXT(TWICE), .root = TEXT("[workspace"), .has_root = MANIFEST_IS}, 0, BYTES("\7\0")},
+    {{.bytes = TEXT(SOUND), PACKAGES_OF({TEXT("b"), TEXT(CUT), 0})}, MANIFEST_NOT_TEXT, BYTES("")},
+    /* of two refusals the first is reported: the root, the configuration, the folders, the members, the packages */
+    {{.bytes = TEXT(SOUND), .root = TEXT("\xff"), .has_root = MANIFEST_IS, .config = TEXT("a = "), .has_config = 1},
+     MANIFEST_ROOT_NOT_UTF8, BYTES("")},
+    {{.bytes = TEXT(SOUND), .config = TEXT("a = "), .has_config = 1, FOLDERS_OF(FOLDER("src", TEXT("b"), TEXT("a")))},
+     MANIFEST_CONFIGURATION, BYTES("")},
+    {{.bytes = TEXT(SOUND), FOLDERS_OF(FOLDER("src", TEXT("b"), TEXT("a"))), MEMBERS_OF({TEXT(CUT), TEXT(SOUND), LED_BY(0), 1})},
+     MANIFEST_LISTINGS, BYTES("")},
+    {{.bytes = TEXT(SOUND), .most = 2}, 0, BYTES("\7\0")},
+    {{.bytes = TEXT(SOUND), .most = 1}, MANIFEST_TOO_LONG, BYTES("")},
+};
+
 static int passed, failed;
 
 static void count(int is_right, const char *what, size_t number)
@@ -111,6 +185,21 @@ static void try_refusals(void)
     }
 }
 
+/* The diagnostics of each row: the tagged bytes begin as they should, and those of none are no more. */
+static void try_diagnostics(void)
+{
+    uint8_t out[4096];
+    for (size_t i = 0; i < sizeof CHECKS_OF / sizeof *CHECKS_OF; i++) {
+        const struct checks *row = &CHECKS_OF[i];
+        struct manifest_check_request request = row->request;
+        request.most = request.most ? request.most : SIZE_MAX;
+        struct manifest_answer answer = manifest_diagnostics(request, out, sizeof out);
+        if (row->length > 2 && answer.length > row->length)
+            answer.length = row->length;
+        count(is_answer(answer, out, row->status, row->wanted, row->length), "diagnostics", i + 1);
+    }
+}
+
 #define HAS(answer, text) is_answer(answer, out, MANIFEST_ACCEPTED, text, sizeof(text) - 1)
 
 int main(void)
@@ -137,6 +226,7 @@ int main(void)
           "placed", 2);
 
     try_refusals();
+    try_diagnostics();
 
     const uint8_t *library = (const uint8_t *)"package.name = 'a'\n\nlib = {}";
     const struct manifest_bytes names[] = {TEXT("lib.rs")};

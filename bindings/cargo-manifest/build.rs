@@ -11,10 +11,13 @@ use std::process;
 const ARCHIVE: &str = "libcargo_manifest.a";
 
 /// The calls that this crate makes.
-const CALLS: [&str; 7] = [
+const CALLS: [&str; 10] = [
+    "manifest_diagnostics",
     "manifest_document",
     "manifest_edited",
     "manifest_placed_findings",
+    "manifest_placed_refusals",
+    "manifest_placed_unfound_targets",
     "manifest_positions",
     "manifest_run",
     "manifest_table_without_metadata",

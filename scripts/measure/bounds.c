@@ -139,8 +139,24 @@ static struct manifest_answer edited(void)
     return manifest_edited(bytes.at, bytes.length, &edit, 1, 0, most, out, ROOM);
 }
 
+/* Everything that is wrong, with the root and the folders around it. */
+static struct manifest_answer diagnostics(void)
+{
+    struct manifest_check_request request = {0};
+    request.bytes.at = bytes.at, request.bytes.length = bytes.length;
+    request.root.at = root.at, request.root.length = root.length;
+    request.folders.at = folders, request.folders.length = folders_length;
+    request.most = most;
+    request.has_root = root.at ? MANIFEST_IS : MANIFEST_UNKNOWN;
+    request.has_folders = folders_length > 0;
+    request.publishes = 1;
+    return manifest_diagnostics(request, out, ROOM);
+}
+
 static struct manifest_answer called(void)
 {
+    if (!strcmp(call, "diagnostics"))
+        return diagnostics();
     if (!strcmp(call, "positions"))
         return positions();
     if (!strcmp(call, "edited"))

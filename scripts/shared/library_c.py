@@ -17,8 +17,8 @@ C = BINDINGS / "c"
 STANDARDS = {"c": ["c99", "c11", "c17"], "c++": ["c++98", "c++11", "c++17"]}
 COMPILERS = {"c": ["gcc", "clang"], "c++": ["g++", "clang++"]}
 # the programs of bindings/c: all of them, and those that are tried over a shared library, which has no heap functions to call
-PROGRAMS = ("calls", "edits", "canonical", "listed", "own_heap", "blocks")
-CALLERS = ("calls", "edits", "canonical")
+PROGRAMS = ("calls", "edits", "canonical", "checked", "listed", "own_heap", "blocks")
+CALLERS = ("calls", "edits", "canonical", "checked")
 LOADED = SCRIPTS / "shared" / "loaded.c"
 SONAME = "libcargo_manifest.so.4"
 ARM_COMPILER = "aarch64-linux-gnu-gcc"
@@ -26,6 +26,19 @@ ARM_COMMANDS = (ARM_COMPILER, "qemu-aarch64")
 TWICE = '#include "cargo_manifest.h"\n' * 2
 # with other places of the fields than those that the library was compiled with
 PACKED = f"#include <stddef.h>\n#include <stdint.h>\n#pragma pack(1)\n{TWICE}"
+# the lines of checked.c about a diagnostic, and about what is replaced
+TOLD = re.compile(r"\d+:\d+: \w+\[[a-z0-9-]+\]: |    \d+:\d+: `.*` to `.*`$")
+SOUND = "[package]\nname = 'a'\nversion = '0.1.0'\nedition = '2021'\n"
+# manifests, words, and the status and the beginnings of the lines of checked.c
+CHECKED = [
+    (SOUND, [], 0, []),
+    (SOUND, ["--publish"], 0, [f"1:1: warning[missing-{what}]: " for what in ("description", "license", "links")]),
+    (SOUND + "[features]\ndefault = ['ful']\nfull = []\n", [], 1, ["6:12: error[unknown-feature]: ", "    6:12: `'ful'` to `\"full\"`"]),
+    (SOUND + "[dev_dependencies]\nb = '1'\n", [], 0,
+     ["5:2: warning[old-spelling]: ", "    5:2: `dev_dependencies` to `dev-dependencies`"]),
+    ("\ufeff[package]\nname = 'a'\nversion = '0.1.0'\n", [], 0,
+     ["1:1: warning[missing-edition]: ", "    4:1: `` to `edition = \"2015\"\\n`"]),
+]
 # the line of canonical.c about a fault of the schema
 SCHEMA = re.compile(r"status 2, cause ([1-8]), bytes 0 to 0: (.+)\n", re.S)
 
@@ -99,8 +112,18 @@ def run_all(name, runner, room):
     counted(f"edits from {name}", run([*runner, room / "edits"]), COUNTS)
     counted(f"calls from {name} over a heap of its own", run([*runner, room / "own_heap"]), COUNTS)
     counted(f"blocks of the library's heap, from {name}", run([*runner, room / "blocks"]), COUNTS)
+    check_checked(name, [*runner, room / "checked"])
     replay_manifests(name, [*runner, room / "canonical"])
     replay_folders(name, [*runner, room / "listed"], room)
+
+
+def check_checked(name, words):
+    """What checked.c prints of manifests: the status, the place, the level and the code of each diagnostic, and what is certain."""
+    for text, more, status, due in CHECKED:
+        said = run([*words, *more], input=text)
+        lines = [found.group() for found in map(TOLD.match, said.stdout.splitlines()) if found]
+        is_right = (said.returncode, lines, said.stderr) == (status, due, "")
+        told(f"checked.c from {name} on {text!r}", None if is_right else f"{said.returncode} {said.stdout!r} {said.stderr!r}")
 
 
 def check_valgrind(room):
@@ -110,6 +133,7 @@ def check_valgrind(room):
         return
     for name in ("calls", "edits", "own_heap", "blocks"):
         counted(f"{name}.c under valgrind", run([*VALGRIND, room / name]), COUNTS)
+    check_checked("C under valgrind", [*VALGRIND, room / "checked"])
     manifest = room / "a-b.toml"  # (no Cargo.toml, which cargo would find above what is built in this folder)
     manifest.write_text("[package]\nname = 'a-b'\n[lib]\n", encoding="utf-8")
     for files, status in (("src/lib.rs\nsrc/bin/x/main.rs\n", 0), ("", 1)):

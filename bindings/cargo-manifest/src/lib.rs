@@ -51,6 +51,17 @@
 //! # Ok::<(), cargo_manifest::Error>(())
 //! ```
 //!
+//! And all that Cargo refuses or warns of, with what to write, says the module [`check`], as the program `manifest_check` of the
+//! repository does:
+//!
+//! ```
+//! let upload = b"[package]\nname = 'a'\nversion = '1.0'\nedition = '2021'\n";
+//! let found = cargo_manifest::check::check(upload)?;
+//! assert_eq!((found[0].code.as_str(), found[0].line_column(upload)), ("invalid-version", Some((3, 11))));
+//! assert_eq!(found[0].suggestions[0].text, "a version has three numbers: `1.0.0`");
+//! # Ok::<(), cargo_manifest::calls::Refusal>(())
+//! ```
+//!
 //! # A planner makes a skeleton
 //!
 //! Of a manifest and a list of files it takes what is built, and writes the smallest manifest that builds it: so a layer of
@@ -146,7 +157,8 @@
 //!
 //! A call takes at most 111 KiB of stack on all inputs that were tried, so a thread with 128 KiB makes it, which is what
 //! musl gives its threads if nothing is said. Where a place or an edit is looked for below 126 keys in one another, the
-//! calls for places and `manifest_edited` take 136 KiB: a thread with 160 KiB makes each call.
+//! calls for places and `manifest_edited` take 136 KiB: a thread with 160 KiB makes each of them. `manifest_diagnostics`
+//! takes 178 KiB below headers of arrays of tables that are as deep as is read: a thread with 192 KiB makes it.
 //!
 //! A call has at most 768 bytes of memory at once for each byte that is passed in (a name of a folder counts as 16 more),
 //! and 64 for each byte of `most`, on all inputs that were tried.
@@ -178,6 +190,7 @@
 
 mod badge;
 pub mod calls;
+pub mod check;
 mod codec;
 mod completing;
 mod dependency;

@@ -13,6 +13,7 @@ meanwhile.
 from ._calls import canonical, completed, completed_table, resolved, resolved_completed
 from ._calls import resolved_completed_table, resolved_table, table
 from ._cause import Cause
+from ._diagnostics import Diagnostic, Label, Member, Suggestion, diagnostics, fixed
 from ._edits import Edit, Replacement, edited, replacements
 from ._error import ManifestError
 from ._faults import Fault, faults, ignored, unused_keys
@@ -27,12 +28,16 @@ __version__ = "0.2.0"
 __all__ = [
     "CargoKey",
     "Cause",
+    "Diagnostic",
     "Edit",
     "Fault",
+    "Label",
     "ManifestError",
+    "Member",
     "Position",
     "Replacement",
     "Span",
+    "Suggestion",
     "UnfoundTarget",
     "Unresolved",
     "UnusedKey",
@@ -40,8 +45,10 @@ __all__ = [
     "canonical",
     "completed",
     "completed_table",
+    "diagnostics",
     "edited",
     "faults",
+    "fixed",
     "ignored",
     "positions",
     "refusals",

@@ -4,7 +4,7 @@ from __future__ import annotations
 import ctypes
 from typing import Any, Callable, Optional
 
-from ._library import Answer, Call, Request, manifest_run
+from ._library import Answer, Call, CheckRequest, Request, manifest_diagnostics, manifest_run
 from ._listings import Listings
 from ._numbers import ACCEPTED
 from ._reader import utf8
@@ -76,6 +76,13 @@ def asked(
         request.folders, request.has_folders = (folders, len(folders)), 1
         room += 128 * listings.count()
     return _given(lambda out, room: manifest_run(request, out, room), min(room, limit + 1), (manifest, root or b"", listings))
+
+
+def checked(request: CheckRequest, given: tuple[bytes, bytes, Optional[Listings]]) -> bytes:
+    """What is wrong with a manifest, as tagged bytes; else the exception of the refusal is raised. `given` is the manifest, the
+    root and the listings of the request."""
+    room = min(4096 + 4 * len(given[0]), request.most + 1)
+    return _given(lambda out, room: manifest_diagnostics(request, out, room), room, given)
 
 
 def _given(

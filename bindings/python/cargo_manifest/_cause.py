@@ -60,6 +60,8 @@ class Cause(enum.Enum):
     """An edit only: two edits touch one place, or one of them is within what another one replaces."""
     NOT_EDITED = "not edited"
     """An edit only: the new text would not be the document with the edits, as where a new key is there already."""
+    CONFIGURATION = "configuration"
+    """`diagnostics` only: the configuration of Cargo is no TOML, or nests too deep."""
     DATE_BEYOND_PYTHON = "date-time that Python cannot hold"
     """`table` only: a date-time with the second 60 or the year 0, which `datetime` does not have."""
 

@@ -130,13 +130,14 @@ def replacements(text: Text, edits: Iterable[Edit], *, most: Optional[int] = Non
     """
     given, asked = bytes_of(text, "text"), list(edits)
     reader = Reader(_answered(given, asked, most, True))
-    found = [_replacement(reader) for _ in range(reader.array())]
+    found = [replacement_in(reader) for _ in range(reader.array())]
     if not reader.is_at_end():
         raise broken()
     return found
 
 
-def _replacement(reader: Reader) -> Replacement:
+def replacement_in(reader: Reader) -> Replacement:
+    """A replacement, as the library gives it."""
     if reader.array() != len(Replacement._fields):
         raise broken()
     start, end = reader.whole_number(), reader.whole_number()

@@ -83,6 +83,59 @@ class Edit(ctypes.Structure):
     _fields_ = [("path", Path), ("text", Bytes), ("kind", ctypes.c_uint8)]
 
 
+class Indexes(ctypes.Structure):
+    """`struct manifest_indexes`."""
+
+    _fields_ = [("at", ctypes.POINTER(ctypes.c_size_t)), ("length", ctypes.c_size_t)]
+
+
+class Member(ctypes.Structure):
+    """`struct manifest_member`."""
+
+    _fields_ = [("path", Bytes), ("bytes", Bytes), ("patterns", Indexes), ("has_manifest", ctypes.c_uint8)]
+
+
+class Members(ctypes.Structure):
+    """`struct manifest_members`."""
+
+    _fields_ = [("at", ctypes.POINTER(Member)), ("length", ctypes.c_size_t)]
+
+
+class Package(ctypes.Structure):
+    """`struct manifest_package`."""
+
+    _fields_ = [("path", Bytes), ("name", Bytes), ("has_name", ctypes.c_uint8)]
+
+
+class Packages(ctypes.Structure):
+    """`struct manifest_packages`."""
+
+    _fields_ = [("at", ctypes.POINTER(Package)), ("length", ctypes.c_size_t)]
+
+
+class CheckRequest(ctypes.Structure):
+    """`struct manifest_check_request`."""
+
+    most: int
+
+    _fields_ = [
+        ("bytes", Bytes),
+        ("root", Bytes),
+        ("config", Bytes),
+        ("folders", Folders),
+        ("members", Members),
+        ("packages", Packages),
+        ("most", ctypes.c_size_t),
+        ("has_root", ctypes.c_uint8),
+        ("is_listed", ctypes.c_uint8),
+        ("has_config", ctypes.c_uint8),
+        ("has_folders", ctypes.c_uint8),
+        ("has_members", ctypes.c_uint8),
+        ("has_packages", ctypes.c_uint8),
+        ("publishes", ctypes.c_uint8),
+    ]
+
+
 Call = Callable[..., Answer]
 
 
@@ -140,6 +193,8 @@ _EDITS = (ctypes.POINTER(Edit), ctypes.c_size_t)
 _LIBRARY = _loaded()
 compare_versions(_LIBRARY)
 manifest_run = _declared(_LIBRARY, "manifest_run", Request)
+manifest_diagnostics = _declared(_LIBRARY, "manifest_diagnostics", CheckRequest)
+manifest_document = _declared(_LIBRARY, "manifest_document", *_TEXT, _MOST)
 manifest_findings = _declared(_LIBRARY, "manifest_findings", *_TEXT, _MOST)
 manifest_placed_findings = _declared(_LIBRARY, "manifest_placed_findings", *_TEXT, _MOST)
 manifest_placed_refusals = _declared(_LIBRARY, "manifest_placed_refusals", *_TEXT, *_TEXT, _MOST)

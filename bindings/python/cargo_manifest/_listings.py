@@ -82,14 +82,16 @@ class Listings:
         return listings
 
     @staticmethod
-    def of_folder(folder: bytes) -> Listings:
-        """All that a completion may ask for, from the folders below one on the disk."""
+    def of_folder(folder: bytes, more: Iterable[bytes] = ()) -> Listings:
+        """All that a completion may ask for, and some more, from the folders below one on the disk."""
         listings = Listings(folder)
         listings._ask(folder, _SOURCES)
         for targets in _TARGETS:
             for name in listings._ask(folder, targets):
                 listings._ask(folder, targets + b"/" + name)
-        listings._ask(folder, _TOP)
+        for path in (_TOP, *more):
+            if path not in listings._by_path:
+                listings._ask(folder, path)
         return listings
 
     def _ask(self, folder: bytes, path: bytes) -> list[bytes]:

@@ -24,6 +24,7 @@ _SENTENCES = {
     Cause.NOT_A_VALUE: "an edit puts in what is not one value of TOML",
     Cause.NO_PLACE: "at the path of an edit there is nothing that it can change",
     Cause.OVERLAP: "two edits touch the same place",
+    Cause.CONFIGURATION: "the configuration of Cargo is no TOML, or nests too deep",
     Cause.NOT_EDITED: "the new text would not be the document with the edits, as where a new key is there already",
 }
 

@@ -31,6 +31,7 @@ OVERLAP = 35
 NOT_EDITED = 36
 NOT_TEXT = 37
 OFFSETS = 38
+CONFIGURATION = 39
 # the faults of a folder, which are the causes of IO
 NOT_FOUND = 1
 OUT_OF_MEMORY = 2

@@ -86,10 +86,19 @@ def ranges_in(reader: Reader) -> Ranges:
     """Ranges, as the library gives them: of each its two numbers, or none."""
     if reader.array() != len(Ranges._fields):
         raise broken()
-    return Ranges(*(_span(reader) for _ in Ranges._fields))
+    return Ranges(*(span_in(reader) for _ in Ranges._fields))
 
 
-def _span(reader: Reader) -> Optional[Span]:
+def ranges_or_none_in(reader: Reader) -> Ranges:
+    """The same, or none of them where the array of the three is empty."""
+    length = reader.array()
+    if length not in (0, len(Ranges._fields)):
+        raise broken()
+    return Ranges(*(span_in(reader) for _ in range(length)))
+
+
+def span_in(reader: Reader) -> Optional[Span]:
+    """A range, as the library gives it: its two numbers, or none."""
     length = reader.array()
     if length not in (0, 2):
         raise broken()

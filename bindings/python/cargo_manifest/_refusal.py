@@ -45,6 +45,7 @@ _PLAIN: dict[int, tuple[Cause, Part]] = {
     _numbers.OVERLAP: (Cause.OVERLAP, "manifest"),
     _numbers.NOT_EDITED: (Cause.NOT_EDITED, "manifest"),
     _numbers.NOT_TEXT: (Cause.NOT_UTF8, "manifest"),
+    _numbers.CONFIGURATION: (Cause.CONFIGURATION, "manifest"),
 }
 
 # the causes of statuses that say what cannot be inherited

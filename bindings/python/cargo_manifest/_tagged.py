@@ -1,6 +1,7 @@
 """Values that the library returns as tagged bytes."""
 from __future__ import annotations
 
+from collections.abc import Callable
 from typing import Any, Union
 
 from ._dates import date_time
@@ -33,7 +34,7 @@ class _Open:
             self.values[str(self.step)] = value
 
 
-def _simple(reader: Reader, tag: int) -> Any:
+def simple(reader: Reader, tag: int) -> Any:
     """What stands after the tag of a value that holds no other."""
     if tag == TEXT:
         return reader.text()
@@ -48,7 +49,7 @@ def _simple(reader: Reader, tag: int) -> Any:
     raise broken()
 
 
-def _read(reader: Reader, holders: list[_Open]) -> None:
+def _read(reader: Reader, holders: list[_Open], read_simple: Callable[[Reader, int], Any]) -> None:
     """Reads one more value into the innermost holder. One that holds others is put there empty, and is filled next."""
     holder = holders[-1]
     holder.begin(reader)
@@ -59,15 +60,16 @@ def _read(reader: Reader, holders: list[_Open]) -> None:
         holders.append(_Open(inner, reader.number()))
         return
     try:
-        holder.put(_simple(reader, tag))
+        holder.put(read_simple(reader, tag))
     except ValueError as fault:
         # only date-times report one; the outermost holder is not part of the value
         path = tuple(each.step for each in holders[1:])
         raise ManifestError(Cause.DATE_BEYOND_PYTHON, path_text=text_of(path)) from fault
 
 
-def decoded(held: bytes) -> Any:
-    """The value that the bytes hold. It is read by a loop, so that no nesting takes stack."""
+def decoded(held: bytes, read_simple: Callable[[Reader, int], Any] = simple) -> Any:
+    """The value that the bytes hold, of whose parts those that hold no others are read by a function. It is read by a loop, so that
+    no nesting takes stack."""
     reader = Reader(held)
     whole: list[Any] = []
     holders = [_Open(whole, 1)]
@@ -75,7 +77,7 @@ def decoded(held: bytes) -> Any:
         if holders[-1].left == 0:
             holders.pop()
         else:
-            _read(reader, holders)
+            _read(reader, holders, read_simple)
     if not reader.is_at_end():
         raise broken()
     return whole[0]

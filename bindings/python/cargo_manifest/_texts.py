@@ -2,7 +2,7 @@
 from __future__ import annotations
 
 import os
-from collections.abc import Mapping
+from collections.abc import Iterable, Mapping
 from typing import Optional, Union
 
 from ._listings import Folders, Listings
@@ -31,8 +31,13 @@ def listings_of(manifest: Text, folders: Optional[Folders]) -> Listings:
         if not isinstance(manifest, os.PathLike):
             raise TypeError("without folders the manifest has to be a path, whose folder is then listed")
         return Listings.of_folder(os.path.dirname(os.fsencode(manifest)))
+    return given_listings(folders)
+
+
+def given_listings(folders: Folders, more: Iterable[bytes] = ()) -> Listings:
+    """The listings of the folders that are passed in; of those on the disk also of some more."""
     if isinstance(folders, Mapping):
         return Listings.of_mapping(folders)
     if isinstance(folders, (str, os.PathLike)):
-        return Listings.of_folder(os.fsencode(folders))
+        return Listings.of_folder(os.fsencode(folders), more)
     raise TypeError(f"folders have to be a path or a mapping, not {type(folders).__name__}")

@@ -8,14 +8,14 @@ import unittest
 from pathlib import Path
 
 import cargo_manifest
-from cargo_manifest import _calls, _edits, _error, _faults, _places, _positions, _unresolved
+from cargo_manifest import _calls, _diagnostics, _edits, _error, _faults, _places, _positions, _unresolved
 
 from .places import PROJECT, make_files
 
 
 CALLS = ("canonical", "completed", "resolved", "resolved_completed", "table")
-FINDERS = ("faults", "ignored", "refusals", "unfound_targets", "unused_keys")
-OF_TEXTS = ("edited", "positions", "replacements")
+FINDERS = ("diagnostics", "faults", "ignored", "refusals", "unfound_targets", "unused_keys")
+OF_TEXTS = ("edited", "fixed", "positions", "replacements")
 
 
 class Readme(unittest.TestCase):
@@ -54,6 +54,6 @@ class Documented(unittest.TestCase):
 
 
 def load_tests(loader: unittest.TestLoader, tests: unittest.TestSuite, pattern: str) -> unittest.TestSuite:
-    for module in (cargo_manifest, _calls, _edits, _error, _faults, _places, _positions, _unresolved):
+    for module in (cargo_manifest, _calls, _diagnostics, _edits, _error, _faults, _places, _positions, _unresolved):
         tests.addTests(doctest.DocTestSuite(module))
     return tests

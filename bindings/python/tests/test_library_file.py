@@ -108,6 +108,12 @@ class Declarations(unittest.TestCase):
             "step": _library.Step,
             "edit": _library.Edit,
             "request": _library.Request,
+            "member": _library.Member,
+            "package": _library.Package,
+            "indexes": _library.Indexes,
+            "members": _library.Members,
+            "packages": _library.Packages,
+            "check_request": _library.CheckRequest,
         }
         self.assertEqual(said.splitlines(), [self.line(name, kind) for name, kind in kinds.items()])
 

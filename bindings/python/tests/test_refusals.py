@@ -373,7 +373,7 @@ class NeverTold(unittest.TestCase):
         self.assertIsInstance(self.made(3, 2), MemoryError)
 
     def test_answers_that_the_header_does_not_have(self) -> None:
-        for status, cause in ((14, 0), (16, 0), (19, 0), (21, 0), (30, 0), (38, 0), (39, 0), (255, 0), (2, 0), (2, 9), (18, 9)):
+        for status, cause in ((14, 0), (16, 0), (19, 0), (21, 0), (30, 0), (38, 0), (40, 0), (255, 0), (2, 0), (2, 9), (18, 9)):
             with self.subTest(status=status, cause=cause), self.assertRaises(RuntimeError):
                 self.made(status, cause)
         for said in ("", "a..b", 'a."b', "a[x]", "a[0]b", "a b", '"a"b'):

@@ -5,7 +5,7 @@ import unittest
 from collections.abc import Callable
 from concurrent.futures import ThreadPoolExecutor
 
-from cargo_manifest import Edit, ManifestError, canonical, completed, edited, faults, positions, refusals, resolved
+from cargo_manifest import Edit, ManifestError, canonical, completed, diagnostics, edited, faults, positions, refusals, resolved
 from cargo_manifest import resolved_completed, table, unfound_targets, unused_keys
 
 from .test_calls import COUNT, FOLDERS, LIB, MANY, MANY_BINS, MEMBER, RESOLVED, ROOT
@@ -41,6 +41,7 @@ def each_call(thread: int) -> list[object]:
         edited(f"# {name}\na = 1 # {name}", [Edit.set(("a",), str(thread))]),
         [position.line for position in positions("\n" * thread, range(thread + 1))],
         [(refusal.path, refusal.root_line) for refusal in refusals(MEMBER.replace("p-q", name), "\n" * thread + "[workspace]")],
+        [(each.code, each.line) for each in diagnostics("\n" * thread + f"[package]\nname = '{name}'\nversion = '1.0.0'\n")],
         [(target.path, target.line) for target in unfound_targets("\n" * thread + f"lib = {{}}\npackage.name = '{name}'", {})],
     ]
 
@@ -65,6 +66,7 @@ def wanted(thread: int) -> list[object]:
         f"# {name}\na = {thread} # {name}",
         list(range(1, thread + 2)),
         [(("package", "version"), thread + 1)],
+        [("missing-edition", thread + 1)],
         [(("lib",), thread + 1)],
     ]
 

@@ -1,5 +1,5 @@
-//! Each call of the library, but those for lines, places and edits, on inputs that are made to take much stack, time or memory
-//! (`inputs`), in a thread with 128 KiB of stack, which has to be enough for all of them, and with no more memory than
+//! Each call of the library, but those for lines, places, edits and diagnostics, on inputs that are made to take much stack, time or
+//! memory (`inputs`), in a thread with 128 KiB of stack, which has to be enough for all of them, and with no more memory than
 //! `docs/LIBRARY.md` says.
 //!
 //! `MANIFEST_HOSTILE` says how many inputs there are, 2,000 where it is not set, `MANIFEST_HOSTILE_FROM` the number of the

@@ -1,16 +1,19 @@
 -- Lemmas on folders that a caller passes in.
 use Rattle.manifest_schema.specs.Prelude.{Bor, BTreeMap, get_by, slice_cmp, is_lt, bytes_eq, string_cmp, Ordering, Less, btree_map_updates_str, Text}
-use Rattle.std.proofs.Common.{◌≡◌, List, [], ◌∷◌, ◌++◌, map, Option, Some, None, Bool, true, false, cond, String, Global, string_bytes, nat_cmp, refl, sym, ap, get_or, option_map, is_some, if◌then◌else◌}
+use Rattle.std.proofs.Common.{◌≡◌, ℕ, ◌<◌, length, List, [], ◌∷◌, ◌++◌, map, Option, Some, None, Bool, true, false, cond, String, Global, string_bytes, nat_cmp, refl, sym, ap, get_or, option_map, is_some, if◌then◌else◌}
 use Rattle.std.specs.BTreeMap as tree
 use Rattle.std.specs.BTreeSet.{insert_key}
+use Rattle.std.specs.List.{AllByRecursion}
+use Rattle.std.proofs.ByRecursion.{All-get_or}
 use Rattle.std.specs.declared.cmp.Ordering.TheVariants.{Equal, Greater}
 use Rattle.manifest_completion.specs.Listings.{Answer}
 use Rattle.manifest_completion.proofs.IndexLemmas.{bytes_eq-sym}
 use Rattle.manifest_answers.specs.declared.folders.Folder.{Folder}
 use Rattle.manifest_answers.specs.declared.folders.Listed.{Listed}
 use Rattle.manifest_answers.specs.declared.refusal.Refusal.{Refusal}
-use Rattle.manifest_answers.specs.declared.refusal.Refusal.TheVariants.{Bytes, Root, Listings, Finishing, Printing, TooLong, Edits, NotText, Offsets, Memory}
+use Rattle.manifest_answers.specs.declared.refusal.Refusal.TheVariants.{Bytes, Root, Listings, Finishing, Printing, TooLong, Edits, NotText, Offsets, Configuration, Memory}
 use Rattle.manifest_answers.specs.Made.{RefusesUnless}
+use Rattle.manifest_answers.specs.Edited.{RefusesUnlessText}
 use Rattle.manifest_answers.specs.Given.{texts, AreInOrder, AreNames, AreListings, goes_before, folder_answer, folder_at, listed_answer, listed_at}
 
 -- NAMES
@@ -103,3 +106,24 @@ refuses_more P Q TooLong w h = absurd h
 refuses_more P Q (Edits e) w h = absurd h
 refuses_more P Q NotText w h = absurd h
 refuses_more P Q Offsets w h = absurd h
+refuses_more P Q Configuration w h = absurd h
+
+-- what is no text refuses whatever asks for it
+pub refuses_more_texts : (P Q : Type 0) (r : Refusal) → (Q → P) → RefusesUnlessText P r → RefusesUnlessText Q r
+refuses_more_texts P Q NotText w h = λ q. h (w q)
+refuses_more_texts P Q (Memory e) w h = tt
+refuses_more_texts P Q (Bytes e) w h = absurd h
+refuses_more_texts P Q (Root e) w h = absurd h
+refuses_more_texts P Q (Finishing e) w h = absurd h
+refuses_more_texts P Q (Printing e) w h = absurd h
+refuses_more_texts P Q TooLong w h = absurd h
+refuses_more_texts P Q (Edits e) w h = absurd h
+refuses_more_texts P Q Listings w h = absurd h
+refuses_more_texts P Q Offsets w h = absurd h
+refuses_more_texts P Q Configuration w h = absurd h
+
+-- one that is no text is one too many
+pub refuses_all_texts : {A : Type 0} (P : A → Type 0) (xs : List A) (i : ℕ) (d : A) (r : Refusal) → i < length xs
+    → RefusesUnlessText (P (get_or xs i d)) r → RefusesUnlessText (AllByRecursion P xs) r
+refuses_all_texts P xs i d r there h =
+    refuses_more_texts (P (get_or xs i d)) (AllByRecursion P xs) r (All-get_or P xs i d there) h

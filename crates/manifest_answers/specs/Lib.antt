@@ -15,3 +15,4 @@ pub mod Unresolved
 pub mod Unfound
 pub mod Positions
 pub mod Edited
+pub mod Checked

@@ -20,7 +20,7 @@ use Rattle.manifest_answers.specs.declared.refusal.InputError.{InputError}
 use Rattle.manifest_answers.specs.declared.refusal.InputError.TheVariants as unread
 use Rattle.manifest_places.specs.declared.edits.EditError.{EditError}
 use Rattle.manifest_places.specs.declared.edits.EditError.TheVariants as unedited
-use Rattle.manifest_answers.specs.declared.refusal.Refusal.TheVariants.{Bytes, Root, Listings, Finishing, Printing, TooLong, Edits, NotText, Offsets, Memory}
+use Rattle.manifest_answers.specs.declared.refusal.Refusal.TheVariants.{Bytes, Root, Listings, Finishing, Printing, TooLong, Edits, NotText, Offsets, Configuration, Memory}
 use Rattle.manifest_answers.specs.declared.reporting.Report.{Report}
 
 -- THE NUMBER of a cause
@@ -164,8 +164,10 @@ Reports (Printing e) t = ReportsPrinting e t
 -- TOO_LONG: what is asked for could take more bytes than `most`, or what is inherited does
 Reports TooLong t = IsReport t 32 0 []
 Reports (Edits e) t = ReportsEdits e t
--- NOT_TEXT: a key or a text of an edit is not UTF-8
+-- NOT_TEXT: a key or a text of an edit is not UTF-8, or a path or a name of what is around a manifest
 Reports NotText t = IsReport t 37 0 []
 -- OFFSETS: the offsets do not ascend, or one is over the end of the bytes
 Reports Offsets t = IsReport t 38 0 []
+-- CONFIGURATION: the configuration of Cargo is no TOML, or nests too deep
+Reports Configuration t = IsReport t 39 0 []
 Reports (Memory e) t = ReportsMemory t

@@ -11,8 +11,11 @@ ghost use Rattle.manifest_answers.specs.Placed.{GivesPlacedFindings, RefusesPlac
 ghost use Rattle.manifest_answers.specs.Unresolved.{GivesRefusals, RefusesRefusals};
 ghost use Rattle.manifest_answers.specs.Unfound.{GivesUnfound, RefusesUnfound};
 ghost use Rattle.manifest_answers.specs.Positions.{GivesPositions, RefusesPositions};
+ghost use Rattle.manifest_answers.specs.Checked.{GivesDiagnostics, RefusesDiagnostics};
 ghost use Rattle.manifest_answers.specs.Edited.{wants_replacements, GivesEdited, RefusesToEdit};
 
+use crate::around::CheckRequest;
+use crate::checking::checked_bytes;
 use crate::editing::{GivenEdit, edited_bytes};
 use crate::folders::Folder;
 use crate::inspecting::document_findings;
@@ -333,5 +336,20 @@ pub fn respond_edited(
 {
     let edited = edited_bytes(alloc, bytes, edits, as_replacements != 0, most);
     let report = outcome(alloc, edited);
+    write_answer(&report, out)
+}
+
+/// Answers a call for what is wrong with a manifest, in the way of [`respond`].
+///
+/// ```ignore
+/// let request = CheckRequest { bytes: b"[pakage]", most: usize::MAX, .. }; // with all else 0 or empty
+/// let answer = respond_diagnostics(alloc, request, &mut out); // `[['no-package', 0, ..], ['misspelled-key', 1, ..]]`
+/// ```
+pub fn respond_diagnostics(alloc: Global, request: CheckRequest<'_>, out: &mut [u8]) -> Answer
+    ensures { IsAnswered (GivesDiagnostics request.entry) (RefusesDiagnostics request.entry)
+        out.old out.new result }
+{
+    let checked = checked_bytes(alloc, &request);
+    let report = outcome(alloc, checked);
     write_answer(&report, out)
 }

@@ -161,7 +161,7 @@ fn edited(alloc: Global, bytes: &[u8], given: &[GivenEdit<'_>]) -> Result<Edited
 }
 
 /// What is replaced, as a value: the array of where it begins, where it ends, and the text that takes its place.
-fn splice_value(alloc: Global, splice: &Splice) -> Result<Value, AllocError>
+pub(crate) fn splice_value(alloc: Global, splice: &Splice) -> Result<Value, AllocError>
     ensures { IfOk result (λ v. view v ≡ splice_data (splice_of splice.now)) }
 {
     let from = Value::Integer(index_number(splice.from));

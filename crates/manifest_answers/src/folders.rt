@@ -39,7 +39,7 @@ pub enum Listed {
 /// The folders that a caller passed in, as a filesystem. What is not among them is not there.
 #[derive(Drop)]
 pub struct GivenFolders<'a> {
-    by_path: BTreeMap<&'a str, Listed>,
+    pub(crate) by_path: BTreeMap<&'a str, Listed>,
 }
 
 /// The kind of I/O error that stands for the number of a folder's fault: 1 is `NotFound`, 2 is `OutOfMemory`, and any

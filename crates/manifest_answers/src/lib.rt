@@ -5,6 +5,9 @@
 #![tactic(auto)]
 
 mod answer;
+mod around;
+mod checked;
+mod checking;
 mod editing;
 mod folders;
 mod inspecting;
@@ -19,10 +22,11 @@ mod unread;
 mod unresolved;
 
 pub use answer::{
-    Answer, Asked, Request, respond, respond_document, respond_edited, respond_findings,
-    respond_placed_findings, respond_placed_refusals, respond_placed_unfound_targets,
-    respond_positions, respond_request, respond_unread,
+    Answer, Asked, Request, respond, respond_diagnostics, respond_document, respond_edited,
+    respond_findings, respond_placed_findings, respond_placed_refusals,
+    respond_placed_unfound_targets, respond_positions, respond_request, respond_unread,
 };
+pub use around::{CheckRequest, GivenMember, GivenPackage};
 pub use editing::{GivenEdit, GivenStep};
 pub use folders::Folder;
 pub use making::Output;

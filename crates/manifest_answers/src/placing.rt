@@ -36,7 +36,7 @@ pub(crate) fn range_value(alloc: Global, range: Option<Span>) -> Result<Value, A
 }
 
 /// Where a finding stands, as a value: the ranges of the value, of its key and of its header.
-fn located_value(alloc: Global, located: Located) -> Result<Value, AllocError>
+pub(crate) fn located_value(alloc: Global, located: Located) -> Result<Value, AllocError>
     ensures { IfOk result (λ v. view v ≡ located_data located) }
 {
     let value = range_value(alloc, located.value)?;

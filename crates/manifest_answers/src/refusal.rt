@@ -55,10 +55,12 @@ pub enum Refusal {
     TooLong,
     /// The edits of the text are not made.
     Edits(EditError),
-    /// A key or a text of an edit is not UTF-8.
+    /// A key or a text of an edit is not UTF-8, or a path or a name of what is around a manifest.
     NotText,
     /// The offsets do not ascend in the text.
     Offsets,
+    /// The configuration of Cargo is no document.
+    Configuration,
     /// No memory was left.
     Memory(AllocError),
 }

@@ -261,6 +261,7 @@ pub(crate) fn report_of(alloc: Global, refusal: Refusal) -> Report
         Refusal::Edits(error) => tell_edits(alloc, error),
         Refusal::NotText => with_text(37, 0, Vec::new(alloc)),
         Refusal::Offsets => with_text(38, 0, Vec::new(alloc)),
+        Refusal::Configuration => with_text(39, 0, Vec::new(alloc)),
         Refusal::Memory(refused) => memory(alloc, refused),
     }
 }

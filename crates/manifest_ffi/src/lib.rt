@@ -15,12 +15,13 @@ ghost use Rattle.manifest_answers.specs.Placed.{GivesPlacedFindings, RefusesPlac
 ghost use Rattle.manifest_answers.specs.Unresolved.{GivesRefusals, RefusesRefusals};
 ghost use Rattle.manifest_answers.specs.Unfound.{GivesUnfound, RefusesUnfound};
 ghost use Rattle.manifest_answers.specs.Positions.{GivesPositions, RefusesPositions};
+ghost use Rattle.manifest_answers.specs.Checked.{GivesDiagnostics, RefusesDiagnostics};
 ghost use Rattle.manifest_answers.specs.Edited.{wants_replacements, GivesEdited, RefusesToEdit};
 
 use manifest_answers::{
-    Answer, Folder, GivenEdit, Request, respond_document, respond_edited, respond_findings,
-    respond_placed_findings, respond_placed_refusals, respond_placed_unfound_targets,
-    respond_positions, respond_request, respond_unread,
+    Answer, CheckRequest, Folder, GivenEdit, Request, respond_diagnostics, respond_document,
+    respond_edited, respond_findings, respond_placed_findings, respond_placed_refusals,
+    respond_placed_unfound_targets, respond_positions, respond_request, respond_unread,
 };
 use std::alloc::Global;
 
@@ -224,6 +225,31 @@ pub extern "C" fn manifest_edited(
         out.old out.new result }
 {
     respond_edited(alloc, bytes, edits, as_replacements, most, out)
+}
+
+/// Says everything that is wrong with a manifest: the tagged bytes of an array with a diagnostic for each. A diagnostic is an
+/// array of nine: its code, its level (0 is an error, 1 a warning, 2 a note), its message, its path, the range that is meant,
+/// the ranges of the value, of the key and of the header of its path, the second places, the notes, and the suggestions
+/// (`docs/LIBRARY.md` has all of it). First stands what the schema finds, as [`manifest_findings`] does, and then what the
+/// rules of `docs/CHECKS.md` say. Bytes that are no document have one diagnostic, which says why.
+///
+/// Refuses a root that is no document, folders that are no listings, paths and names that are not UTF-8, a configuration that
+/// is no TOML, and tagged bytes that are more than `most`.
+///
+/// ```ignore
+/// let request = CheckRequest { bytes: b"[pakage]", most: usize::MAX, .. }; // with all else 0 or empty
+/// let answer = manifest_diagnostics(alloc, request, &mut out); // `[['no-package', 0, ..], ['misspelled-key', 1, ..]]`
+/// ```
+#[unsafe(no_mangle)]
+pub extern "C" fn manifest_diagnostics(
+    alloc: Global,
+    request: CheckRequest<'_>,
+    out: &mut [u8],
+) -> Answer
+    ensures { IsAnswered (GivesDiagnostics request.entry) (RefusesDiagnostics request.entry)
+        out.old out.new result }
+{
+    respond_diagnostics(alloc, request, out)
 }
 
 /// The version of these calls and of the tagged bytes. A program compares it with the one that it was written for.

@@ -2,7 +2,7 @@
 use Rattle.manifest_schema.specs.Prelude.{Text, Members, table_view, manifest_findings, raw, tree_of}
 use Rattle.manifest_schema.specs.Meaning.{has}
 use Rattle.manifest_schema.specs.Findings.{Finding, fault, ignored, unused}
-use Rattle.std.specs.Prelude.{◌≡◌, ◌||◌, Bool, List, [], ◌∷◌, flat_map, Some, IfSome, codes, string_bytes}
+use Rattle.std.specs.Prelude.{◌≡◌, ◌⊎◌, ◌||◌, Bool, true, List, [], ◌∷◌, flat_map, None, Some, IfSome, codes, string_bytes, IsUtf8}
 use Rattle.toml.specs.Parse.{parse_document}
 use Rattle.manifest_fault.specs.Faults.{path_of, cause_of}
 use Rattle.manifest_fault.specs.Found.{choices_of}
@@ -11,7 +11,10 @@ use Rattle.manifest_places.specs.Located.{IsLocated}
 use Rattle.manifest_places.specs.Paths.{Path}
 use Rattle.manifest_places.specs.declared.finding.Places.{Places}
 use Rattle.manifest_places.specs.declared.located.Located.{Located}
+use Rattle.manifest_nesting.specs.Nesting.{nests_too_deep}
 use Rattle.manifest_lint.specs.declared.document.Document.{Document}
+use Rattle.manifest_lint.specs.declared.document.Unread.{Unread}
+use Rattle.manifest_lint.specs.declared.document.Unread.TheVariants.{Memory}
 use Rattle.manifest_lint.specs.declared.diagnostic.Diagnostic.{Diagnostic}
 use Rattle.manifest_lint.specs.declared.diagnostic.Subject.{Subject}
 use Rattle.manifest_lint.specs.declared.diagnostic.Subject.TheVariants.{Fault, Ignored, Unused, Rule}
@@ -20,6 +23,16 @@ use Rattle.manifest_lint.specs.declared.diagnostic.Subject.TheVariants.{Fault, I
 abbrev pub IsDocument : Text → Document → Type 0
 IsDocument bytes d =
     (string_bytes d.text ≡ bytes) × (parse_document bytes ≡ Some (table_view d.table))
+
+-- no document is: bytes that are not UTF-8, a text that is no TOML, and one that nests too deep, as its bytes say
+abbrev pub AreNoDocument : Text → Type 0
+AreNoDocument bytes =
+    ¬ IsUtf8 bytes ⊎ (parse_document bytes ≡ None) ⊎ (nests_too_deep bytes ≡ true)
+
+-- why the bytes are no document; or memory ran out
+abbrev pub IsUnread : Text → Unread → Type 0
+IsUnread bytes (Memory e) = Unit {0}
+IsUnread bytes u = AreNoDocument bytes
 
 -- the finding that a diagnostic of this subject tells, by its path; a rule tells none
 abbrev pub reported_by : Subject → Diagnostic → List Finding

@@ -1,9 +1,10 @@
 //! The text of a manifest, and the document that it is.
 
-ghost use Rattle.std.specs.Prelude.{◌≡◌, Some, IfOk, string_bytes};
+ghost use Rattle.std.specs.Prelude.{◌≡◌, None, Some, IfOk, IfErr, string_bytes};
 ghost use Rattle.manifest_schema.specs.Prelude.{table_view};
+ghost use Rattle.toml.specs.Errors.{IsMemory};
 ghost use Rattle.toml.specs.Parse.{parse_document};
-ghost use Rattle.manifest_lint.specs.Lint.{IsDocument};
+ghost use Rattle.manifest_lint.specs.Lint.{IsDocument, IsUnread};
 
 use crate::parts::last_of_header;
 use manifest_nesting::nests_too_deep;
@@ -31,6 +32,11 @@ pub enum Unread {
 }
 
 impl From<AllocError> for Unread {
+    ghost use Rattle.std.specs.Prelude.{◌≡◌};
+    ghost use Rattle.manifest_lint.specs.declared.document.Unread.TheVariants.{Memory};
+
+    ghost from_gives = { λ refused unread. unread ≡ Memory refused };
+
     fn from(refused: AllocError) -> Unread {
         Unread::Memory(refused)
     }
@@ -43,7 +49,8 @@ impl Document {
     /// let document = Document::read(alloc, b"package.name = 'a'")?;
     /// ```
     pub fn read(alloc: Global, bytes: &[u8]) -> Result<Document, Unread>
-        ensures { IfOk result (IsDocument bytes.now) }
+        ensures ok { IfOk result (IsDocument bytes.now) }
+        ensures refused { IfErr result (IsUnread bytes.now) }
     {
         let text = match std::str::from_utf8(bytes) {
             Ok(text) => text,
@@ -94,7 +101,10 @@ fn too_deep_at(text: &str) -> usize {
 /// What `toml` says of a text with more arrays in one another than it reads.
 const NO_RECURSION: &str = "cannot recurse further; max recursion depth met";
 
-fn not_toml(alloc: Global, text: &str, fault: &toml::de::Error) -> Unread {
+fn not_toml(alloc: Global, text: &str, fault: &toml::de::Error) -> Unread
+    requires { ¬ IsMemory fault.now → parse_document text.now ≡ None }
+    ensures { IsUnread text.now result }
+{
     let span = match fault.span() {
         Some(range) => Span {
             from: range.start,

@@ -60,7 +60,7 @@ fn items<T>(bytes: &[u8], read: impl Fn(&mut Reader<'_>) -> Option<T>) -> Option
     reader.is_at_end().then_some(items)
 }
 
-fn replacement(reader: &mut Reader<'_>) -> Option<Replacement> {
+pub(crate) fn replacement(reader: &mut Reader<'_>) -> Option<Replacement> {
     (reader.array()? == 3).then_some(())?;
     let range = reader.offset()?..reader.offset()?;
     Some(Replacement { range, text: reader.string()?.to_owned() })

@@ -13,6 +13,7 @@
 //! whatever its bytes are, which is tested: what nests too deep is refused. How long an answer may be [`AtMost`] bounds.
 
 mod at_most;
+mod checking;
 // (a call of the library takes pointers and lengths, and no compiler sees that they fit: at each call stands why they do)
 #[allow(unsafe_code)]
 mod declared;
@@ -24,6 +25,7 @@ pub(crate) mod heap;
 mod listings;
 #[allow(dead_code)] // (no call of this crate is refused with LISTINGS)
 mod numbers;
+mod paths;
 mod refusal;
 pub(crate) mod tables;
 #[cfg(test)]
@@ -34,8 +36,8 @@ use crate::found::{Finding, UnfoundTarget, Unresolved};
 use crate::value::{decoded, Value};
 use crate::{Edit, Position, Replacement};
 pub use at_most::AtMost;
-pub(crate) use declared::is_broken;
-use declared::ANY;
+pub(crate) use declared::{diagnostics, is_broken, ANY};
+pub(crate) use editing::replacement;
 pub use listings::Listings;
 pub use refusal::{Cause, ListingError, Part, Refusal, DEPTH_LIMIT};
 

@@ -30,6 +30,7 @@ pub(super) const OVERLAP: u8 = 35;
 pub(super) const NOT_EDITED: u8 = 36;
 pub(super) const NOT_TEXT: u8 = 37;
 pub(super) const OFFSETS: u8 = 38;
+pub(super) const CONFIGURATION: u8 = 39;
 // the faults of a folder, which are the causes of IO
 pub(super) const NOT_FOUND: u8 = 1;
 pub(super) const OUT_OF_MEMORY: u8 = 2;

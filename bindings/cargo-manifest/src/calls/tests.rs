@@ -1,5 +1,6 @@
 //! What only this crate sees: memory for the answer, memory that is refused, and how the declarations lie in memory.
 
+use super::checking::{CheckRequest, GivenMember, GivenPackage};
 use super::declared::{manifest_run, room_for, room_for_table, Answer, Input, Output, Request, ANY};
 use super::editing::{GivenEdit, GivenStep};
 use super::folders::{Folder, Slice};
@@ -156,6 +157,9 @@ fn layout() {
         ("names", size_of::<Slice<Slice<u8>>>()),
         ("folders", size_of::<Slice<Folder>>()),
         ("path", size_of::<Slice<GivenStep>>()),
+        ("indexes", size_of::<Slice<usize>>()),
+        ("members", size_of::<Slice<GivenMember>>()),
+        ("packages", size_of::<Slice<GivenPackage>>()),
     ];
     for (name, size) in slices {
         println!("{name}: {size}, at {}, length {}", offset_of!(Slice<u8>, at), offset_of!(Slice<u8>, length));
@@ -186,4 +190,42 @@ fn layout() {
         offset_of!(Request, has_root),
         offset_of!(Request, has_folders),
     );
+    println!(
+        "member: {}, path {}, bytes {}, patterns {}, has_manifest {}",
+        size_of::<GivenMember>(),
+        offset_of!(GivenMember, path),
+        offset_of!(GivenMember, bytes),
+        offset_of!(GivenMember, patterns),
+        offset_of!(GivenMember, has_manifest),
+    );
+    println!(
+        "package: {}, path {}, name {}, has_name {}",
+        size_of::<GivenPackage>(),
+        offset_of!(GivenPackage, path),
+        offset_of!(GivenPackage, name),
+        offset_of!(GivenPackage, has_name),
+    );
+    println!("{}", layout_of_check());
+}
+
+/// The line of the request of a check.
+fn layout_of_check() -> String {
+    let size = size_of::<CheckRequest>();
+    let places = [
+        ("bytes", offset_of!(CheckRequest, bytes)),
+        ("root", offset_of!(CheckRequest, root)),
+        ("config", offset_of!(CheckRequest, config)),
+        ("folders", offset_of!(CheckRequest, folders)),
+        ("members", offset_of!(CheckRequest, members)),
+        ("packages", offset_of!(CheckRequest, packages)),
+        ("most", offset_of!(CheckRequest, most)),
+        ("has_root", offset_of!(CheckRequest, has_root)),
+        ("is_listed", offset_of!(CheckRequest, is_listed)),
+        ("has_config", offset_of!(CheckRequest, has_config)),
+        ("has_folders", offset_of!(CheckRequest, has_folders)),
+        ("has_members", offset_of!(CheckRequest, has_members)),
+        ("has_packages", offset_of!(CheckRequest, has_packages)),
+        ("publishes", offset_of!(CheckRequest, publishes)),
+    ];
+    places.iter().fold(format!("check_request: {size}"), |line, (name, place)| format!("{line}, {name} {place}"))
 }

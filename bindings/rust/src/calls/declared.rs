@@ -1,10 +1,12 @@
 //! The declarations of the library, and its calls with memory for their text.
 
+use super::checking::{with_check, CheckRequest};
 use super::editing::{with_edits, GivenEdit};
 use super::folders::{with_folders, Folder, Slice};
 use super::listings::Listings;
 use super::numbers;
 use super::refusal::{Cause, ListingError, Part, Refusal};
+use crate::check::Check;
 use crate::Edit;
 use std::sync::OnceLock;
 
@@ -57,6 +59,7 @@ impl Request {
 extern "C" {
     fn manifest_version() -> u32;
     pub(crate) fn manifest_run(request: Request, out: *mut u8, out_length: usize) -> Answer;
+    fn manifest_diagnostics(request: CheckRequest, out: *mut u8, out_length: usize) -> Answer;
     fn manifest_placed_refusals(
         bytes: *const u8,
         bytes_length: usize,
@@ -172,6 +175,7 @@ fn refused(answer: Answer, text: Vec<u8>) -> Refusal {
         numbers::OVERLAP => Refusal::Overlap,
         numbers::NOT_EDITED => Refusal::NotEdited,
         numbers::OFFSETS => Refusal::Offsets,
+        numbers::CONFIGURATION => Refusal::Configuration,
         status => Refusal::of_inheriting(status, text_of(text)).unwrap_or_else(|| is_broken()),
     }
 }
@@ -236,6 +240,11 @@ fn bytes_of(room: usize, run: impl Fn(*mut u8, usize) -> Answer) -> Result<Vec<u
 /// How many bytes most outputs fit into that are made of this many bytes and this many names.
 pub(super) fn room_for(bytes: usize, names: usize) -> usize {
     names.saturating_mul(64).saturating_add(bytes).saturating_mul(2).saturating_add(256)
+}
+
+/// How many bytes most diagnostics fit into that a text of this many bytes has.
+fn room_for_diagnostics(bytes: usize) -> usize {
+    bytes.saturating_mul(4).saturating_add(4096)
 }
 
 /// How many bytes most tables fit into: a table has no spaces, and each of its numbers is short.
@@ -343,6 +352,17 @@ pub(crate) fn edit(bytes: &[u8], edits: &[Edit], as_replacements: bool, most: us
             let (edits, count, as_replacements) = (given.as_ptr(), given.len(), u8::from(as_replacements));
             // SAFETY: as in `positions`; so are the slices that the edits hold.
             unsafe { manifest_edited(bytes.as_ptr(), bytes.len(), edits, count, as_replacements, most, out, room) }
+        })
+    })
+}
+
+/// What is wrong with a manifest, as tagged bytes.
+pub(crate) fn diagnostics(check: &Check<'_>) -> Result<Vec<u8>, Refusal> {
+    with_check(check, |request| {
+        bytes_of(room_for_diagnostics(check.bytes.len()).min(check.most), |out, room| {
+            // SAFETY: the slices of the request, and those that its folders, members and packages hold, live through the run, and
+            // `out` overlaps none of them.
+            unsafe { manifest_diagnostics(request, out, room) }
         })
     })
 }

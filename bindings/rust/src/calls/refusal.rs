@@ -174,6 +174,8 @@ pub enum Refusal {
     NotEdited,
     /// The offsets do not ascend, or one is over the end of the text.
     Offsets,
+    /// The configuration of Cargo is not UTF-8, no TOML, or nests too deep.
+    Configuration,
 }
 
 impl fmt::Display for Refusal {
@@ -198,6 +200,7 @@ impl fmt::Display for Refusal {
             Refusal::Overlap => f.write_str("overlap"),
             Refusal::NotEdited => f.write_str("not edited"),
             Refusal::Offsets => f.write_str("offsets"),
+            Refusal::Configuration => f.write_str("configuration"),
         }
     }
 }

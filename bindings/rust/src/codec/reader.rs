@@ -124,6 +124,15 @@ impl<'a> Reader<'a> {
         self.whole_number()?.try_into().ok()
     }
 
+    /// False or true, whose tag is next.
+    pub(crate) fn boolean(&mut self) -> Option<bool> {
+        match self.byte()? {
+            FALSE => Some(false),
+            TRUE => Some(true),
+            _ => None,
+        }
+    }
+
     /// How many values the array has whose tag is next; they stand after it.
     pub(crate) fn array(&mut self) -> Option<u64> {
         self.tag(ARRAY)?;

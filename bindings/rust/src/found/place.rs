@@ -36,12 +36,17 @@ impl Place {
     /// The place that the bytes hold next.
     pub(super) fn read(reader: &mut Reader<'_>) -> Option<Place> {
         (reader.array()? == 3).then_some(())?;
+        Place::of_three(reader)
+    }
+
+    /// The place that the three ranges make which the bytes hold next.
+    pub(crate) fn of_three(reader: &mut Reader<'_>) -> Option<Place> {
         Some(Place { value: range(reader)?, key: range(reader)?, header: range(reader)? })
     }
 }
 
 /// A range, or none.
-fn range(reader: &mut Reader<'_>) -> Option<Option<Range<usize>>> {
+pub(crate) fn range(reader: &mut Reader<'_>) -> Option<Option<Range<usize>>> {
     match reader.array()? {
         0 => Some(None),
         2 => Some(Some(reader.offset()?..reader.offset()?)),

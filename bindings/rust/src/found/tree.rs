@@ -27,7 +27,8 @@ impl Open {
 /// The words of choices, each list of them once.
 type Choices<'a> = BTreeMap<Vec<&'a str>, Arc<[String]>>;
 
-fn step(reader: &mut Reader<'_>) -> Option<Step> {
+/// A step of a path: a key or an index.
+pub(crate) fn step(reader: &mut Reader<'_>) -> Option<Step> {
     if reader.peek()? == STRING {
         return reader.string().map(|key| Step::Key(key.to_owned()));
     }
