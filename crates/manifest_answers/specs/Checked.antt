@@ -1,5 +1,5 @@
 -- What is wrong with a manifest, as a value and as its tagged bytes, and what a caller says of the files around it.
-use Rattle.manifest_schema.specs.Prelude.{Global, Data, Members, Text, integer, string, boolean, array, no_items}
+use Rattle.manifest_schema.specs.Prelude.{BTreeMap, Value, table_view, Global, Data, Members, Text, integer, string, boolean, array, no_items}
 use Rattle.std.specs.Prelude.{◌≡◌, ◌⊎◌, ℕ, pos, [], ◌∷◌, List, map, length, Option, Some, None, IsTrue, IsUtf8, All, string_bytes}
 use Rattle.std.specs.List.{AllByRecursion}
 use Rattle.std.specs.declared.string.String.{String}
@@ -13,6 +13,7 @@ use Rattle.manifest_rules.specs.declared.codes.Level.{Level}
 use Rattle.manifest_rules.specs.declared.codes.Level.TheVariants as level
 use Rattle.manifest_rules.specs.declared.report.File.{File}
 use Rattle.manifest_rules.specs.declared.report.File.TheVariants as file
+use Rattle.manifest_rules.specs.declared.look.Folders.{Folders}
 use Rattle.manifest_lint.specs.Lint.{is_manifest, ReportFindings, IsPlaced, AreNoDocument}
 use Rattle.manifest_lint.specs.declared.diagnostic.Diagnostic.{Diagnostic}
 use Rattle.manifest_lint.specs.declared.diagnostic.PlacedLabel.{PlacedLabel}
@@ -23,7 +24,7 @@ use Rattle.manifest_answers.specs.declared.around.CheckRequest.{CheckRequest}
 use Rattle.manifest_answers.specs.declared.refusal.Refusal.{Refusal}
 use Rattle.manifest_answers.specs.declared.refusal.Refusal.TheVariants.{Root, Configuration}
 use Rattle.manifest_answers.specs.Given.{AreListings}
-use Rattle.manifest_answers.specs.Read.{IsNoDocument}
+use Rattle.manifest_answers.specs.Read.{IsDocument, IsNoDocument}
 use Rattle.manifest_answers.specs.Inspected.{triple_data, index_number, step_data}
 use Rattle.manifest_answers.specs.Placed.{range_data, located_data}
 use Rattle.manifest_answers.specs.Edited.{splice_data, RefusesUnlessText}
@@ -88,17 +89,6 @@ diagnostic_data d = array (items_of (diagnostic_items d))
 abbrev pub diagnostics_data : List Diagnostic → Data
 diagnostics_data ds = array_data diagnostic_data ds
 
--- THE DIAGNOSTICS OF A DOCUMENT: of the schema exactly what it finds, and each at its place in the text
-abbrev pub AreOfDocument : Text → Members → List Diagnostic → Type 0
-AreOfDocument bytes document ds =
-    (IsTrue (is_manifest document) → ReportFindings document ds) × All (IsPlaced bytes) ds
-
--- and of bytes: of what is no document the one that says why
-abbrev pub AreDiagnosticsOf : Text → List Diagnostic → Type 0
-AreDiagnosticsOf bytes ds =
-    ((document : Members) × (parse_document bytes ≡ Some document) × AreOfDocument bytes document ds)
-    ⊎ (AreNoDocument bytes × (length ds ≡ 1))
-
 -- paths and names are UTF-8
 abbrev pub IsMemberText : GivenMember → Type 0
 IsMemberText m = IsUtf8 m.path.now
@@ -110,6 +100,20 @@ pub record IsPackageText (p : GivenPackage) : Type 0 where
 abbrev pub AreAroundTexts : CheckRequest → Type 0
 AreAroundTexts r =
     AllByRecursion IsMemberText r.members.now × AllByRecursion IsPackageText r.packages.now
+
+-- WHAT IS AROUND AND LOOKED AT: of a root and of a configuration the bytes are the document of this table, where there is
+-- one; folders are listings, and paths and names are UTF-8
+abbrev pub IsRootGiven : CheckRequest → Option (BTreeMap (String Global) Value) → Type 0
+IsRootGiven r None = ¬ (r.has_root ≡ 1)
+IsRootGiven r (Some t) = IsDocument r.root.now (table_view t)
+
+abbrev pub IsConfigGiven : CheckRequest → Option (BTreeMap (String Global) Value) → Type 0
+IsConfigGiven r None = r.has_config ≡ 0
+IsConfigGiven r (Some t) = parse_document r.config.now ≡ Some (table_view t)
+
+abbrev pub AreFoldersGiven : CheckRequest → Option Folders → Type 0
+AreFoldersGiven r None = r.has_folders ≡ 0
+AreFoldersGiven r (Some _) = AreListings r.folders.now
 
 -- the root is no document
 abbrev pub RefusesRoot : Text → Refusals
@@ -128,14 +132,33 @@ RefusesAround r e =
     RefusesRoot r.root.now e ⊎ RefusesConfiguration r.config.now e
     ⊎ RefusesUnless (AreListings r.folders.now) e ⊎ RefusesUnlessText (AreAroundTexts r) e
 
+-- it is accepted where it is passed in; but of the root no more is said than above, since that of a root is not looked at
+pub record IsAccepted (r : CheckRequest) : Type 0 where
+  pub config : ¬ (r.has_config ≡ 0) → (m : Members) × (parse_document r.config.now ≡ Some m)
+  pub folders : ¬ (r.has_folders ≡ 0) → AreListings r.folders.now
+  pub members : ¬ (r.has_members ≡ 0) → AllByRecursion IsMemberText r.members.now
+  pub packages : ¬ (r.has_packages ≡ 0) → AllByRecursion IsPackageText r.packages.now
+
+-- THE DIAGNOSTICS OF A DOCUMENT: of the schema exactly what it finds, and each at its place in the text
+abbrev pub AreOfDocument : Text → Members → List Diagnostic → Type 0
+AreOfDocument bytes document ds =
+    (IsTrue (is_manifest document) → ReportFindings document ds) × All (IsPlaced bytes) ds
+
+-- and of a request, whose surroundings are accepted; of bytes that are no document the one that says why
+abbrev pub AreDiagnosticsOf : CheckRequest → List Diagnostic → Type 0
+AreDiagnosticsOf r ds =
+    ((document : Members) × (parse_document r.bytes.now ≡ Some document)
+    × AreOfDocument r.bytes.now document ds × IsAccepted r)
+    ⊎ (AreNoDocument r.bytes.now × (length ds ≡ 1))
+
 -- THE TEXT is the tagged bytes of the diagnostics
 abbrev pub GivesDiagnostics : CheckRequest → Text → Type 0
 GivesDiagnostics r text =
-    (ds : List Diagnostic) × AreDiagnosticsOf r.bytes.now ds
+    (ds : List Diagnostic) × AreDiagnosticsOf r ds
     × AreWithin r.most (encoded (diagnostics_data ds)) text
 
 abbrev pub RefusesDiagnostics : CheckRequest → Refusals
 RefusesDiagnostics r e =
     RefusesAround r e
-    ⊎ ((ds : List Diagnostic) × AreDiagnosticsOf r.bytes.now ds
+    ⊎ ((ds : List Diagnostic) × AreDiagnosticsOf r ds
     × RefusesTagged r.most (encoded (diagnostics_data ds)) e)

@@ -1,10 +1,10 @@
 //! What a caller says of the files around a manifest that is checked.
 
-ghost use Rattle.std.specs.Prelude.{IfErr, IsUtf8};
+ghost use Rattle.std.specs.Prelude.{◌≡◌, IfOk, IfErr, IsUtf8};
 ghost use Rattle.std.specs.List.{AllByRecursion};
 ghost use Rattle.manifest_answers.specs.Given.{AreListings};
 ghost use Rattle.manifest_answers.specs.Made.{RefusesUnless};
-ghost use Rattle.manifest_answers.specs.Checked.{IsMemberText, IsPackageText, RefusesRoot, RefusesConfiguration, RefusesAround};
+ghost use Rattle.manifest_answers.specs.Checked.{IsMemberText, IsPackageText, IsRootGiven, IsConfigGiven, AreFoldersGiven, IsAccepted, RefusesRoot, RefusesConfiguration, RefusesAround};
 ghost use Rattle.manifest_answers.specs.Edited.{RefusesUnlessText};
 
 use crate::folders::{Folder, GivenFolders, Listed};
@@ -87,7 +87,8 @@ pub(crate) struct Around {
 
 /// The text of a path or of a name.
 fn text_given(bytes: &[u8]) -> Result<&str, Refusal>
-    ensures { IfErr result (RefusesUnlessText (IsUtf8 bytes.now)) }
+    ensures ok { IfOk result (λ t. (t.now ≡ bytes.now) × IsUtf8 bytes.now) }
+    ensures refused { IfErr result (RefusesUnlessText (IsUtf8 bytes.now)) }
 {
     match std::str::from_utf8(bytes) {
         Ok(text) => Ok(text),
@@ -102,7 +103,8 @@ pub(crate) fn is_root(document: &Table) -> bool {
 
 /// The table of the root's document.
 fn root_given(alloc: Global, request: &CheckRequest<'_>) -> Result<Option<Table>, Refusal>
-    ensures { IfErr result (RefusesRoot request.now.root.now) }
+    ensures ok { IfOk result (IsRootGiven request.now) }
+    ensures refused { IfErr result (RefusesRoot request.now.root.now) }
 {
     if request.has_root != 1 {
         return Ok(None);
@@ -115,7 +117,8 @@ fn root_given(alloc: Global, request: &CheckRequest<'_>) -> Result<Option<Table>
 
 /// The table of the configuration.
 fn config_given(alloc: Global, request: &CheckRequest<'_>) -> Result<Option<Table>, Refusal>
-    ensures { IfErr result (RefusesConfiguration request.now.config.now) }
+    ensures ok { IfOk result (IsConfigGiven request.now) }
+    ensures refused { IfErr result (RefusesConfiguration request.now.config.now) }
 {
     if request.has_config == 0 {
         return Ok(None);
@@ -208,7 +211,8 @@ fn folders_given(
     document: &Table,
     request: &CheckRequest<'_>,
 ) -> Result<Option<Folders>, Refusal>
-    ensures { IfErr result (RefusesUnless (AreListings request.now.folders.now)) }
+    ensures ok { IfOk result (AreFoldersGiven request.now) }
+    ensures refused { IfErr result (RefusesUnless (AreListings request.now.folders.now)) }
 {
     if request.has_folders == 0 {
         return Ok(None);
@@ -242,7 +246,8 @@ fn member_at(
 }
 
 fn member_given(alloc: Global, given: &GivenMember<'_>, root: &Table) -> Result<Member, Refusal>
-    ensures { IfErr result (RefusesUnlessText (IsMemberText given.now)) }
+    ensures ok { IfOk result (λ _. IsMemberText given.now) }
+    ensures refused { IfErr result (RefusesUnlessText (IsMemberText given.now)) }
 {
     match text_given(given.path) {
         Ok(path) => Ok(member_at(alloc, path, given, root)?),
@@ -256,7 +261,8 @@ fn members_given(
     given: &[GivenMember<'_>],
     root: &Table,
 ) -> Result<Vec<Member>, Refusal>
-    ensures { IfErr result (RefusesUnlessText (AllByRecursion IsMemberText given.now)) }
+    ensures ok { IfOk result (λ _. AllByRecursion IsMemberText given.now) }
+    ensures refused { IfErr result (RefusesUnlessText (AllByRecursion IsMemberText given.now)) }
 {
     let mut members = Vec::new(alloc);
     for member in given {
@@ -270,7 +276,8 @@ fn members_given(
 }
 
 fn package_given(alloc: Global, given: &GivenPackage<'_>) -> Result<PathPackage, Refusal>
-    ensures { IfErr result (RefusesUnlessText (IsPackageText given.now)) }
+    ensures ok { IfOk result (λ _. IsPackageText given.now) }
+    ensures refused { IfErr result (RefusesUnlessText (IsPackageText given.now)) }
 {
     let path = text_given(given.path)?;
     let name = text_given(given.name)?;
@@ -286,7 +293,8 @@ fn package_given(alloc: Global, given: &GivenPackage<'_>) -> Result<PathPackage,
 
 /// The packages, where any are passed in.
 fn packages_given(alloc: Global, given: &[GivenPackage<'_>]) -> Result<Vec<PathPackage>, Refusal>
-    ensures { IfErr result (RefusesUnlessText (AllByRecursion IsPackageText given.now)) }
+    ensures ok { IfOk result (λ _. AllByRecursion IsPackageText given.now) }
+    ensures refused { IfErr result (RefusesUnlessText (AllByRecursion IsPackageText given.now)) }
 {
     let mut packages = Vec::new(alloc);
     for package in given {
@@ -307,7 +315,8 @@ impl Around {
         document: &Table,
         request: &CheckRequest<'_>,
     ) -> Result<Around, Refusal>
-        ensures { IfErr result (RefusesAround request.now) }
+        ensures ok { IfOk result (λ _. IsAccepted request.now) }
+        ensures refused { IfErr result (RefusesAround request.now) }
     {
         let root = if is_root(document) {
             None

@@ -5,7 +5,7 @@ ghost use Rattle.std.specs.Prelude.{◌≡◌, IfOk, IfErr, length, string_bytes
 ghost use Rattle.manifest_bytes.specs.Encoded.{encoded};
 ghost use Rattle.manifest_lint.specs.Lint.{IsDocument};
 ghost use Rattle.manifest_answers.specs.Made.{AreWithin, RefusesTagged, IsMade};
-ghost use Rattle.manifest_answers.specs.Checked.{diagnostics_data, AreOfDocument, AreDiagnosticsOf, RefusesAround, GivesDiagnostics, RefusesDiagnostics};
+ghost use Rattle.manifest_answers.specs.Checked.{diagnostics_data, AreOfDocument, IsAccepted, AreDiagnosticsOf, RefusesAround, GivesDiagnostics, RefusesDiagnostics};
 
 use crate::around::{Around, CheckRequest, is_root};
 use crate::checked::array_value;
@@ -50,8 +50,9 @@ fn of_document(
     document: &Document,
     request: &CheckRequest<'_>,
 ) -> Result<Vec<Diagnostic>, Refusal>
-    ensures ok { IfOk result (λ ds. AreOfDocument (string_bytes document.now.text)
-        (table_view document.now.table) ds.items) }
+    ensures ok { let table = table_view document.now.table in IfOk result
+        (λ ds. AreOfDocument (string_bytes document.now.text) table ds.items
+        × IsAccepted request.now) }
     ensures refused { IfErr result (RefusesAround request.now) }
 {
     let around = Around::new(alloc, &document.table, request)?;
@@ -72,7 +73,7 @@ fn of_unread(alloc: Global, unread: Unread) -> Result<Vec<Diagnostic>, AllocErro
 
 /// What is said of the bytes of a request.
 fn diagnosed(alloc: Global, request: &CheckRequest<'_>) -> Result<Vec<Diagnostic>, Refusal>
-    ensures ok { IfOk result (λ ds. AreDiagnosticsOf request.now.bytes.now ds.items) }
+    ensures ok { IfOk result (λ ds. AreDiagnosticsOf request.now ds.items) }
     ensures refused { IfErr result (RefusesAround request.now) }
 {
     match Document::read(alloc, request.bytes) {
