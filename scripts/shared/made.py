@@ -563,6 +563,36 @@ def without_links(cell):
     return re.sub(r"\[([^\]]*)\]\([^)]*\)", r"\1", cell).replace("`", "")
 
 
+# THE SERVER OF EDITORS
+def quoted(text):
+    """A text as the code has it."""
+    return '"' + text.replace("\\", "\\\\").replace('"', '\\"') + '"'
+
+
+def key_list(form):
+    """The keys of a table, for an editor."""
+    rows = [row for row in form.rows if row.key]
+    yield f"pub(crate) static {form.macro.upper()}: [Key; {len(rows)}] = ["
+    for row in rows:
+        said = {
+            "name": row.key, "second": row.second or "", "holds": without_links(called(row.kind)[0]),
+            "needed": without_links(need(row)[0]), "about": row.about, "page": row.reference,
+        }
+        yield from ["    Key {", *(f"        {name}: {quoted(text)}," for name, text in said.items()), "    },"]
+    yield "];"
+
+
+def choice_list(choices):
+    """The texts of each choice, for an editor."""
+    yield f"pub(crate) static CHOICES: [Choice; {len(choices)}] = ["
+    for name, words in choices:
+        texts = [word for word in words if word.startswith('"')]
+        given = ", ".join(texts)
+        lines = [f"words: &[{given}],"] if len(given) < 60 else ["words: &[", *(f"    {text}," for text in texts), "],"]
+        yield from ["    Choice {", f'        name: "{name}",', *(f"        {line}" for line in lines), "    },"]
+    yield "];"
+
+
 def python_forms(forms):
     """The rows of each form."""
     for form in forms:

@@ -1,15 +1,13 @@
 //! One manifest after the other: read, judged, reported, and mended where that is asked for.
 
-use crate::files::{NotReplaced, Unreadable, read_file, replace_file};
-use crate::fixing::{Fixed, with_fixes};
-use crate::judging::{Placed, State, judge, place};
-use crate::members::Members;
 use crate::options::{Fixing, Options};
-use crate::paths::{resolved, shown};
-use crate::walk::Unread;
 use manifest_lint::{Diagnostic, Document, unread_diagnostic};
 use manifest_report::{MemberSource, Reporter, Source, Sources, push_diff, push_escaped};
 use manifest_rules::{File, Level};
+use manifest_surroundings::{
+    Fixed, Members, NotReplaced, Placed, Reader, State, Unread, Unreadable, judge, place,
+    replace_file, resolved, shown, with_fixes,
+};
 use std::alloc::{AllocError, Global};
 use std::collections::BTreeSet;
 use std::rt::Files;
@@ -92,13 +90,13 @@ fn labelled(alloc: Global, diagnostics: &[Diagnostic]) -> Result<BTreeSet<usize>
 /// The text of a member, as it is now; `None` where it cannot be read.
 fn member_source<H: Files + AllocGlobal>(
     rt: &H,
+    reader: &Reader,
     index: usize,
     path: &str,
     current: &str,
-    most: u64,
 ) -> Result<Option<MemberSource>, AllocError> {
     let alloc = rt.alloc();
-    let Ok(bytes) = read_file(rt, path, most) else {
+    let Ok(bytes) = reader.read(rt, path) else {
         return Ok(None);
     };
     let Ok(text) = String::from_utf8(bytes) else {
@@ -114,10 +112,10 @@ fn member_source<H: Files + AllocGlobal>(
 /// The texts of the members that labels of these diagnostics lead to.
 fn member_sources<H: Files + AllocGlobal>(
     rt: &H,
+    reader: &Reader,
     members: Option<&Members>,
     diagnostics: &[Diagnostic],
     current: &str,
-    most: u64,
 ) -> Result<Vec<MemberSource>, AllocError> {
     let alloc = rt.alloc();
     let mut sources = Vec::new(alloc);
@@ -126,7 +124,7 @@ fn member_sources<H: Files + AllocGlobal>(
     };
     for index in &labelled(alloc, diagnostics)? {
         if let Some(path) = members.manifests.get(*index) {
-            if let Some(source) = member_source(rt, *index, path.as_str(), current, most)? {
+            if let Some(source) = member_source(rt, reader, *index, path.as_str(), current)? {
                 sources.push(source)?;
             }
         }
@@ -216,10 +214,10 @@ impl Run {
         let context = &self.context;
         let members = member_sources(
             rt,
+            &context.state.reader,
             placed.members(&context.state),
             diagnostics,
             context.current.as_str(),
-            context.options.most,
         )?;
         push_report(
             &self.context,
@@ -307,6 +305,63 @@ impl Run {
         }
     }
 
+    /// Everything that is said of a manifest at this path; what of its configurations could not be read is reported.
+    fn judged<H: Files + AllocGlobal + Clone + Drop>(
+        &mut self,
+        rt: &H,
+        path: &str,
+        placed: &Placed,
+    ) -> Result<Vec<Diagnostic>, AllocError> {
+        let context = &mut self.context;
+        let found = judge(
+            rt,
+            &context.options.scope,
+            &mut context.state,
+            path,
+            placed,
+            true,
+        )?;
+        self.tell_unread_configuration()?;
+        Ok(found)
+    }
+
+    /// Tells what is said of a manifest at this path.
+    fn report_judged<H: Files + AllocGlobal + Clone + Drop>(
+        &mut self,
+        rt: &H,
+        name: &str,
+        path: &str,
+        placed: &Placed,
+    ) -> Result<(), AllocError> {
+        let found = self.judged(rt, path, placed)?;
+        self.report(rt, name, placed, found.as_slice())
+    }
+
+    /// Makes the suggestions of a manifest at this path, whose text is `old`, and tells what is left.
+    fn fix<H: Files + AllocGlobal + Clone + Drop>(
+        &mut self,
+        rt: &H,
+        name: &str,
+        path: &str,
+        old: &str,
+        placed: Placed,
+    ) -> Result<(), AllocError> {
+        let found = self.judged(rt, path, &placed)?;
+        let text = String::from_str(rt.alloc(), old)?;
+        let context = &mut self.context;
+        let fixed = with_fixes(
+            rt,
+            &context.options.scope,
+            &mut context.state,
+            path,
+            text,
+            placed,
+            found,
+        )?;
+        self.put(rt, name, old, &fixed)?;
+        self.report(rt, name, &fixed.placed, fixed.diagnostics.as_slice())
+    }
+
     /// Checks a document at this path.
     fn check_document<H: Files + AllocGlobal + Clone + Drop>(
         &mut self,
@@ -321,38 +376,19 @@ impl Run {
         } else {
             String::new(rt.alloc())
         };
+        let context = &mut self.context;
         let placed = place(
             rt,
-            &self.context.options,
-            &mut self.context.state,
+            &context.options.scope,
+            &mut context.state,
             path,
             document,
         )?;
-        let diagnostics = judge(
-            rt,
-            &self.context.options,
-            &mut self.context.state,
-            path,
-            &placed,
-            true,
-        )?;
-        self.tell_unread_configuration()?;
-        if !is_fixing {
-            return self.report(rt, name, &placed, diagnostics.as_slice());
+        if is_fixing {
+            self.fix(rt, name, path, old.as_str(), placed)
+        } else {
+            self.report_judged(rt, name, path, &placed)
         }
-        let text = old.clone()?;
-        let options = &self.context.options;
-        let fixed = with_fixes(
-            rt,
-            options,
-            &mut self.context.state,
-            path,
-            text,
-            placed,
-            diagnostics,
-        )?;
-        self.put(rt, name, old.as_str(), &fixed)?;
-        self.report(rt, name, &fixed.placed, fixed.diagnostics.as_slice())
     }
 
     /// Checks the bytes of a manifest with this name.

@@ -4,23 +4,11 @@
 #![tactic(auto)]
 
 mod checking;
-mod config;
-mod dependencies;
 mod explaining;
-mod files;
-mod fixing;
-mod judging;
-mod levels;
-mod members;
 mod options;
-mod packages;
-mod paths;
-mod patterns;
 mod progress;
-mod roots;
 mod run;
 mod showing;
-mod tables;
 mod walk;
 mod words;
 

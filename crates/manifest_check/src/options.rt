@@ -1,11 +1,8 @@
 //! What the words ask for.
 
-use crate::levels::Setting;
 use manifest_report::Format;
+use manifest_surroundings::{MOST, Scope};
 use std::alloc::Global;
-
-/// How many bytes a file may have where no words say it.
-pub(crate) const MOST: u64 = 67_108_864;
 
 /// When colours are used.
 #[derive(Clone, Copy, PartialEq, Eq)]
@@ -24,12 +21,8 @@ impl Options {
             format: Format::People,
             color: Color::Never,
             width: None,
-            uses_workspace: true,
-            uses_config: true,
-            config: None,
-            publishes: false,
+            scope: Scope::whole(alloc),
             fixing: Fixing::No,
-            levels: Vec::new(alloc),
             most: MOST,
         }
     }
@@ -46,15 +39,6 @@ pub(crate) enum Fixing {
     Show,
 }
 
-/// A setting of a code by a word.
-#[derive(Drop)]
-pub(crate) struct LevelWord {
-    /// Where it stands among the words.
-    pub(crate) at: usize,
-    pub(crate) name: String,
-    pub(crate) setting: Setting,
-}
-
 /// How manifests are checked.
 #[derive(Drop)]
 pub(crate) struct Options {
@@ -64,14 +48,8 @@ pub(crate) struct Options {
     pub(crate) format: Format,
     pub(crate) color: Color,
     pub(crate) width: Option<usize>,
-    pub(crate) uses_workspace: bool,
-    pub(crate) uses_config: bool,
-    /// The configuration that is read in place of those above the manifests.
-    pub(crate) config: Option<String>,
-    pub(crate) publishes: bool,
+    pub(crate) scope: Scope,
     pub(crate) fixing: Fixing,
-    /// The settings of codes, in the order of the words.
-    pub(crate) levels: Vec<LevelWord>,
     /// How many bytes a file may have.
     pub(crate) most: u64,
 }
@@ -95,4 +73,6 @@ pub(crate) enum Request {
     Show(Inquiry),
     /// Which of the manifests at these paths are not canonical.
     Canon(Vec<String>),
+    /// To serve an editor.
+    Serve,
 }

@@ -2,13 +2,13 @@
 
 use crate::checking::{Context, Counts, Run};
 use crate::explaining::{push_list, push_page};
-use crate::files::{read_file, read_limited};
-use crate::judging::State;
 use crate::options::{Color, Inquiry, Options, Request};
 use crate::progress::Progress;
-use crate::walk::manifests;
-use crate::words::{Words, words_of};
+use crate::walk::{Found, manifests};
+use crate::words::{VERSION, Words, words_of};
 use manifest_report::{Reporter, Style};
+use manifest_server::serve as serve_editor;
+use manifest_surroundings::{Reader, State, read_limited};
 use std::alloc::{AllocError, Global};
 use std::io::{Read, Write};
 use std::rt::{Clock, Env, Files};
@@ -195,7 +195,7 @@ where
     run.tell_all_unread(found.unread.as_slice())?;
     let all = found.files.len();
     for (done, file) in found.files.iter().enumerate() {
-        let read = read_file(rt, file.as_str(), run.context.options.most);
+        let read = run.context.state.reader.read(rt, file.as_str());
         run.check_read(rt, file.as_str(), read)?;
         streams.pass_on(run)?;
         streams.tell_progress(rt, done, all)?;
@@ -236,13 +236,33 @@ fn new_run<H: Env + AllocGlobal>(
         reporter: Reporter::new(alloc, options.format, style),
         context: Context {
             current: current.into_string(),
-            state: State::new(alloc, options.most),
+            state: State::new(alloc, Reader::new(alloc, options.most)),
             options,
         },
         counts: Counts::NONE,
         out: String::new(alloc),
         messages: String::new(alloc),
     })
+}
+
+/// Checks what was asked for, says how much it was, and answers the status.
+fn check_and_sum_up<H, R, W, E>(
+    rt: &H,
+    input: &mut R,
+    run: &mut Run,
+    streams: &mut Streams<'_, W, E>,
+) -> io::Result<u8>
+where
+    H: Files + Clock + AllocGlobal + Clone + Drop,
+    R: Read,
+    W: Write,
+    E: Write,
+{
+    let start = Instant::now(rt);
+    check_all(rt, input, run, streams)?;
+    push_summary(&mut run.messages, run.counts, since(rt, start))?;
+    streams.pass_on(run)?;
+    Ok(status_of(run.counts))
 }
 
 /// Checks what was asked for, and answers the status.
@@ -259,11 +279,26 @@ where
     W: Write,
     E: Write,
 {
-    let start = Instant::now(rt);
     let mut run = new_run(rt, options, terminals)?;
-    check_all(rt, input, &mut run, streams)?;
-    push_summary(&mut run.messages, run.counts, since(rt, start))?;
-    streams.pass_on(&mut run)?;
+    let status = check_and_sum_up(rt, input, &mut run, streams);
+    drop(run);
+    status
+}
+
+/// Shows what a package builds and inherits, in a run.
+fn show_in<H, W, E>(
+    rt: &H,
+    inquiry: &Inquiry,
+    run: &mut Run,
+    streams: &mut Streams<'_, W, E>,
+) -> io::Result<u8>
+where
+    H: Files + AllocGlobal + Clone + Drop,
+    W: Write,
+    E: Write,
+{
+    run.show(rt, inquiry)?;
+    streams.pass_on(run)?;
     Ok(status_of(run.counts))
 }
 
@@ -281,8 +316,29 @@ where
 {
     let alloc = rt.alloc();
     let mut run = new_run(rt, Options::plain(alloc, Vec::new(alloc)), terminals)?;
-    run.show(rt, inquiry)?;
-    streams.pass_on(&mut run)?;
+    let status = show_in(rt, inquiry, &mut run, streams);
+    drop(run);
+    status
+}
+
+/// Tells which of the manifests that were found are not canonical.
+fn compare_all<H, W, E>(
+    rt: &H,
+    found: &Found,
+    run: &mut Run,
+    streams: &mut Streams<'_, W, E>,
+) -> io::Result<u8>
+where
+    H: Files + AllocGlobal,
+    W: Write,
+    E: Write,
+{
+    run.tell_all_unread(found.unread.as_slice())?;
+    for file in &found.files {
+        run.compare(rt, file.as_str())?;
+        streams.pass_on(run)?;
+    }
+    streams.pass_on(run)?;
     Ok(status_of(run.counts))
 }
 
@@ -300,13 +356,9 @@ where
 {
     let found = manifests(rt, paths.as_slice())?;
     let mut run = new_run(rt, Options::plain(rt.alloc(), paths), terminals)?;
-    run.tell_all_unread(found.unread.as_slice())?;
-    for file in &found.files {
-        run.compare(rt, file.as_str())?;
-        streams.pass_on(&mut run)?;
-    }
-    streams.pass_on(&mut run)?;
-    Ok(status_of(run.counts))
+    let status = compare_all(rt, &found, &mut run, streams);
+    drop(run);
+    status
 }
 
 /// Writes a text to standard output.
@@ -371,6 +423,10 @@ where
         Request::Canon(paths) => compare(rt, paths, terminals, streams),
         Request::Explain(name) => explain(rt.alloc(), streams, name.as_str()),
         Request::List => list(rt.alloc(), streams),
+        Request::Serve => {
+            let has_ended = serve_editor(rt, VERSION, input, streams.output)?;
+            Ok(if has_ended { 0 } else { 1 })
+        }
     }
 }
 

@@ -1,13 +1,11 @@
 //! What a package builds and inherits; and which manifests are not canonical.
 
 use crate::checking::{Context, Run};
-use crate::files::{Unreadable, read_file};
-use crate::judging::{Placed, State, place};
 use crate::options::Inquiry;
-use crate::paths::{folder_of, opened, resolved, shown};
 use manifest_lint::Document;
 use manifest_report::{push_diff, push_escaped};
 use manifest_show::{Refused, RootText, canonical, show};
+use manifest_surroundings::{Placed, State, Unreadable, folder_of, opened, place, resolved, shown};
 use std::alloc::AllocError;
 use std::rt::Files;
 
@@ -85,7 +83,7 @@ impl Run {
         let path = resolved(rt.alloc(), self.context.current.as_str(), name)?;
         let placed = place(
             rt,
-            &self.context.options,
+            &self.context.options.scope,
             &mut self.context.state,
             path.as_str(),
             document,
@@ -100,7 +98,7 @@ impl Run {
         inquiry: &Inquiry,
     ) -> Result<(), AllocError> {
         let name = inquiry.file.as_str();
-        let bytes = match read_file(rt, name, self.context.options.most) {
+        let bytes = match self.context.state.reader.read(rt, name) {
             Ok(bytes) => bytes,
             Err(fault) => return self.tell_unreadable(name, &fault),
         };
@@ -121,7 +119,7 @@ impl Run {
         name: &str,
     ) -> Result<(), AllocError> {
         let alloc = rt.alloc();
-        let bytes = match read_file(rt, name, self.context.options.most) {
+        let bytes = match self.context.state.reader.read(rt, name) {
             Ok(bytes) => bytes,
             Err(fault) => return self.tell_unreadable(name, &fault),
         };

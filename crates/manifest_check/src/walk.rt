@@ -1,29 +1,11 @@
 //! The manifests that are to be checked.
 
-use crate::files::is_folder;
-use crate::paths::{MANIFEST, join, opened};
+use manifest_surroundings::{MANIFEST, Unread, is_folder, join, opened};
 use std::alloc::{AllocError, Global};
 use std::collections::BTreeSet;
 use std::os::unix::fs::MetadataExt;
 use std::rt::Files;
 use std::{fs, io};
-
-/// A path, and why what it leads to was not read.
-#[derive(Drop)]
-pub(crate) struct Unread {
-    pub(crate) path: String,
-    pub(crate) reason: String,
-}
-
-impl Unread {
-    /// A path with a fault of the system.
-    pub(crate) fn new(alloc: Global, path: &str, fault: &io::Error) -> Result<Unread, AllocError> {
-        Ok(Unread {
-            path: String::from_str(alloc, path)?,
-            reason: format!(in alloc; "{fault}")?,
-        })
-    }
-}
 
 /// The manifests that were found, and what could not be read.
 #[derive(Drop)]

@@ -1,10 +1,10 @@
 //! The words of the program: its command-line arguments.
 
-use crate::levels::{SETTINGS, Setting};
-use crate::options::{Color, Fixing, Inquiry, LevelWord, MOST, Options, Request};
+use crate::options::{Color, Fixing, Inquiry, Options, Request};
 use clap::{Arg, ArgAction, ArgMatches, Command, Error};
 use manifest_report::Format;
 use manifest_rules::code_named;
+use manifest_surroundings::{LevelWord, MOST, SETTINGS, Scope, Setting};
 use std::alloc::{AllocError, Global};
 
 /// What the words ask for, or what is said instead: a text, and whether it was asked for (help, the version).
@@ -13,6 +13,9 @@ pub(crate) enum Words {
     Request(Request),
     Answer { text: String, is_asked: bool },
 }
+
+/// The version of the program.
+pub(crate) const VERSION: &str = "0.2.0";
 
 static FORMATS: [&str; 5] = ["people", "short", "json", "github", "sarif"];
 
@@ -140,15 +143,23 @@ fn canon_command<'a>(alloc: Global) -> Result<Command<'a>, AllocError> {
         )
 }
 
+/// The command `lsp`.
+fn lsp_command<'a>(alloc: Global) -> Command<'a> {
+    Command::new(alloc, "lsp").about(
+        "Serves an editor by the Language Server Protocol, on standard input and output",
+    )
+}
+
 fn command<'a>(alloc: Global) -> Result<Command<'a>, AllocError> {
     let command = Command::new(alloc, "manifest_check")
         .about(
             "Tells everything that is wrong with Cargo manifests, at its place, with what to write",
         )
-        .version("0.2.0")
+        .version(VERSION)
         .args_conflicts_with_subcommands(true)
         .subcommand(show_command(alloc)?)?
-        .subcommand(canon_command(alloc)?)?;
+        .subcommand(canon_command(alloc)?)?
+        .subcommand(lsp_command(alloc))?;
     with_deeds(alloc, with_formats(alloc, with_inputs(alloc, command)?)?)
 }
 
@@ -225,6 +236,16 @@ fn fixing_of(matches: &ArgMatches<'_>) -> Fixing {
     }
 }
 
+fn scope_of(alloc: Global, matches: &ArgMatches<'_>) -> Result<Scope, AllocError> {
+    Ok(Scope {
+        uses_workspace: !matches.get_flag("no-workspace"),
+        uses_config: !matches.get_flag("no-config"),
+        config: copied(alloc, matches.get_str("config"))?,
+        publishes: matches.get_flag("publish"),
+        levels: levels_of(alloc, matches)?,
+    })
+}
+
 fn options_of(alloc: Global, matches: &ArgMatches<'_>) -> Result<Options, AllocError> {
     let format = matches.get_str("format").unwrap_or("people");
     Ok(Options {
@@ -235,12 +256,8 @@ fn options_of(alloc: Global, matches: &ArgMatches<'_>) -> Result<Options, AllocE
         width: matches
             .get_one::<u16>("width")
             .map(|width| usize::from(width)),
-        uses_workspace: !matches.get_flag("no-workspace"),
-        uses_config: !matches.get_flag("no-config"),
-        config: copied(alloc, matches.get_str("config"))?,
-        publishes: matches.get_flag("publish"),
+        scope: scope_of(alloc, matches)?,
         fixing: fixing_of(matches),
-        levels: levels_of(alloc, matches)?,
         most: matches.get_one::<u64>("max-size").unwrap_or(MOST),
     })
 }
@@ -253,6 +270,9 @@ fn subrequest_of(
 ) -> Result<Request, AllocError> {
     if name == "canon" {
         return Ok(Request::Canon(paths_of(alloc, matches)?));
+    }
+    if name == "lsp" {
+        return Ok(Request::Serve);
     }
     let file = matches.get_str("FILE").unwrap_or("");
     Ok(Request::Show(Inquiry {
@@ -284,7 +304,7 @@ fn unknown_code(request: &Request) -> Option<&str> {
             None
         }
         Request::Check(options) => {
-            for level in &options.levels {
+            for level in &options.scope.levels {
                 let name = level.name.as_str();
                 if name != "all" && code_named(name).is_none() {
                     return Some(name);
@@ -292,7 +312,7 @@ fn unknown_code(request: &Request) -> Option<&str> {
             }
             None
         }
-        Request::List | Request::Show(_) | Request::Canon(_) => None,
+        Request::List | Request::Serve | Request::Show(_) | Request::Canon(_) => None,
     }
 }
 

@@ -1,7 +1,7 @@
 //! The members of a workspace.
 
 use crate::dependencies::{inherited_from, push_folders};
-use crate::files::{is_file, names_in, read_file};
+use crate::files::{Reader, names_in};
 use crate::paths::{MANIFEST, below, folder_of, join, names_of, resolved};
 use crate::patterns::{is_pattern, matches_name, matches_path};
 use crate::tables::{items_in, table_in, text_of};
@@ -14,10 +14,10 @@ use toml::Table;
 
 /// The members of a root.
 #[derive(Drop)]
-pub(crate) struct Members {
+pub struct Members {
     pub(crate) all: Vec<Member>,
     /// The path of the manifest of each of them.
-    pub(crate) manifests: Vec<String>,
+    pub manifests: Vec<String>,
     /// Their folders, each with the index of its member.
     folders: BTreeMap<String, usize>,
 }
@@ -165,19 +165,19 @@ struct Gathering {
 /// Notes the package in a folder as a member, if it is not one yet and has a manifest. The manifest is read, and not kept.
 fn note_member<H: Files + AllocGlobal>(
     rt: &H,
+    reader: &Reader,
     root: &str,
     document: &Table,
     folder: &str,
     pattern: Option<usize>,
-    most: u64,
     gathering: &mut Gathering,
 ) -> Result<(), AllocError> {
     let alloc = rt.alloc();
     let manifest = join(alloc, folder, MANIFEST)?;
-    if gathering.members.note_pattern(folder, pattern)? || !is_file(rt, manifest.as_str()) {
+    if gathering.members.note_pattern(folder, pattern)? || !reader.is_file(rt, manifest.as_str()) {
         return Ok(());
     }
-    let read = match read_file(rt, manifest.as_str(), most) {
+    let read = match reader.read(rt, manifest.as_str()) {
         Ok(bytes) => Document::read(alloc, bytes.as_slice()).ok(),
         Err(_) => None,
     };
@@ -197,6 +197,7 @@ fn note_member<H: Files + AllocGlobal>(
 /// Notes a folder that a pattern fits, and that has no manifest.
 fn note_bare<H: Files + AllocGlobal + Clone + Drop>(
     rt: &H,
+    reader: &Reader,
     root: &str,
     folder: &str,
     pattern: usize,
@@ -205,7 +206,7 @@ fn note_bare<H: Files + AllocGlobal + Clone + Drop>(
     let alloc = rt.alloc();
     let manifest = join(alloc, folder, MANIFEST)?;
     if gathering.members.has(folder)
-        || is_file(rt, manifest.as_str())
+        || reader.is_file(rt, manifest.as_str())
         || names_in(rt, folder).is_err()
     {
         return Ok(());
@@ -218,9 +219,9 @@ fn note_bare<H: Files + AllocGlobal + Clone + Drop>(
 /// Notes the members that patterns lead to.
 fn note_patterns<H: Files + AllocGlobal + Clone + Drop>(
     rt: &H,
+    reader: &Reader,
     root: &str,
     document: &Table,
-    most: u64,
     gathering: &mut Gathering,
 ) -> Result<(), AllocError> {
     let alloc = rt.alloc();
@@ -232,9 +233,9 @@ fn note_patterns<H: Files + AllocGlobal + Clone + Drop>(
             for folder in &expanded(rt, root, pattern)? {
                 let folder = folder.as_str();
                 if folder != root && !is_excluded(alloc, root, document, folder)? {
-                    note_member(rt, root, document, folder, Some(index), most, gathering)?;
+                    note_member(rt, reader, root, document, folder, Some(index), gathering)?;
                     if is_pattern(pattern) {
-                        note_bare(rt, root, folder, index, gathering)?;
+                        note_bare(rt, reader, root, folder, index, gathering)?;
                     }
                 }
             }
@@ -246,9 +247,9 @@ fn note_patterns<H: Files + AllocGlobal + Clone + Drop>(
 /// Notes the members that dependencies lead to, and those that their dependencies do.
 fn note_dependents<H: Files + AllocGlobal>(
     rt: &H,
+    reader: &Reader,
     root: &str,
     document: &Table,
-    most: u64,
     gathering: &mut Gathering,
 ) -> Result<(), AllocError> {
     let alloc = rt.alloc();
@@ -259,7 +260,7 @@ fn note_dependents<H: Files + AllocGlobal>(
         let folder = folder.as_str();
         let is_inside = below(folder, root).is_some() && folder != root;
         if is_inside && !is_excluded(alloc, root, document, folder)? {
-            note_member(rt, root, document, folder, None, most, gathering)?;
+            note_member(rt, reader, root, document, folder, None, gathering)?;
         }
     }
     Ok(())
@@ -269,9 +270,9 @@ fn note_dependents<H: Files + AllocGlobal>(
 /// which `path` dependencies of the root and of members lead. Each manifest is read, and not kept.
 pub(crate) fn members_of<H: Files + AllocGlobal + Clone + Drop>(
     rt: &H,
+    reader: &Reader,
     manifest: &str,
     document: &Document,
-    most: u64,
 ) -> Result<Members, AllocError> {
     let alloc = rt.alloc();
     let root = folder_of(manifest);
@@ -285,8 +286,8 @@ pub(crate) fn members_of<H: Files + AllocGlobal + Clone + Drop>(
     };
     let inherited = inherited_from(root, &document.table);
     push_folders(alloc, root, &document.table, inherited, &mut gathering.next)?;
-    note_patterns(rt, root, &document.table, most, &mut gathering)?;
-    note_dependents(rt, root, &document.table, most, &mut gathering)?;
+    note_patterns(rt, reader, root, &document.table, &mut gathering)?;
+    note_dependents(rt, reader, root, &document.table, &mut gathering)?;
     let Gathering { members, .. } = gathering;
     Ok(members)
 }

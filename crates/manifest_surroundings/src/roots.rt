@@ -1,6 +1,6 @@
 //! The root of the workspace that a manifest belongs to, found as Cargo finds it.
 
-use crate::files::read_file;
+use crate::files::Reader;
 use crate::judging::said;
 use crate::members::{Members, is_excluded, is_matched, members_of};
 use crate::paths::{MANIFEST, folder_of, join, resolved};
@@ -29,10 +29,10 @@ enum Above {
 
 /// A root, with its members if they were asked for.
 #[derive(Drop)]
-pub(crate) struct KeptRoot {
+pub struct KeptRoot {
     /// The absolute path of its manifest.
-    pub(crate) path: String,
-    pub(crate) document: Document,
+    pub path: String,
+    pub document: Document,
     pub(crate) members: Option<Members>,
 }
 
@@ -55,7 +55,6 @@ pub(crate) enum FoundRoot {
 pub(crate) struct Roots {
     above: BTreeMap<String, Above>,
     kept: Option<KeptRoot>,
-    most: u64,
 }
 
 /// Whether the schema refuses a document, with nothing around it.
@@ -85,12 +84,11 @@ fn is_packaged(folder: &str) -> bool {
 }
 
 impl Roots {
-    /// Nothing is known yet; a manifest of more than `most` bytes is not read.
-    pub(crate) fn new(alloc: Global, most: u64) -> Roots {
+    /// Nothing is known yet.
+    pub(crate) fn new(alloc: Global) -> Roots {
         Roots {
             above: BTreeMap::new(alloc),
             kept: None,
-            most,
         }
     }
 
@@ -128,13 +126,14 @@ impl Roots {
     fn read_above<H: Files + AllocGlobal>(
         &mut self,
         rt: &H,
+        reader: &Reader,
         path: &str,
     ) -> Result<Above, AllocError> {
         let alloc = rt.alloc();
-        if fs::metadata(rt, path).is_err() {
+        if !reader.texts.contains_key(path) && fs::metadata(rt, path).is_err() {
             return Ok(Above::Absent);
         }
-        let Ok(bytes) = read_file(rt, path, self.most) else {
+        let Ok(bytes) = reader.read(rt, path) else {
             return Ok(Above::Unreadable);
         };
         let Ok(document) = Document::read(alloc, bytes.as_slice()) else {
@@ -159,11 +158,16 @@ impl Roots {
     }
 
     /// Keeps the root at this path, where it is not the one that is kept. It says whether it could be read.
-    fn load<H: Files + AllocGlobal>(&mut self, rt: &H, path: &str) -> Result<bool, AllocError> {
+    fn load<H: Files + AllocGlobal>(
+        &mut self,
+        rt: &H,
+        reader: &Reader,
+        path: &str,
+    ) -> Result<bool, AllocError> {
         if self.keeps(path) {
             return Ok(true);
         }
-        let read = self.read_above(rt, path)?;
+        let read = self.read_above(rt, reader, path)?;
         Ok(matches!(&read, Above::Root | Above::FaultyRoot))
     }
 
@@ -171,6 +175,7 @@ impl Roots {
     fn first_look<H: Files + AllocGlobal>(
         &mut self,
         rt: &H,
+        reader: &Reader,
         path: &str,
     ) -> Result<Above, AllocError> {
         match &self.kept {
@@ -182,7 +187,7 @@ impl Roots {
                     Above::Root
                 })
             }
-            _ => self.read_above(rt, path),
+            _ => self.read_above(rt, reader, path),
         }
     }
 
@@ -190,12 +195,13 @@ impl Roots {
     fn step<H: Files + AllocGlobal>(
         &mut self,
         rt: &H,
+        reader: &Reader,
         path: &str,
         folder: &str,
     ) -> Result<Option<FoundRoot>, AllocError> {
         let alloc = rt.alloc();
         if !self.above.contains_key(path) {
-            let above = self.first_look(rt, path)?;
+            let above = self.first_look(rt, reader, path)?;
             self.above.insert(String::from_str(alloc, path)?, above)?;
         }
         let pointer = match self.above.get(path) {
@@ -206,7 +212,7 @@ impl Roots {
             }
             _ => return Ok(None),
         };
-        if !self.load(rt, pointer.as_str())? {
+        if !self.load(rt, reader, pointer.as_str())? {
             return Ok(Some(FoundRoot::Missing));
         }
         if pointer.as_str() == path && self.excludes(alloc, folder)? {
@@ -245,6 +251,7 @@ impl Roots {
     pub(crate) fn find<H: Files + AllocGlobal>(
         &mut self,
         rt: &H,
+        reader: &Reader,
         manifest: &str,
         document: &Document,
     ) -> Result<FoundRoot, AllocError> {
@@ -254,7 +261,7 @@ impl Roots {
         }
         if let Some(pointer) = pointer_in(&document.table) {
             let path = pointed(alloc, manifest, pointer)?;
-            let is_root = self.load(rt, path.as_str())?;
+            let is_root = self.load(rt, reader, path.as_str())?;
             return Ok(if is_root {
                 FoundRoot::Kept
             } else {
@@ -269,7 +276,7 @@ impl Roots {
                 return Ok(FoundRoot::Missing);
             }
             let path = join(alloc, above, MANIFEST)?;
-            if let Some(found) = self.step(rt, path.as_str(), folder)? {
+            if let Some(found) = self.step(rt, reader, path.as_str(), folder)? {
                 return Ok(found);
             }
             if above == "/" {
@@ -283,13 +290,14 @@ impl Roots {
     pub(crate) fn gather<H: Files + AllocGlobal + Clone + Drop>(
         &mut self,
         rt: &H,
+        reader: &Reader,
     ) -> Result<(), AllocError> {
         let Some(mut kept) = self.take() else {
             return Ok(());
         };
         if kept.members.is_none() {
             let path = kept.path.as_str();
-            kept.members = Some(members_of(rt, path, &kept.document, self.most)?);
+            kept.members = Some(members_of(rt, reader, path, &kept.document)?);
         }
         self.kept = Some(kept);
         Ok(())
@@ -299,6 +307,7 @@ impl Roots {
     pub(crate) fn lists<H: Files + AllocGlobal + Clone + Drop>(
         &mut self,
         rt: &H,
+        reader: &Reader,
         folder: &str,
     ) -> Result<bool, AllocError> {
         let alloc = rt.alloc();
@@ -308,7 +317,7 @@ impl Roots {
                 return Ok(true);
             }
         }
-        self.gather(rt)?;
+        self.gather(rt, reader)?;
         match &self.kept {
             Some(
                 KeptRoot {

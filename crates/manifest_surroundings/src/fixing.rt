@@ -1,7 +1,7 @@
 //! Suggestions that are certain, made in a manifest.
 
 use crate::judging::{Placed, State, judge, place};
-use crate::options::Options;
+use crate::scope::Scope;
 use manifest_lint::{Diagnostic, Document, Fix, Unread};
 use manifest_places::{Edit, EditError, Edited, Step, with_edits};
 use manifest_rules::{Level, copied_edits};
@@ -37,25 +37,30 @@ struct Refused {
 
 /// A manifest with suggestions made.
 #[derive(Drop)]
-pub(crate) struct Fixed {
-    pub(crate) placed: Placed,
-    pub(crate) diagnostics: Vec<Diagnostic>,
+pub struct Fixed {
+    pub placed: Placed,
+    pub diagnostics: Vec<Diagnostic>,
     /// Its text.
-    pub(crate) text: String,
+    pub text: String,
     /// How many were made.
-    pub(crate) made: usize,
+    pub made: usize,
     /// Those that are left out, since they would have made new errors or cannot be made.
     refused: Vec<Refused>,
     /// How often the manifest may still be tried.
     tries: usize,
     /// Whether there are suggestions that were not tried any more.
-    pub(crate) has_given_up: bool,
+    pub has_given_up: bool,
 }
 
 impl Fixed {
     /// Whether suggestions are left out.
-    pub(crate) fn is_refused(&self) -> bool {
+    pub fn is_refused(&self) -> bool {
         !self.refused.is_empty()
+    }
+
+    /// Its text, where suggestions were made.
+    pub fn changed_text(self) -> Option<String> {
+        if self.made > 0 { Some(self.text) } else { None }
     }
 
     /// Whether this suggestion of a diagnostic is one of those that are left out.
@@ -265,7 +270,7 @@ fn edited(alloc: Global, text: &str, edits: Vec<Edit>) -> Result<Option<String>,
 /// A manifest to be mended: where it is, and how it is judged.
 #[derive(Clone, Copy)]
 struct Task<'a> {
-    options: &'a Options,
+    scope: &'a Scope,
     path: &'a str,
 }
 
@@ -306,8 +311,8 @@ fn outcome_of<H: Files + AllocGlobal + Clone + Drop>(
     let Some(document) = document_of(alloc, text.as_str())? else {
         return Ok(Outcome::NotMade);
     };
-    let placed = place(rt, task.options, state, task.path, document)?;
-    let after = judge(rt, task.options, state, task.path, &placed, false)?;
+    let placed = place(rt, task.scope, state, task.path, document)?;
+    let after = judge(rt, task.scope, state, task.path, &placed, false)?;
     if has_new_error(alloc, before, after.as_slice())? {
         return Ok(Outcome::NewError);
     }
@@ -421,18 +426,18 @@ fn fix_once<H: Files + AllocGlobal + Clone + Drop>(
     let Some(document) = document_of(alloc, fixed.text.as_str())? else {
         return Ok(false);
     };
-    fixed.placed = place(rt, task.options, state, task.path, document)?;
+    fixed.placed = place(rt, task.scope, state, task.path, document)?;
     if is_changed {
-        fixed.diagnostics = judge(rt, task.options, state, task.path, &fixed.placed, true)?;
+        fixed.diagnostics = judge(rt, task.scope, state, task.path, &fixed.placed, true)?;
     }
     Ok(is_changed)
 }
 
 /// Makes the suggestions that are certain, and looks at the manifest anew each time, until there are none left. Those that
 /// cannot be made, or would make an error that was not there, are left out.
-pub(crate) fn with_fixes<H: Files + AllocGlobal + Clone + Drop>(
+pub fn with_fixes<H: Files + AllocGlobal + Clone + Drop>(
     rt: &H,
-    options: &Options,
+    scope: &Scope,
     state: &mut State,
     path: &str,
     text: String,
@@ -449,7 +454,7 @@ pub(crate) fn with_fixes<H: Files + AllocGlobal + Clone + Drop>(
         refused: Vec::new(alloc),
         has_given_up: false,
     };
-    let task = Task { options, path };
+    let task = Task { scope, path };
     for _ in 0..ROUNDS {
         if !fix_once(rt, &task, state, &mut fixed)? {
             return Ok(fixed);

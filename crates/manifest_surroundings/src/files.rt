@@ -1,7 +1,8 @@
-//! Reading files whose size has a limit, and writing one whole or not at all.
+//! Reading files whose size has a limit, and texts in their place; and writing a file whole or not at all.
 
 use crate::paths::{folder_of, join};
 use std::alloc::{AllocError, Global};
+use std::collections::BTreeMap;
 use std::fs::{File, OpenFile};
 use std::io::{ErrorKind, Read, Write};
 use std::rt::Files;
@@ -9,7 +10,7 @@ use std::{fmt, fs, io};
 
 /// Why a file was not read.
 #[derive(Debug, Drop)]
-pub(crate) enum Unreadable {
+pub enum Unreadable {
     Io(io::Error),
     /// A folder, a pipe or a device.
     NotAFile,
@@ -45,7 +46,7 @@ impl From<AllocError> for Unreadable {
 }
 
 /// All that is left in a reader, if it is not over the limit.
-pub(crate) fn read_limited<R: Read>(
+pub fn read_limited<R: Read>(
     alloc: Global,
     reader: &mut R,
     most: u64,
@@ -68,11 +69,7 @@ pub(crate) fn read_limited<R: Read>(
 }
 
 /// The bytes of a file. What is no file is not opened, and what is over the limit is not read.
-pub(crate) fn read_file<H: Files + AllocGlobal>(
-    rt: &H,
-    path: &str,
-    most: u64,
-) -> Result<Vec<u8>, Unreadable> {
+fn read_file<H: Files + AllocGlobal>(rt: &H, path: &str, most: u64) -> Result<Vec<u8>, Unreadable> {
     let metadata = fs::metadata(rt, path)?;
     if !metadata.is_file() {
         return Err(Unreadable::NotAFile);
@@ -84,9 +81,61 @@ pub(crate) fn read_file<H: Files + AllocGlobal>(
     read_limited(rt.alloc(), &mut file, most)
 }
 
+/// What reads files: none of more than `most` bytes, and in the place of some the text that an editor has of them.
+#[derive(Drop)]
+pub struct Reader {
+    pub most: u64,
+    /// By the absolute paths of the files.
+    pub texts: BTreeMap<String, String>,
+}
+
+impl Reader {
+    /// What reads files of up to `most` bytes, with no text in the place of one.
+    pub fn new(alloc: Global, most: u64) -> Reader {
+        Reader {
+            most,
+            texts: BTreeMap::new(alloc),
+        }
+    }
+
+    /// The bytes of a file, or of the text in its place.
+    pub fn read<H: Files + AllocGlobal>(&self, rt: &H, path: &str) -> Result<Vec<u8>, Unreadable> {
+        match self.texts.get(path) {
+            Some(text) => {
+                let mut bytes = Vec::new(rt.alloc());
+                bytes.extend_from_slice(text.as_bytes())?;
+                Ok(bytes)
+            }
+            None => read_file(rt, path, self.most),
+        }
+    }
+
+    /// Whether a path leads to a file, or to a text in the place of one.
+    pub(crate) fn is_file<H: Files>(&self, rt: &H, path: &str) -> bool {
+        self.texts.contains_key(path) || is_file(rt, path)
+    }
+}
+
+/// A path, and why what it leads to was not read.
+#[derive(Drop)]
+pub struct Unread {
+    pub path: String,
+    pub reason: String,
+}
+
+impl Unread {
+    /// A path with a fault of the system.
+    pub fn new(alloc: Global, path: &str, fault: &io::Error) -> Result<Unread, AllocError> {
+        Ok(Unread {
+            path: String::from_str(alloc, path)?,
+            reason: format!(in alloc; "{fault}")?,
+        })
+    }
+}
+
 /// Why a file was not replaced.
 #[derive(Debug, Drop)]
-pub(crate) enum NotReplaced {
+pub enum NotReplaced {
     Io(io::Error),
     /// It is no longer what was read.
     Changed,
@@ -161,7 +210,7 @@ fn put_in_place<H: Files + AllocGlobal>(
 
 /// Replaces the text of a file by another, whole or not at all: the new text is written to a file of its own in the same
 /// folder, with the permissions of the old one, and then takes its place. A link stays a link.
-pub(crate) fn replace_file<H: Files + AllocGlobal>(
+pub fn replace_file<H: Files + AllocGlobal>(
     rt: &H,
     path: &str,
     old: &str,
@@ -198,7 +247,7 @@ pub(crate) fn names_in<H: Files + AllocGlobal + Clone + Drop>(
 }
 
 /// Whether a path leads to a folder.
-pub(crate) fn is_folder<H: Files>(rt: &H, path: &str) -> bool {
+pub fn is_folder<H: Files>(rt: &H, path: &str) -> bool {
     match fs::metadata(rt, path) {
         Ok(metadata) => metadata.is_dir(),
         Err(_) => false,
@@ -206,7 +255,7 @@ pub(crate) fn is_folder<H: Files>(rt: &H, path: &str) -> bool {
 }
 
 /// Whether a path leads to a file.
-pub(crate) fn is_file<H: Files>(rt: &H, path: &str) -> bool {
+fn is_file<H: Files>(rt: &H, path: &str) -> bool {
     match fs::metadata(rt, path) {
         Ok(metadata) => metadata.is_file(),
         Err(_) => false,

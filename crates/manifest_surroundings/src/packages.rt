@@ -1,6 +1,6 @@
 //! The packages to which the `path` of a dependency leads.
 
-use crate::files::read_file;
+use crate::files::Reader;
 use crate::paths::{MANIFEST, join, resolved};
 use crate::tables::{table_in, text_in};
 use manifest_lint::{Document, asked_packages};
@@ -25,12 +25,12 @@ fn copied(alloc: Global, name: Option<&str>) -> Result<Option<String>, AllocErro
 /// The name of the package in a folder; `None` where there is none.
 fn name_in<H: Files + AllocGlobal>(
     rt: &H,
+    reader: &Reader,
     folder: &str,
-    most: u64,
 ) -> Result<Option<String>, AllocError> {
     let alloc = rt.alloc();
     let manifest = join(alloc, folder, MANIFEST)?;
-    let Ok(bytes) = read_file(rt, manifest.as_str(), most) else {
+    let Ok(bytes) = reader.read(rt, manifest.as_str()) else {
         return Ok(None);
     };
     match Document::read(alloc, bytes.as_slice()) {
@@ -56,14 +56,14 @@ impl PackageNames {
     fn name<H: Files + AllocGlobal>(
         &mut self,
         rt: &H,
+        reader: &Reader,
         folder: String,
-        most: u64,
     ) -> Result<Option<String>, AllocError> {
         let alloc = rt.alloc();
         if let Some(name) = self.names.get(folder.as_str()) {
             return copied(alloc, name.as_ref().map(|name| name.as_str()));
         }
-        let name = name_in(rt, folder.as_str(), most)?;
+        let name = name_in(rt, reader, folder.as_str())?;
         let copy = copied(alloc, name.as_ref().map(|name| name.as_str()))?;
         self.names.insert(folder, copy)?;
         Ok(name)
@@ -73,15 +73,15 @@ impl PackageNames {
     pub(crate) fn of<H: Files + AllocGlobal>(
         &mut self,
         rt: &H,
+        reader: &Reader,
         folder: &str,
         document: &Document,
-        most: u64,
     ) -> Result<Vec<PathPackage>, AllocError> {
         let alloc = rt.alloc();
         let mut all = Vec::new(alloc);
         for path in asked_packages(alloc, &document.table)? {
             let target = resolved(alloc, folder, path.as_str())?;
-            let name = self.name(rt, target, most)?;
+            let name = self.name(rt, reader, target)?;
             all.push(PathPackage { path, name })?;
         }
         Ok(all)

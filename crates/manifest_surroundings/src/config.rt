@@ -1,8 +1,7 @@
 //! The configuration of Cargo above a manifest.
 
-use crate::files::{is_file, read_file};
+use crate::files::{Reader, Unread};
 use crate::paths::{folder_of, join};
-use crate::walk::Unread;
 use manifest_lint::Document;
 use std::alloc::{AllocError, Global};
 use std::collections::{BTreeMap, BTreeSet};
@@ -23,14 +22,17 @@ pub(crate) struct Configs {
     unread: Vec<Unread>,
     /// Those of which something was said.
     said: BTreeSet<String>,
-    most: u64,
 }
 
 /// The file of the configuration in a folder.
-fn file_in<H: Files + AllocGlobal>(rt: &H, folder: &str) -> Result<Option<String>, AllocError> {
+fn file_in<H: Files + AllocGlobal>(
+    rt: &H,
+    reader: &Reader,
+    folder: &str,
+) -> Result<Option<String>, AllocError> {
     for name in &NAMES {
         let path = join(rt.alloc(), folder, *name)?;
-        if is_file(rt, path.as_str()) {
+        if reader.is_file(rt, path.as_str()) {
             return Ok(Some(path));
         }
     }
@@ -40,11 +42,11 @@ fn file_in<H: Files + AllocGlobal>(rt: &H, folder: &str) -> Result<Option<String
 /// The document of a configuration, or why it is not read.
 fn table_at<H: Files + AllocGlobal>(
     rt: &H,
+    reader: &Reader,
     path: &str,
-    most: u64,
 ) -> Result<Result<Table, String>, AllocError> {
     let alloc = rt.alloc();
-    let bytes = match read_file(rt, path, most) {
+    let bytes = match reader.read(rt, path) {
         Ok(bytes) => bytes,
         Err(fault) => return Ok(Err(format!(in alloc; "{fault}")?)),
     };
@@ -106,15 +108,14 @@ fn same_paths(a: &[String], b: &[String]) -> bool {
 }
 
 impl Configs {
-    /// Nothing is known yet; a file of more than `most` bytes is not read.
-    pub(crate) fn new(alloc: Global, most: u64) -> Configs {
+    /// Nothing is known yet.
+    pub(crate) fn new(alloc: Global) -> Configs {
         Configs {
             files: BTreeMap::new(alloc),
             kept_of: Vec::new(alloc),
             kept: None,
             unread: Vec::new(alloc),
             said: BTreeSet::new(alloc),
-            most,
         }
     }
 
@@ -122,11 +123,12 @@ impl Configs {
     fn file<H: Files + AllocGlobal>(
         &mut self,
         rt: &H,
+        reader: &Reader,
         folder: &str,
     ) -> Result<Option<String>, AllocError> {
         let alloc = rt.alloc();
         if !self.files.contains_key(folder) {
-            let file = file_in(rt, folder)?;
+            let file = file_in(rt, reader, folder)?;
             self.files.insert(String::from_str(alloc, folder)?, file)?;
         }
         match self.files.get(folder) {
@@ -139,12 +141,13 @@ impl Configs {
     fn files_above<H: Files + AllocGlobal>(
         &mut self,
         rt: &H,
+        reader: &Reader,
         folder: &str,
     ) -> Result<Vec<String>, AllocError> {
         let mut files = Vec::new(rt.alloc());
         let mut above = folder;
         for _ in 0..folder.len() {
-            if let Some(file) = self.file(rt, above)? {
+            if let Some(file) = self.file(rt, reader, above)? {
                 files.push(file)?;
             }
             if above == "/" {
@@ -159,27 +162,30 @@ impl Configs {
     pub(crate) fn load_file<H: Files + AllocGlobal>(
         &mut self,
         rt: &H,
+        reader: &Reader,
         path: &str,
     ) -> Result<(), AllocError> {
         let mut files = Vec::new(rt.alloc());
         files.push(String::from_str(rt.alloc(), path)?)?;
-        self.load_files(rt, files)
+        self.load_files(rt, reader, files)
     }
 
     /// Reads the configuration for a folder, where it is not the one that is kept: of each entry the nearest counts.
     pub(crate) fn load<H: Files + AllocGlobal>(
         &mut self,
         rt: &H,
+        reader: &Reader,
         folder: &str,
     ) -> Result<(), AllocError> {
-        let files = self.files_above(rt, folder)?;
-        self.load_files(rt, files)
+        let files = self.files_above(rt, reader, folder)?;
+        self.load_files(rt, reader, files)
     }
 
     /// Reads these files, the nearest first, where they are not those that are kept.
     fn load_files<H: Files + AllocGlobal>(
         &mut self,
         rt: &H,
+        reader: &Reader,
         files: Vec<String>,
     ) -> Result<(), AllocError> {
         if same_paths(files.as_slice(), self.kept_of.as_slice()) {
@@ -187,7 +193,7 @@ impl Configs {
         }
         let mut merged = Table::new(rt.alloc());
         for file in &files {
-            match table_at(rt, file.as_str(), self.most)? {
+            match table_at(rt, reader, file.as_str())? {
                 Ok(table) => add_further(&mut merged, table)?,
                 Err(reason) => self.note_unread(file.as_str(), reason)?,
             }

@@ -9,14 +9,14 @@ use toml::Table;
 
 /// What is to become of a code.
 #[derive(Clone, Copy, PartialEq, Eq)]
-pub(crate) enum Setting {
+pub enum Setting {
     Allow,
     Warn,
     Deny,
 }
 
 /// The keys of metadata, and the options, that set them.
-pub(crate) const SETTINGS: [(&str, Setting); 3] = [
+pub const SETTINGS: [(&str, Setting); 3] = [
     ("allow", Setting::Allow),
     ("warn", Setting::Warn),
     ("deny", Setting::Deny),

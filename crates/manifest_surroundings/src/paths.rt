@@ -3,10 +3,10 @@
 use std::alloc::{AllocError, Global};
 
 /// The name of a manifest.
-pub(crate) const MANIFEST: &str = "Cargo.toml";
+pub const MANIFEST: &str = "Cargo.toml";
 
 /// The folder that a file is in: of `a/b` it is `a`, of `/b` it is `/`, of `b` it is the empty text.
-pub(crate) fn folder_of(path: &str) -> &str {
+pub fn folder_of(path: &str) -> &str {
     match path.rsplit_once('/') {
         Some(("", _name)) => "/",
         Some((folder, _name)) => folder,
@@ -15,7 +15,7 @@ pub(crate) fn folder_of(path: &str) -> &str {
 }
 
 /// A name in a folder, or a path from it; the folder with the empty name is where the program runs.
-pub(crate) fn join(alloc: Global, folder: &str, name: &str) -> Result<String, AllocError> {
+pub fn join(alloc: Global, folder: &str, name: &str) -> Result<String, AllocError> {
     if folder.is_empty() || name.starts_with('/') {
         return String::from_str(alloc, name);
     }
@@ -28,7 +28,7 @@ pub(crate) fn join(alloc: Global, folder: &str, name: &str) -> Result<String, Al
 }
 
 /// The path that a folder is opened by.
-pub(crate) fn opened(folder: &str) -> &str {
+pub fn opened(folder: &str) -> &str {
     if folder.is_empty() { "." } else { folder }
 }
 
@@ -61,7 +61,7 @@ pub(crate) fn normal(alloc: Global, path: &str) -> Result<String, AllocError> {
 }
 
 /// The absolute path to which a path leads from a folder with an absolute path.
-pub(crate) fn resolved(alloc: Global, folder: &str, path: &str) -> Result<String, AllocError> {
+pub fn resolved(alloc: Global, folder: &str, path: &str) -> Result<String, AllocError> {
     let joined = join(alloc, folder, path)?;
     normal(alloc, joined.as_str())
 }
@@ -76,7 +76,7 @@ pub(crate) fn below<'a>(path: &'a str, folder: &str) -> Option<&'a str> {
 }
 
 /// A path as it is shown: from where the program runs, if it leads to something below that.
-pub(crate) fn shown<'a>(path: &'a str, current: &str) -> &'a str {
+pub fn shown<'a>(path: &'a str, current: &str) -> &'a str {
     match below(path, current) {
         Some("") | None => path,
         Some(rest) => rest,

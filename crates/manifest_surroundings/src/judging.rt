@@ -1,47 +1,57 @@
 //! A manifest in its surroundings, and what is said of it.
 
 use crate::config::Configs;
-use crate::files::names_in;
+use crate::files::{Reader, Unread, names_in};
 use crate::levels::Levels;
 use crate::members::Members;
-use crate::options::Options;
 use crate::packages::PackageNames;
 use crate::paths::{folder_of, join, opened};
 use crate::roots::{FoundRoot, KeptRoot, Roots};
+use crate::scope::Scope;
 use crate::tables::table_in;
-use crate::walk::Unread;
 use manifest_lint::{Diagnostic, Document, Input, asked_folders, diagnostics};
 use manifest_rules::{Folders, PathPackage, Root, Surroundings};
 use std::alloc::{AllocError, Global};
 use std::collections::{BTreeMap, BTreeSet};
 use std::rt::Files;
 
-/// What is kept from one manifest to the next: the last root, the last configuration, and the names of packages.
+/// What reads files, and what is kept from one manifest to the next: the last root, the last configuration, and the names
+/// of packages.
 #[derive(Drop)]
-pub(crate) struct State {
+pub struct State {
+    pub reader: Reader,
     pub(crate) roots: Roots,
     configs: Configs,
     packages: PackageNames,
 }
 
 impl State {
-    pub(crate) fn new(alloc: Global, most: u64) -> State {
+    /// Nothing is known yet; files are read by this reader.
+    pub fn new(alloc: Global, reader: Reader) -> State {
         State {
-            roots: Roots::new(alloc, most),
-            configs: Configs::new(alloc, most),
+            reader,
+            roots: Roots::new(alloc),
+            configs: Configs::new(alloc),
             packages: PackageNames::new(alloc),
         }
     }
 
+    /// Forgets what was read, so that it is read anew.
+    pub fn forget(&mut self, alloc: Global) {
+        self.roots = Roots::new(alloc);
+        self.configs = Configs::new(alloc);
+        self.packages = PackageNames::new(alloc);
+    }
+
     /// The next configuration that cannot be read, and of which nothing was said yet.
-    pub(crate) fn next_unread(&mut self) -> Option<Unread> {
+    pub fn next_unread(&mut self) -> Option<Unread> {
         self.configs.next_unread()
     }
 }
 
 /// A manifest, and where its root is. The document of a root itself is kept as the last root.
 #[derive(Drop)]
-pub(crate) struct Placed {
+pub struct Placed {
     own: Option<Document>,
     root: FoundRoot,
 }
@@ -56,7 +66,7 @@ struct Gathered {
 
 impl Placed {
     /// The document of the manifest.
-    pub(crate) fn document<'a>(&'a self, state: &'a State) -> Option<&'a Document> {
+    pub fn document<'a>(&'a self, state: &'a State) -> Option<&'a Document> {
         match &self.own {
             Some(document) => Some(document),
             None => state.roots.kept().map(|kept| &kept.document),
@@ -64,12 +74,12 @@ impl Placed {
     }
 
     /// Whether the manifest is a root itself.
-    pub(crate) fn is_root(&self) -> bool {
+    pub fn is_root(&self) -> bool {
         matches!(&self.root, FoundRoot::Own)
     }
 
     /// The root of the manifest, where it is another manifest that could be read.
-    pub(crate) fn other_root<'a>(&self, state: &'a State) -> Option<&'a KeptRoot> {
+    pub fn other_root<'a>(&self, state: &'a State) -> Option<&'a KeptRoot> {
         match &self.root {
             FoundRoot::Kept => state.roots.kept(),
             _ => None,
@@ -77,7 +87,7 @@ impl Placed {
     }
 
     /// The members of the manifest, where it is a root.
-    pub(crate) fn members<'a>(&self, state: &'a State) -> Option<&'a Members> {
+    pub fn members<'a>(&self, state: &'a State) -> Option<&'a Members> {
         if self.is_root() {
             state.roots.kept()?.members.as_ref()
         } else {
@@ -97,9 +107,9 @@ impl Placed {
 }
 
 /// Finds the root of a manifest with an absolute path. Of a root itself the members are gathered.
-pub(crate) fn place<H: Files + AllocGlobal + Clone + Drop>(
+pub fn place<H: Files + AllocGlobal + Clone + Drop>(
     rt: &H,
-    options: &Options,
+    scope: &Scope,
     state: &mut State,
     path: &str,
     document: Document,
@@ -109,16 +119,16 @@ pub(crate) fn place<H: Files + AllocGlobal + Clone + Drop>(
         state
             .roots
             .keep(String::from_str(rt.alloc(), path)?, document);
-        if options.uses_workspace {
-            state.roots.gather(rt)?;
+        if scope.uses_workspace {
+            state.roots.gather(rt, &state.reader)?;
         }
         return Ok(Placed {
             own: None,
             root: FoundRoot::Own,
         });
     }
-    let root = if options.uses_workspace {
-        state.roots.find(rt, path, &document)?
+    let root = if scope.uses_workspace {
+        state.roots.find(rt, &state.reader, path, &document)?
     } else {
         FoundRoot::Unknown
     };
@@ -170,18 +180,18 @@ fn folders_of<H: Files + AllocGlobal + Clone + Drop>(
 /// Gathers what is around a manifest in this folder.
 fn gather<H: Files + AllocGlobal + Clone + Drop>(
     rt: &H,
-    options: &Options,
+    scope: &Scope,
     state: &mut State,
     folder: &str,
     placed: &Placed,
 ) -> Result<Option<Gathered>, AllocError> {
     let is_listed = match &placed.root {
-        FoundRoot::Kept => Some(state.roots.lists(rt, folder)?),
+        FoundRoot::Kept => Some(state.roots.lists(rt, &state.reader, folder)?),
         _ => None,
     };
-    match &options.config {
-        Some(path) => state.configs.load_file(rt, path.as_str())?,
-        None if options.uses_config => state.configs.load(rt, folder)?,
+    match &scope.config {
+        Some(path) => state.configs.load_file(rt, &state.reader, path.as_str())?,
+        None if scope.uses_config => state.configs.load(rt, &state.reader, folder)?,
         None => {}
     }
     let document = match (&placed.own, state.roots.kept()) {
@@ -191,14 +201,14 @@ fn gather<H: Files + AllocGlobal + Clone + Drop>(
     };
     Ok(Some(Gathered {
         folders: folders_of(rt, folder, document)?,
-        packages: state.packages.of(rt, folder, document, options.most)?,
+        packages: state.packages.of(rt, &state.reader, folder, document)?,
         is_listed,
     }))
 }
 
 /// What the rules learn of what is around a manifest.
 fn surroundings<'a>(
-    options: &Options,
+    scope: &Scope,
     state: &'a State,
     placed: &'a Placed,
     gathered: &'a Gathered,
@@ -212,7 +222,7 @@ fn surroundings<'a>(
         packages: Some(gathered.packages.as_slice()),
         members,
         config: state.configs.kept(),
-        publishes: options.publishes,
+        publishes: scope.publishes,
     }
 }
 
@@ -220,7 +230,7 @@ fn surroundings<'a>(
 /// those of the workspace's.
 fn levels_for(
     alloc: Global,
-    options: &Options,
+    scope: &Scope,
     state: &State,
     placed: &Placed,
     document: &Document,
@@ -231,7 +241,7 @@ fn levels_for(
     }
     levels.set_by_metadata(alloc, table_in(&document.table, "workspace"))?;
     levels.set_by_metadata(alloc, table_in(&document.table, "package"))?;
-    for word in &options.levels {
+    for word in &scope.levels {
         levels.set(alloc, word.name.as_str(), word.setting)?;
     }
     Ok(levels)
@@ -262,28 +272,28 @@ pub(crate) fn said(
 }
 
 /// What is said of a manifest, in the order of its text; of suggestions also what they replace, if that is to be shown.
-pub(crate) fn judge<H: Files + AllocGlobal + Clone + Drop>(
+pub fn judge<H: Files + AllocGlobal + Clone + Drop>(
     rt: &H,
-    options: &Options,
+    scope: &Scope,
     state: &mut State,
     path: &str,
     placed: &Placed,
     shows_edits: bool,
 ) -> Result<Vec<Diagnostic>, AllocError> {
     let alloc = rt.alloc();
-    let Some(gathered) = gather(rt, options, state, folder_of(path), placed)? else {
+    let Some(gathered) = gather(rt, scope, state, folder_of(path), placed)? else {
         return Ok(Vec::new(alloc));
     };
     let state = &*state;
     let Some(document) = placed.document(state) else {
         return Ok(Vec::new(alloc));
     };
-    let around = surroundings(options, state, placed, &gathered);
+    let around = surroundings(scope, state, placed, &gathered);
     let root_text = placed
         .other_root(state)
         .map(|root| root.document.text.as_str());
     let found = said(alloc, document, &around, root_text, shows_edits)?;
-    let levels = levels_for(alloc, options, state, placed, document)?;
+    let levels = levels_for(alloc, scope, state, placed, document)?;
     let mut kept = levels.applied(alloc, found)?;
     sort(&mut kept)?;
     Ok(kept)

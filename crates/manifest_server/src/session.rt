@@ -1,0 +1,339 @@
+//! What is known of the texts of an editor, and what is said of them.
+
+use crate::lines::{Lines, Point, Units};
+use crate::message::{items_at, number_at, text_at};
+use crate::reports::{View, Views};
+use crate::uris::{path_of, uri_of};
+use manifest_lint::{Diagnostic, Document, unread_diagnostic};
+use manifest_surroundings::{MOST, Placed, Reader, Scope, State, judge, place};
+use serde_json::Value;
+use std::alloc::{AllocError, Global};
+use std::collections::BTreeMap;
+use std::rt::Files;
+use toml::Table;
+
+/// A text that an editor has open.
+#[derive(Drop)]
+pub(crate) struct Opened {
+    pub(crate) uri: String,
+    pub(crate) version: Option<usize>,
+}
+
+/// What was said so far, and what is known of the editor.
+#[derive(Clone, Copy, PartialEq, Eq)]
+pub(crate) enum Stage {
+    /// Nothing was asked yet.
+    New,
+    Running,
+    /// It was asked to end.
+    Ending,
+}
+
+/// A session with an editor.
+#[derive(Drop)]
+pub(crate) struct Session {
+    pub(crate) stage: Stage,
+    pub(crate) units: Units,
+    /// Whether the editor asks for diagnostics by itself.
+    pub(crate) pulls: bool,
+    /// Whether a text has changed since diagnostics were sent.
+    pub(crate) is_changed: bool,
+    pub(crate) state: State,
+    pub(crate) scope: Scope,
+    /// The texts by their paths.
+    pub(crate) opened: BTreeMap<String, Opened>,
+}
+
+/// What is said of a text, and where its root is, if it is a document.
+#[derive(Drop)]
+pub(crate) struct Checked {
+    pub(crate) placed: Option<Placed>,
+    pub(crate) found: Vec<Diagnostic>,
+}
+
+/// Where lines begin, of a text and of that of its root, whose URI is with it.
+#[derive(Drop)]
+pub(crate) struct AllLines {
+    pub(crate) own: Lines,
+    root: Option<(String, Lines)>,
+}
+
+/// Whether a path is that of a manifest.
+pub(crate) fn is_manifest(path: &str) -> bool {
+    path.ends_with("/Cargo.toml")
+}
+
+/// The range that a change replaces; `None` where it is the whole text.
+fn range_in(
+    alloc: Global,
+    text: &str,
+    change: &Value,
+    units: Units,
+) -> Result<Option<(usize, usize)>, AllocError> {
+    let (Some(from), Some(to)) = (
+        point_at(change, "/range/start/line", "/range/start/character"),
+        point_at(change, "/range/end/line", "/range/end/character"),
+    ) else {
+        return Ok(None);
+    };
+    let lines = Lines::of(alloc, text)?;
+    let start = lines.offset(text, from, units);
+    let end = lines.offset(text, to, units);
+    Ok(Some((start, end.max(start))))
+}
+
+/// The point at two pointers.
+pub(crate) fn point_at(params: &Value, line: &str, character: &str) -> Option<Point> {
+    Some(Point {
+        line: number_at(params, line)?,
+        units: number_at(params, character)?,
+    })
+}
+
+/// A text with a range replaced.
+fn replaced(
+    alloc: Global,
+    text: &str,
+    from: usize,
+    to: usize,
+    new: &str,
+) -> Result<String, AllocError> {
+    let mut all = String::from_str(alloc, text.get(..from).unwrap_or(""))?;
+    all.push_str(new)?;
+    all.push_str(text.get(to..).unwrap_or(""))?;
+    Ok(all)
+}
+
+/// A text after a change.
+fn changed(alloc: Global, text: &str, change: &Value, units: Units) -> Result<String, AllocError> {
+    let new = text_at(change, "/text").unwrap_or("");
+    match range_in(alloc, text, change, units)? {
+        Some((from, to)) => replaced(alloc, text, from, to, new),
+        None => String::from_str(alloc, new),
+    }
+}
+
+impl Session {
+    /// A session of which nothing is known.
+    pub(crate) fn new(alloc: Global) -> Session {
+        Session {
+            stage: Stage::New,
+            units: Units::Utf16,
+            pulls: false,
+            is_changed: false,
+            state: State::new(alloc, Reader::new(alloc, MOST)),
+            scope: Scope::whole(alloc),
+            opened: BTreeMap::new(alloc),
+        }
+    }
+
+    /// The path of the manifest that is meant, where it is open.
+    pub(crate) fn path_in(
+        &self,
+        alloc: Global,
+        params: &Value,
+    ) -> Result<Option<String>, AllocError> {
+        let Some(uri) = text_at(params, "/textDocument/uri") else {
+            return Ok(None);
+        };
+        match path_of(alloc, uri)? {
+            Some(path) if self.opened.contains_key(path.as_str()) => Ok(Some(path)),
+            _ => Ok(None),
+        }
+    }
+
+    /// The text that is open at a path.
+    pub(crate) fn text(&self, path: &str) -> &str {
+        match self.state.reader.texts.get(path) {
+            Some(text) => text.as_str(),
+            None => "",
+        }
+    }
+
+    /// Keeps a text that was opened.
+    pub(crate) fn open(&mut self, alloc: Global, params: &Value) -> Result<(), AllocError> {
+        let (Some(uri), Some(text)) = (
+            text_at(params, "/textDocument/uri"),
+            text_at(params, "/textDocument/text"),
+        ) else {
+            return Ok(());
+        };
+        let Some(path) = path_of(alloc, uri)? else {
+            return Ok(());
+        };
+        let opened = Opened {
+            uri: String::from_str(alloc, uri)?,
+            version: number_at(params, "/textDocument/version"),
+        };
+        let text = String::from_str(alloc, text)?;
+        self.state.reader.texts.insert(path.clone()?, text)?;
+        self.opened.insert(path, opened)?;
+        self.is_changed = true;
+        Ok(())
+    }
+
+    /// Makes the changes of a text.
+    pub(crate) fn change(&mut self, alloc: Global, params: &Value) -> Result<(), AllocError> {
+        let Some(path) = self.path_in(alloc, params)? else {
+            return Ok(());
+        };
+        let mut text = String::from_str(alloc, self.text(path.as_str()))?;
+        for change in items_at(params, "/contentChanges") {
+            text = changed(alloc, text.as_str(), change, self.units)?;
+        }
+        if let Some(opened) = self.opened.get_mut(path.as_str()) {
+            opened.version = number_at(params, "/textDocument/version");
+        }
+        self.state.reader.texts.insert(path, text)?;
+        self.is_changed = true;
+        Ok(())
+    }
+
+    /// Forgets a text: from now on the file counts. It says which URI it had.
+    pub(crate) fn close(
+        &mut self,
+        alloc: Global,
+        params: &Value,
+    ) -> Result<Option<String>, AllocError> {
+        let Some(path) = self.path_in(alloc, params)? else {
+            return Ok(None);
+        };
+        let _text = self.state.reader.texts.remove(path.as_str());
+        self.is_changed = true;
+        match self.opened.remove(path.as_str()) {
+            Some(Opened { uri, version: _ }) => Ok(Some(uri)),
+            None => Ok(None),
+        }
+    }
+
+    /// What is said of the text that is open at a path.
+    pub(crate) fn check<H: Files + AllocGlobal + Clone + Drop>(
+        &mut self,
+        rt: &H,
+        path: &str,
+    ) -> Result<Checked, AllocError> {
+        let alloc = rt.alloc();
+        if !is_manifest(path) {
+            return Ok(Checked {
+                placed: None,
+                found: Vec::new(alloc),
+            });
+        }
+        match Document::read(alloc, self.text(path).as_bytes()) {
+            Ok(document) => self.check_document(rt, path, document),
+            Err(unread) => {
+                let mut found = Vec::new(alloc);
+                found.push(unread_diagnostic(alloc, unread)?)?;
+                Ok(Checked {
+                    placed: None,
+                    found,
+                })
+            }
+        }
+    }
+
+    /// What is said of a document at a path, with all that is around it as it is now.
+    fn check_document<H: Files + AllocGlobal + Clone + Drop>(
+        &mut self,
+        rt: &H,
+        path: &str,
+        document: Document,
+    ) -> Result<Checked, AllocError> {
+        self.state.forget(rt.alloc());
+        let placed = place(rt, &self.scope, &mut self.state, path, document)?;
+        let found = judge(rt, &self.scope, &mut self.state, path, &placed, true)?;
+        Ok(Checked {
+            placed: Some(placed),
+            found,
+        })
+    }
+
+    /// Where the root is of the text that is open at a path: where it is no document for the moment, that of an empty one.
+    pub(crate) fn placed<H: Files + AllocGlobal + Clone + Drop>(
+        &mut self,
+        rt: &H,
+        path: &str,
+    ) -> Result<Option<Placed>, AllocError> {
+        let alloc = rt.alloc();
+        let read = match Document::read(alloc, self.text(path).as_bytes()) {
+            Ok(document) => document,
+            Err(_) => Document {
+                text: String::new(alloc),
+                table: Table::new(alloc),
+            },
+        };
+        self.state.forget(alloc);
+        Ok(Some(place(rt, &self.scope, &mut self.state, path, read)?))
+    }
+
+    /// The document of what was checked.
+    pub(crate) fn document<'a>(&'a self, checked: &'a Checked) -> Option<&'a Document> {
+        checked.placed.as_ref()?.document(&self.state)
+    }
+
+    /// The document of the root of what was checked: of a root itself it is its own.
+    pub(crate) fn root_document<'a>(&'a self, checked: &'a Checked) -> Option<&'a Document> {
+        let placed = checked.placed.as_ref()?;
+        if placed.is_root() {
+            return placed.document(&self.state);
+        }
+        Some(&placed.other_root(&self.state)?.document)
+    }
+
+    /// The lines of a text that was checked, and of its root.
+    pub(crate) fn lines_of(
+        &self,
+        alloc: Global,
+        path: &str,
+        checked: &Checked,
+    ) -> Result<AllLines, AllocError> {
+        let own = Lines::of(alloc, self.text(path))?;
+        let root = match &checked.placed {
+            Some(placed) => placed.other_root(&self.state),
+            None => None,
+        };
+        let root = match root {
+            Some(root) => {
+                let lines = Lines::of(alloc, root.document.text.as_str())?;
+                Some((uri_of(alloc, root.path.as_str())?, lines))
+            }
+            None => None,
+        };
+        Ok(AllLines { own, root })
+    }
+
+    /// The text at a path and that of its root, with their lines.
+    pub(crate) fn views<'a>(
+        &'a self,
+        path: &'a str,
+        checked: &'a Checked,
+        lines: &'a AllLines,
+    ) -> Views<'a> {
+        let uri = match self.opened.get(path) {
+            Some(opened) => opened.uri.as_str(),
+            None => "",
+        };
+        let own = View {
+            uri,
+            text: self.text(path),
+            lines: &lines.own,
+            units: self.units,
+        };
+        Views {
+            own,
+            root: self.root_view(checked, lines),
+        }
+    }
+
+    /// The text of the root of what was checked.
+    fn root_view<'a>(&'a self, checked: &'a Checked, lines: &'a AllLines) -> Option<View<'a>> {
+        let root = checked.placed.as_ref()?.other_root(&self.state)?;
+        let (uri, lines) = lines.root.as_ref()?;
+        Some(View {
+            uri: uri.as_str(),
+            text: root.document.text.as_str(),
+            lines,
+            units: self.units,
+        })
+    }
+}
