@@ -39,7 +39,7 @@ _manifest_check() {
     COMPREPLY=()
     for word in "${COMP_WORDS[@]:1:COMP_CWORD-1}"; do
         case $word in
-            show | canon | help) command=$word && break ;;
+            show | canon | lsp | help) command=$word && break ;;
         esac
     done
     # (bash takes --format=short for three words)
@@ -51,14 +51,15 @@ _manifest_check() {
     case $command in
         show) formats="people json" options="--format --help" ;;
         canon) options="--check --help" ;;
-        help) _manifest_check_words "show canon" && return ;;
+        lsp) options="--help" ;;
+        help) _manifest_check_words "show canon lsp" && return ;;
     esac
     _manifest_check_values "$previous" && return
     if [[ $current == -* ]]; then
         _manifest_check_words "$options"
         return
     fi
-    [ "$COMP_CWORD" -ne 1 ] || _manifest_check_words "show canon help"
+    [ "$COMP_CWORD" -ne 1 ] || _manifest_check_words "show canon lsp help"
     _manifest_check_files -f
 }
 

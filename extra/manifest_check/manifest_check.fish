@@ -4,12 +4,13 @@ function __manifest_check_codes
     manifest_check --list 2>/dev/null | string replace -r ': ' \t
 end
 
-set -l no_command 'not __fish_seen_subcommand_from show canon help'
+set -l no_command 'not __fish_seen_subcommand_from show canon lsp help'
 set -l in_show '__fish_seen_subcommand_from show'
 set -l in_canon '__fish_seen_subcommand_from canon'
 
 complete -c manifest_check -n __fish_use_subcommand -a show -d 'Show what a package builds, and what it inherits'
 complete -c manifest_check -n __fish_use_subcommand -a canon -d 'Report which manifests are not canonical'
+complete -c manifest_check -n __fish_use_subcommand -a lsp -d 'Serve an editor by the Language Server Protocol'
 complete -c manifest_check -n __fish_use_subcommand -a help -d 'Print help'
 complete -c manifest_check -s h -l help -d 'Print help'
 complete -c manifest_check -s V -l version -n $no_command -d 'Print version'

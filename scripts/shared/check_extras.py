@@ -22,14 +22,14 @@ COMPLETED = [
     (["--color", "a"], {"auto", "always"}, True), (["--deny", "unknown-k"], {"unknown-key"}, True),
     (["--allow", "al"], {"all"}, True), (["--explain", "nests"], {"nests-too-deep"}, True),
     (["show", "--format", ""], {"people", "json"}, True), (["show", "-"], {"--format", "--help"}, True),
-    (["canon", "--c"], {"--check"}, True), ([""], {"show", "canon", "help", "Cargo.toml"}, False),
+    (["canon", "--c"], {"--check"}, True), ([""], {"show", "canon", "lsp", "help", "Cargo.toml"}, False),
     (["--publish", "--no"], {"--no-workspace", "--no-config"}, True), (["Carg"], {"Cargo.toml"}, True),
 ]
 
 
 def options_of(program):
     """The long options of the program and of its commands."""
-    helps = ([program, *words, "--help"] for words in ([], ["show"], ["canon"]))
+    helps = ([program, *words, "--help"] for words in ([], ["show"], ["canon"], ["lsp"]))
     said = (subprocess.run(words, capture_output=True, text=True).stdout for words in helps)
     return {found["long"] for text in said for found in IN_HELP.finditer(text)}
 
