@@ -64,7 +64,7 @@ pub(crate) struct Run {
 }
 
 /// The text of bytes, up to the first one that is no UTF-8.
-fn readable(bytes: &[u8]) -> &str {
+pub(crate) fn readable(bytes: &[u8]) -> &str {
     match str::from_utf8(bytes) {
         Ok(text) => text,
         Err(fault) => {
@@ -306,7 +306,7 @@ impl Run {
     }
 
     /// Everything that is said of a manifest at this path; what of its configurations could not be read is reported.
-    fn judged<H: Files + AllocGlobal + Clone + Drop>(
+    pub(crate) fn judged<H: Files + AllocGlobal + Clone + Drop>(
         &mut self,
         rt: &H,
         path: &str,

@@ -54,11 +54,24 @@ pub(crate) struct Options {
     pub(crate) most: u64,
 }
 
-/// A question about the package of a manifest.
+/// How it is shown what packages build and inherit.
+#[derive(Clone, Copy, PartialEq, Eq)]
+pub(crate) enum Form {
+    /// Lines, of one manifest.
+    Lines,
+    /// Lines, after the name of the manifest.
+    NamedLines,
+    /// An object of JSON in a line of its own.
+    Json,
+    /// A part of a page.
+    Html,
+}
+
+/// A question about the packages of manifests.
 #[derive(Drop)]
 pub(crate) struct Inquiry {
-    pub(crate) file: String,
-    pub(crate) is_json: bool,
+    pub(crate) paths: Vec<String>,
+    pub(crate) form: Form,
 }
 
 /// What is asked for.
@@ -69,7 +82,7 @@ pub(crate) enum Request {
     Explain(String),
     /// All codes.
     List,
-    /// What a package builds and inherits.
+    /// What packages build and inherit.
     Show(Inquiry),
     /// Which of the manifests at these paths are not canonical.
     Canon(Vec<String>),

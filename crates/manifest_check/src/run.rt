@@ -2,7 +2,7 @@
 
 use crate::checking::{Context, Counts, Run};
 use crate::explaining::{push_list, push_page};
-use crate::options::{Color, Inquiry, Options, Request};
+use crate::options::{Color, Form, Inquiry, Options, Request};
 use crate::progress::Progress;
 use crate::walk::{Found, manifests};
 use crate::words::{VERSION, Words, words_of};
@@ -285,7 +285,15 @@ where
     status
 }
 
-/// Shows what a package builds and inherits, in a run.
+/// How it is shown: lines of several manifests stand each after the name of its manifest.
+fn form_for(inquiry: &Inquiry, found: &Found) -> Form {
+    match inquiry.form {
+        Form::Lines if found.files.len() > 1 => Form::NamedLines,
+        form => form,
+    }
+}
+
+/// Shows what packages build and inherit, in a run.
 fn show_in<H, W, E>(
     rt: &H,
     inquiry: &Inquiry,
@@ -297,12 +305,22 @@ where
     W: Write,
     E: Write,
 {
-    run.show(rt, inquiry)?;
+    let found = manifests(rt, inquiry.paths.as_slice())?;
+    run.tell_all_unread(found.unread.as_slice())?;
+    let form = form_for(inquiry, &found);
+    run.begin_shown(form)?;
+    let mut is_first = true;
+    for file in &found.files {
+        run.show(rt, file.as_str(), form, is_first)?;
+        is_first = false;
+        streams.pass_on(run)?;
+    }
+    run.end_shown(form)?;
     streams.pass_on(run)?;
     Ok(status_of(run.counts))
 }
 
-/// Shows what a package builds and inherits.
+/// Shows what packages build and inherit.
 fn show<H, W, E>(
     rt: &H,
     inquiry: &Inquiry,

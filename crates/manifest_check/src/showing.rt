@@ -1,13 +1,15 @@
 //! What a package builds and inherits; and which manifests are not canonical.
 
-use crate::checking::{Context, Run};
-use crate::options::Inquiry;
-use manifest_lint::Document;
+use crate::checking::{Context, Run, readable};
+use crate::options::Form;
+use manifest_lint::{Diagnostic, Document, Unread, unread_diagnostic};
+use manifest_page::{Entry, push_begin, push_data, push_end, push_entry};
 use manifest_report::{push_diff, push_escaped};
 use manifest_show::{Refused, RootText, canonical, show};
 use manifest_surroundings::{Placed, State, Unreadable, folder_of, opened, place, resolved, shown};
-use std::alloc::AllocError;
+use std::alloc::{AllocError, Global};
 use std::rt::Files;
+use toml::Table;
 
 /// Writes lines, with what a terminal would not show escaped.
 fn push_lines(out: &mut String, text: &str) -> Result<(), AllocError> {
@@ -57,6 +59,64 @@ fn answer_for<'x, H: Files + AllocGlobal + Clone + Drop>(
     Ok(show(rt, folder, name, text, &document.table, root, is_json))
 }
 
+/// The members of an object of JSON.
+fn members_in(json: &str) -> &str {
+    let inner = json.trim().strip_prefix('{').unwrap_or("");
+    inner.strip_suffix('}').unwrap_or("")
+}
+
+/// What is known of a manifest, as an object of JSON.
+fn json_of<'x>(
+    alloc: Global,
+    file: &'x str,
+    text: &'x str,
+    document: Option<&'x Table>,
+    built: &'x str,
+    diagnostics: &'x [Diagnostic],
+) -> Result<String, AllocError> {
+    let entry = Entry {
+        file,
+        text,
+        document,
+        built,
+        diagnostics,
+    };
+    let mut json = String::new(alloc);
+    push_entry(&mut json, &entry)?;
+    Ok(json)
+}
+
+/// What is known of bytes that are no document.
+fn known_of_unread<'x>(
+    alloc: Global,
+    name: &'x str,
+    bytes: &'x [u8],
+    unread: Unread,
+) -> Result<String, AllocError> {
+    let mut found = Vec::new(alloc);
+    found.push(unread_diagnostic(alloc, unread)?)?;
+    json_of(alloc, name, readable(bytes), None, "", found.as_slice())
+}
+
+/// What is known of a document.
+fn known_of<'x>(
+    context: &'x Context,
+    name: &'x str,
+    placed: &'x Placed,
+    built: &'x str,
+    diagnostics: &'x [Diagnostic],
+) -> Result<String, AllocError> {
+    let alloc = *context.current.allocator();
+    match placed.document(&context.state) {
+        Some(document) => {
+            let text = document.text.as_str();
+            let built = members_in(built);
+            json_of(alloc, name, text, Some(&document.table), built, diagnostics)
+        }
+        None => Ok(String::new(alloc)),
+    }
+}
+
 impl Run {
     /// Tells why there is no answer for a manifest.
     fn tell_refused(&mut self, name: &str, refused: Refused) -> Result<(), AllocError> {
@@ -72,43 +132,127 @@ impl Run {
         self.tell_unread(name, reason.as_str())
     }
 
-    /// What the package of a document builds and inherits.
-    fn shown<H: Files + AllocGlobal + Clone + Drop>(
+    /// Where a document with this name stands.
+    fn placed<H: Files + AllocGlobal + Clone + Drop>(
         &mut self,
         rt: &H,
         name: &str,
         document: Document,
-        is_json: bool,
-    ) -> Result<Result<String, Refused>, AllocError> {
+    ) -> Result<Placed, AllocError> {
         let path = resolved(rt.alloc(), self.context.current.as_str(), name)?;
-        let placed = place(
-            rt,
-            &self.context.options.scope,
-            &mut self.context.state,
-            path.as_str(),
-            document,
-        )?;
-        answer_for(rt, &self.context, name, &placed, is_json)
+        let context = &mut self.context;
+        let scope = &context.options.scope;
+        place(rt, scope, &mut context.state, path.as_str(), document)
     }
 
-    /// Writes what the package of a manifest builds and inherits.
+    /// Writes what the package of a manifest builds and inherits, as lines.
+    fn show_lines<H: Files + AllocGlobal + Clone + Drop>(
+        &mut self,
+        rt: &H,
+        name: &str,
+        bytes: &[u8],
+        is_named: bool,
+    ) -> Result<(), AllocError> {
+        let Ok(document) = Document::read(rt.alloc(), bytes) else {
+            return self.tell_unread(name, "it is no TOML: check it first");
+        };
+        let placed = self.placed(rt, name, document)?;
+        match answer_for(rt, &self.context, name, &placed, false)? {
+            Ok(text) => {
+                if is_named {
+                    push_escaped(&mut self.out, name)?;
+                    self.out.push_str(":\n")?;
+                }
+                push_lines(&mut self.out, text.as_str())
+            }
+            Err(refused) => self.tell_refused(name, refused),
+        }
+    }
+
+    /// What is known of a document, as an object of JSON.
+    fn known_document<H: Files + AllocGlobal + Clone + Drop>(
+        &mut self,
+        rt: &H,
+        name: &str,
+        document: Document,
+    ) -> Result<String, AllocError> {
+        let alloc = rt.alloc();
+        let placed = self.placed(rt, name, document)?;
+        let path = resolved(alloc, self.context.current.as_str(), name)?;
+        let found = self.judged(rt, path.as_str(), &placed)?;
+        let built = match answer_for(rt, &self.context, name, &placed, true)? {
+            Ok(json) => json,
+            Err(Refused::Manifest(_reason)) => String::new(alloc),
+            Err(Refused::Memory(fault)) => return Err(fault),
+        };
+        known_of(
+            &self.context,
+            name,
+            &placed,
+            built.as_str(),
+            found.as_slice(),
+        )
+    }
+
+    /// What is known of a manifest, as an object of JSON.
+    fn known<H: Files + AllocGlobal + Clone + Drop>(
+        &mut self,
+        rt: &H,
+        name: &str,
+        bytes: &[u8],
+    ) -> Result<String, AllocError> {
+        match Document::read(rt.alloc(), bytes) {
+            Ok(document) => self.known_document(rt, name, document),
+            Err(unread) => known_of_unread(rt.alloc(), name, bytes, unread),
+        }
+    }
+
+    /// Writes what stands before all that is shown.
+    pub(crate) fn begin_shown(&mut self, form: Form) -> Result<(), AllocError> {
+        if form == Form::Html {
+            push_begin(&mut self.out)?;
+            self.out.push('[')?;
+        }
+        Ok(())
+    }
+
+    /// Writes what stands after all that is shown.
+    pub(crate) fn end_shown(&mut self, form: Form) -> Result<(), AllocError> {
+        if form == Form::Html {
+            self.out.push(']')?;
+            push_end(&mut self.out)?;
+        }
+        Ok(())
+    }
+
+    /// Writes what the package of a manifest builds and inherits; as JSON and on a page also what is said of it.
     pub(crate) fn show<H: Files + AllocGlobal + Clone + Drop>(
         &mut self,
         rt: &H,
-        inquiry: &Inquiry,
+        name: &str,
+        form: Form,
+        is_first: bool,
     ) -> Result<(), AllocError> {
-        let name = inquiry.file.as_str();
         let bytes = match self.context.state.reader.read(rt, name) {
             Ok(bytes) => bytes,
             Err(fault) => return self.tell_unreadable(name, &fault),
         };
-        let Ok(document) = Document::read(rt.alloc(), bytes.as_slice()) else {
-            return self.tell_unread(name, "it is no TOML: check it first");
-        };
-        match self.shown(rt, name, document, inquiry.is_json)? {
-            Ok(text) if inquiry.is_json => self.out.push_str(text.as_str()),
-            Ok(text) => push_lines(&mut self.out, text.as_str()),
-            Err(refused) => self.tell_refused(name, refused),
+        let bytes = bytes.as_slice();
+        match form {
+            Form::Lines => self.show_lines(rt, name, bytes, false),
+            Form::NamedLines => self.show_lines(rt, name, bytes, true),
+            Form::Json => {
+                let json = self.known(rt, name, bytes)?;
+                self.out.push_str(json.as_str())?;
+                self.out.push('\n')
+            }
+            Form::Html => {
+                let json = self.known(rt, name, bytes)?;
+                if !is_first {
+                    self.out.push_str(",\n")?;
+                }
+                push_data(&mut self.out, json.as_str())
+            }
         }
     }
 

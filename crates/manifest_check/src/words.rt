@@ -1,6 +1,6 @@
 //! The words of the program: its command-line arguments.
 
-use crate::options::{Color, Fixing, Inquiry, Options, Request};
+use crate::options::{Color, Fixing, Form, Inquiry, Options, Request};
 use clap::{Arg, ArgAction, ArgMatches, Command, Error};
 use manifest_report::Format;
 use manifest_rules::code_named;
@@ -19,7 +19,7 @@ pub(crate) const VERSION: &str = "0.2.0";
 
 static FORMATS: [&str; 5] = ["people", "short", "json", "github", "sarif"];
 
-static SHOWN: [&str; 2] = ["people", "json"];
+static SHOWN: [&str; 3] = ["people", "json", "html"];
 
 static COLORS: [&str; 3] = ["auto", "always", "never"];
 
@@ -115,12 +115,12 @@ fn with_deeds<'a>(alloc: Global, command: Command<'a>) -> Result<Command<'a>, Al
 /// The command `show`.
 fn show_command<'a>(alloc: Global) -> Result<Command<'a>, AllocError> {
     Command::new(alloc, "show")
-        .about("Shows what a package builds, and what it inherits, with where each comes from")
+        .about("Shows what packages build, and what they inherit, with where each comes from")
         .arg(
-            Arg::new(alloc, "FILE")
-                .required(true)
-                .action(ArgAction::Set)
-                .help("A manifest"),
+            Arg::new(alloc, "PATHS")
+                .action(ArgAction::Append)
+                .num_args(0..)
+                .help("Manifests, and folders with manifests [default: .]"),
         )?
         .arg(
             option(alloc, "format", "FORMAT", "How it is written")
@@ -274,10 +274,14 @@ fn subrequest_of(
     if name == "lsp" {
         return Ok(Request::Serve);
     }
-    let file = matches.get_str("FILE").unwrap_or("");
+    let form = match matches.get_str("format") {
+        Some("json") => Form::Json,
+        Some("html") => Form::Html,
+        _ => Form::Lines,
+    };
     Ok(Request::Show(Inquiry {
-        file: String::from_str(alloc, file)?,
-        is_json: matches.get_str("format") == Some("json"),
+        paths: paths_or_here(alloc, matches)?,
+        form,
     }))
 }
 
