@@ -49,7 +49,7 @@ _manifest_check() {
         previous=${COMP_WORDS[COMP_CWORD - 2]}
     fi
     case $command in
-        show) formats="people json" options="--format --help" ;;
+        show) formats="people json html" options="--format --help" ;;
         canon) options="--check --help" ;;
         lsp) options="--help" ;;
         help) _manifest_check_words "show canon lsp" && return ;;

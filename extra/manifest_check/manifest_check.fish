@@ -21,7 +21,7 @@ complete -c manifest_check -l config -r -F -n $no_command -d 'Read this configur
 complete -c manifest_check -l publish -n $no_command -d 'Say what a registry wants too'
 complete -c manifest_check -l max-size -x -n $no_command -d 'Read no file of more bytes'
 complete -c manifest_check -l format -x -n $no_command -a 'people short json github sarif' -d 'How diagnostics are written'
-complete -c manifest_check -l format -x -n $in_show -a 'people json' -d 'How it is written'
+complete -c manifest_check -l format -x -n $in_show -a 'people json html' -d 'How it is written'
 complete -c manifest_check -l color -x -n $no_command -a 'auto always never' -d 'When colours are used'
 complete -c manifest_check -l width -x -n $no_command -d 'How wide an excerpt may be'
 complete -c manifest_check -l deny -x -n $no_command -a 'all (__manifest_check_codes)' -d 'Take a code for an error'

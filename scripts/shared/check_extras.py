@@ -21,7 +21,7 @@ COMPLETED = [
     (["--format", "=", "s"], {"short", "sarif"}, True), (["--format", "="], {"people", "json"}, False),
     (["--color", "a"], {"auto", "always"}, True), (["--deny", "unknown-k"], {"unknown-key"}, True),
     (["--allow", "al"], {"all"}, True), (["--explain", "nests"], {"nests-too-deep"}, True),
-    (["show", "--format", ""], {"people", "json"}, True), (["show", "-"], {"--format", "--help"}, True),
+    (["show", "--format", ""], {"people", "json", "html"}, True), (["show", "-"], {"--format", "--help"}, True),
     (["canon", "--c"], {"--check"}, True), ([""], {"show", "canon", "lsp", "help", "Cargo.toml"}, False),
     (["--publish", "--no"], {"--no-workspace", "--no-config"}, True), (["Carg"], {"Cargo.toml"}, True),
 ]
