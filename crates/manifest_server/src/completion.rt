@@ -3,9 +3,12 @@
 
 use crate::forms::{Key, is_of_dependencies, key_at, keys_at, words_of};
 use crate::hover::value_at;
+use crate::session::Known;
 use crate::spots::ITEM;
+use crate::targets::{files_for, is_of_target};
 use manifest_json::{close, number_member, open, open_member, text_member};
 use std::alloc::{AllocError, Global};
+use std::rt::Files;
 use toml::{Table, Value};
 
 /// What kinds of things an editor offers: a key, a word, a module.
@@ -14,6 +17,8 @@ const KEY: usize = 10;
 const WORD: usize = 12;
 
 const MODULE: usize = 9;
+
+const FILE: usize = 17;
 
 /// Where in a text something is to be written, and what is known around it.
 #[derive(Drop)]
@@ -278,8 +283,28 @@ fn names_with<'a>(
     Ok(all)
 }
 
+/// Offers the files in which a target can be.
+fn push_files<H: Files + AllocGlobal + Clone + Drop>(
+    rt: &H,
+    body: &mut String,
+    manifest: &str,
+    names: &[&str],
+) -> Result<(), AllocError> {
+    for file in &files_for(rt, manifest, names)? {
+        push_item(body, file.as_str(), FILE, "", file.as_str())?;
+        close(body)?;
+    }
+    Ok(())
+}
+
 /// Offers what can stand within quotes.
-fn push_quoted(alloc: Global, body: &mut String, place: &Place<'_>) -> Result<(), AllocError> {
+fn push_quoted<H: Files + AllocGlobal + Clone + Drop>(
+    rt: &H,
+    body: &mut String,
+    manifest: &str,
+    place: &Place<'_>,
+) -> Result<(), AllocError> {
+    let alloc = rt.alloc();
     if place
         .names
         .first()
@@ -292,7 +317,11 @@ fn push_quoted(alloc: Global, body: &mut String, place: &Place<'_>) -> Result<()
     }
     let table = key_of_inline(place.front).unwrap_or("");
     let names = names_with(alloc, place.names.as_slice(), table)?;
-    push_words(body, names.as_slice(), last_key(place.front))
+    let key = last_key(place.front);
+    if key == "path" && is_of_target(names.as_slice()) {
+        return push_files(rt, body, manifest, names.as_slice());
+    }
+    push_words(body, names.as_slice(), key)
 }
 
 /// Offers keys.
@@ -324,18 +353,18 @@ fn push_unquoted(
     }
 }
 
-/// Offers what can be written at an offset. `root` is the document of the workspace's root.
-pub(crate) fn push_offers(
-    alloc: Global,
+/// Offers what can be written at an offset.
+pub(crate) fn push_offers<H: Files + AllocGlobal + Clone + Drop>(
+    rt: &H,
     body: &mut String,
-    text: &str,
-    root: Option<&Table>,
+    known: &Known<'_>,
     offset: usize,
 ) -> Result<(), AllocError> {
-    let place = place_at(alloc, text, offset)?;
+    let place = place_at(rt.alloc(), known.text, offset)?;
     if is_quoted(place.front) {
-        push_quoted(alloc, body, &place)
+        push_quoted(rt, body, known.manifest, &place)
     } else {
-        push_unquoted(alloc, body, &place, root)
+        let root = known.root.map(|root| &root.document.table);
+        push_unquoted(rt.alloc(), body, &place, root)
     }
 }

@@ -2,7 +2,8 @@
 
 use crate::forms::is_of_dependencies;
 use crate::hover::{inherited_at, value_at};
-use crate::spots::{ITEM, names_of, spot_at};
+use crate::session::Known;
+use crate::spots::{ITEM, names_of, spot_at, value_by};
 use manifest_places::{Span, Step, places_of};
 use manifest_surroundings::{MANIFEST, folder_of, join, resolved};
 use std::alloc::{AllocError, Global};
@@ -29,7 +30,11 @@ fn steps_of(alloc: Global, names: &[&str]) -> Result<Vec<Step>, AllocError> {
 }
 
 /// Where in a text the key or the header stands that belongs to a path of keys.
-fn standing(alloc: Global, text: &str, names: &[&str]) -> Result<Option<Span>, AllocError> {
+pub(crate) fn standing(
+    alloc: Global,
+    text: &str,
+    names: &[&str],
+) -> Result<Option<Span>, AllocError> {
     let Some(places) = places_of(alloc, text)? else {
         return Ok(None);
     };
@@ -99,54 +104,43 @@ fn of_path(
 /// What the text at an offset refers to.
 pub(crate) fn target_at(
     alloc: Global,
-    manifest: &str,
-    text: &str,
-    document: &Table,
-    root: Option<&str>,
+    known: &Known<'_>,
     offset: usize,
 ) -> Result<Option<Target>, AllocError> {
-    let Some(places) = places_of(alloc, text)? else {
+    let Some(places) = places_of(alloc, known.text)? else {
         return Ok(None);
     };
     let Some(spot) = spot_at(&places, offset) else {
         return Ok(None);
     };
     let names = names_of(alloc, spot.path)?;
-    if let (Some(path), Some(root)) = (inherited_at(alloc, document, names.as_slice())?, root) {
-        let found = standing(alloc, root, path.as_slice())?;
+    let path = inherited_at(alloc, known.document, names.as_slice())?;
+    if let (Some(path), Some(root)) = (path, known.root) {
+        let found = standing(alloc, root.document.text.as_str(), path.as_slice())?;
         return Ok(found.map(|span| Target::Root(span)));
     }
     if spot.is_header {
         return Ok(None);
     }
-    of_value(alloc, manifest, text, document, names.as_slice(), spot.path)
+    of_value(alloc, known, names.as_slice(), spot.path)
 }
 
 /// What the value at a path refers to.
 fn of_value(
     alloc: Global,
-    manifest: &str,
-    text: &str,
-    document: &Table,
+    known: &Known<'_>,
     names: &[&str],
     path: &[Step],
 ) -> Result<Option<Target>, AllocError> {
-    if let (["features", feature, item], Some(Step::Index(index))) = (names, path.last()) {
-        let is_item = *item == ITEM;
-        if let (true, Some(Value::Array(items))) = (
-            is_item,
-            value_at(document, &["features", *feature]),
-        ) {
-            if let Some(Value::String(name)) = items.get(*index) {
-                return of_feature(alloc, text, document, name.as_str());
-            }
-        }
+    let Some(Value::String(text)) = value_by(known.document, path) else {
         return Ok(None);
-    }
-    match (names.last(), value_at(document, names)) {
-        (Some(last), Some(Value::String(leads))) if *last == "path" => {
-            of_path(alloc, manifest, names, leads.as_str())
+    };
+    let text = text.as_str();
+    match names {
+        ["features", _feature, item] if *item == ITEM => {
+            of_feature(alloc, known.text, known.document, text)
         }
+        _ if names.last() == Some(&"path") => of_path(alloc, known.manifest, names, text),
         _ => Ok(None),
     }
 }

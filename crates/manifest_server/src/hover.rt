@@ -1,9 +1,14 @@
-//! What a key means, and what a value that is inherited is.
+//! What a key means, what a value that is inherited is, and what a target is built from.
 
+use crate::definition::standing;
 use crate::forms::{inherited_keys, is_of_dependencies, key_at};
+use crate::session::Known;
 use crate::spots::{ITEM, Spot, names_of, spot_at};
-use manifest_places::places_of;
+use crate::targets::{file_of, is_of_target};
+use manifest_places::{Span, Step, places_of, position_of};
+use manifest_surroundings::Reader;
 use std::alloc::{AllocError, Global};
+use std::rt::Files;
 use toml::{Table, Value};
 
 /// Where the reference of Cargo stands.
@@ -90,62 +95,111 @@ pub(crate) fn inherited_at<'a>(
     Ok(Some(path))
 }
 
-/// Writes what is inherited at a path.
+/// Writes what is inherited at a path, and where it stands.
 fn push_inherited(
     alloc: Global,
     out: &mut String,
-    document: &Table,
-    root: Option<&Table>,
+    known: &Known<'_>,
     names: &[&str],
 ) -> Result<(), AllocError> {
-    let (Some(path), Some(root)) = (inherited_at(alloc, document, names)?, root) else {
+    let (Some(path), Some(root)) = (inherited_at(alloc, known.document, names)?, known.root) else {
         return Ok(());
     };
-    let Some(value) = value_at(root, path.as_slice()) else {
+    let Some(value) = value_at(&root.document.table, path.as_slice()) else {
         return Ok(());
     };
-    if !out.is_empty() {
-        out.push_str("\n\n")?;
-    }
-    write!(out, "Inherited from the workspace: `{value}`")
+    begin_part(out)?;
+    write!(out, "Inherited from the workspace: `{value}`")?;
+    let text = root.document.text.as_str();
+    let found = standing(alloc, text, path.as_slice())?;
+    let Some(position) = found.and_then(|span| position_of(text, span.from)) else {
+        return Ok(());
+    };
+    let (line, file) = (position.line, root.path);
+    write!(out, " (line {line} of {file})")
 }
 
-/// What is known of a key or a value, and the names of its path; the empty text where nothing is.
-pub(crate) fn meaning_of(
-    alloc: Global,
-    document: &Table,
-    root: Option<&Table>,
+/// Begins a part of its own after what is written already.
+fn begin_part(out: &mut String) -> Result<(), AllocError> {
+    if out.is_empty() {
+        return Ok(());
+    }
+    out.push_str("\n\n")
+}
+
+/// The names of the table of a target that a path leads to or into, and its index in its list.
+fn target_in<'s, 'a>(names: &'s [&'a str], path: &[Step]) -> (&'s [&'a str], Option<usize>) {
+    let count = if names.get(1) == Some(&ITEM) { 2 } else { 1 };
+    let index = match path.get(1) {
+        Some(Step::Index(index)) => Some(*index),
+        _ => None,
+    };
+    (names.get(..count).unwrap_or(names), index)
+}
+
+/// Writes which file the target at a path is built from.
+fn push_file<H: Files + AllocGlobal>(
+    rt: &H,
+    reader: &Reader,
+    out: &mut String,
+    known: &Known<'_>,
+    names: &[&str],
+    path: &[Step],
+) -> Result<(), AllocError> {
+    let (table, index) = target_in(names, path);
+    if !is_of_target(table) {
+        return Ok(());
+    }
+    let file = file_of(rt, reader, known.manifest, known.document, table, index)?;
+    begin_part(out)?;
+    match &file {
+        Some(file) => write!(out, "Built from `{file}`"),
+        None => out.push_str("No file of this target is there"),
+    }
+}
+
+/// What is known of a key or a value; the empty text where nothing is.
+fn meaning_of<H: Files + AllocGlobal>(
+    rt: &H,
+    reader: &Reader,
+    known: &Known<'_>,
     spot: &Spot<'_>,
 ) -> Result<String, AllocError> {
+    let alloc = rt.alloc();
     let mut out = String::new(alloc);
     let mut names = names_of(alloc, spot.path)?;
+    push_file(rt, reader, &mut out, known, names.as_slice(), spot.path)?;
     // (of an item of a list the list is meant, and not of a list of tables)
     if names.len() > 2 && names.last() == Some(&ITEM) {
         let _item = names.pop();
     }
-    push_meaning(&mut out, names.as_slice())?;
-    push_inherited(alloc, &mut out, document, root, names.as_slice())?;
-    Ok(out)
+    let mut meaning = String::new(alloc);
+    push_meaning(&mut meaning, names.as_slice())?;
+    push_inherited(alloc, &mut meaning, known, names.as_slice())?;
+    if !meaning.is_empty() {
+        begin_part(&mut meaning)?;
+    }
+    meaning.push_str(out.as_str())?;
+    Ok(meaning)
 }
 
-/// Runs over what stands at an offset of a text.
-pub(crate) fn meaning_at(
-    alloc: Global,
-    text: &str,
-    document: &Table,
-    root: Option<&Table>,
+/// What is known of what stands at an offset, and the range that it is about.
+pub(crate) fn meaning_at<H: Files + AllocGlobal>(
+    rt: &H,
+    reader: &Reader,
+    known: &Known<'_>,
     offset: usize,
-) -> Result<Option<(String, usize, usize)>, AllocError> {
-    let Some(places) = places_of(alloc, text)? else {
+) -> Result<Option<(String, Span)>, AllocError> {
+    let Some(places) = places_of(rt.alloc(), known.text)? else {
         return Ok(None);
     };
     match spot_at(&places, offset) {
         Some(spot) => {
-            let meaning = meaning_of(alloc, document, root, &spot)?;
+            let meaning = meaning_of(rt, reader, known, &spot)?;
             Ok(if meaning.is_empty() {
                 None
             } else {
-                Some((meaning, spot.span.from, spot.span.to))
+                Some((meaning, spot.span))
             })
         }
         None => Ok(None),

@@ -20,6 +20,7 @@ mod session;
 mod spots;
 mod symbols;
 mod table_keys;
+mod targets;
 mod uris;
 mod uses;
 

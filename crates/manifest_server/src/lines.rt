@@ -54,14 +54,22 @@ fn bytes_within(line: &str, most: usize, units: Units) -> usize {
     bytes
 }
 
-/// The line that begins at an offset, without its end.
+/// The line that begins at an offset, up to its line feed.
 fn line_from(text: &str, start: usize) -> &str {
     let rest = text.get(start..).unwrap_or("");
-    let line = match rest.split_once('\n') {
+    match rest.split_once('\n') {
         Some((line, _rest)) => line,
         None => rest,
-    };
-    line.strip_suffix('\r').unwrap_or(line)
+    }
+}
+
+/// The bytes of a line that stand before a point in it. Beyond the line is its end, which is before a carriage return.
+fn bytes_before(line: &str, count: usize, units: Units) -> usize {
+    if count > width(line, units) {
+        line.strip_suffix('\r').unwrap_or(line).len()
+    } else {
+        bytes_within(line, count, units)
+    }
 }
 
 impl Lines {
@@ -96,7 +104,7 @@ impl Lines {
         match self.starts.get(point.line) {
             Some(start) => {
                 let line = line_from(text, *start);
-                start.saturating_add(bytes_within(line, point.units, units))
+                start.saturating_add(bytes_before(line, point.units, units))
             }
             None => text.len(),
         }

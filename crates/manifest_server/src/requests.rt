@@ -11,7 +11,7 @@ use crate::reports::{
     View, push_action, push_changes, push_diagnostics, push_range, push_rewriting, raw_member,
     span_of,
 };
-use crate::session::{Checked, Session, Stage, is_manifest, point_at};
+use crate::session::{Checked, Known, Session, Stage, is_manifest, point_at};
 use crate::spots::spot_at;
 use crate::symbols::push_symbols;
 use crate::uris::uri_of;
@@ -144,11 +144,11 @@ fn push_uses(
 /// cannot have that name.
 fn renamed(
     alloc: Global,
-    text: &str,
-    document: &Table,
+    known: &Known<'_>,
     offset: usize,
     name: &str,
 ) -> Result<Option<Edited>, AllocError> {
+    let (text, document) = (known.text, known.document);
     let Some(places) = places_of(alloc, text)? else {
         return Ok(None);
     };
@@ -366,17 +366,23 @@ impl Session {
         checked: &Checked,
     ) -> Result<(), AllocError> {
         let point = point_at(params, "/range/start/line", "/range/start/character");
-        let (Some(own), Some(root), Some(point)) = (
-            self.document(checked),
-            self.root_document(checked),
-            point,
-        ) else {
+        let (Some(known), Some(point)) = (self.known(path, checked), point) else {
+            return Ok(());
+        };
+        let Some(root) = known.root else {
             return Ok(());
         };
         let lines = self.lines_of(alloc, path, checked)?;
         let views = self.views(path, checked, &lines);
         let offset = lines.own.offset(views.own.text, point, self.units);
-        push_moves(alloc, body, &views, &own.table, &root.table, offset)
+        push_moves(
+            alloc,
+            body,
+            &views,
+            known.document,
+            &root.document.table,
+            offset,
+        )
     }
 
     /// Writes the action that makes all suggestions which are certain, where there are some.
@@ -475,13 +481,11 @@ impl Session {
         let Some((path, checked, offset)) = self.position(rt, params)? else {
             return null_member(body, "result");
         };
-        let text = self.text(path.as_str());
-        let (Some(own), root) = (self.document(&checked), self.root_document(&checked)) else {
+        let Some(known) = self.known(path.as_str(), &checked) else {
             return null_member(body, "result");
         };
-        let root = root.map(|root| &root.table);
-        match meaning_at(alloc, text, &own.table, root, offset)? {
-            Some((meaning, from, to)) => {
+        match meaning_at(rt, &self.state.reader, &known, offset)? {
+            Some((meaning, span)) => {
                 let lines = self.lines_of(alloc, path.as_str(), &checked)?;
                 let views = self.views(path.as_str(), &checked, &lines);
                 open_member(body, "result")?;
@@ -489,7 +493,7 @@ impl Session {
                 text_member(body, "kind", "markdown")?;
                 text_member(body, "value", meaning.as_str())?;
                 close(body)?;
-                push_range(body, &views.own, Span { from, to })?;
+                push_range(body, &views.own, span)?;
                 close(body)
             }
             None => null_member(body, "result"),
@@ -507,12 +511,10 @@ impl Session {
         let Some((path, checked, offset)) = self.position(rt, params)? else {
             return null_member(body, "result");
         };
-        let text = self.text(path.as_str());
-        let (Some(own), root) = (self.document(&checked), self.root_document(&checked)) else {
+        let Some(known) = self.known(path.as_str(), &checked) else {
             return null_member(body, "result");
         };
-        let root = root.map(|root| root.text.as_str());
-        let found = target_at(alloc, path.as_str(), text, &own.table, root, offset)?;
+        let found = target_at(alloc, &known, offset)?;
         let lines = self.lines_of(alloc, path.as_str(), &checked)?;
         let views = self.views(path.as_str(), &checked, &lines);
         match (found, views.root) {
@@ -533,10 +535,10 @@ impl Session {
         let alloc = rt.alloc();
         open_list(body, "result")?;
         if let Some((path, checked, offset)) = self.position(rt, params)? {
-            if let Some(own) = self.document(&checked) {
+            if let Some(known) = self.known(path.as_str(), &checked) {
                 let lines = self.lines_of(alloc, path.as_str(), &checked)?;
                 let views = self.views(path.as_str(), &checked, &lines);
-                push_uses(alloc, body, &views.own, &own.table, offset)?;
+                push_uses(alloc, body, &views.own, known.document, offset)?;
             }
         }
         close_list(body)
@@ -556,12 +558,12 @@ impl Session {
         ) else {
             return null_member(body, "result");
         };
-        let Some(own) = self.document(&checked) else {
+        let Some(known) = self.known(path.as_str(), &checked) else {
             return null_member(body, "result");
         };
         let lines = self.lines_of(alloc, path.as_str(), &checked)?;
         let views = self.views(path.as_str(), &checked, &lines);
-        match renamed(alloc, views.own.text, &own.table, offset, name)? {
+        match renamed(alloc, &known, offset, name)? {
             Some(edited) => {
                 open_member(body, "result")?;
                 push_changes(body, &views.own, edited.replaced.as_slice())?;
@@ -578,11 +580,11 @@ impl Session {
         params: &Value,
         body: &mut String,
     ) -> Result<(), AllocError> {
-        let alloc = rt.alloc();
         open_list(body, "result")?;
         if let Some((path, checked, offset)) = self.position(rt, params)? {
-            let root = self.root_document(&checked).map(|root| &root.table);
-            push_offers(alloc, body, self.text(path.as_str()), root, offset)?;
+            if let Some(known) = self.known(path.as_str(), &checked) {
+                push_offers(rt, body, &known, offset)?;
+            }
         }
         close_list(body)
     }

@@ -51,6 +51,23 @@ pub(crate) struct Checked {
     pub(crate) found: Vec<Diagnostic>,
 }
 
+/// The root of a workspace, and the path of its manifest.
+#[derive(Clone, Copy)]
+pub(crate) struct KnownRoot<'a> {
+    pub(crate) path: &'a str,
+    pub(crate) document: &'a Document,
+}
+
+/// A manifest with its path, its text and its document, which is empty where the text is not one, and the root of its
+/// workspace: of a root it is itself.
+#[derive(Clone, Copy)]
+pub(crate) struct Known<'a> {
+    pub(crate) manifest: &'a str,
+    pub(crate) text: &'a str,
+    pub(crate) document: &'a Table,
+    pub(crate) root: Option<KnownRoot<'a>>,
+}
+
 /// Where lines begin, of a text and of that of its root, whose URI is with it.
 #[derive(Drop)]
 pub(crate) struct AllLines {
@@ -266,18 +283,29 @@ impl Session {
         Ok(Some(place(rt, &self.scope, &mut self.state, path, read)?))
     }
 
-    /// The document of what was checked.
-    pub(crate) fn document<'a>(&'a self, checked: &'a Checked) -> Option<&'a Document> {
-        checked.placed.as_ref()?.document(&self.state)
-    }
-
-    /// The document of the root of what was checked: of a root itself it is its own.
-    pub(crate) fn root_document<'a>(&'a self, checked: &'a Checked) -> Option<&'a Document> {
+    /// The root of what was checked, at this path.
+    fn known_root<'a>(&'a self, path: &'a str, checked: &'a Checked) -> Option<KnownRoot<'a>> {
         let placed = checked.placed.as_ref()?;
         if placed.is_root() {
-            return placed.document(&self.state);
+            let document = placed.document(&self.state)?;
+            return Some(KnownRoot { path, document });
         }
-        Some(&placed.other_root(&self.state)?.document)
+        let root = placed.other_root(&self.state)?;
+        Some(KnownRoot {
+            path: root.path.as_str(),
+            document: &root.document,
+        })
+    }
+
+    /// What is known of what was checked, at this path.
+    pub(crate) fn known<'a>(&'a self, path: &'a str, checked: &'a Checked) -> Option<Known<'a>> {
+        let document = checked.placed.as_ref()?.document(&self.state)?;
+        Some(Known {
+            manifest: path,
+            text: self.text(path),
+            document: &document.table,
+            root: self.known_root(path, checked),
+        })
     }
 
     /// The lines of a text that was checked, and of its root.

@@ -2,6 +2,7 @@
 
 use manifest_places::{Place, Places, Span, Step};
 use std::alloc::{AllocError, Global};
+use toml::{Table, Value};
 
 /// What stands for an index in the names of a path.
 pub(crate) const ITEM: &str = "#";
@@ -61,6 +62,23 @@ pub(crate) fn spot_at<'a>(places: &'a Places, offset: usize) -> Option<Spot<'a>>
         }
     }
     found
+}
+
+/// What stands at a path of a document.
+pub(crate) fn value_by<'a>(document: &'a Table, path: &[Step]) -> Option<&'a Value> {
+    let (first, rest) = path.split_first()?;
+    let mut value = match first {
+        Step::Key(key) => document.get(key.as_str())?,
+        Step::Index(_) => return None,
+    };
+    for step in rest {
+        value = match (step, value) {
+            (Step::Key(key), Value::Table(table)) => table.get(key.as_str())?,
+            (Step::Index(index), Value::Array(items)) => items.get(*index)?,
+            _ => return None,
+        };
+    }
+    Some(value)
 }
 
 /// The names of a path, with a mark for each index.

@@ -2,7 +2,7 @@
 
 use crate::forms::is_of_dependencies;
 use crate::hover::value_at;
-use crate::spots::{ITEM, names_of};
+use crate::spots::{ITEM, names_of, value_by};
 use manifest_places::{Edit, Places, Span, Step};
 use std::alloc::{AllocError, Global};
 use toml::{Table, Value};
@@ -61,18 +61,6 @@ fn named_by<'a>(document: &Table, item: &'a str) -> Named<'a> {
     }
 }
 
-/// The text at a path that ends with an index.
-fn item_at<'a>(document: &'a Table, names: &[&str], path: &[Step]) -> Option<&'a str> {
-    let (_item, list) = names.split_last()?;
-    let Step::Index(index) = path.last()? else {
-        return None;
-    };
-    match value_at(document, list)? {
-        Value::Array(items) => items.get(*index)?.as_str(),
-        _ => None,
-    }
-}
-
 /// The feature or the dependency that stands at a path.
 pub(crate) fn named_at<'a>(
     alloc: Global,
@@ -82,9 +70,9 @@ pub(crate) fn named_at<'a>(
     let names = names_of(alloc, path)?;
     let found = match names.as_slice() {
         ["features", _feature, item] if *item == ITEM => {
-            match item_at(document, names.as_slice(), path) {
-                Some(item) => Some(named_by(document, item)),
-                None => None,
+            match value_by(document, path) {
+                Some(Value::String(item)) => Some(named_by(document, item.as_str())),
+                _ => None,
             }
         }
         ["features", name] => Some(Named {

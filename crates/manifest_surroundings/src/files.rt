@@ -111,7 +111,7 @@ impl Reader {
     }
 
     /// Whether a path leads to a file, or to a text in the place of one.
-    pub(crate) fn is_file<H: Files>(&self, rt: &H, path: &str) -> bool {
+    pub fn is_file<H: Files>(&self, rt: &H, path: &str) -> bool {
         self.texts.contains_key(path) || is_file(rt, path)
     }
 }
@@ -230,7 +230,7 @@ pub fn replace_file<H: Files + AllocGlobal>(
 }
 
 /// The names in a folder; one that is not UTF-8 is left out.
-pub(crate) fn names_in<H: Files + AllocGlobal + Clone + Drop>(
+pub fn names_in<H: Files + AllocGlobal + Clone + Drop>(
     rt: &H,
     folder: &str,
 ) -> io::Result<Vec<String>> {

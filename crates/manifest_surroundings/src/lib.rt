@@ -17,7 +17,9 @@ mod roots;
 mod scope;
 mod tables;
 
-pub use files::{NotReplaced, Reader, Unread, Unreadable, is_folder, read_limited, replace_file};
+pub use files::{
+    NotReplaced, Reader, Unread, Unreadable, is_folder, names_in, read_limited, replace_file,
+};
 pub use fixing::{Fixed, with_fixes};
 pub use judging::{Placed, State, judge, place};
 pub use levels::{SETTINGS, Setting};
