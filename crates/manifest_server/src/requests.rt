@@ -520,6 +520,8 @@ impl Session {
         match (found, views.root) {
             (Some(Target::Own(span)), _) => push_location(body, &views.own, span),
             (Some(Target::Root(span)), Some(root)) => push_location(body, &root, span),
+            // (a root inherits from itself)
+            (Some(Target::Root(span)), None) => push_location(body, &views.own, span),
             (Some(Target::File(file)), _) => push_file(alloc, body, file.as_str()),
             _ => null_member(body, "result"),
         }
