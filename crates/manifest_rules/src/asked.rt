@@ -130,13 +130,12 @@ fn add_paths<'a>(
     section: &DependencyTable<'a>,
     paths: &mut BTreeSet<&'a str>,
 ) -> Result<(), AllocError> {
-    for (_name, dependency) in section.table {
-        if section.inherits(dependency) {
-            continue;
-        }
+    for (name, dependency) in section.table {
         if let Value::Table(table) = dependency {
             if let Some(path) = text_in(table, "path") {
-                let _is_new = paths.insert(path)?;
+                if !section.inherits(name.as_str()) {
+                    let _is_new = paths.insert(path)?;
+                }
             }
         }
     }

@@ -109,25 +109,6 @@ pub(crate) fn quoted(alloc: Global, text: &str) -> Result<String, AllocError> {
     format!(in alloc; "{value}")
 }
 
-/// The first of the words, with the others in the place of each `{}` in it, one after another.
-fn filled(alloc: Global, words: &[&str]) -> Result<String, AllocError> {
-    let mut text = String::new(alloc);
-    let Some((first, others)) = words.split_first() else {
-        return Ok(text);
-    };
-    let mut rest = *first;
-    for word in others {
-        let Some((before, after)) = rest.split_once("{}") else {
-            break;
-        };
-        text.push_str(before)?;
-        text.push_str(*word)?;
-        rest = after;
-    }
-    text.push_str(rest)?;
-    Ok(text)
-}
-
 /// The same steps, in memory of their own.
 pub fn copied(alloc: Global, path: &[Step]) -> Result<Vec<Step>, AllocError>
     ensures { IfOk result (λ steps. map step_of steps.items ≡ map step_of path.now) }
@@ -258,8 +239,7 @@ impl Out {
         Ok(nearest.found())
     }
 
-    /// Says this, in these words, of a part of what stands at a path: the first is the message, and the others stand in
-    /// the place of each `{}` in it.
+    /// Says this, in these words, of a part of what stands at a path.
     pub(crate) fn say(
         &mut self,
         code: Code,
@@ -317,7 +297,7 @@ impl Out {
     }
 
     fn say_at(&mut self, code: Code, spot: Spot, words: &[&str]) -> Result<(), AllocError> {
-        let message = filled(self.alloc, words)?;
+        let message = words.concat(self.alloc)?;
         self.tell(Report::new(self.alloc, code, spot, message))
     }
 
@@ -330,7 +310,7 @@ impl Out {
 
     /// Of what was said last: one more note.
     pub(crate) fn note(&mut self, words: &[&str]) -> Result<(), AllocError> {
-        let note = filled(self.alloc, words)?;
+        let note = words.concat(self.alloc)?;
         if let Some(last) = self.reports.last_mut() {
             last.notes.push(note)?;
         }
@@ -347,7 +327,7 @@ impl Out {
         words: &[&str],
     ) -> Result<(), AllocError> {
         let spot = Spot::Path(steps(self.alloc, base, rest)?, part);
-        let text = filled(self.alloc, words)?;
+        let text = words.concat(self.alloc)?;
         if let Some(last) = self.reports.last_mut() {
             last.labels.push(Label { file, spot, text })?;
         }
@@ -383,7 +363,7 @@ impl Out {
         words: &[&str],
     ) -> Result<(), AllocError> {
         let path = steps(self.alloc, base, rest)?;
-        let edit = Edit::Set(path, filled(self.alloc, value)?);
+        let edit = Edit::Set(path, value.concat(self.alloc)?);
         self.suggest_edit(edit, is_certain, words)
     }
 
@@ -444,7 +424,7 @@ impl Out {
         is_certain: bool,
         words: &[&str],
     ) -> Result<(), AllocError> {
-        let text = filled(self.alloc, words)?;
+        let text = words.concat(self.alloc)?;
         let suggestion = Suggestion {
             text,
             edits,

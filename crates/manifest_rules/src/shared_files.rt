@@ -88,8 +88,9 @@ fn shared_file(
 ) -> Result<(), AllocError> {
     let rest = [At::Key("path")];
     let words = [
-        "file `{}` found to be present in multiple build targets",
+        "file `",
         path,
+        "` found to be present in multiple build targets",
     ];
     out.value(SHARED_TARGET_FILE, target.path.as_slice(), &rest, &words)?;
     match first {

@@ -98,8 +98,9 @@ fn say_reserved(
     out: &mut Out,
 ) -> Result<(), AllocError> {
     let words = [
-        "the binary target name `{}` is forbidden, it conflicts with cargo's build directory names",
+        "the binary target name `",
         name,
+        "` is forbidden, it conflicts with cargo's build directory names",
     ];
     out.say(RESERVED_BINARY_NAME, part, base, rest, &words)
 }
@@ -154,10 +155,13 @@ fn say_repeated(
 ) -> Result<(), AllocError> {
     let of_kind = kind.words();
     let words = [
-        "found duplicate {} name {}, but all {} targets must have a unique name",
+        "found duplicate ",
         of_kind,
+        " name ",
         name,
+        ", but all ",
         of_kind,
+        " targets must have a unique name",
     ];
     out.say(REPEATED_TARGET_NAME, part, base, rest, &words)
 }
@@ -205,14 +209,16 @@ fn target_path(
         FileState::Folder => {
             let of_kind = target.kind.words();
             let words = [
-                "path `{}` for the {} is a directory, but a source file was expected",
+                "path `",
                 path,
+                "` for the ",
                 of_kind,
+                " is a directory, but a source file was expected",
             ];
             out.value(WRONG_TARGET_PATH, base, &rest, &words)
         }
         FileState::Absent => {
-            let words = ["couldn't read `{}`: there is no such file", path];
+            let words = ["couldn't read `", path, "`: there is no such file"];
             out.value(WRONG_TARGET_PATH, base, &rest, &words)
         }
     }
@@ -234,8 +240,9 @@ fn library_file(
         return Ok(());
     }
     let words = [
-        "can't find library `{}`, rename file to `src/lib.rs` or specify lib.path",
+        "can't find library `",
         name,
+        "`, rename file to `src/lib.rs` or specify lib.path",
     ];
     out.header(MISSING_TARGET_FILE, target.path.as_slice(), &[], &words)
 }
@@ -259,14 +266,21 @@ fn missing_file(
     let of_kind = target.kind.words();
     let key = target.kind.path_key();
     let words = [
-        "can't find `{}` {} at `{}/{}.rs` or `{}/{}/main.rs`. Please specify {} if you want to use a non-default path.",
+        "can't find `",
         name,
+        "` ",
         of_kind,
+        " at `",
         folder,
+        "/",
         name,
+        ".rs` or `",
         folder,
+        "/",
         name,
+        "/main.rs`. Please specify ",
         key,
+        " if you want to use a non-default path.",
     ];
     out.header(MISSING_TARGET_FILE, target.path.as_slice(), &[], &words)
 }
@@ -291,10 +305,13 @@ fn ambiguous_file(
     let of_kind = target.kind.words();
     let key = target.kind.path_key();
     let words = [
-        "cannot infer path for `{}` {}: several files fit, so `{}` has to say which",
+        "cannot infer path for `",
         name,
+        "` ",
         of_kind,
+        ": several files fit, so `",
         key,
+        "` has to say which",
     ];
     out.header(AMBIGUOUS_TARGET_FILE, target.path.as_slice(), &[], &words)
 }
@@ -335,7 +352,7 @@ fn reserved_file(look: &Look<'_>, file: &FoundFile, out: &mut Out) -> Result<(),
     } else {
         say_reserved(Part::Header, &package, &[], name, out)?;
     }
-    out.note(&["it is that of `{}`", path])
+    out.note(&["it is that of `", path, "`"])
 }
 
 fn repeated_file<'a>(
@@ -347,7 +364,13 @@ fn repeated_file<'a>(
 ) -> Result<(), AllocError> {
     let package = [At::Key(look.package_key)];
     say_repeated(Part::Header, &package, &[], kind, file.name.as_str(), out)?;
-    out.note(&["`{}` and `{}` are both found", first, file.path.as_str()])
+    out.note(&[
+        "`",
+        first,
+        "` and `",
+        file.path.as_str(),
+        "` are both found",
+    ])
 }
 
 /// In the edition 2015 files are not found where targets of their kind are declared, unless the package says so.
@@ -372,10 +395,13 @@ fn undeclared_files(
 fn undeclared_file(kind: Kind, path: &str, out: &mut Out) -> Result<(), AllocError> {
     let of_kind = kind.words();
     let words = [
-        "an explicit {} section is specified in Cargo.toml which currently disables Cargo from automatically inferring other {} targets, as `{}`",
+        "an explicit ",
         of_kind,
+        " section is specified in Cargo.toml which currently disables Cargo from automatically inferring other ",
         of_kind,
+        " targets, as `",
         path,
+        "`",
     ];
     let first = [At::Key(kind.key()), At::Index(0)];
     out.header(UNDECLARED_TARGET_FILES, &first, &[], &words)
@@ -444,10 +470,10 @@ fn say_unknown_default_run(
     out: &mut Out,
 ) -> Result<(), AllocError> {
     let path = [At::Key(package), At::Key("default-run")];
-    let words = ["default-run target `{}` not found", name];
+    let words = ["default-run target `", name, "` not found"];
     out.value(UNKNOWN_DEFAULT_RUN, &path, &[], &words)?;
     match near {
-        Some(word) => out.help(&["a target with a similar name exists: `{}`", word]),
+        Some(word) => out.help(&["a target with a similar name exists: `", word, "`"]),
         None => Ok(()),
     }
 }
