@@ -6,22 +6,27 @@ from .repository import TOP
 
 FOLDER = TOP / "tests" / "checks"
 MOMENTS = ("read", "build", "warn", "pack", "host", "none")
+# what a line of the text of a diagnostic begins with
+TEXT = "    "
 DIAGNOSTIC = re.compile(
     r"(?:(?P<file>.+): )?(?P<code>[a-z0-9-]+) (?P<line>\d+):(?P<column>\d+|\*)(?: (?P<level>error|warning|note))?"
 )
 
 
 class Told(NamedTuple):
-    """A diagnostic: the file, the line and the column from 1 on, the code, and the level. A column of 0 is any one."""
+    """A diagnostic: the file, the line and the column from 1 on, the code, the level, and the lines of its text where they are
+    asked for. A column of 0 is any one."""
 
     file: str
     line: int
     column: int
     code: str
     level: str
+    text: tuple = ()
 
     def __str__(self):
-        return f"{self.file}:{self.line}:{self.column or '*'}: {self.level}[{self.code}]"
+        head = f"{self.file}:{self.line}:{self.column or '*'}: {self.level}[{self.code}]"
+        return "\n".join((head, *(TEXT + line for line in self.text)))
 
 
 class Case(NamedTuple):
@@ -55,6 +60,17 @@ def diagnostic_of(line, codes, manifest):
     return Told(found["file"] or manifest, int(found["line"]), column, found["code"], level)
 
 
+def expected_diagnostics(lines, codes, manifest):
+    """The diagnostics of the part `expected`, in their order: of each its line, and below it the lines of its text."""
+    expected = []
+    for line in lines:
+        if line.startswith(TEXT) and expected:
+            expected[-1] = expected[-1]._replace(text=(*expected[-1].text, line.removeprefix(TEXT)))
+        elif line:
+            expected.append(diagnostic_of(line, codes, manifest))
+    return expected
+
+
 def parts_of(lines):
     """The parts of a case, each by the line that begins it, and its lines."""
     parts = [("", [])]
@@ -86,7 +102,7 @@ def case_of(place, name, lines, codes):
     code, options = about.pop("code"), tuple(about.pop("options", "").split())
     if about or moment not in MOMENTS or code not in codes or not parts or parts[-1][0] != "expected":
         raise ValueError(f"{place}: {name}: the lines are not those of a case: {about or moment or code}")
-    expected = tuple(sorted(diagnostic_of(line, codes, manifest) for line in parts[-1][1] if line))
+    expected = tuple(sorted(expected_diagnostics(parts[-1][1], codes, manifest)))
     return Case(place, name, code, moment, folder, tuple(words), options, files, expected)
 
 
@@ -105,3 +121,25 @@ def cases_of(file, codes):
 def all_cases(codes):
     """All cases, in the order of the files."""
     return [case for file in sorted(FOLDER.glob("*.cases")) for case in cases_of(file, codes)]
+
+
+def write_texts(file, codes, told_of):
+    """Writes below each expected diagnostic of a file the lines of the text that it is reported with, if it is: `told_of` has
+    what is reported of each case, by the place of the case."""
+    written, told, is_expected, manifest = [], [], False, ""
+    for number, line in enumerate(file.read_text(encoding="utf-8").split("\n"), 1):
+        if line.startswith("=== "):
+            told, is_expected, manifest = list(told_of[f"{file.name}:{number}"]), False, ""
+        elif line.startswith("--- "):
+            is_expected = line == "--- expected"
+            manifest = manifest or (line[4:].partition(", ")[0] if "Cargo.toml" in line else "")
+        elif is_expected and line.startswith(TEXT):
+            continue
+        written.append(line)
+        if is_expected and line and line != "--- expected":
+            wanted = diagnostic_of(line, codes, manifest)
+            found = next((each for each in told if each._replace(text=(), column=wanted.column and each.column) == wanted), None)
+            if found is not None:
+                told.remove(found)
+                written += [TEXT + each for each in found.text]
+    file.write_text("\n".join(written), encoding="utf-8")

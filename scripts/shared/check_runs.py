@@ -1,4 +1,5 @@
 """Runs of the program manifest_check over folders, and what it reports in them."""
+import json
 import os
 import re
 import subprocess
@@ -33,14 +34,52 @@ def told_by_line(line, folder):
     return Told(file, int(found["line"]), int(found["column"]), found["code"], found["level"])
 
 
-def told_in(program, folder, options=()):
-    """What the program reports of each Cargo.toml below a folder: a list of diagnostics by their files."""
-    words = [os.fspath(program), "--format", "short", *options, os.fspath(folder)]
+def printable(text):
+    """A text in which characters that are not printed are written as escapes."""
+    return "".join(each if each.isprintable() else json.dumps(each)[1:-1] for each in text)
+
+
+def place_of(span, folder):
+    """The place of a span of a diagnostic in JSON, with its file as a path in a folder."""
+    return f"{os.path.relpath(span['file_name'], folder)} {span['line_start']}:{span['column_start']}"
+
+
+def text_of(diagnostic, folder):
+    """The lines of the text of a diagnostic in JSON: its message, its labels, and its notes with the texts that they suggest."""
+    lines = [diagnostic["message"]]
+    for span in diagnostic["spans"]:
+        if span["label"] is not None or not span["is_primary"]:
+            lines.append(f"{place_of(span, folder)}: {span['label'] or ''}")
+    for note in diagnostic["children"]:
+        lines.append(f"{note['level']}: {note['message']}")
+        for span in note["spans"]:
+            how = "certainly" if span["suggestion_applicability"] == "MachineApplicable" else "perhaps"
+            end = f"{span['line_end']}:{span['column_end']}"
+            lines.append(f"{place_of(span, folder)} to {end}, {how}: {json.dumps(span['suggested_replacement'], ensure_ascii=False)}")
+    return tuple(printable(line.replace(f"{folder}/", "")) for line in lines)
+
+
+def told_by_json(line, folder):
+    """The diagnostic of a line of JSON, with its text."""
+    read = json.loads(line)
+    primary = next((span for span in read["spans"] if span["is_primary"]), None)
+    if primary is None:
+        raise Broken(f"{line!r} has no primary place")
+    file = os.path.relpath(primary["file_name"], folder)
+    place = file, primary["line_start"], primary["column_start"]
+    return Told(*place, read["code"]["code"], read["level"], text_of(read, folder))
+
+
+def told_in(program, folder, options=(), form="short"):
+    """What the program reports of each Cargo.toml below a folder: a list of diagnostics by their files, with their texts in the
+    format `json`, without them in the format `short`."""
+    words = [os.fspath(program), "--format", form, *options, os.fspath(folder)]
     try:
         done = subprocess.run(words, capture_output=True, timeout=SECONDS)
     except subprocess.TimeoutExpired:
         raise Broken(f"{' '.join(words)} does not end") from None
-    told = [told_by_line(line, folder) for line in done.stdout.decode("utf-8").splitlines()]
+    told_by = told_by_json if form == "json" else told_by_line
+    told = [told_by(line, folder) for line in done.stdout.decode("utf-8").split("\n") if line]
     due = int(any(each.level == "error" for each in told))
     if done.returncode != due:
         raise Broken(f"{' '.join(words)} has the status {done.returncode}, where {due} is due: {done.stderr[-500:]!r}")
@@ -50,24 +89,24 @@ def told_in(program, folder, options=()):
     return by_file
 
 
-def told_of_each(program, folder, names, options=()):
+def told_of_each(program, folder, names, options=(), form="short"):
     """What the program reports in each of these folders of a folder, as by folder and file: by one run over all of them or,
     where that is broken, by one run for each."""
     try:
-        by_file = told_in(program, folder, options)
+        by_file = told_in(program, folder, options, form)
     except Broken:
-        return {name: told_alone(program, Path(folder) / name, options) for name in names}
+        return {name: told_alone(program, Path(folder) / name, options, form) for name in names}
     told = {name: [] for name in names}
     for file, found in by_file.items():
         name, _, rest = file.partition("/")
-        told[name] += [each._replace(file=rest) for each in found]
+        told[name] += [each._replace(file=rest, text=tuple(line.removeprefix(f"{name}/") for line in each.text)) for each in found]
     return told
 
 
-def told_alone(program, folder, options):
+def told_alone(program, folder, options, form="short"):
     """What the program reports in one folder, or why that is no answer."""
     try:
-        return [each for found in told_in(program, folder, options).values() for each in found]
+        return [each for found in told_in(program, folder, options, form).values() for each in found]
     except Broken as fault:
         return fault
 

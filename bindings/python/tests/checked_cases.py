@@ -22,13 +22,14 @@ EXPECTED = re.compile(r"(?:(.+): )?([a-z0-9-]+) (\d+):(\d+|\*)(?: (error|warning
 
 
 class Told(NamedTuple):
-    """A diagnostic: its file, its line and column from 1 on (a column of 0 is any one), its code and its level."""
+    """A diagnostic: its file, its line and column from 1 on (a column of 0 is any one), its code, its level and its message."""
 
     file: str
     line: int
     column: int
     code: str
     level: str
+    message: str
 
 
 class Case(NamedTuple):
@@ -50,7 +51,18 @@ def _told_of(line: str, manifest: str, levels: dict[str, str]) -> Told:
     found = EXPECTED.fullmatch(line)
     assert found is not None, line
     file, code, number, column, level = found.groups()
-    return Told(file or manifest, int(number), 0 if column == "*" else int(column), code, level or levels[code])
+    return Told(file or manifest, int(number), 0 if column == "*" else int(column), code, level or levels[code], "")
+
+
+def _expected_diagnostics(text: str, manifest: str, levels: dict[str, str]) -> list[Told]:
+    """The diagnostics of the part `expected`. Below each stands its text, whose first line is its message."""
+    expected: list[Told] = []
+    for line in filter(None, text.split("\n")):
+        if not line.startswith("    "):
+            expected.append(_told_of(line, manifest, levels))
+        elif not expected[-1].message:
+            expected[-1] = expected[-1]._replace(message=line[4:])
+    return sorted(expected)
 
 
 def _case_of(file: str, block: str, levels: dict[str, str]) -> Case:
@@ -62,7 +74,7 @@ def _case_of(file: str, block: str, levels: dict[str, str]) -> Case:
         name, end, text = part.partition("\n")
         if name == "expected":
             manifest = next(path for path in files if path.endswith(MANIFEST))
-            expected = sorted(_told_of(line, manifest, levels) for line in text.split("\n") if line)
+            expected = _expected_diagnostics(text, manifest, levels)
         elif name.endswith(", escaped"):
             held = text.encode("ascii").decode("unicode_escape").encode("latin-1")
             files[name[: -len(", escaped")]] = held
@@ -235,9 +247,10 @@ class Tree:
     def told(self) -> list[Told]:
         """What is wrong with each manifest of the case."""
         return [
-            Told(name, each.line or 1, each.column or 1, each.code, "error" if each.code in denied else each.level)
+            Told(name, each.line or 1, each.column or 1, each.code, "error" if each.code in denied else each.level, message)
             for name in self.case.files
             if name.rpartition("/")[2] == MANIFEST
             for denied in [self._denied(self.top / name)]
             for each in self.diagnostics(self.top / name)
+            for message in [each.message.replace("\n", "\\n").replace("\t", "\\t")]
         ]

@@ -9,8 +9,8 @@ use std::fs;
 use std::io;
 use std::path::Path;
 
-/// A diagnostic: its file, its line and column from 1 on (a column of 0 is any one), its code and its level.
-pub type Told = (String, usize, usize, String, String);
+/// A diagnostic: its file, its line and column from 1 on (a column of 0 is any one), its code, its level and its message.
+pub type Told = (String, usize, usize, String, String, String);
 
 /// One case.
 pub struct Case {
@@ -61,7 +61,7 @@ fn unescaped(text: &str) -> Vec<u8> {
     bytes
 }
 
-/// The diagnostic of a line of the part `expected`.
+/// The diagnostic of a line of the part `expected`, without its message.
 fn told_of(line: &str, manifest: &str, levels: &BTreeMap<String, String>) -> Told {
     let (file, rest) = match line.split_once("Cargo.toml: ") {
         Some((folder, rest)) => (format!("{folder}Cargo.toml"), rest),
@@ -71,7 +71,25 @@ fn told_of(line: &str, manifest: &str, levels: &BTreeMap<String, String>) -> Tol
     let (code, place) = (words.next().expect("a code"), words.next().expect("a place"));
     let (line, column) = place.split_once(':').expect("a line and a column");
     let level = words.next().map_or_else(|| levels[code].clone(), str::to_owned);
-    (file, line.parse().expect("a line"), column.parse().unwrap_or(0), code.to_owned(), level)
+    (file, line.parse().expect("a line"), column.parse().unwrap_or(0), code.to_owned(), level, String::new())
+}
+
+/// The diagnostics of the part `expected`. Below each stands its text, whose first line is its message.
+fn expected_diagnostics(text: &str, manifest: &str, levels: &BTreeMap<String, String>) -> Vec<Told> {
+    let mut expected: Vec<Told> = Vec::new();
+    for line in text.lines().filter(|line| !line.is_empty()) {
+        match line.strip_prefix("    ") {
+            Some(text) => {
+                let message = &mut expected.last_mut().expect("a diagnostic").5;
+                if message.is_empty() {
+                    message.push_str(text);
+                }
+            }
+            None => expected.push(told_of(line, manifest, levels)),
+        }
+    }
+    expected.sort();
+    expected
 }
 
 /// The case of a block of lines, whose first one is its name.
@@ -89,9 +107,7 @@ fn case_of(file: &str, block: &str, levels: &BTreeMap<String, String>) -> Case {
             None => (head, false),
         };
         if path == "expected" {
-            let manifest = manifest.clone().expect("a manifest");
-            expected =
-                text.lines().filter(|line| !line.is_empty()).map(|line| told_of(line, &manifest, levels)).collect();
+            expected = expected_diagnostics(text, manifest.as_deref().expect("a manifest"), levels);
             continue;
         }
         if manifest.is_none() && path.ends_with("Cargo.toml") {
@@ -100,7 +116,6 @@ fn case_of(file: &str, block: &str, levels: &BTreeMap<String, String>) -> Case {
         let bytes = if is_escaped { unescaped(text) } else { format!("{text}{end}").into_bytes() };
         files.insert(path.to_owned(), bytes);
     }
-    expected.sort();
     Case { name, options: options.split(' ').map(str::to_owned).collect(), files, expected }
 }
 
@@ -390,7 +405,8 @@ impl Case {
             for found in self.diagnostics(split(path).0, bytes) {
                 let (line, column) = found.line_column(bytes).unwrap_or((1, 1));
                 let level = if denied.contains(&found.code.as_str()) { Level::Error } else { found.level };
-                told.push((path.clone(), line, column, found.code, level.to_string()));
+                let message = found.message.replace('\n', "\\n").replace('\t', "\\t");
+                told.push((path.clone(), line, column, found.code, level.to_string(), message));
             }
         }
         told
