@@ -7,4 +7,4 @@ mod page;
 mod page_text;
 
 pub use entry::{Entry, push_entry};
-pub use page::{push_begin, push_data, push_end};
+pub use page::{data_has_no_tag, push_begin, push_data, push_end};

@@ -1,5 +1,9 @@
 //! The page: its text, with what is known of the manifests in it.
 
+ghost use Rattle.std.specs.Prelude.{◌≡◌, ◌++◌, IfOk, string_bytes};
+ghost use Rattle.std.specs.Char.{encode_utf8};
+ghost use Rattle.manifest_page.specs.Page.{harmless, HasNoTag};
+
 use crate::page_text::{AFTER, BEFORE};
 use std::alloc::AllocError;
 
@@ -11,20 +15,38 @@ pub fn push_begin(out: &mut String) -> Result<(), AllocError> {
     Ok(())
 }
 
-/// Writes JSON into the page. Whatever texts are in it, it does not end the element of the data.
+/// Writes JSON into the page, with an escape of JSON in the place of each `<`. Whatever texts are in it, it does not end the
+/// element of the data ([`data_has_no_tag`]).
 ///
 /// ```ignore
 /// push_data(&mut out, "\"</script>\"")?; // "\u003c/script>"
 /// ```
-pub fn push_data(out: &mut String, json: &str) -> Result<(), AllocError> {
+pub fn push_data(out: &mut String, json: &str) -> Result<(), AllocError>
+    ensures { IfOk result (λ _. string_bytes out.new ≡ string_bytes out.old ++ harmless json.now) }
+{
     for c in json.chars() {
-        if c == '<' {
-            out.push_str("\\u003c")?;
-        } else {
-            out.push(c)?;
-        }
+        push_harmless(out, c)?;
     }
     Ok(())
+}
+
+/// What is written of any JSON has no `<`, with which each tag of HTML begins: a law, with an empty body.
+#[tactic(auto, using(crate::proofs::NoTag::has_no_tag))]
+pub fn data_has_no_tag(json: &str)
+    ensures { HasNoTag (harmless json.now) }
+{}
+
+/// Writes a character, or its escape.
+#[tactic(auto, using(crate::proofs::NoTag::harmless_char))]
+fn push_harmless(out: &mut String, c: char) -> Result<(), AllocError>
+    ensures { IfOk result
+        (λ _. string_bytes out.new ≡ string_bytes out.old ++ harmless (encode_utf8 c)) }
+{
+    if c == '<' {
+        out.push_str("\\u003c")
+    } else {
+        out.push(c)
+    }
 }
 
 /// Writes what the page ends with, after its data.

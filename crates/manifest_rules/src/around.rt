@@ -5,7 +5,7 @@ use crate::look::{Look, PathPackage, Section, table_in, text_in};
 use crate::report::{At, Out};
 use std::alloc::AllocError;
 use std::collections::BTreeMap;
-use toml::Table;
+use toml::{Table, Value};
 
 /// All rules of what the sources of dependencies lead to.
 pub(crate) fn sources_around(look: &Look<'_>, out: &mut Out) -> Result<(), AllocError> {
@@ -14,16 +14,15 @@ pub(crate) fn sources_around(look: &Look<'_>, out: &mut Out) -> Result<(), Alloc
         if section.section == Section::Replace {
             continue;
         }
-        for (name, _dependency) in section.table {
-            let Some(dependency) = table_in(section.table, name.as_str()) else {
-                continue;
-            };
-            if section.inherits(name.as_str()) {
+        for (name, dependency) in section.table {
+            if section.inherits(dependency) {
                 continue;
             }
-            let base = section.path.as_slice();
-            path_package(&packages, base, name.as_str(), dependency, out)?;
-            unknown_registry(look, base, name.as_str(), dependency, out)?;
+            if let Value::Table(dependency) = dependency {
+                let base = section.path.as_slice();
+                path_package(&packages, base, name.as_str(), dependency, out)?;
+                unknown_registry(look, base, name.as_str(), dependency, out)?;
+            }
         }
     }
     Ok(())
@@ -57,22 +56,18 @@ fn path_package<'a>(
     match &package.name {
         None => {
             let words = [
-                "no package at `",
+                "no package at `{}`: there is no Cargo.toml with a package",
                 path,
-                "`: there is no Cargo.toml with a package",
             ];
             out.value(MISSING_PATH_PACKAGE, base, &rest, &words)
         }
         Some(there) if there.as_str() == wanted => Ok(()),
         Some(there) => {
             let words = [
-                "no matching package named `",
+                "no matching package named `{}` at `{}`: the package there is `{}`",
                 wanted,
-                "` at `",
                 path,
-                "`: the package there is `",
                 there.as_str(),
-                "`",
             ];
             out.value(MISSING_PATH_PACKAGE, base, &rest, &words)
         }
@@ -104,9 +99,8 @@ fn unknown_registry(
         return Ok(());
     }
     let words = [
-        "registry index was not found in any configuration: `",
+        "registry index was not found in any configuration: `{}`",
         registry,
-        "`",
     ];
     let rest = [At::Key(name), At::Key("registry")];
     out.value(UNKNOWN_REGISTRY, base, &rest, &words)

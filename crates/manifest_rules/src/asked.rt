@@ -130,12 +130,13 @@ fn add_paths<'a>(
     section: &DependencyTable<'a>,
     paths: &mut BTreeSet<&'a str>,
 ) -> Result<(), AllocError> {
-    for (name, dependency) in section.table {
+    for (_name, dependency) in section.table {
+        if section.inherits(dependency) {
+            continue;
+        }
         if let Value::Table(table) = dependency {
             if let Some(path) = text_in(table, "path") {
-                if !section.inherits(name.as_str()) {
-                    let _is_new = paths.insert(path)?;
-                }
+                let _is_new = paths.insert(path)?;
             }
         }
     }

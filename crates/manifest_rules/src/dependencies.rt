@@ -8,7 +8,7 @@ use crate::codes::{
     REVISION_WITHOUT_GIT, SEVERAL_REVISIONS,
 };
 use crate::inherited::inherited_dependencies;
-use crate::look::{Look, Section, flag_in, inherits, items_in, table_in, text_in};
+use crate::look::{Look, Section, flag_in, is_inherited, items_in, text_in};
 use crate::report::{At, File, Out, Part, shown};
 use crate::words::{
     UrlFault, Word, WrongWord, name_fault, requirement_fault, say_wrong_word, url_fault,
@@ -24,21 +24,17 @@ pub(crate) struct Dependency<'a> {
     pub(crate) base: &'a [At<'a>],
     /// Its key.
     pub(crate) name: &'a str,
-    /// The table that holds it, and the tables of others.
-    pub(crate) table: &'a Table,
+    /// Its requirement, or its table.
+    pub(crate) value: &'a Value,
 }
 
 impl<'a> Dependency<'a> {
-    fn value(&self) -> Option<&'a Value> {
-        self.table.get(self.name)
-    }
-
     /// Its table, where it is no mere version, and not inherited.
     pub(crate) fn detail(&self) -> Option<&'a Table> {
-        if self.section.is_of_package() && inherits(self.table, self.name) {
+        if self.section.is_of_package() && is_inherited(self.value) {
             return None;
         }
-        table_in(self.table, self.name)
+        self.value.as_table()
     }
 
     /// The name of its package.
@@ -51,7 +47,7 @@ impl<'a> Dependency<'a> {
 
     /// Its requirement of a version, and whether that is all that is written of it, and not a key of its table.
     pub(crate) fn requirement(&self) -> Option<(&'a str, bool)> {
-        if let Some(text) = text_in(self.table, self.name) {
+        if let Some(text) = self.value.as_str() {
             return Some((text, true));
         }
         let text = text_in(self.detail()?, "version")?;
@@ -63,12 +59,12 @@ impl<'a> Dependency<'a> {
 pub(crate) fn dependencies(look: &Look<'_>, out: &mut Out) -> Result<(), AllocError> {
     let inherited = inherited_dependencies(look)?;
     for table in look.dependencies.iter() {
-        for (name, _value) in table.table {
+        for (name, value) in table.table {
             let dependency = Dependency {
                 section: table.section,
                 base: table.path.as_slice(),
                 name: name.as_str(),
-                table: table.table,
+                value,
             };
             rules_of_any(&dependency, out)?;
             if let Some(detail) = dependency.detail() {
@@ -183,7 +179,7 @@ fn no_source(dependency: &Dependency<'_>, detail: &Table, out: &mut Out) -> Resu
         }
     }
     let name = dependency.name;
-    let words = ["dependency `", name, "` has no source"];
+    let words = ["dependency `{}` has no source", name];
     out.header(NO_SOURCE, dependency.base, &[At::Key(name)], &words)?;
     out.note(&["a dependency has one of `version`, `path`, `git` and `workspace = true`"])
 }
@@ -217,17 +213,14 @@ fn ambiguous<'a>(
 ) -> Result<(), AllocError> {
     let Dependency { base, name, .. } = *dependency;
     let words = [
-        "dependency `",
+        "dependency `{}` is ambiguous: only one of `{}` and `{}` is allowed",
         name,
-        "` is ambiguous: only one of `",
         first,
-        "` and `",
         second,
-        "` is allowed",
     ];
     out.key(code, base, &[At::Key(name), At::Key(second)], &words)?;
     let other = [At::Key(name), At::Key(first)];
-    let label = ["`", first, "` is here"];
+    let label = ["`{}` is here", first];
     out.label(File::Own, Part::Key, base, &other, &label)
 }
 
@@ -242,13 +235,7 @@ fn revision_without_git(
     let name = dependency.name;
     for key in ["branch", "tag", "rev"] {
         if detail.contains_key(key) {
-            let words = [
-                "`",
-                key,
-                "` of dependency `",
-                name,
-                "` stands without `git`",
-            ];
+            let words = ["`{}` of dependency `{}` stands without `git`", key, name];
             let rest = [At::Key(name), At::Key(key)];
             out.key(REVISION_WITHOUT_GIT, dependency.base, &rest, &words)?;
         }
@@ -295,7 +282,7 @@ fn invalid_url(
         Some((host, path)) if host.starts_with("git@") => {
             let instead = ["ssh://", host, "/", path].concat(out.alloc)?;
             let instead = instead.as_str();
-            let help = ["write `", instead, "`"];
+            let help = ["write `{}`", instead];
             out.set_text(dependency.base, &rest, instead, false, &help)
         }
         _ => Ok(()),
@@ -310,7 +297,7 @@ fn say_invalid_url(
     out: &mut Out,
 ) -> Result<(), AllocError> {
     let fault = shown(out.alloc, &fault)?;
-    let words = ["invalid URL `", url, "`: ", fault.as_str()];
+    let words = ["invalid URL `{}`: {}", url, fault.as_str()];
     out.value(INVALID_URL, base, rest, &words)
 }
 
@@ -330,11 +317,9 @@ fn fragment_in_url<'a>(
     }
     let Dependency { base, name, .. } = *dependency;
     let words = [
-        "URL fragment `#",
+        "URL fragment `#{}` of dependency `{}` is ignored",
         fragment,
-        "` of dependency `",
         name,
-        "` is ignored",
     ];
     out.value(
         FRAGMENT_IN_URL,
@@ -342,7 +327,7 @@ fn fragment_in_url<'a>(
         &[At::Key(name), At::Key("git")],
         &words,
     )?;
-    out.help(&["write `rev = \"", fragment, "\"` if a revision is meant"])
+    out.help(&["write `rev = \"{}\"` if a revision is meant", fragment])
 }
 
 fn invalid_requirement(dependency: &Dependency<'_>, out: &mut Out) -> Result<(), AllocError> {
@@ -369,7 +354,7 @@ fn requirement(
     if bare.is_empty() || requirement_fault(out.alloc, bare)?.is_some() {
         return Ok(());
     }
-    out.set_text(base, rest, bare, false, &["write `", bare, "`"])
+    out.set_text(base, rest, bare, false, &["write `{}`", bare])
 }
 
 fn say_invalid_requirement(
@@ -380,7 +365,7 @@ fn say_invalid_requirement(
     out: &mut Out,
 ) -> Result<(), AllocError> {
     let fault = shown(out.alloc, &fault)?;
-    let words = ["invalid version requirement `", text, "`: ", fault.as_str()];
+    let words = ["invalid version requirement `{}`: {}", text, fault.as_str()];
     out.value(INVALID_REQUIREMENT, base, rest, &words)
 }
 
@@ -395,15 +380,14 @@ fn metadata_in_requirement(
         return Ok(());
     };
     let words = [
-        "version requirement `",
+        "version requirement `{}` includes build metadata, which is ignored",
         text,
-        "` includes build metadata, which is ignored",
     ];
     out.value(METADATA_IN_REQUIREMENT, base, rest, &words)?;
     if text.contains(',') {
         return Ok(());
     }
-    out.set_text(base, rest, bare, true, &["write `", bare, "`"])
+    out.set_text(base, rest, bare, true, &["write `{}`", bare])
 }
 
 /// Why a feature cannot be one of a dependency; nothing where it can.
@@ -424,7 +408,7 @@ fn invalid_dependency_feature<'a>(
     out: &mut Out,
 ) -> Result<(), AllocError> {
     let Dependency { base, name, .. } = *dependency;
-    let Some(Value::Table(table)) = dependency.value() else {
+    let Value::Table(table) = dependency.value else {
         return Ok(());
     };
     for (index, item) in items_in(table, "features").iter().enumerate() {
@@ -435,7 +419,7 @@ fn invalid_dependency_feature<'a>(
         let Some(note) = feature_note(feature) else {
             continue;
         };
-        let words = ["invalid feature `", feature, "` of dependency `", name, "`"];
+        let words = ["invalid feature `{}` of dependency `{}`", feature, name];
         let rest = [At::Key(name), At::Key("features"), At::Index(index)];
         out.value(INVALID_DEPENDENCY_FEATURE, base, &rest, &words)?;
         out.note(&[note])?;
@@ -444,7 +428,7 @@ fn invalid_dependency_feature<'a>(
 }
 
 fn optional_dev_dependency(dependency: &Dependency<'_>, out: &mut Out) -> Result<(), AllocError> {
-    let Some(Value::Table(table)) = dependency.value() else {
+    let Value::Table(table) = dependency.value else {
         return Ok(());
     };
     if dependency.section != Section::Dev || flag_in(table, "optional") != Some(true) {
@@ -452,7 +436,7 @@ fn optional_dev_dependency(dependency: &Dependency<'_>, out: &mut Out) -> Result
     }
     let Dependency { base, name, .. } = *dependency;
     let rest = [At::Key(name), At::Key("optional")];
-    let words = ["dev-dependency `", name, "` cannot be optional"];
+    let words = ["dev-dependency `{}` cannot be optional", name];
     out.value(OPTIONAL_DEV_DEPENDENCY, base, &rest, &words)?;
     out.remove(base, &rest, false, &["remove `optional`"])
 }
@@ -480,8 +464,8 @@ fn not_in_workspace(
 ) -> Result<(), AllocError> {
     let Dependency { base, name, .. } = *dependency;
     let rest = [At::Key(name), At::Key(key)];
-    let words = ["workspace dependency `", name, "` cannot be ", &*key];
+    let words = ["workspace dependency `{}` cannot be {}", name, &*key];
     out.value(OPTIONAL_IN_WORKSPACE, base, &rest, &words)?;
     out.note(&["the members that inherit it say this"])?;
-    out.remove(base, &rest, false, &["remove `", key, "`"])
+    out.remove(base, &rest, false, &["remove `{}`", key])
 }

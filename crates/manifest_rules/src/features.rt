@@ -195,7 +195,7 @@ impl<'a> Item<'a> {
 
     /// The suggestion to write another item.
     fn instead(&self, text: &str, out: &mut Out) -> Result<(), AllocError> {
-        out.set_text(&self.path(), &[], text, false, &["write `", text, "`"])
+        out.set_text(&self.path(), &[], text, false, &["write `{}`", text])
     }
 }
 
@@ -247,9 +247,8 @@ fn invalid_feature_name(name: &str, out: &mut Out) -> Result<(), AllocError> {
     let path = [At::Key("features"), At::Key(name)];
     if name.starts_with("dep:") {
         let words = [
-            "feature named `",
+            "feature named `{}` is not allowed to start with `dep:`",
             name,
-            "` is not allowed to start with `dep:`",
         ];
         return out.key(INVALID_FEATURE_NAME, &path, &[], &words);
     }
@@ -267,7 +266,7 @@ fn feature_enables_itself(item: &Item<'_>, out: &mut Out) -> Result<(), AllocErr
         return Ok(());
     }
     let path = item.path();
-    let words = ["feature `", item.feature, "` depends on itself"];
+    let words = ["feature `{}` depends on itself", item.feature];
     out.value(FEATURE_ENABLES_ITSELF, &path, &[], &words)?;
     out.note(&["Cargo refuses this where the feature is enabled"])?;
     out.remove(&path, &[], true, &["remove it from its own list"])
@@ -296,23 +295,19 @@ fn invalid_feature_reference(item: &Item<'_>, out: &mut Out) -> Result<(), Alloc
     let path = item.path();
     let Some(bare) = text.strip_prefix("dep:") else {
         let words = [
-            "multiple slashes in feature `",
+            "multiple slashes in feature `{}` (included by feature `{}`)",
             text,
-            "` (included by feature `",
             feature,
-            "`)",
         ];
         return out.value(INVALID_FEATURE_REFERENCE, &path, &[], &words);
     };
     let words = [
-        "feature `",
+        "feature `{}` includes `{}` with both `dep:` and `/`",
         feature,
-        "` includes `",
         text,
-        "` with both `dep:` and `/`",
     ];
     out.value(INVALID_FEATURE_REFERENCE, &path, &[], &words)?;
-    let help = ["write `", bare, "`, which enables the dependency too"];
+    let help = ["write `{}`, which enables the dependency too", bare];
     out.set_text(&path, &[], bare, false, &help)
 }
 
@@ -340,11 +335,9 @@ fn unknown_feature<'a>(
 fn unknown_name<'a>(known: &Known<'a>, item: &Item<'a>, out: &mut Out) -> Result<(), AllocError> {
     let near = known.nearest(item, out)?;
     let words = [
-        "feature `",
+        "feature `{}` includes `{}` which is neither a dependency nor another feature",
         item.feature,
-        "` includes `",
         item.text,
-        "` which is neither a dependency nor another feature",
     ];
     out.value(UNKNOWN_FEATURE, &item.path(), &[], &words)?;
     match near {
@@ -357,13 +350,10 @@ fn unknown_name<'a>(known: &Known<'a>, item: &Item<'a>, out: &mut Out) -> Result
 fn without_feature(item: &Item<'_>, out: &mut Out) -> Result<(), AllocError> {
     let Item { feature, text, .. } = *item;
     let words = [
-        "feature `",
+        "feature `{}` includes `{}`, but `{}` is an optional dependency without an implicit feature",
         feature,
-        "` includes `",
         text,
-        "`, but `",
         text,
-        "` is an optional dependency without an implicit feature",
     ];
     out.value(UNKNOWN_FEATURE, &item.path(), &[], &words)?;
     out.note(&["a dependency that is named by `dep:` anywhere has no feature of its own name"])?;
@@ -385,17 +375,14 @@ fn feature_of_unknown_dependency<'a>(
     }
     let near = known.nearest_dependency(name, out)?;
     let words = [
-        "feature `",
+        "feature `{}` includes `{}`, but `{}` is not a dependency",
         item.feature,
-        "` includes `",
         item.text,
-        "`, but `",
         name,
-        "` is not a dependency",
     ];
     out.value(UNKNOWN_FEATURE, &item.path(), &[], &words)?;
     match near {
-        Some(near) => out.help(&["a dependency with a similar name exists: `", near, "`"]),
+        Some(near) => out.help(&["a dependency with a similar name exists: `{}`", near]),
         None => Ok(()),
     }
 }
@@ -431,13 +418,10 @@ fn dependency_not_optional<'a>(
         return Ok(());
     }
     let words = [
-        "feature `",
+        "feature `{}` includes `{}`, but `{}` is not an optional dependency",
         item.feature,
-        "` includes `",
         item.text,
-        "`, but `",
         name,
-        "` is not an optional dependency",
     ];
     out.value(DEPENDENCY_NOT_OPTIONAL, &item.path(), &[], &words)?;
     match look.dependencies.get(declared.table) {
@@ -459,7 +443,7 @@ fn make_optional(
         let strong = [bare, "/", of].concat(out.alloc)?;
         return item.instead(strong.as_str(), out);
     }
-    out.help(&["add `optional = true` to the dependency `", name, "`"])
+    out.help(&["add `optional = true` to the dependency `{}`", name])
 }
 
 /// A feature that hides the optional dependency of its name does not keep it from being enabled.
@@ -479,9 +463,8 @@ fn unreachable_dependency<'a>(
         return Ok(());
     };
     let words = [
-        "optional dependency `",
+        "optional dependency `{}` is not included in any feature",
         name,
-        "` is not included in any feature",
     ];
     let base = table.path.as_slice();
     out.key(UNREACHABLE_DEPENDENCY, base, &[At::Key(name)], &words)?;
@@ -490,6 +473,6 @@ fn unreachable_dependency<'a>(
     out.label(File::Own, Part::Key, &path, &[], &label)?;
     let end = At::Index(items_in(known.features, name).len());
     let item = ["dep:", name].concat(out.alloc)?;
-    let help = ["include `dep:", name, "` in a feature"];
+    let help = ["include `dep:{}` in a feature", name];
     out.insert_text(&path, &[end], item.as_str(), false, &help)
 }

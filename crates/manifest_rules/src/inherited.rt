@@ -57,8 +57,8 @@ fn no_workspace(look: &Look<'_>, out: &mut Out) -> Result<(), AllocError> {
         }
     }
     for section in &look.dependencies {
-        for (name, _dependency) in section.table {
-            if section.section.is_of_package() && inherits(section.table, name.as_str()) {
+        for (name, dependency) in section.table {
+            if section.inherits(dependency) {
                 let rest = [At::Key(name.as_str())];
                 return out.key(NO_WORKSPACE, section.path.as_slice(), &rest, &words);
             }
@@ -89,11 +89,9 @@ fn fields(look: &Look<'_>, workspace: &Table, out: &mut Out) -> Result<(), Alloc
             continue;
         }
         let words = [
-            "error inheriting `",
+            "error inheriting `{}` from workspace root manifest's `workspace.package.{}`: it is not defined",
             field,
-            "` from workspace root manifest's `workspace.package.",
             field,
-            "`: it is not defined",
         ];
         let path = [At::Key(look.package_key), At::Key(field)];
         out.key(NOT_IN_WORKSPACE, &path, &[], &words)?;
@@ -121,8 +119,8 @@ pub(crate) fn inherited_dependencies(look: &Look<'_>) -> Result<BTreeSet<String>
         }
     }
     for section in &look.dependencies {
-        for (name, _dependency) in section.table {
-            if section.section.is_of_package() && inherits(section.table, name.as_str()) {
+        for (name, dependency) in section.table {
+            if section.inherits(dependency) {
                 let _is_new = names.insert(String::from_str(look.alloc, name.as_str())?)?;
             }
         }
@@ -133,11 +131,8 @@ pub(crate) fn inherited_dependencies(look: &Look<'_>) -> Result<BTreeSet<String>
 fn dependencies(look: &Look<'_>, workspace: &Table, out: &mut Out) -> Result<(), AllocError> {
     let shared = table_in(workspace, "dependencies");
     for section in &look.dependencies {
-        if !section.section.is_of_package() {
-            continue;
-        }
         for (name, dependency) in section.table {
-            if !inherits(section.table, name.as_str()) {
+            if !section.inherits(dependency) {
                 continue;
             }
             let name = name.as_str();
@@ -163,16 +158,15 @@ fn unknown_dependency<'a>(
     };
     let rest = [At::Key(name)];
     let words = [
-        "`dependency.",
+        "`dependency.{}` was not found in `workspace.dependencies`",
         name,
-        "` was not found in `workspace.dependencies`",
     ];
     out.key(NOT_IN_WORKSPACE, base, &rest, &words)?;
     not_in_root(&[At::Key("workspace"), At::Key("dependencies")], out)?;
     let Some(word) = near else {
         return Ok(());
     };
-    let help = ["a dependency with a similar name exists: `", word, "`"];
+    let help = ["a dependency with a similar name exists: `{}`", word];
     out.rename(base, &rest, word, false, &help)
 }
 
@@ -240,13 +234,10 @@ fn ignored_default_features(
 ) -> Result<(), AllocError> {
     let rest = [At::Key(name), At::Key(key)];
     let words = [
-        "`",
+        "`{}` is ignored for {}, since it is not false for `workspace.dependencies.{}`, and this is refused in the 2024 edition",
         key,
-        "` is ignored for ",
         name,
-        ", since it is not false for `workspace.dependencies.",
         name,
-        "`, and this is refused in the 2024 edition",
     ];
     out.key(IGNORED_DEFAULT_FEATURES, base, &rest, &words)?;
     let root = [At::Key("workspace"), At::Key("dependencies"), At::Key(name)];
@@ -269,9 +260,8 @@ fn old_spelling_in_root(
         return Ok(());
     }
     let words = [
-        "`default_features` of `workspace.dependencies.",
+        "`default_features` of `workspace.dependencies.{}` is deprecated in favor of `default-features`",
         name,
-        "` is deprecated in favor of `default-features`",
     ];
     out.key(OLD_SPELLING, base, &[At::Key(name)], &words)?;
     let root = [At::Key("workspace"), At::Key("dependencies"), At::Key(name)];

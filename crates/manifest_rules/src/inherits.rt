@@ -68,15 +68,14 @@ fn inherit_from(
     is_certain: bool,
     out: &mut Out,
 ) -> Result<(), AllocError> {
-    let help = ["inherit from `", parent, "`"];
+    let help = ["inherit from `{}`", parent];
     out.set_text(&inherits_path(name), &[], parent, is_certain, &help)
 }
 
 fn inherits_debug(name: &str, out: &mut Out) -> Result<(), AllocError> {
     let words = [
-        "profile `",
+        "profile `{}` inherits from `debug`, which is named `dev`",
         name,
-        "` inherits from `debug`, which is named `dev`",
     ];
     out.value(INHERITS_DEBUG, &inherits_path(name), &[], &words)?;
     inherit_from(name, "dev", true, out)
@@ -84,9 +83,8 @@ fn inherits_debug(name: &str, out: &mut Out) -> Result<(), AllocError> {
 
 fn inherits_of_built_in(name: &str, out: &mut Out) -> Result<(), AllocError> {
     let words = [
-        "`inherits` must not be specified in root profile `",
+        "`inherits` must not be specified in root profile `{}`",
         name,
-        "`",
     ];
     out.key(INHERITS_OF_BUILT_IN, &inherits_path(name), &[], &words)
 }
@@ -112,7 +110,7 @@ fn missing_inherits(
         return Ok(());
     }
     let path = [At::Key("profile"), At::Key(name)];
-    let words = ["profile `", name, "` is missing `inherits`"];
+    let words = ["profile `{}` is missing `inherits`", name];
     out.header(MISSING_INHERITS, &path, &[], &words)?;
     out.note(&["each profile but those of Cargo itself inherits from another one"])?;
     let help = ["inherit from `release`"];
@@ -132,11 +130,9 @@ fn unknown_inherits<'a>(
     }
     let near = nearest_profile(profiles, name, parent, out)?;
     let words = [
-        "profile `",
+        "profile `{}` inherits from `{}`, but that profile is not defined",
         name,
-        "` inherits from `",
         parent,
-        "`, but that profile is not defined",
     ];
     out.value(UNKNOWN_INHERITS, &inherits_path(name), &[], &words)?;
     match near {
@@ -227,13 +223,10 @@ fn all_of_circle(profiles: &Table, first: &str, out: &mut Out) -> Result<(), All
 
 fn circle<'a>(name: &'a str, parent: &'a str, out: &mut Out) -> Result<(), AllocError> {
     let words = [
-        "profile inheritance loop: `",
+        "profile inheritance loop: `{}` inherits from `{}`, which inherits from `{}`",
         name,
-        "` inherits from `",
         parent,
-        "`, which inherits from `",
         name,
-        "`",
     ];
     out.value(CIRCULAR_INHERITS, &inherits_path(name), &[], &words)?;
     if name == parent {

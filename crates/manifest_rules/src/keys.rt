@@ -139,13 +139,10 @@ pub(crate) fn wrong_kind_at<'a>(
     out: &mut Out,
 ) -> Result<(), AllocError> {
     let words = [
-        "invalid type: ",
+        "invalid type: {}, expected {} for `{}`",
         kind_of(value),
-        ", expected ",
         wanted,
-        " for `",
         key,
-        "`",
     ];
     out.value(WRONG_KIND, base, rest, &words)
 }
@@ -177,7 +174,7 @@ fn unknown_key(
         return unused_key(UNKNOWN_KEY, base, key, out);
     };
     unused_key(MISSPELLED_KEY, base, key, out)?;
-    let help = ["a key with a similar name exists: `", word, "`"];
+    let help = ["a key with a similar name exists: `{}`", word];
     if table.contains_key(word) {
         return out.help(&help);
     }
@@ -193,7 +190,7 @@ fn unused_key(code: Code, base: &[At<'_>], key: &str, out: &mut Out) -> Result<(
             above.push_str(".")?;
         }
     }
-    let words = ["unused manifest key: ", above.as_str(), key];
+    let words = ["unused manifest key: {}{}", above.as_str(), key];
     out.key(code, base, &[At::Key(key)], &words)
 }
 

@@ -86,7 +86,7 @@ fn rules_of_tool(of: &Tool<'_>, out: &mut Out) -> Result<(), AllocError> {
 }
 
 fn lints_beside_workspace(of: &Tool<'_>, out: &mut Out) -> Result<(), AllocError> {
-    let words = ["lints of `", of.tool, "` stand next to `workspace = true`"];
+    let words = ["lints of `{}` stand next to `workspace = true`", of.tool];
     out.key(LINTS_BESIDE_WORKSPACE, of.base, &[At::Key(of.tool)], &words)?;
     let other = [At::Key("workspace")];
     let label = ["all lints are inherited here"];
@@ -97,12 +97,12 @@ fn lints_beside_workspace(of: &Tool<'_>, out: &mut Out) -> Result<(), AllocError
 fn unknown_lint_tool(of: &Tool<'_>, out: &mut Out) -> Result<(), AllocError> {
     let rest = [At::Key(of.tool)];
     let near = out.nearest_of(of.tool, &TOOLS)?;
-    let words = ["unrecognized lint tool `", of.tool, "`"];
+    let words = ["unrecognized lint tool `{}`", of.tool];
     out.key(UNKNOWN_LINT_TOOL, of.base, &rest, &words)?;
     out.note(&["the tools are `cargo`, `clippy`, `rust` and `rustdoc`"])?;
     match near {
         Some(near) if !of.tools.contains_key(near) => {
-            out.rename(of.base, &rest, near, false, &["write `", near, "`"])
+            out.rename(of.base, &rest, near, false, &["write `{}`", near])
         }
         _ => Ok(()),
     }
@@ -133,15 +133,15 @@ fn tool_in_front<'a>(
     out: &mut Out,
 ) -> Result<(), AllocError> {
     let rest = [At::Key(of.tool), At::Key(lint)];
-    let words = ["`", lint, "` is no valid name of a lint of `", of.tool, "`"];
+    let words = ["`{}` is no valid name of a lint of `{}`", lint, of.tool];
     out.key(TOOL_IN_LINT_NAME, of.base, &rest, &words)?;
     if front == of.tool {
-        return out.rename(of.base, &rest, bare, false, &["write `", bare, "`"]);
+        return out.rename(of.base, &rest, bare, false, &["write `{}`", bare]);
     }
     if of.tool != "rust" || !is_known(front) {
         return Ok(());
     }
-    out.help(&["write it as `", bare, "` among the lints of `", front, "`"])
+    out.help(&["write it as `{}` among the lints of `{}`", bare, front])
 }
 
 /// `check-cfg` of a lint. (Of the keys that nothing reads the schema tells.)
@@ -201,6 +201,6 @@ fn check_cfg_without_list<'a>(
         return Ok(());
     };
     let text = quoted(out.alloc, text)?;
-    let list = ["[", text.as_str(), "]"];
+    let list = ["[{}]", text.as_str()];
     out.set(of.base, &rest, &list, true, &["write a list of it"])
 }

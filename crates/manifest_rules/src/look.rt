@@ -137,9 +137,9 @@ pub(crate) struct DependencyTable<'a> {
 }
 
 impl DependencyTable<'_> {
-    /// Whether the dependency of this name is inherited.
-    pub(crate) fn inherits(&self, name: &str) -> bool {
-        self.section.is_of_package() && inherits(self.table, name)
+    /// Whether this dependency of the table is inherited.
+    pub(crate) fn inherits(&self, dependency: &Value) -> bool {
+        self.section.is_of_package() && is_inherited(dependency)
     }
 }
 
@@ -218,10 +218,18 @@ pub(crate) fn items_in<'a>(table: &'a Table, key: &str) -> &'a [Value] {
     }
 }
 
-/// Whether the value of the key is inherited: a table whose `workspace` is true.
+/// Whether a value is inherited: it is a table whose `workspace` is true.
+pub(crate) fn is_inherited(value: &Value) -> bool {
+    match value {
+        Value::Table(inner) => flag_in(inner, "workspace") == Some(true),
+        _ => false,
+    }
+}
+
+/// Whether the value of the key is inherited.
 pub(crate) fn inherits(table: &Table, key: &str) -> bool {
-    match table_in(table, key) {
-        Some(inner) => flag_in(inner, "workspace") == Some(true),
+    match table.get(key) {
+        Some(value) => is_inherited(value),
         None => false,
     }
 }
@@ -484,8 +492,8 @@ fn owned(alloc: Global, text: Option<&str>) -> Result<Option<String>, AllocError
 fn inherited_names(alloc: Global, document: &Table) -> Result<Vec<String>, AllocError> {
     let mut names = Vec::new(alloc);
     for section in dependency_tables(alloc, document)? {
-        for (name, _dependency) in section.table {
-            if inherits(section.table, name.as_str()) {
+        for (name, dependency) in section.table {
+            if is_inherited(dependency) {
                 names.push(String::from_str(alloc, name.as_str())?)?;
             }
         }

@@ -76,7 +76,7 @@ fn say(
         part,
         base,
         rest,
-        &[what, ages.as_str()],
+        &["{}{}", what, ages.as_str()],
     )
 }
 

@@ -90,7 +90,7 @@ fn say_invalid_version(
     out: &mut Out,
 ) -> Result<(), AllocError> {
     let fault = shown(out.alloc, &fault)?;
-    let words = ["invalid version `", written, "`: ", fault.as_str()];
+    let words = ["invalid version `{}`: {}", written, fault.as_str()];
     out.value(INVALID_VERSION, path, &[At::Key("version")], &words)
 }
 
@@ -104,8 +104,8 @@ fn say_whole_version<'a>(
     if !is_version(out.alloc, text, more)? {
         return Ok(false);
     }
-    let words = ["a version has three numbers: `", text, more, "`"];
-    let value = ["\"", text, more, "\""];
+    let words = ["a version has three numbers: `{}{}`", text, more];
+    let value = ["\"{}{}\"", text, more];
     out.set(path, &[At::Key("version")], &value, false, &words)?;
     Ok(true)
 }
@@ -166,9 +166,8 @@ fn rust_version(path: &[At<'_>], table: &Table, out: &mut Out) -> Result<(), All
         return Ok(());
     }
     let words = [
-        "invalid `rust-version` `",
+        "invalid `rust-version` `{}`: it has one, two or three numbers and nothing else, as `1.70`",
         text,
-        "`: it has one, two or three numbers and nothing else, as `1.70`",
     ];
     out.value(
         INVALID_RUST_VERSION,
@@ -225,11 +224,9 @@ fn rust_version_below_edition(
         return Ok(());
     }
     let words = [
-        "`rust-version` `",
+        "`rust-version` `{}` is incompatible with the edition, which needs 1.{} or a later 1.x",
         text,
-        "` is incompatible with the edition, which needs 1.",
         digits,
-        " or a later 1.x",
     ];
     out.value(
         RUST_VERSION_BELOW_EDITION,
@@ -289,11 +286,11 @@ fn build_script(
     };
     let rest = [At::Key("build")];
     if !has_file_name(file) {
-        let words = ["the build script `", file, "` has no file name"];
+        let words = ["the build script `{}` has no file name", file];
         return out.value(INVALID_BUILD_PATH, path, &rest, &words);
     }
     if file_state(look, file)? == FileState::Absent {
-        let words = ["couldn't find the build script `", file, "`"];
+        let words = ["couldn't find the build script `{}`", file];
         return out.value(MISSING_BUILD_SCRIPT, path, &rest, &words);
     }
     Ok(())

@@ -56,13 +56,7 @@ fn wrong_character(name: &str, ch: char, out: &mut Out) -> Result<(), AllocError
         "a platform is named by letters, digits, `_`, `-` and `.`, or is an expression in `cfg(..)`"
     };
     let ch = shown(out.alloc, &ch)?;
-    let words = [
-        "invalid character `",
-        ch.as_str(),
-        "` in platform `",
-        name,
-        "`",
-    ];
+    let words = ["invalid character `{}` in platform `{}`", ch.as_str(), name];
     say(name, INVALID_PLATFORM, &words, note, out)
 }
 
@@ -82,9 +76,8 @@ fn cfg_platform(platform: &str, text: &str, out: &mut Out) -> Result<(), AllocEr
 fn invalid_cfg(platform: &str, fault: CfgFault<'_>, out: &mut Out) -> Result<(), AllocError> {
     let fault = shown(out.alloc, &fault)?;
     let words = [
-        "failed to parse `",
+        "failed to parse `{}` as a cfg expression: {}",
         platform,
-        "` as a cfg expression: ",
         fault.as_str(),
     ];
     let note = "an expression is `name`, `name = \"text\"`, `all(..)`, `any(..)` or `not(..)`";
@@ -110,11 +103,7 @@ fn never_true_cfg(platform: &str, fact: &Fact<'_>, out: &mut Out) -> Result<(), 
             "only what the platform itself sets can select dependencies",
         )
     };
-    let words = [
-        "`",
-        shown,
-        "` is never true where dependencies are selected",
-    ];
+    let words = ["`{}` is never true where dependencies are selected", shown];
     say(platform, NEVER_TRUE_CFG, &words, note, out)
 }
 
@@ -122,7 +111,7 @@ fn boolean_as_cfg_key(platform: &str, fact: &Fact<'_>, out: &mut Out) -> Result<
     if fact.is_raw || fact.value.is_none() || !matches!(fact.name, "true" | "false") {
         return Ok(());
     }
-    let words = ["`", fact.name, "` is used as the key of a cfg"];
+    let words = ["`{}` is used as the key of a cfg", fact.name];
     let note = "a later Cargo will refuse this; the key can be written with `r#` before it";
     say(platform, BOOLEAN_AS_CFG_KEY, &words, note, out)
 }

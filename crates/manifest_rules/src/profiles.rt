@@ -48,7 +48,7 @@ impl Settings<'_> {
         is_certain: bool,
         out: &mut Out,
     ) -> Result<(), AllocError> {
-        let help = ["write `", value, "`"];
+        let help = ["write `{}`", value];
         out.set(self.path, &[At::Key(key)], &[value], is_certain, &help)
     }
 }
@@ -234,7 +234,7 @@ fn invalid_profile_name(profiles: &Table, name: &str, out: &mut Out) -> Result<(
 
 fn reserved_profile_name(profiles: &Table, name: &str, out: &mut Out) -> Result<(), AllocError> {
     let path = [At::Key("profile"), At::Key(name)];
-    let words = ["profile name `", name, "` is reserved"];
+    let words = ["profile name `{}` is reserved", name];
     out.key(RESERVED_PROFILE_NAME, &path, &[], &words)?;
     if name.eq_ignore_ascii_case("build-override") {
         return out.note(&["what builds has settings of its own in `[profile.dev.build-override]`"]);
@@ -264,7 +264,7 @@ fn opt_level(settings: &Settings<'_>, out: &mut Out) -> Result<(), AllocError> {
         Some(Value::Integer(level)) => {
             let level = shown(out.alloc, level)?;
             let words = [
-                "`opt-level` must be from 0 to 3, `\"s\"` or `\"z\"`, and not ",
+                "`opt-level` must be from 0 to 3, `\"s\"` or `\"z\"`, and not {}",
                 level.as_str(),
             ];
             settings.value(OPT_LEVEL_TOO_HIGH, key, &words, out)
@@ -307,7 +307,7 @@ fn say_of_word(
     out: &mut Out,
 ) -> Result<(), AllocError> {
     let word = format!(in out.alloc; "{word:?}")?;
-    settings.value(code, key, &[before, word.as_str(), "`"], out)
+    settings.value(code, key, &["{}{}`", before, word.as_str()], out)
 }
 
 /// `debug` is a boolean, a whole number from 0 to 2, or a word.
@@ -319,7 +319,7 @@ fn debug(settings: &Settings<'_>, out: &mut Out) -> Result<(), AllocError> {
         Some(Value::Integer(level)) if *level >= 0 && *level <= 2 => Ok(()),
         Some(Value::Integer(level)) => {
             let level = shown(out.alloc, level)?;
-            let words = ["`debug` must be from 0 to 2, and not ", level.as_str()];
+            let words = ["`debug` must be from 0 to 2, and not {}", level.as_str()];
             settings.value(OUT_OF_RANGE, key, &words, out)
         }
         Some(Value::String(word)) => {
@@ -394,7 +394,7 @@ fn unknown_word(
 /// The note that says which words a key has.
 fn note_of_words(words: &[&str], out: &mut Out) -> Result<(), AllocError> {
     let list = words.join(out.alloc, "\"`, `\"")?;
-    out.note(&["it is one of `\"", list.as_str(), "\"`"])
+    out.note(&["it is one of `\"{}\"`", list.as_str()])
 }
 
 fn wrong_kind<'a>(
@@ -490,7 +490,7 @@ fn panic_of_tests(settings: &Settings<'_>, out: &mut Out) -> Result<(), AllocErr
     if !matches!(profile, "test" | "bench") || !settings.table.contains_key("panic") {
         return Ok(());
     }
-    let words = ["`panic` setting is ignored for `", profile, "` profile"];
+    let words = ["`panic` setting is ignored for `{}` profile", profile];
     settings.key(PANIC_OF_TESTS, "panic", &words, out)?;
     out.remove(
         settings.path,
@@ -503,17 +503,13 @@ fn panic_of_tests(settings: &Settings<'_>, out: &mut Out) -> Result<(), AllocErr
 fn invalid_profile_override(settings: &Settings<'_>, out: &mut Out) -> Result<(), AllocError> {
     for key in ["panic", "lto", "rpath"] {
         if settings.table.contains_key(key) {
-            let words = [
-                "`",
-                key,
-                "` may not be specified in an override of a profile",
-            ];
+            let words = ["`{}` may not be specified in an override of a profile", key];
             settings.key(INVALID_PROFILE_OVERRIDE, key, &words, out)?;
         }
     }
     for key in ["package", "build-override"] {
         if settings.table.contains_key(key) {
-            let words = ["`", key, "` cannot be nested in an override"];
+            let words = ["`{}` cannot be nested in an override", key];
             settings.key(INVALID_PROFILE_OVERRIDE, key, &words, out)?;
         }
     }
@@ -526,7 +522,7 @@ fn invalid_package_spec(profile: &str, id: &str, out: &mut Out) -> Result<(), Al
         return Ok(());
     }
     let path = [At::Key("profile"), At::Key(profile), At::Key("package")];
-    let words = ["invalid package ID specification `", id, "`"];
+    let words = ["invalid package ID specification `{}`", id];
     out.key(INVALID_PACKAGE_SPEC, &path, &[At::Key(id)], &words)?;
     out.note(&["it is `*`, `name`, `name@version` or a URL"])
 }

@@ -74,9 +74,8 @@ fn license(path: &[At<'_>], package: &Table, out: &mut Out) -> Result<(), AllocE
         return Ok(());
     }
     let words = [
-        "`",
+        "`{}` is no SPDX license expression, as `MIT OR Apache-2.0` is one",
         text,
-        "` is no SPDX license expression, as `MIT OR Apache-2.0` is one",
     ];
     out.value(INVALID_LICENSE, path, &[At::Key("license")], &words)
 }
@@ -113,10 +112,9 @@ fn package_files(
         };
         if file_state(look, file)? == FileState::Absent {
             let words = [
+                "{} `{}` does not appear to exist (relative to the manifest)",
                 key,
-                " `",
                 file,
-                "` does not appear to exist (relative to the manifest)",
             ];
             out.value(MISSING_PACKAGE_FILE, path, &[At::Key(key)], &words)?;
         }
@@ -159,9 +157,8 @@ fn keyword(path: &[At<'_>], index: usize, word: &str, out: &mut Out) -> Result<(
         return Ok(());
     }
     let words = [
-        "`",
+        "`{}` is no keyword: it has at most 20 ASCII letters, digits, `_`, `-` and `+`, and begins with a letter or a digit",
         word,
-        "` is no keyword: it has at most 20 ASCII letters, digits, `_`, `-` and `+`, and begins with a letter or a digit",
     ];
     let rest = [At::Key("keywords"), At::Index(index)];
     out.value(INVALID_KEYWORDS, path, &rest, &words)
@@ -208,9 +205,8 @@ fn requirement(
     let is_path = dependency.get("path").is_some();
     if is_path && version.is_none() && !is_dev {
         let words = [
-            "all dependencies must have a version specified when packaging: `",
+            "all dependencies must have a version specified when packaging: `{}` has none",
             name,
-            "` has none",
         ];
         return out.header(PATH_WITHOUT_VERSION, base, &[At::Key(name)], &words);
     }
@@ -225,9 +221,8 @@ fn wildcard(
     out: &mut Out,
 ) -> Result<(), AllocError> {
     let words = [
-        "wildcard (`*`) dependency constraints are not allowed on crates.io: `",
+        "wildcard (`*`) dependency constraints are not allowed on crates.io: `{}`",
         name,
-        "`",
     ];
     if dependency.is_table() {
         let rest = [At::Key(name), At::Key("version")];

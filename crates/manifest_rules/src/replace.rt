@@ -5,7 +5,7 @@ use crate::codes::{
     IGNORED_IN_PATCH, INHERITED_PATCH, INVALID_REPLACE_KEY, Level, REPLACE_BESIDE_PATCH,
     UNKNOWN_PATCH_SOURCE, VERSION_IN_REPLACE,
 };
-use crate::look::{Look, flag_in, inherits, items_in, table_in};
+use crate::look::{Look, flag_in, is_inherited, items_in, table_in};
 use crate::report::{At, File, Out, Part, shown};
 use crate::words::{IdVersion, UrlFault, Word, package_id, url_fault};
 use std::alloc::AllocError;
@@ -40,7 +40,7 @@ fn rules_of_source<'a>(
     for (name, element) in elements {
         if let Value::Table(detail) = element {
             let path = [At::Key("patch"), At::Key(source), At::Key(name.as_str())];
-            if inherits(elements, name.as_str()) {
+            if is_inherited(element) {
                 inherited_patch(&path, detail, out)?;
             }
             ignored_in_patch(&path, detail, out)?;
@@ -93,14 +93,13 @@ fn say_unknown_source(
     out: &mut Out,
 ) -> Result<(), AllocError> {
     if Word::Name.fault(source).is_none() {
-        let words = ["`", source, "` is no registry that is known here"];
+        let words = ["`{}` is no registry that is known here", source];
         return out.key(UNKNOWN_PATCH_SOURCE, path, &[], &words);
     }
     let fault = shown(out.alloc, &fault)?;
     let words = [
-        "`",
+        "`{}` is neither a URL nor the name of a registry: {}",
         source,
-        "` is neither a URL nor the name of a registry: ",
         fault.as_str(),
     ];
     out.key(UNKNOWN_PATCH_SOURCE, path, &[], &words)?;
@@ -154,10 +153,10 @@ fn ignored_in_patch(path: &[At<'_>], detail: &Table, out: &mut Out) -> Result<()
 
 fn without_effect(path: &[At<'_>], key: &str, out: &mut Out) -> Result<(), AllocError> {
     let rest = [At::Key(key)];
-    let words = ["`", key, "` has no effect in `[patch]`"];
+    let words = ["`{}` has no effect in `[patch]`", key];
     out.key(IGNORED_IN_PATCH, path, &rest, &words)?;
     out.note(&["the dependency that is patched says which features are enabled"])?;
-    out.remove(path, &rest, true, &["remove `", key, "`"])
+    out.remove(path, &rest, true, &["remove `{}`", key])
 }
 
 /// A key of `[replace]` is a package id with a whole version.
@@ -169,9 +168,8 @@ fn invalid_replace_key(id: &str, out: &mut Out) -> Result<(), AllocError> {
     };
     let path = [At::Key("replace"), At::Key(id)];
     let words = [
-        "`",
+        "`{}` does not say which version of a package to replace",
         id,
-        "` does not say which version of a package to replace",
     ];
     out.key(INVALID_REPLACE_KEY, &path, &[], &words)?;
     out.note(&[note])
@@ -180,7 +178,7 @@ fn invalid_replace_key(id: &str, out: &mut Out) -> Result<(), AllocError> {
 /// The key says which version is replaced, and by which it is replaced the source says.
 fn version_in_replace(id: &str, element: &Value, out: &mut Out) -> Result<(), AllocError> {
     let path = [At::Key("replace"), At::Key(id)];
-    let words = ["replacement of `", id, "` has a version requirement"];
+    let words = ["replacement of `{}` has a version requirement", id];
     match element {
         Value::String(_version) => out.value(VERSION_IN_REPLACE, &path, &[], &words)?,
         Value::Table(detail) if detail.contains_key("version") => {

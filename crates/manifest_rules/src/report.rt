@@ -109,6 +109,25 @@ pub(crate) fn quoted(alloc: Global, text: &str) -> Result<String, AllocError> {
     format!(in alloc; "{value}")
 }
 
+/// The first of the words, with the others in the place of each `{}` in it, one after another.
+fn filled(alloc: Global, words: &[&str]) -> Result<String, AllocError> {
+    let mut text = String::new(alloc);
+    let Some((first, others)) = words.split_first() else {
+        return Ok(text);
+    };
+    let mut rest = *first;
+    for word in others {
+        let Some((before, after)) = rest.split_once("{}") else {
+            break;
+        };
+        text.push_str(before)?;
+        text.push_str(*word)?;
+        rest = after;
+    }
+    text.push_str(rest)?;
+    Ok(text)
+}
+
 /// The same steps, in memory of their own.
 pub fn copied(alloc: Global, path: &[Step]) -> Result<Vec<Step>, AllocError>
     ensures { IfOk result (λ steps. map step_of steps.items ≡ map step_of path.now) }
@@ -239,7 +258,8 @@ impl Out {
         Ok(nearest.found())
     }
 
-    /// Says this, in these words, of a part of what stands at a path.
+    /// Says this, in these words, of a part of what stands at a path: the first is the message, and the others stand in
+    /// the place of each `{}` in it.
     pub(crate) fn say(
         &mut self,
         code: Code,
@@ -297,7 +317,7 @@ impl Out {
     }
 
     fn say_at(&mut self, code: Code, spot: Spot, words: &[&str]) -> Result<(), AllocError> {
-        let message = words.concat(self.alloc)?;
+        let message = filled(self.alloc, words)?;
         self.tell(Report::new(self.alloc, code, spot, message))
     }
 
@@ -310,7 +330,7 @@ impl Out {
 
     /// Of what was said last: one more note.
     pub(crate) fn note(&mut self, words: &[&str]) -> Result<(), AllocError> {
-        let note = words.concat(self.alloc)?;
+        let note = filled(self.alloc, words)?;
         if let Some(last) = self.reports.last_mut() {
             last.notes.push(note)?;
         }
@@ -327,7 +347,7 @@ impl Out {
         words: &[&str],
     ) -> Result<(), AllocError> {
         let spot = Spot::Path(steps(self.alloc, base, rest)?, part);
-        let text = words.concat(self.alloc)?;
+        let text = filled(self.alloc, words)?;
         if let Some(last) = self.reports.last_mut() {
             last.labels.push(Label { file, spot, text })?;
         }
@@ -363,7 +383,7 @@ impl Out {
         words: &[&str],
     ) -> Result<(), AllocError> {
         let path = steps(self.alloc, base, rest)?;
-        let edit = Edit::Set(path, value.concat(self.alloc)?);
+        let edit = Edit::Set(path, filled(self.alloc, value)?);
         self.suggest_edit(edit, is_certain, words)
     }
 
@@ -424,7 +444,7 @@ impl Out {
         is_certain: bool,
         words: &[&str],
     ) -> Result<(), AllocError> {
-        let text = words.concat(self.alloc)?;
+        let text = filled(self.alloc, words)?;
         let suggestion = Suggestion {
             text,
             edits,

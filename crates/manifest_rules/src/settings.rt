@@ -60,12 +60,12 @@ fn unknown_setting(
     out: &mut Out,
 ) -> Result<(), AllocError> {
     let rest = [At::Key(key)];
-    let words = ["no setting has the name `", key, "`"];
+    let words = ["no setting has the name `{}`", key];
     out.key(IGNORED_SETTING, base, &rest, &words)?;
     out.note(&["the settings are `allow`, `warn` and `deny`"])?;
     match out.nearest_of(key, &SETTINGS)? {
         Some(near) if !settings.contains_key(near) => {
-            out.rename(base, &rest, near, false, &["write `", near, "`"])
+            out.rename(base, &rest, near, false, &["write `{}`", near])
         }
         _ => Ok(()),
     }
@@ -79,13 +79,13 @@ fn setting_without_list(
     out: &mut Out,
 ) -> Result<(), AllocError> {
     let rest = [At::Key(key)];
-    let words = ["`", key, "` must be a list of codes"];
+    let words = ["`{}` must be a list of codes", key];
     out.value(IGNORED_SETTING, base, &rest, &words)?;
     let Value::String(code) = value else {
         return Ok(());
     };
     let code = quoted(out.alloc, code.as_str())?;
-    let list = ["[", code.as_str(), "]"];
+    let list = ["[{}]", code.as_str()];
     out.set(base, &rest, &list, false, &["write a list of it"])
 }
 
@@ -101,7 +101,7 @@ fn rules_of_codes(
         match code {
             Value::String(name) => unless_code(base, &rest, name.as_str(), out)?,
             _ => {
-                let words = ["an item of `", key, "` must be a string"];
+                let words = ["an item of `{}` must be a string", key];
                 out.value(IGNORED_SETTING, base, &rest, &words)?;
             }
         }
@@ -118,14 +118,14 @@ fn unless_code(
     if name == "all" || code_named(name).is_some() {
         return Ok(());
     }
-    let words = ["no code has the name `", name, "`"];
+    let words = ["no code has the name `{}`", name];
     out.value(IGNORED_SETTING, base, rest, &words)?;
     let mut nearest = out.nearest(name);
     for code in ALL {
         nearest.offer(out.alloc, code.name)?;
     }
     match nearest.found() {
-        Some(near) => out.set_text(base, rest, near, false, &["write `", near, "`"]),
+        Some(near) => out.set_text(base, rest, near, false, &["write `{}`", near]),
         None => Ok(()),
     }
 }

@@ -88,9 +88,8 @@ fn shared_file(
 ) -> Result<(), AllocError> {
     let rest = [At::Key("path")];
     let words = [
-        "file `",
+        "file `{}` found to be present in multiple build targets",
         path,
-        "` found to be present in multiple build targets",
     ];
     out.value(SHARED_TARGET_FILE, target.path.as_slice(), &rest, &words)?;
     match first {

@@ -7,7 +7,7 @@ use crate::look::{Look, Section, text_in};
 use crate::report::{At, File, Out, Part};
 use crate::words::url_fault;
 use std::alloc::{AllocError, Global};
-use std::collections::BTreeMap;
+use std::collections::{BTreeMap, BTreeSet};
 use toml::Table;
 
 /// Where a dependency comes from, as far as the manifest says.
@@ -119,7 +119,7 @@ fn all_sourced<'a>(look: &'a Look<'_>) -> Result<Vec<Sourced<'a>>, AllocError> {
                 section: table.section,
                 base: table.path.as_slice(),
                 name: name.as_str(),
-                table: table.table,
+                value,
             };
             let source = match dependency.detail() {
                 Some(detail) => Source::new(look.alloc, detail)?,
@@ -137,7 +137,16 @@ fn all_sourced<'a>(look: &'a Look<'_>) -> Result<Vec<Sourced<'a>>, AllocError> {
 /// All rules that compare dependencies.
 pub(crate) fn sources(look: &Look<'_>, out: &mut Out) -> Result<(), AllocError> {
     let all = all_sourced(look)?;
-    two_sources(all.as_slice(), out)?;
+    // (in one table no name stands twice)
+    if look
+        .dependencies
+        .iter()
+        .filter(|table| table.section.is_of_package())
+        .count()
+        > 1
+    {
+        two_sources(all.as_slice(), out)?;
+    }
     repeated_dependency(all.as_slice(), out)?;
     for one in all.iter() {
         self_dependency(look, one, out)?;
@@ -150,13 +159,14 @@ fn two_sources(all: &[Sourced<'_>], out: &mut Out) -> Result<(), AllocError> {
     let mut seen = BTreeMap::new(out.alloc);
     for one in all {
         let name = one.dependency.name;
-        let Some(first) = seen.get(&name) else {
-            seen.insert(name, one)?;
+        let Some(first) = seen.insert(name, one)? else {
             continue;
         };
         if one.source.differs(&first.source) {
             differing_sources(&one.dependency, &first.dependency, out)?;
         }
+        // (the others are compared with the first one too)
+        seen.insert(name, first)?;
     }
     Ok(())
 }
@@ -169,9 +179,8 @@ fn differing_sources(
 ) -> Result<(), AllocError> {
     let name = [At::Key(one.name)];
     let words = [
-        "dependency `",
+        "dependency `{}` has different sources in two tables",
         one.name,
-        "` has different sources in two tables",
     ];
     out.key(TWO_SOURCES, one.base, &name, &words)?;
     let label = ["its other source is here"];
@@ -210,10 +219,29 @@ fn is_one_crate(one: &str, another: &str) -> bool {
         .eq(another.chars().map(|ch| if ch == '-' { '_' } else { ch }))
 }
 
+/// The packages that are dependencies by other names than their own.
+fn renamed_packages<'a>(
+    alloc: Global,
+    all: &[Sourced<'a>],
+) -> Result<BTreeSet<&'a str>, AllocError> {
+    let mut packages = BTreeSet::new(alloc);
+    for one in all {
+        let package = one.dependency.package();
+        if package != one.dependency.name {
+            packages.insert(package)?;
+        }
+    }
+    Ok(packages)
+}
+
 /// A package has one name among the dependencies.
 fn repeated_dependency(all: &[Sourced<'_>], out: &mut Out) -> Result<(), AllocError> {
+    let renamed = renamed_packages(out.alloc, all)?;
     let mut seen = BTreeMap::new(out.alloc);
     for one in all {
+        if !renamed.contains(&one.dependency.package()) {
+            continue;
+        }
         let identity = identity(out.alloc, one)?;
         let Some(first) = seen.get(&identity) else {
             seen.insert(identity, one)?;
@@ -233,13 +261,10 @@ fn two_names(
     out: &mut Out,
 ) -> Result<(), AllocError> {
     let words = [
-        "package `",
+        "package `{}` is a dependency by two names, `{}` and `{}`",
         one.package(),
-        "` is a dependency by two names, `",
         &*first.name,
-        "` and `",
         one.name,
-        "`",
     ];
     out.key(REPEATED_DEPENDENCY, one.base, &[At::Key(one.name)], &words)?;
     let other = [At::Key(first.name)];
@@ -263,7 +288,7 @@ fn self_dependency(look: &Look<'_>, one: &Sourced<'_>, out: &mut Out) -> Result<
         return Ok(());
     }
     let Dependency { base, name, .. } = one.dependency;
-    let words = ["package `", one.dependency.package(), "` depends on itself"];
+    let words = ["package `{}` depends on itself", one.dependency.package()];
     out.key(SELF_DEPENDENCY, base, &[At::Key(name)], &words)?;
     out.note(&["only a dev-dependency may be the package itself"])
 }

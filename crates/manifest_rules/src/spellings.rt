@@ -207,11 +207,9 @@ fn old_spelling(
         return Ok(());
     }
     let words = [
-        "`",
+        "`{}` is deprecated in favor of `{}` and not supported in the 2024 edition",
         spelling.written,
-        "` is deprecated in favor of `",
         spelling.known,
-        "` and not supported in the 2024 edition",
     ];
     out.key(OLD_SPELLING, base, rest, &words)?;
     write_instead(base, rest, spelling.known, out)
@@ -229,11 +227,9 @@ fn ignored_spelling(
         return Ok(());
     }
     let words = [
-        "Cargo ignores `",
+        "Cargo ignores `{}`: the key is `{}`",
         spelling.written,
-        "`: the key is `",
         spelling.known,
-        "`",
     ];
     out.key(IGNORED_SPELLING, base, rest, &words)?;
     write_instead(base, rest, spelling.known, out)
@@ -246,7 +242,7 @@ fn write_instead(
     known: &str,
     out: &mut Out,
 ) -> Result<(), AllocError> {
-    out.rename(base, rest, known, true, &["write `", known, "`"])
+    out.rename(base, rest, known, true, &["write `{}`", known])
 }
 
 /// `project`, where there is no `package`.

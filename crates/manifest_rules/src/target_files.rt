@@ -98,9 +98,8 @@ fn say_reserved(
     out: &mut Out,
 ) -> Result<(), AllocError> {
     let words = [
-        "the binary target name `",
+        "the binary target name `{}` is forbidden, it conflicts with cargo's build directory names",
         name,
-        "` is forbidden, it conflicts with cargo's build directory names",
     ];
     out.say(RESERVED_BINARY_NAME, part, base, rest, &words)
 }
@@ -155,13 +154,10 @@ fn say_repeated(
 ) -> Result<(), AllocError> {
     let of_kind = kind.words();
     let words = [
-        "found duplicate ",
+        "found duplicate {} name {}, but all {} targets must have a unique name",
         of_kind,
-        " name ",
         name,
-        ", but all ",
         of_kind,
-        " targets must have a unique name",
     ];
     out.say(REPEATED_TARGET_NAME, part, base, rest, &words)
 }
@@ -209,16 +205,14 @@ fn target_path(
         FileState::Folder => {
             let of_kind = target.kind.words();
             let words = [
-                "path `",
+                "path `{}` for the {} is a directory, but a source file was expected",
                 path,
-                "` for the ",
                 of_kind,
-                " is a directory, but a source file was expected",
             ];
             out.value(WRONG_TARGET_PATH, base, &rest, &words)
         }
         FileState::Absent => {
-            let words = ["couldn't read `", path, "`: there is no such file"];
+            let words = ["couldn't read `{}`: there is no such file", path];
             out.value(WRONG_TARGET_PATH, base, &rest, &words)
         }
     }
@@ -240,9 +234,8 @@ fn library_file(
         return Ok(());
     }
     let words = [
-        "can't find library `",
+        "can't find library `{}`, rename file to `src/lib.rs` or specify lib.path",
         name,
-        "`, rename file to `src/lib.rs` or specify lib.path",
     ];
     out.header(MISSING_TARGET_FILE, target.path.as_slice(), &[], &words)
 }
@@ -266,21 +259,14 @@ fn missing_file(
     let of_kind = target.kind.words();
     let key = target.kind.path_key();
     let words = [
-        "can't find `",
+        "can't find `{}` {} at `{}/{}.rs` or `{}/{}/main.rs`. Please specify {} if you want to use a non-default path.",
         name,
-        "` ",
         of_kind,
-        " at `",
         folder,
-        "/",
         name,
-        ".rs` or `",
         folder,
-        "/",
         name,
-        "/main.rs`. Please specify ",
         key,
-        " if you want to use a non-default path.",
     ];
     out.header(MISSING_TARGET_FILE, target.path.as_slice(), &[], &words)
 }
@@ -305,13 +291,10 @@ fn ambiguous_file(
     let of_kind = target.kind.words();
     let key = target.kind.path_key();
     let words = [
-        "cannot infer path for `",
+        "cannot infer path for `{}` {}: several files fit, so `{}` has to say which",
         name,
-        "` ",
         of_kind,
-        ": several files fit, so `",
         key,
-        "` has to say which",
     ];
     out.header(AMBIGUOUS_TARGET_FILE, target.path.as_slice(), &[], &words)
 }
@@ -352,7 +335,7 @@ fn reserved_file(look: &Look<'_>, file: &FoundFile, out: &mut Out) -> Result<(),
     } else {
         say_reserved(Part::Header, &package, &[], name, out)?;
     }
-    out.note(&["it is that of `", path, "`"])
+    out.note(&["it is that of `{}`", path])
 }
 
 fn repeated_file<'a>(
@@ -364,13 +347,7 @@ fn repeated_file<'a>(
 ) -> Result<(), AllocError> {
     let package = [At::Key(look.package_key)];
     say_repeated(Part::Header, &package, &[], kind, file.name.as_str(), out)?;
-    out.note(&[
-        "`",
-        first,
-        "` and `",
-        file.path.as_str(),
-        "` are both found",
-    ])
+    out.note(&["`{}` and `{}` are both found", first, file.path.as_str()])
 }
 
 /// In the edition 2015 files are not found where targets of their kind are declared, unless the package says so.
@@ -395,13 +372,10 @@ fn undeclared_files(
 fn undeclared_file(kind: Kind, path: &str, out: &mut Out) -> Result<(), AllocError> {
     let of_kind = kind.words();
     let words = [
-        "an explicit ",
+        "an explicit {} section is specified in Cargo.toml which currently disables Cargo from automatically inferring other {} targets, as `{}`",
         of_kind,
-        " section is specified in Cargo.toml which currently disables Cargo from automatically inferring other ",
         of_kind,
-        " targets, as `",
         path,
-        "`",
     ];
     let first = [At::Key(kind.key()), At::Index(0)];
     out.header(UNDECLARED_TARGET_FILES, &first, &[], &words)
@@ -470,10 +444,10 @@ fn say_unknown_default_run(
     out: &mut Out,
 ) -> Result<(), AllocError> {
     let path = [At::Key(package), At::Key("default-run")];
-    let words = ["default-run target `", name, "` not found"];
+    let words = ["default-run target `{}` not found", name];
     out.value(UNKNOWN_DEFAULT_RUN, &path, &[], &words)?;
     match near {
-        Some(word) => out.help(&["a target with a similar name exists: `", word, "`"]),
+        Some(word) => out.help(&["a target with a similar name exists: `{}`", word]),
         None => Ok(()),
     }
 }

@@ -40,33 +40,33 @@ fn target_name(target: &DeclaredTarget<'_>, out: &mut Out) -> Result<(), AllocEr
         return library_name_with_hyphen(path, name, out);
     }
     if has_other_characters(name) {
-        let words = ["invalid character in crate name: `", name, "`"];
+        let words = ["invalid character in crate name: `{}`", name];
         return out.value(INVALID_TARGET_NAME, path, &[At::Key("name")], &words);
     }
     Ok(())
 }
 
 fn missing_target_name(path: &[At<'_>], of_kind: &str, out: &mut Out) -> Result<(), AllocError> {
-    let words = [of_kind, " target `", of_kind, ".name` is required"];
+    let words = ["{} target `{}.name` is required", of_kind, of_kind];
     out.header(MISSING_TARGET_NAME, path, &[], &words)
 }
 
 fn empty_target_name(path: &[At<'_>], of_kind: &str, out: &mut Out) -> Result<(), AllocError> {
-    let words = [of_kind, " target names cannot be empty"];
+    let words = ["{} target names cannot be empty", of_kind];
     out.value(EMPTY_TARGET_NAME, path, &[At::Key("name")], &words)
 }
 
 fn library_name_with_hyphen(path: &[At<'_>], name: &str, out: &mut Out) -> Result<(), AllocError> {
     let rest = [At::Key("name")];
-    let words = ["library target names cannot contain hyphens: ", name];
+    let words = ["library target names cannot contain hyphens: {}", name];
     out.value(INVALID_LIBRARY_NAME, path, &rest, &words)?;
     if has_other_characters(name) {
         return Ok(());
     }
     let other = without_hyphens(out.alloc, name)?;
     let other = other.as_str();
-    let help = ["write `", other, "`"];
-    out.set(path, &rest, &["\"", other, "\""], false, &help)
+    let help = ["write `{}`", other];
+    out.set(path, &rest, &["\"{}\"", other], false, &help)
 }
 
 /// The same name with `_` in place of `-`.
@@ -199,7 +199,7 @@ fn unknown_type(
     if name == "bin" || CRATE_TYPES.contains(&name) {
         return Ok(());
     }
-    let words = ["unknown crate type: `", name, "`"];
+    let words = ["unknown crate type: `{}`", name];
     out.value(UNKNOWN_CRATE_TYPE, path, rest, &words)
 }
 
@@ -227,9 +227,8 @@ fn edition_of_target(target: &DeclaredTarget<'_>, out: &mut Out) -> Result<(), A
 
 fn say_edition(path: &[At<'_>], of_kind: &str, out: &mut Out) -> Result<(), AllocError> {
     let words = [
-        "`edition` is set on the ",
+        "`edition` is set on the {}, which is deprecated: it is set on the package",
         of_kind,
-        ", which is deprecated: it is set on the package",
     ];
     out.key(EDITION_OF_TARGET, path, &[At::Key("edition")], &words)
 }
@@ -264,7 +263,7 @@ fn required_feature(
     out: &mut Out,
 ) -> Result<(), AllocError> {
     if name.starts_with("dep:") || name.contains("?/") {
-        let words = ["`", name, "` is not a valid required feature"];
+        let words = ["`{}` is not a valid required feature", name];
         return out.value(INVALID_REQUIRED_FEATURE, path, rest, &words);
     }
     let known = match name.split_once('/') {
@@ -275,9 +274,8 @@ fn required_feature(
         return Ok(());
     }
     let words = [
-        "invalid feature `",
+        "invalid feature `{}` in required-features: it is not present in [features] section",
         name,
-        "` in required-features: it is not present in [features] section",
     ];
     out.value(UNKNOWN_REQUIRED_FEATURE, path, rest, &words)
 }

@@ -29,7 +29,7 @@ fn direction_characters(look: &Look<'_>, out: &mut Out) -> Result<(), AllocError
     for ch in look.text.chars() {
         let end = at.saturating_add(ch.len_utf8());
         if let Some(code) = direction_code(ch) {
-            let words = ["the character U+", code, " turns the direction of the text"];
+            let words = ["the character U+{} turns the direction of the text", code];
             out.bytes(DIRECTION_CHARACTERS, at, end, &words)?;
         }
         at = end;
@@ -80,8 +80,13 @@ fn misspelled_table(key: &str, out: &mut Out) -> Result<(), AllocError> {
         return Ok(());
     };
     let path = [At::Key(key)];
-    out.key(MISSPELLED_KEY, &path, &[], &["unused manifest key: ", key])?;
-    let help = ["a key with a similar name exists: `", word, "`"];
+    out.key(
+        MISSPELLED_KEY,
+        &path,
+        &[],
+        &["unused manifest key: {}", key],
+    )?;
+    let help = ["a key with a similar name exists: `{}`", word];
     out.rename(&path, &[], word, false, &help)
 }
 
@@ -122,9 +127,8 @@ fn tables_without_package(look: &Look<'_>, out: &mut Out) -> Result<(), AllocErr
         let key = *key;
         if look.document.contains_key(key) {
             let words = [
-                "this virtual manifest specifies a `",
+                "this virtual manifest specifies a `{}` section, which is not allowed",
                 key,
-                "` section, which is not allowed",
             ];
             out.key(TABLE_WITHOUT_PACKAGE, &[At::Key(key)], &[], &words)?;
         }
@@ -183,27 +187,30 @@ fn cargo_features(look: &Look<'_>, out: &mut Out) -> Result<(), AllocError> {
 }
 
 fn cargo_feature(name: &str, index: usize, out: &mut Out) -> Result<(), AllocError> {
-    let (code, before, after) = if STABLE.contains(&name) {
-        let after = "` has been stabilized and is no longer necessary";
-        (STABLE_CARGO_FEATURE, "the cargo feature `", after)
+    let (code, message) = if STABLE.contains(&name) {
+        (
+            STABLE_CARGO_FEATURE,
+            "the cargo feature `{}` has been stabilized and is no longer necessary",
+        )
     } else if UNSTABLE.contains(&name) {
-        let after = "` requires a nightly version of Cargo";
-        (UNSTABLE_CARGO_FEATURE, "the cargo feature `", after)
+        (
+            UNSTABLE_CARGO_FEATURE,
+            "the cargo feature `{}` requires a nightly version of Cargo",
+        )
     } else if name == "publish-lockfile" {
         (
             REMOVED_CARGO_FEATURE,
-            "the cargo feature `",
-            "` has been removed",
+            "the cargo feature `{}` has been removed",
         )
     } else {
-        (UNKNOWN_CARGO_FEATURE, "unknown Cargo.toml feature `", "`")
+        (UNKNOWN_CARGO_FEATURE, "unknown Cargo.toml feature `{}`")
     };
     let path = [At::Key("cargo-features"), At::Index(index)];
-    out.value(code, &path, &[], &[before, name, after])
+    out.value(code, &path, &[], &[message, name])
 }
 
 fn repeated_cargo_feature(name: &str, index: usize, out: &mut Out) -> Result<(), AllocError> {
     let path = [At::Key("cargo-features"), At::Index(index)];
-    let words = ["the cargo feature `", name, "` is listed twice"];
+    let words = ["the cargo feature `{}` is listed twice", name];
     out.value(REPEATED_CARGO_FEATURE, &path, &[], &words)
 }

@@ -111,29 +111,21 @@ pub(crate) fn say_wrong_word(
     let WrongWord { what, word, fault } = *wrong;
     match fault {
         WordFault::Empty if word.is_empty() => {
-            out.say(code, part, base, rest, &[what, " cannot be empty"])
+            out.say(code, part, base, rest, &["{} cannot be empty", what])
         }
         WordFault::Empty => {
-            let words = ["empty part in ", what, " `", word, "`"];
+            let words = ["empty part in {} `{}`", what, word];
             out.say(code, part, base, rest, &words)
         }
         WordFault::First(ch) => {
             let ch = shown(out.alloc, &ch)?;
             let before = "` cannot begin with the character `";
-            let words = [what, " `", word, before, ch.as_str(), "`"];
+            let words = ["{} `{}{}{}`", what, word, before, ch.as_str()];
             out.say(code, part, base, rest, &words)
         }
         WordFault::Other(ch) => {
             let ch = shown(out.alloc, &ch)?;
-            let words = [
-                "invalid character `",
-                ch.as_str(),
-                "` in ",
-                what,
-                " `",
-                word,
-                "`",
-            ];
+            let words = ["invalid character `{}` in {} `{}`", ch.as_str(), what, word];
             out.say(code, part, base, rest, &words)
         }
     }

@@ -87,7 +87,7 @@ fn member_pattern(key: &str, index: usize, pattern: &str, out: &mut Out) -> Resu
     let Some(fault) = pattern_fault(pattern) else {
         return Ok(());
     };
-    let words = ["could not parse pattern `", pattern, "`: ", fault];
+    let words = ["could not parse pattern `{}`: {}", pattern, fault];
     let path = [At::Key("workspace"), At::Key(key), At::Index(index)];
     out.value(INVALID_MEMBER_PATTERN, &path, &[], &words)
 }
@@ -141,11 +141,9 @@ fn missing_member(
     let path = [At::Key("workspace"), At::Key("members"), At::Index(index)];
     if let Some(folder) = found.bare.get(&index) {
         let words = [
-            "failed to load manifest for workspace member `",
+            "failed to load manifest for workspace member `{}`: the folder `{}` has no Cargo.toml",
             pattern,
-            "`: the folder `",
             &**folder,
-            "` has no Cargo.toml",
         ];
         return out.value(MISSING_MEMBER, &path, &[], &words);
     }
@@ -157,9 +155,8 @@ fn missing_member(
         return Ok(());
     }
     let words = [
-        "failed to load manifest for workspace member `",
+        "failed to load manifest for workspace member `{}`: it leads to no Cargo.toml",
         pattern,
-        "`: it leads to no Cargo.toml",
     ];
     out.value(MISSING_MEMBER, &path, &[], &words)
 }
@@ -197,9 +194,8 @@ fn is_default_member(
 
 fn unknown_default_member(index: usize, path: &str, out: &mut Out) -> Result<(), AllocError> {
     let words = [
-        "package `",
+        "package `{}` is listed in default-members but is not a member",
         path,
-        "` is listed in default-members but is not a member",
     ];
     let at = [
         At::Key("workspace"),
@@ -251,9 +247,8 @@ fn nested_workspace(member: &Member, out: &mut Out) -> Result<(), AllocError> {
         return Ok(());
     }
     let words = [
-        "multiple workspace roots found in the same workspace: `",
+        "multiple workspace roots found in the same workspace: `{}` is one too",
         path,
-        "` is one too",
     ];
     say_of_member(NESTED_WORKSPACE, member, &words, out)
 }
@@ -265,13 +260,10 @@ fn repeated_package_name<'a>(
     out: &mut Out,
 ) -> Result<(), AllocError> {
     let words = [
-        "two packages named `",
+        "two packages named `{}` in this workspace: `{}` and `{}`",
         name,
-        "` in this workspace: `",
         other,
-        "` and `",
         member.path.as_str(),
-        "`",
     ];
     say_of_member(REPEATED_PACKAGE_NAME, member, &words, out)
 }
@@ -297,11 +289,9 @@ fn missing_resolver(look: &Look<'_>, members: &[Member], out: &mut Out) -> Resul
         Edition::E2024 => ("2024", "3"),
     };
     let words = [
-        "virtual workspace defaulting to `resolver = \"1\"` despite one or more workspace members being on edition ",
+        "virtual workspace defaulting to `resolver = \"1\"` despite one or more workspace members being on edition {} which implies `resolver = \"{}\"`",
         edition,
-        " which implies `resolver = \"",
         resolver,
-        "\"`",
     ];
     out.header(MISSING_RESOLVER, &[At::Key("workspace")], &[], &words)
 }
@@ -317,7 +307,7 @@ fn unused_dependencies(look: &Look<'_>, out: &mut Out) -> Result<(), AllocError>
     for (name, _dependency) in shared {
         let name = name.as_str();
         if !used.contains(name) {
-            let words = ["no member inherits `workspace.dependencies.", name, "`"];
+            let words = ["no member inherits `workspace.dependencies.{}`", name];
             let path = [At::Key("workspace"), At::Key("dependencies"), At::Key(name)];
             out.key(UNUSED_WORKSPACE_DEPENDENCY, &path, &[], &words)?;
         }
@@ -346,9 +336,8 @@ fn say_of_package(
 
 fn unreadable_root(look: &Look<'_>, file: &str, out: &mut Out) -> Result<(), AllocError> {
     let words = [
-        "Cargo cannot read `",
+        "Cargo cannot read `{}`, where it looks for the root of the workspace",
         file,
-        "`, where it looks for the root of the workspace",
     ];
     say_of_package(look, UNREADABLE_ROOT, &words, out)
 }
@@ -364,9 +353,8 @@ fn wrong_workspace_path(look: &Look<'_>, out: &mut Out) -> Result<(), AllocError
         return Ok(());
     }
     let words = [
-        "`package.workspace` leads to `",
+        "`package.workspace` leads to `{}`, where no workspace is",
         path,
-        "`, where no workspace is",
     ];
     let at = [At::Key(look.package_key), At::Key("workspace")];
     out.value(WRONG_WORKSPACE_PATH, &at, &[], &words)
@@ -415,9 +403,8 @@ fn ignored_in_member(look: &Look<'_>, root: &Table, out: &mut Out) -> Result<(),
 
 fn say_ignored(path: &[At<'_>], key: &str, out: &mut Out) -> Result<(), AllocError> {
     let words = [
-        "`",
+        "`{}` for the non root package will be ignored, specify it at the workspace root",
         key,
-        "` for the non root package will be ignored, specify it at the workspace root",
     ];
     out.key(IGNORED_IN_MEMBER, path, &[], &words)
 }

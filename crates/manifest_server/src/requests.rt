@@ -212,7 +212,7 @@ impl Session {
         out: &mut String,
     ) -> Result<(), AllocError> {
         let alloc = rt.alloc();
-        let checked = self.check(rt, path)?;
+        let checked = self.check(rt, path, false)?;
         let mut body = begun_notification(alloc, "textDocument/publishDiagnostics")?;
         if let Some(opened) = self.opened.get(path) {
             text_member(&mut body, "uri", opened.uri.as_str())?;
@@ -289,7 +289,7 @@ impl Session {
         text_member(body, "kind", "full")?;
         match self.path_in(alloc, params)? {
             Some(path) => {
-                let checked = self.check(rt, path.as_str())?;
+                let checked = self.check(rt, path.as_str(), false)?;
                 self.push_found(alloc, body, "items", path.as_str(), &checked)?;
             }
             None => {
@@ -415,7 +415,7 @@ impl Session {
         open_list(body, "result")?;
         if let Some(path) = self.path_in(alloc, params)? {
             let path = path.as_str();
-            let checked = self.check(rt, path)?;
+            let checked = self.check(rt, path, true)?;
             let is_certain = self.push_actions_at(alloc, params, body, path, &checked)?;
             if asks_for(params, "refactor.rewrite") {
                 self.push_moves_at(alloc, params, body, path, &checked)?;

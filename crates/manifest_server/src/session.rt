@@ -223,11 +223,12 @@ impl Session {
         }
     }
 
-    /// What is said of the text that is open at a path.
+    /// What is said of the text that is open at a path; of suggestions also what they replace, if that is to be shown.
     pub(crate) fn check<H: Files + AllocGlobal + Clone + Drop>(
         &mut self,
         rt: &H,
         path: &str,
+        shows_edits: bool,
     ) -> Result<Checked, AllocError> {
         let alloc = rt.alloc();
         if !is_manifest(path) {
@@ -237,7 +238,7 @@ impl Session {
             });
         }
         match Document::read(alloc, self.text(path).as_bytes()) {
-            Ok(document) => self.check_document(rt, path, document),
+            Ok(document) => self.check_document(rt, path, document, shows_edits),
             Err(unread) => {
                 let mut found = Vec::new(alloc);
                 found.push(unread_diagnostic(alloc, unread)?)?;
@@ -255,10 +256,12 @@ impl Session {
         rt: &H,
         path: &str,
         document: Document,
+        shows_edits: bool,
     ) -> Result<Checked, AllocError> {
         self.state.forget(rt.alloc());
         let placed = place(rt, &self.scope, &mut self.state, path, document)?;
-        let found = judge(rt, &self.scope, &mut self.state, path, &placed, true)?;
+        let state = &mut self.state;
+        let found = judge(rt, &self.scope, state, path, &placed, shows_edits)?;
         Ok(Checked {
             placed: Some(placed),
             found,
