@@ -17,130 +17,162 @@ pub(crate) enum Words {
 /// The version of the program.
 pub(crate) const VERSION: &str = "0.2.0";
 
-static FORMATS: [&str; 5] = ["people", "short", "json", "github", "sarif"];
-
-static SHOWN: [&str; 3] = ["people", "json", "html"];
-
-static COLORS: [&str; 3] = ["auto", "always", "never"];
-
-fn flag<'a>(alloc: Global, name: &'a str, help: &'a str) -> Arg<'a> {
-    Arg::new(alloc, name)
-        .long(name)
-        .action(ArgAction::SetTrue)
-        .help(help)
+/// What an option takes.
+#[derive(Clone, Copy)]
+enum Takes {
+    Nothing,
+    /// Nothing, and it goes only with the option of this name.
+    NothingWith(&'static str),
+    /// A text.
+    Text(&'static str),
+    /// A text, each time that it is given.
+    Texts(&'static str),
+    /// One of these words; the first is meant where it is not given.
+    Word(&'static str, &'static [&'static str]),
+    /// A number of bytes, with what is meant where it is not given.
+    Bytes(&'static str),
+    /// A number of columns.
+    Columns,
 }
 
-fn option<'a>(alloc: Global, name: &'a str, value: &'a str, help: &'a str) -> Arg<'a> {
-    Arg::new(alloc, name)
-        .long(name)
-        .action(ArgAction::Set)
-        .value_name(value)
-        .help(help)
+/// An option: its name, what it takes, and its help.
+type Row = (&'static str, Takes, &'static str);
+
+/// The options of a check: what is checked, how it is reported, and what else is done.
+static CHECKING: [Row; 16] = [
+    (
+        "stdin-path",
+        Takes::Text("FILE"),
+        "The path that standard input is taken to have",
+    ),
+    (
+        "no-workspace",
+        Takes::Nothing,
+        "Look for no root of a workspace",
+    ),
+    ("no-config", Takes::Nothing, "Read no .cargo/config.toml"),
+    (
+        "config",
+        Takes::Text("FILE"),
+        "Read this configuration, and none above",
+    ),
+    ("publish", Takes::Nothing, "Say what a registry wants too"),
+    (
+        "max-size",
+        Takes::Bytes("67108864"),
+        "Read no file of more bytes",
+    ),
+    (
+        "format",
+        Takes::Word("FORMAT", &["people", "short", "json", "github", "sarif"]),
+        "How diagnostics are written",
+    ),
+    (
+        "color",
+        Takes::Word("WHEN", &["auto", "always", "never"]),
+        "When colours are used",
+    ),
+    ("width", Takes::Columns, "How wide an excerpt may be"),
+    (
+        "deny",
+        Takes::Texts("CODE"),
+        "Take a code, or `all`, for an error",
+    ),
+    (
+        "warn",
+        Takes::Texts("CODE"),
+        "Take a code, or `all`, for a warning",
+    ),
+    (
+        "allow",
+        Takes::Texts("CODE"),
+        "Do not tell a code, or `all`",
+    ),
+    (
+        "fix",
+        Takes::Nothing,
+        "Make the suggestions that are certain",
+    ),
+    (
+        "dry-run",
+        Takes::NothingWith("fix"),
+        "Show what --fix would change, and change nothing",
+    ),
+    ("explain", Takes::Text("CODE"), "Print the page of a code"),
+    ("list", Takes::Nothing, "Print all codes with their levels"),
+];
+
+static SHOWING: [Row; 1] = [(
+    "format",
+    Takes::Word("FORMAT", &["people", "json", "html"]),
+    "How it is written",
+)];
+
+/// The option of a row.
+fn option<'a>(alloc: Global, row: &Row) -> Result<Arg<'a>, AllocError> {
+    let (name, takes, help) = *row;
+    let arg = Arg::new(alloc, name).long(name).help(help);
+    Ok(match takes {
+        Takes::Nothing => arg.action(ArgAction::SetTrue),
+        Takes::NothingWith(other) => arg.action(ArgAction::SetTrue).requires_arg(other)?,
+        Takes::Text(value) => arg.action(ArgAction::Set).value_name(value),
+        Takes::Texts(value) => arg.action(ArgAction::Append).value_name(value),
+        Takes::Word(value, words) => arg
+            .action(ArgAction::Set)
+            .value_name(value)
+            .default_value(words.first().copied().unwrap_or(""))
+            .value_parser(words),
+        Takes::Bytes(most) => arg
+            .action(ArgAction::Set)
+            .value_name("BYTES")
+            .default_value(most)
+            .value_parser(clap::value_parser!(u64)),
+        Takes::Columns => arg
+            .action(ArgAction::Set)
+            .value_name("COLUMNS")
+            .value_parser(clap::value_parser!(u16)),
+    })
 }
 
-fn repeated<'a>(alloc: Global, name: &'a str, value: &'a str, help: &'a str) -> Arg<'a> {
-    option(alloc, name, value, help).action(ArgAction::Append)
-}
-
-/// The arguments that say what is checked.
-fn with_inputs<'a>(alloc: Global, command: Command<'a>) -> Result<Command<'a>, AllocError> {
+/// A command with paths, and with the options of these rows.
+fn with_options<'a>(
+    alloc: Global,
+    command: Command<'a>,
+    help: &'static str,
+    rows: &'static [Row],
+) -> Result<Command<'a>, AllocError> {
     let paths = Arg::new(alloc, "PATHS")
         .action(ArgAction::Append)
         .num_args(0..)
-        .help("Manifests, and folders with manifests; `-` is standard input [default: .]");
-    command
-        .arg(paths)?
-        .arg(option(
-            alloc,
-            "stdin-path",
-            "FILE",
-            "The path that standard input is taken to have",
-        ))?
-        .arg(flag(alloc, "no-workspace", "Look for no root of a workspace"))?
-        .arg(flag(alloc, "no-config", "Read no .cargo/config.toml"))?
-        .arg(option(
-            alloc,
-            "config",
-            "FILE",
-            "Read this configuration, and none above",
-        ))?
-        .arg(flag(alloc, "publish", "Say what a registry wants too"))?
-        .arg(
-            option(alloc, "max-size", "BYTES", "Read no file of more bytes")
-                .default_value("67108864")
-                .value_parser(clap::value_parser!(u64)),
-        )
-}
-
-/// The arguments that say how it is reported.
-fn with_formats<'a>(alloc: Global, command: Command<'a>) -> Result<Command<'a>, AllocError> {
-    command
-        .arg(
-            option(alloc, "format", "FORMAT", "How diagnostics are written")
-                .default_value("people")
-                .value_parser(FORMATS.as_slice()),
-        )?
-        .arg(
-            option(alloc, "color", "WHEN", "When colours are used")
-                .default_value("auto")
-                .value_parser(COLORS.as_slice()),
-        )?
-        .arg(option(alloc, "width", "COLUMNS", "How wide an excerpt may be").value_parser(
-            clap::value_parser!(u16),
-        ))?
-        .arg(repeated(alloc, "deny", "CODE", "Take a code, or `all`, for an error"))?
-        .arg(repeated(
-            alloc,
-            "warn",
-            "CODE",
-            "Take a code, or `all`, for a warning",
-        ))?
-        .arg(repeated(alloc, "allow", "CODE", "Do not tell a code, or `all`"))
-}
-
-/// The arguments that say what else is done.
-fn with_deeds<'a>(alloc: Global, command: Command<'a>) -> Result<Command<'a>, AllocError> {
-    command
-        .arg(flag(alloc, "fix", "Make the suggestions that are certain"))?
-        .arg(flag(
-            alloc,
-            "dry-run",
-            "Show what --fix would change, and change nothing",
-        )
-        .requires_arg("fix")?)?
-        .arg(option(alloc, "explain", "CODE", "Print the page of a code"))?
-        .arg(flag(alloc, "list", "Print all codes with their levels"))
+        .help(help);
+    let mut command = command.arg(paths)?;
+    for row in rows {
+        command = command.arg(option(alloc, row)?)?;
+    }
+    Ok(command)
 }
 
 /// The command `show`.
 fn show_command<'a>(alloc: Global) -> Result<Command<'a>, AllocError> {
-    Command::new(alloc, "show")
-        .about("Shows what packages build, and what they inherit, with where each comes from")
-        .arg(
-            Arg::new(alloc, "PATHS")
-                .action(ArgAction::Append)
-                .num_args(0..)
-                .help("Manifests, and folders with manifests [default: .]"),
-        )?
-        .arg(
-            option(alloc, "format", "FORMAT", "How it is written")
-                .default_value("people")
-                .value_parser(SHOWN.as_slice()),
-        )
+    let command = Command::new(alloc, "show").about(
+        "Shows what packages build, and what they inherit, with where each comes from",
+    );
+    let help = "Manifests, and folders with manifests [default: .]";
+    with_options(alloc, command, help, &SHOWING)
 }
 
 /// The command `canon`.
 fn canon_command<'a>(alloc: Global) -> Result<Command<'a>, AllocError> {
+    let check = option(alloc, &("check", Takes::Nothing, "Change nothing"))?;
+    let paths = Arg::new(alloc, "PATHS")
+        .required(true)
+        .action(ArgAction::Append)
+        .num_args(1..)
+        .help("Manifests, and folders with manifests");
     Command::new(alloc, "canon")
         .about("Tells which manifests are not canonical, with the difference")
-        .arg(flag(alloc, "check", "Change nothing").required(true))?
-        .arg(
-            Arg::new(alloc, "PATHS")
-                .required(true)
-                .action(ArgAction::Append)
-                .num_args(1..)
-                .help("Manifests, and folders with manifests"),
-        )
+        .arg(check.required(true))?
+        .arg(paths)
 }
 
 /// The command `lsp`.
@@ -160,7 +192,8 @@ fn command<'a>(alloc: Global) -> Result<Command<'a>, AllocError> {
         .subcommand(show_command(alloc)?)?
         .subcommand(canon_command(alloc)?)?
         .subcommand(lsp_command(alloc))?;
-    with_deeds(alloc, with_formats(alloc, with_inputs(alloc, command)?)?)
+    let help = "Manifests, and folders with manifests; `-` is standard input [default: .]";
+    with_options(alloc, command, help, &CHECKING)
 }
 
 fn copied(alloc: Global, text: Option<&str>) -> Result<Option<String>, AllocError> {
