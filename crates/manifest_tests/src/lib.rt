@@ -1,5 +1,7 @@
-//! Tests that are code: the examples of comments, comparisons and copies, filesystems that refuse or change, real folders, and
-//! what needs a type, a closure or a value of its own. The rows of tests are calls of the program `manifest_calls`.
+//! Tests that are code: the examples of comments, comparisons and copies, filesystems that refuse or change, real folders,
+//! places in texts of every layout and what edits make of them, what members inherit, runs of the program with readers and
+//! writers that fail, and what needs a type, a closure or a value of its own. The rows of tests are calls of the program
+//! `manifest_calls`.
 #![tactic(auto)]
 
 #[cfg(test)]
@@ -14,6 +16,8 @@ mod bytes;
 mod calls;
 #[cfg(test)]
 mod completed;
+#[cfg(test)]
+mod edited;
 #[cfg(test)]
 mod equal;
 #[cfg(test)]
@@ -31,17 +35,29 @@ mod examples_of_tables;
 #[cfg(test)]
 mod files;
 #[cfg(test)]
+mod finished;
+#[cfg(test)]
 mod folders;
 #[cfg(test)]
 mod found;
 #[cfg(test)]
+mod looked_up;
+#[cfg(test)]
 mod metadata;
+#[cfg(test)]
+mod places;
+#[cfg(test)]
+mod positions;
 #[cfg(test)]
 mod printed;
 #[cfg(test)]
 mod queries;
 #[cfg(test)]
 mod questions;
+#[cfg(test)]
+mod refusals;
+#[cfg(test)]
+mod runs;
 #[cfg(test)]
 mod score;
 #[cfg(test)]
