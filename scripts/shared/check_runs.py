@@ -89,6 +89,11 @@ def told_in(program, folder, options=(), form="short"):
     return by_file
 
 
+def within(name, line):
+    """A line of a text, with paths as they are in the folder of this name."""
+    return line.removeprefix(f"{name}/").replace(f"`{name}/", "`")
+
+
 def told_of_each(program, folder, names, options=(), form="short"):
     """What the program reports in each of these folders of a folder, as by folder and file: by one run over all of them or,
     where that is broken, by one run for each."""
@@ -99,7 +104,7 @@ def told_of_each(program, folder, names, options=(), form="short"):
     told = {name: [] for name in names}
     for file, found in by_file.items():
         name, _, rest = file.partition("/")
-        told[name] += [each._replace(file=rest, text=tuple(line.removeprefix(f"{name}/") for line in each.text)) for each in found]
+        told[name] += [each._replace(file=rest, text=tuple(within(name, line) for line in each.text)) for each in found]
     return told
 
 
