@@ -10,6 +10,7 @@ from typing import Any
 
 from cargo_manifest import Cause, Edit, ManifestError, Replacement, edited, replacements, toml_of
 
+from .edited_texts import ENTRIES, ITEMS, NEIGHBOURS, REMOVES, RENAMES, SETS, Row
 from .test_refusals import NO_TOML, OfDepthAndLength
 
 TEXT = """\
@@ -119,6 +120,29 @@ class Edited(unittest.TestCase):
                 self.assertEqual(edited(like, edits), wanted)
                 self.assertEqual(replacements(like, edits), [Replacement(4, 5, "2")])
             self.assertEqual(file.read_bytes(), text.encode("utf-8"))
+
+
+def edit_of(row: Row) -> Edit:
+    """The edit of a row of `edited_texts`."""
+    kind, path, *text = row
+    steps = [int(part[1:]) if part.startswith("#") else part for part in path.split(".")] if path else []
+    made: Edit = getattr(Edit, kind)(steps, *text)
+    return made
+
+
+class OfEveryLayout(unittest.TestCase):
+    def test_each_case(self) -> None:
+        for text, rows, wanted in [*SETS, *ENTRIES, *ITEMS, *REMOVES, *NEIGHBOURS, *RENAMES]:
+            edits = [edit_of(row) for row in rows]
+            with self.subTest(text=text, rows=rows):
+                if isinstance(wanted, str):
+                    self.assertEqual(edited(text, edits), wanted)
+                    self.assertEqual(replaced(text, replacements(text, edits)), wanted)
+                    continue
+                for call in (edited, replacements):
+                    with self.assertRaises(ManifestError) as caught:
+                        call(text, edits)
+                    self.assertIs(caught.exception.cause, wanted)
 
 
 class Values(unittest.TestCase):

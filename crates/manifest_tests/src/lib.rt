@@ -1,7 +1,7 @@
 //! Tests that are code: the examples of comments, comparisons and copies, filesystems that refuse or change, real folders,
-//! places in texts of every layout and what edits make of them, what members inherit, runs of the program with readers and
-//! writers that fail, and what needs a type, a closure or a value of its own. The rows of tests are calls of the program
-//! `manifest_calls`.
+//! places in texts of every layout, what members inherit, a run of the program over an output that cannot be flushed, and what
+//! needs a type, a closure or a value of its own. The rows of tests are calls of the program `manifest_calls`, and those of
+//! edits stand in the tests of `bindings/python`.
 #![tactic(auto)]
 
 #[cfg(test)]
@@ -16,8 +16,6 @@ mod bytes;
 mod calls;
 #[cfg(test)]
 mod completed;
-#[cfg(test)]
-mod edited;
 #[cfg(test)]
 mod equal;
 #[cfg(test)]
