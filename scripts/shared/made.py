@@ -375,6 +375,20 @@ def default(form):
     return [MARK, *spaced([is_default, [f"fn default() -> {form.record} {{", *indented(4, lines), "}"]])]
 
 
+def clone_clauses(form):
+    """What the impl of `Clone` says of a copy: that each field is one of the field of the original, and what needs no memory."""
+    fields = [(f"⟦<{field_type(row)} as Clone>⟧", row.field) for row in form.rows]
+    for clause, places, said in (("is_clone", "x y", "is_clone x.{0} y.{0}"), ("is_infallible", "x", "is_infallible x.{0}")):
+        yield f"ghost {clause} = {{ λ {places}."
+        for number, (of, field) in enumerate(fields, 1):
+            yield f"    {of}.{said.format(field)}{' };' if number == len(fields) else ' ×'}"
+
+
+def cloned_fields(form):
+    """What copies each field."""
+    return (f"to.{row.field}.clone_from(&from.{row.field})?;" for row in form.rows)
+
+
 # what the impl of `Rowed` may have that is by hand: a method `empty` that is not as any other; the attributes of `read_row`; and,
 # with its comment, that each row is always well-formed
 BY_HAND = {

@@ -125,7 +125,7 @@ impl<P: Copied, W: Copied> Copied for Manifest<P, W> {
         (λ a b k. entries_copied (λ l. entries_content lint_content l.entries)
         (λ d e h. entries_copied lint_content lint_copied d.entries e.entries h)
         a.entries b.entries k)
-        x.lints y.lints c.1.1.1.1.1.1.1 in
+        x.lints y.lints c.7 in
         Prim.search (rules, copy_laws, dependency_copied, fields_copied, seen, lints))) in
         λ x y c. fun_ext (λ see. fun_ext (λ look. whole_copied see look x y c
         (some_copied ⟦<Option<Package<P>> as Clone>⟧.is_clone

@@ -42,6 +42,6 @@ impl<M: Copied> Copied for Workspace<M> {
         (λ a b k. entries_copied (λ l. entries_content lint_content l.entries)
         (λ d e h. entries_copied lint_content lint_copied d.entries e.entries h)
         a.entries b.entries k)
-        x.lints y.lints c.1.1.1.1.1.1.1 in
+        x.lints y.lints c.7 in
         Prim.search (rules, copy_laws, dependency_copied, package_copied, seen, lints)))) };
 }

@@ -2,7 +2,7 @@
 #![tactic(auto, unfolding(manifest_schema::specs::ManifestForms::package_rows))]
 
 ghost use Rattle.manifest_schema.specs.Prelude.{Data, string, no_members, member, tree_of, raw, form, package_rows};
-ghost use Rattle.std.specs.Prelude.{◌≡◌, Some, string_bytes, codes};
+ghost use Rattle.std.specs.Prelude.{◌≡◌, Some, string_bytes, codes, OnOk, OnErr};
 ghost use Rattle.manifest_schema.specs.Contents;
 ghost use Rattle.manifest_schema.proofs.Values.KindLaws.{tree_sound};
 ghost use Rattle.manifest_schema.proofs.Forms.ManifestLaws.{package_sound};
@@ -19,7 +19,7 @@ use manifest_value::{
     good_row_of, names_of_rows, put_row_of, read_row_of,
 };
 use manifest_written::Pairs;
-use std::alloc::Global;
+use std::alloc::{AllocError, Global};
 use toml::{Table, Value};
 
 /// The package of a manifest; `M` is the type of its metadata. What is `MaybeInherited` may be inherited: then it
@@ -27,7 +27,7 @@ use toml::{Table, Value};
 /// [Cargo reference](https://doc.rust-lang.org/cargo/reference/manifest.html#the-package-section).
 ///
 /// It is well-formed where its metadata is absent or well-formed; a float in metadata of the type `Value` is not.
-#[derive(Clone, Debug, PartialEq, Drop)]
+#[derive(Debug, PartialEq, Drop)]
 pub struct Package<M = Value> {
     // (made by scripts/keys --write)
     /// The name, from which its library and its main binary take theirs by default; it may have capital letters.
@@ -147,6 +147,117 @@ pub struct Package<M = Value> {
     ///
     /// [Cargo reference](https://doc.rust-lang.org/cargo/reference/resolver.html#resolver-versions).
     pub resolver: Option<Resolver>,
+}
+
+impl<M: Clone> Clone for Package<M> {
+    // (made by scripts/keys --write)
+    ghost is_clone = { λ x y.
+        ⟦<String as Clone>⟧.is_clone x.name y.name ×
+        ⟦<Option<MaybeInherited<Edition>> as Clone>⟧.is_clone x.edition y.edition ×
+        ⟦<Option<MaybeInherited<String>> as Clone>⟧.is_clone x.version y.version ×
+        ⟦<Option<StringOrBool> as Clone>⟧.is_clone x.build y.build ×
+        ⟦<Option<String> as Clone>⟧.is_clone x.workspace y.workspace ×
+        ⟦<Option<MaybeInherited<Vec<String>>> as Clone>⟧.is_clone x.authors y.authors ×
+        ⟦<Option<String> as Clone>⟧.is_clone x.links y.links ×
+        ⟦<Option<MaybeInherited<String>> as Clone>⟧.is_clone x.description y.description ×
+        ⟦<Option<MaybeInherited<String>> as Clone>⟧.is_clone x.homepage y.homepage ×
+        ⟦<Option<MaybeInherited<String>> as Clone>⟧.is_clone x.documentation y.documentation ×
+        ⟦<Option<MaybeInherited<StringOrBool>> as Clone>⟧.is_clone x.readme y.readme ×
+        ⟦<Option<MaybeInherited<Vec<String>>> as Clone>⟧.is_clone x.keywords y.keywords ×
+        ⟦<Option<MaybeInherited<Vec<String>>> as Clone>⟧.is_clone x.categories y.categories ×
+        ⟦<Option<MaybeInherited<String>> as Clone>⟧.is_clone x.license y.license ×
+        ⟦<Option<MaybeInherited<String>> as Clone>⟧.is_clone x.license_file y.license_file ×
+        ⟦<Option<MaybeInherited<String>> as Clone>⟧.is_clone x.repository y.repository ×
+        ⟦<Option<M> as Clone>⟧.is_clone x.metadata y.metadata ×
+        ⟦<Option<MaybeInherited<String>> as Clone>⟧.is_clone x.rust_version y.rust_version ×
+        ⟦<Option<MaybeInherited<Vec<String>>> as Clone>⟧.is_clone x.exclude y.exclude ×
+        ⟦<Option<MaybeInherited<Vec<String>>> as Clone>⟧.is_clone x.include y.include ×
+        ⟦<Option<String> as Clone>⟧.is_clone x.default_run y.default_run ×
+        ⟦<Option<bool> as Clone>⟧.is_clone x.autolib y.autolib ×
+        ⟦<Option<bool> as Clone>⟧.is_clone x.autobins y.autobins ×
+        ⟦<Option<bool> as Clone>⟧.is_clone x.autoexamples y.autoexamples ×
+        ⟦<Option<bool> as Clone>⟧.is_clone x.autotests y.autotests ×
+        ⟦<Option<bool> as Clone>⟧.is_clone x.autobenches y.autobenches ×
+        ⟦<Option<MaybeInherited<Publish>> as Clone>⟧.is_clone x.publish y.publish ×
+        ⟦<Option<Resolver> as Clone>⟧.is_clone x.resolver y.resolver };
+
+    ghost is_infallible = { λ x.
+        ⟦<String as Clone>⟧.is_infallible x.name ×
+        ⟦<Option<MaybeInherited<Edition>> as Clone>⟧.is_infallible x.edition ×
+        ⟦<Option<MaybeInherited<String>> as Clone>⟧.is_infallible x.version ×
+        ⟦<Option<StringOrBool> as Clone>⟧.is_infallible x.build ×
+        ⟦<Option<String> as Clone>⟧.is_infallible x.workspace ×
+        ⟦<Option<MaybeInherited<Vec<String>>> as Clone>⟧.is_infallible x.authors ×
+        ⟦<Option<String> as Clone>⟧.is_infallible x.links ×
+        ⟦<Option<MaybeInherited<String>> as Clone>⟧.is_infallible x.description ×
+        ⟦<Option<MaybeInherited<String>> as Clone>⟧.is_infallible x.homepage ×
+        ⟦<Option<MaybeInherited<String>> as Clone>⟧.is_infallible x.documentation ×
+        ⟦<Option<MaybeInherited<StringOrBool>> as Clone>⟧.is_infallible x.readme ×
+        ⟦<Option<MaybeInherited<Vec<String>>> as Clone>⟧.is_infallible x.keywords ×
+        ⟦<Option<MaybeInherited<Vec<String>>> as Clone>⟧.is_infallible x.categories ×
+        ⟦<Option<MaybeInherited<String>> as Clone>⟧.is_infallible x.license ×
+        ⟦<Option<MaybeInherited<String>> as Clone>⟧.is_infallible x.license_file ×
+        ⟦<Option<MaybeInherited<String>> as Clone>⟧.is_infallible x.repository ×
+        ⟦<Option<M> as Clone>⟧.is_infallible x.metadata ×
+        ⟦<Option<MaybeInherited<String>> as Clone>⟧.is_infallible x.rust_version ×
+        ⟦<Option<MaybeInherited<Vec<String>>> as Clone>⟧.is_infallible x.exclude ×
+        ⟦<Option<MaybeInherited<Vec<String>>> as Clone>⟧.is_infallible x.include ×
+        ⟦<Option<String> as Clone>⟧.is_infallible x.default_run ×
+        ⟦<Option<bool> as Clone>⟧.is_infallible x.autolib ×
+        ⟦<Option<bool> as Clone>⟧.is_infallible x.autobins ×
+        ⟦<Option<bool> as Clone>⟧.is_infallible x.autoexamples ×
+        ⟦<Option<bool> as Clone>⟧.is_infallible x.autotests ×
+        ⟦<Option<bool> as Clone>⟧.is_infallible x.autobenches ×
+        ⟦<Option<MaybeInherited<Publish>> as Clone>⟧.is_infallible x.publish ×
+        ⟦<Option<Resolver> as Clone>⟧.is_infallible x.resolver };
+
+    fn clone(&self) -> Result<Package<M>, AllocError> {
+        let mut copy = package_with_name(String::new(*self.name.allocator()));
+        match copy_fields(self, &mut copy) {
+            Ok(()) => Ok(copy),
+            Err(error) => {
+                drop(copy);
+                Err(error)
+            }
+        }
+    }
+}
+
+/// Copies each field into that of another record.
+fn copy_fields<M: Clone>(from: &Package<M>, to: &mut Package<M>) -> Result<(), AllocError>
+    ensures copied { OnOk result (⟦<Package<M> as Clone>⟧.is_clone from.now to.new) }
+    ensures refused { OnErr result (¬ (⟦<Package<M> as Clone>⟧.is_infallible from.now)) }
+{
+    // (made by scripts/keys --write)
+    to.name.clone_from(&from.name)?;
+    to.edition.clone_from(&from.edition)?;
+    to.version.clone_from(&from.version)?;
+    to.build.clone_from(&from.build)?;
+    to.workspace.clone_from(&from.workspace)?;
+    to.authors.clone_from(&from.authors)?;
+    to.links.clone_from(&from.links)?;
+    to.description.clone_from(&from.description)?;
+    to.homepage.clone_from(&from.homepage)?;
+    to.documentation.clone_from(&from.documentation)?;
+    to.readme.clone_from(&from.readme)?;
+    to.keywords.clone_from(&from.keywords)?;
+    to.categories.clone_from(&from.categories)?;
+    to.license.clone_from(&from.license)?;
+    to.license_file.clone_from(&from.license_file)?;
+    to.repository.clone_from(&from.repository)?;
+    to.metadata.clone_from(&from.metadata)?;
+    to.rust_version.clone_from(&from.rust_version)?;
+    to.exclude.clone_from(&from.exclude)?;
+    to.include.clone_from(&from.include)?;
+    to.default_run.clone_from(&from.default_run)?;
+    to.autolib.clone_from(&from.autolib)?;
+    to.autobins.clone_from(&from.autobins)?;
+    to.autoexamples.clone_from(&from.autoexamples)?;
+    to.autotests.clone_from(&from.autotests)?;
+    to.autobenches.clone_from(&from.autobenches)?;
+    to.publish.clone_from(&from.publish)?;
+    to.resolver.clone_from(&from.resolver)?;
+    Ok(())
 }
 
 /// The rows of a package, for the macros of `manifest_value::row_macros`.

@@ -2,6 +2,7 @@
 #![tactic(auto, unfolding(manifest_schema::specs::PartForms::profiles_rows), using(manifest_value::proofs::FirstLemmas::form_first))]
 
 ghost use Rattle.manifest_schema.specs.Prelude.{no_members, form, profiles_rows};
+ghost use Rattle.std.specs.Prelude.{OnOk, OnErr};
 ghost use Rattle.manifest_schema.specs.Contents;
 ghost use Rattle.manifest_schema.proofs.Forms.PartLaws.{profiles_sound};
 ghost use Rattle.manifest_value.specs.Reading.{Gives, IsOfTable};
@@ -23,13 +24,14 @@ use manifest_value::{
 use manifest_written::{Pairs, Written};
 use std::alloc::{AllocError, Global};
 use std::collections::BTreeMap;
+use std::default::Emptied;
 use toml::Value;
 
 /// The profiles of a manifest: the five that Cargo names, and those of all other names. No custom profile may have one
 /// of the five names. See the [Cargo reference](https://doc.rust-lang.org/cargo/reference/profiles.html).
 ///
 /// They are well-formed where each is, and no custom one is named `release`, `dev`, `test`, `bench` or `doc`.
-#[derive(Clone, Debug, PartialEq, Drop)]
+#[derive(Debug, PartialEq, Drop)]
 pub struct Profiles {
     // (made by scripts/keys --write)
     /// `[profile.release]`, of `--release` and of `cargo install`.
@@ -56,6 +58,58 @@ pub struct Profiles {
     ///
     /// [Cargo reference](https://doc.rust-lang.org/cargo/reference/profiles.html).
     pub custom: BTreeMap<String, Profile>,
+}
+
+impl Clone for Profiles {
+    // (made by scripts/keys --write)
+    ghost is_clone = { λ x y.
+        ⟦<Option<Profile> as Clone>⟧.is_clone x.release y.release ×
+        ⟦<Option<Profile> as Clone>⟧.is_clone x.dev y.dev ×
+        ⟦<Option<Profile> as Clone>⟧.is_clone x.test y.test ×
+        ⟦<Option<Profile> as Clone>⟧.is_clone x.bench y.bench ×
+        ⟦<Option<Profile> as Clone>⟧.is_clone x.doc y.doc ×
+        ⟦<BTreeMap<String, Profile> as Clone>⟧.is_clone x.custom y.custom };
+
+    ghost is_infallible = { λ x.
+        ⟦<Option<Profile> as Clone>⟧.is_infallible x.release ×
+        ⟦<Option<Profile> as Clone>⟧.is_infallible x.dev ×
+        ⟦<Option<Profile> as Clone>⟧.is_infallible x.test ×
+        ⟦<Option<Profile> as Clone>⟧.is_infallible x.bench ×
+        ⟦<Option<Profile> as Clone>⟧.is_infallible x.doc ×
+        ⟦<BTreeMap<String, Profile> as Clone>⟧.is_infallible x.custom };
+
+    fn clone(&self) -> Result<Profiles, AllocError> {
+        let mut copy = Profiles {
+            release: None,
+            dev: None,
+            test: None,
+            bench: None,
+            doc: None,
+            custom: BTreeMap::emptied(&self.custom)?,
+        };
+        match copy_fields(self, &mut copy) {
+            Ok(()) => Ok(copy),
+            Err(error) => {
+                drop(copy);
+                Err(error)
+            }
+        }
+    }
+}
+
+/// Copies each field into that of another record.
+fn copy_fields(from: &Profiles, to: &mut Profiles) -> Result<(), AllocError>
+    ensures copied { OnOk result (⟦<Profiles as Clone>⟧.is_clone from.now to.new) }
+    ensures refused { OnErr result (¬ (⟦<Profiles as Clone>⟧.is_infallible from.now)) }
+{
+    // (made by scripts/keys --write)
+    to.release.clone_from(&from.release)?;
+    to.dev.clone_from(&from.dev)?;
+    to.test.clone_from(&from.test)?;
+    to.bench.clone_from(&from.bench)?;
+    to.doc.clone_from(&from.doc)?;
+    to.custom.clone_from(&from.custom)?;
+    Ok(())
 }
 
 impl Profiles {

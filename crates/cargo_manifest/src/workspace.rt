@@ -2,6 +2,7 @@
 #![tactic(auto, unfolding(manifest_schema::specs::ManifestForms::workspace_package_rows, manifest_schema::specs::ManifestForms::workspace_rows))]
 
 ghost use Rattle.manifest_schema.specs.Prelude.{Data, no_members, form, tree_of, raw, workspace_package_rows, workspace_rows};
+ghost use Rattle.std.specs.Prelude.{OnOk, OnErr};
 ghost use Rattle.manifest_schema.specs.Contents;
 ghost use Rattle.manifest_schema.proofs.Values.KindLaws.{tree_sound};
 ghost use Rattle.manifest_schema.proofs.Forms.ManifestLaws.{workspace_package_sound, workspace_sound};
@@ -16,12 +17,12 @@ use manifest_value::{
     put_row_of, read_row_of,
 };
 use manifest_written::Pairs;
-use std::alloc::Global;
+use std::alloc::{AllocError, Global};
 use toml::Value;
 
 /// The package fields that members can inherit from a workspace, each by `{ workspace = true }`. See the
 /// [Cargo reference](https://doc.rust-lang.org/cargo/reference/workspaces.html#the-package-table).
-#[derive(Clone, Debug, PartialEq, Eq, Drop)]
+#[derive(Debug, PartialEq, Eq, Drop)]
 pub struct WorkspacePackage {
     // (made by scripts/keys --write)
     /// The edition that members can inherit.
@@ -88,6 +89,81 @@ pub struct WorkspacePackage {
     ///
     /// [Cargo reference](https://doc.rust-lang.org/cargo/reference/manifest.html#the-publish-field).
     pub publish: Option<Publish>,
+}
+
+impl Clone for WorkspacePackage {
+    // (made by scripts/keys --write)
+    ghost is_clone = { λ x y.
+        ⟦<Option<Edition> as Clone>⟧.is_clone x.edition y.edition ×
+        ⟦<Option<String> as Clone>⟧.is_clone x.version y.version ×
+        ⟦<Option<Vec<String>> as Clone>⟧.is_clone x.authors y.authors ×
+        ⟦<Option<String> as Clone>⟧.is_clone x.description y.description ×
+        ⟦<Option<String> as Clone>⟧.is_clone x.homepage y.homepage ×
+        ⟦<Option<String> as Clone>⟧.is_clone x.documentation y.documentation ×
+        ⟦<Option<StringOrBool> as Clone>⟧.is_clone x.readme y.readme ×
+        ⟦<Option<Vec<String>> as Clone>⟧.is_clone x.keywords y.keywords ×
+        ⟦<Option<Vec<String>> as Clone>⟧.is_clone x.categories y.categories ×
+        ⟦<Option<String> as Clone>⟧.is_clone x.license y.license ×
+        ⟦<Option<String> as Clone>⟧.is_clone x.license_file y.license_file ×
+        ⟦<Option<String> as Clone>⟧.is_clone x.repository y.repository ×
+        ⟦<Option<String> as Clone>⟧.is_clone x.rust_version y.rust_version ×
+        ⟦<Option<Vec<String>> as Clone>⟧.is_clone x.exclude y.exclude ×
+        ⟦<Option<Vec<String>> as Clone>⟧.is_clone x.include y.include ×
+        ⟦<Option<Publish> as Clone>⟧.is_clone x.publish y.publish };
+
+    ghost is_infallible = { λ x.
+        ⟦<Option<Edition> as Clone>⟧.is_infallible x.edition ×
+        ⟦<Option<String> as Clone>⟧.is_infallible x.version ×
+        ⟦<Option<Vec<String>> as Clone>⟧.is_infallible x.authors ×
+        ⟦<Option<String> as Clone>⟧.is_infallible x.description ×
+        ⟦<Option<String> as Clone>⟧.is_infallible x.homepage ×
+        ⟦<Option<String> as Clone>⟧.is_infallible x.documentation ×
+        ⟦<Option<StringOrBool> as Clone>⟧.is_infallible x.readme ×
+        ⟦<Option<Vec<String>> as Clone>⟧.is_infallible x.keywords ×
+        ⟦<Option<Vec<String>> as Clone>⟧.is_infallible x.categories ×
+        ⟦<Option<String> as Clone>⟧.is_infallible x.license ×
+        ⟦<Option<String> as Clone>⟧.is_infallible x.license_file ×
+        ⟦<Option<String> as Clone>⟧.is_infallible x.repository ×
+        ⟦<Option<String> as Clone>⟧.is_infallible x.rust_version ×
+        ⟦<Option<Vec<String>> as Clone>⟧.is_infallible x.exclude ×
+        ⟦<Option<Vec<String>> as Clone>⟧.is_infallible x.include ×
+        ⟦<Option<Publish> as Clone>⟧.is_infallible x.publish };
+
+    fn clone(&self) -> Result<WorkspacePackage, AllocError> {
+        let mut copy = WorkspacePackage::default();
+        match copy_package_fields(self, &mut copy) {
+            Ok(()) => Ok(copy),
+            Err(error) => {
+                drop(copy);
+                Err(error)
+            }
+        }
+    }
+}
+
+/// Copies each field into that of another record.
+fn copy_package_fields(from: &WorkspacePackage, to: &mut WorkspacePackage) -> Result<(), AllocError>
+    ensures copied { OnOk result (⟦<WorkspacePackage as Clone>⟧.is_clone from.now to.new) }
+    ensures refused { OnErr result (¬ (⟦<WorkspacePackage as Clone>⟧.is_infallible from.now)) }
+{
+    // (made by scripts/keys --write)
+    to.edition.clone_from(&from.edition)?;
+    to.version.clone_from(&from.version)?;
+    to.authors.clone_from(&from.authors)?;
+    to.description.clone_from(&from.description)?;
+    to.homepage.clone_from(&from.homepage)?;
+    to.documentation.clone_from(&from.documentation)?;
+    to.readme.clone_from(&from.readme)?;
+    to.keywords.clone_from(&from.keywords)?;
+    to.categories.clone_from(&from.categories)?;
+    to.license.clone_from(&from.license)?;
+    to.license_file.clone_from(&from.license_file)?;
+    to.repository.clone_from(&from.repository)?;
+    to.rust_version.clone_from(&from.rust_version)?;
+    to.exclude.clone_from(&from.exclude)?;
+    to.include.clone_from(&from.include)?;
+    to.publish.clone_from(&from.publish)?;
+    Ok(())
 }
 
 /// The rows of the package fields of a workspace, for the macros of `manifest_value::row_macros`.
@@ -175,7 +251,7 @@ impl Default for WorkspacePackage {
 /// [Cargo reference](https://doc.rust-lang.org/cargo/reference/workspaces.html#the-workspace-section).
 ///
 /// It is well-formed where its metadata is absent or well-formed.
-#[derive(Clone, Debug, PartialEq, Eq, Drop)]
+#[derive(Debug, PartialEq, Eq, Drop)]
 pub struct Workspace<M = Value> {
     // (made by scripts/keys --write)
     /// The paths of members, or globs; not all, since the root package and path dependencies inside are members
@@ -211,6 +287,57 @@ pub struct Workspace<M = Value> {
     ///
     /// [Cargo reference](https://doc.rust-lang.org/cargo/reference/workspaces.html#the-lints-table).
     pub lints: Option<LintsSet>,
+}
+
+impl<M: Clone> Clone for Workspace<M> {
+    // (made by scripts/keys --write)
+    ghost is_clone = { λ x y.
+        ⟦<Vec<String> as Clone>⟧.is_clone x.members y.members ×
+        ⟦<Option<Vec<String>> as Clone>⟧.is_clone x.default_members y.default_members ×
+        ⟦<Option<Vec<String>> as Clone>⟧.is_clone x.exclude y.exclude ×
+        ⟦<Option<Resolver> as Clone>⟧.is_clone x.resolver y.resolver ×
+        ⟦<Option<DepsSet> as Clone>⟧.is_clone x.dependencies y.dependencies ×
+        ⟦<Option<WorkspacePackage> as Clone>⟧.is_clone x.package y.package ×
+        ⟦<Option<M> as Clone>⟧.is_clone x.metadata y.metadata ×
+        ⟦<Option<LintsSet> as Clone>⟧.is_clone x.lints y.lints };
+
+    ghost is_infallible = { λ x.
+        ⟦<Vec<String> as Clone>⟧.is_infallible x.members ×
+        ⟦<Option<Vec<String>> as Clone>⟧.is_infallible x.default_members ×
+        ⟦<Option<Vec<String>> as Clone>⟧.is_infallible x.exclude ×
+        ⟦<Option<Resolver> as Clone>⟧.is_infallible x.resolver ×
+        ⟦<Option<DepsSet> as Clone>⟧.is_infallible x.dependencies ×
+        ⟦<Option<WorkspacePackage> as Clone>⟧.is_infallible x.package ×
+        ⟦<Option<M> as Clone>⟧.is_infallible x.metadata ×
+        ⟦<Option<LintsSet> as Clone>⟧.is_infallible x.lints };
+
+    fn clone(&self) -> Result<Workspace<M>, AllocError> {
+        let mut copy = Workspace::default(*self.members.allocator());
+        match copy_fields(self, &mut copy) {
+            Ok(()) => Ok(copy),
+            Err(error) => {
+                drop(copy);
+                Err(error)
+            }
+        }
+    }
+}
+
+/// Copies each field into that of another record.
+fn copy_fields<M: Clone>(from: &Workspace<M>, to: &mut Workspace<M>) -> Result<(), AllocError>
+    ensures copied { OnOk result (⟦<Workspace<M> as Clone>⟧.is_clone from.now to.new) }
+    ensures refused { OnErr result (¬ (⟦<Workspace<M> as Clone>⟧.is_infallible from.now)) }
+{
+    // (made by scripts/keys --write)
+    to.members.clone_from(&from.members)?;
+    to.default_members.clone_from(&from.default_members)?;
+    to.exclude.clone_from(&from.exclude)?;
+    to.resolver.clone_from(&from.resolver)?;
+    to.dependencies.clone_from(&from.dependencies)?;
+    to.package.clone_from(&from.package)?;
+    to.metadata.clone_from(&from.metadata)?;
+    to.lints.clone_from(&from.lints)?;
+    Ok(())
 }
 
 /// The rows of a workspace, for the macros of `manifest_value::row_macros`.
