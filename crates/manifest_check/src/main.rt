@@ -3,16 +3,10 @@
 //! [`run`].
 #![tactic(auto)]
 
-mod checking;
-mod explaining;
-mod options;
-mod progress;
 mod run;
-mod showing;
-mod walk;
-mod words;
 
-use crate::run::{Terminals, run};
+use crate::run::run;
+use manifest_checking::Terminals;
 use std::io::{ErrorKind, IsTerminal, Write};
 use std::process::ExitCode;
 use std::{env, io};

@@ -6,7 +6,7 @@ use std::collections::BTreeSet;
 
 /// Whether a file is there.
 #[derive(Clone, Copy, PartialEq, Eq)]
-pub(crate) enum FileState {
+pub enum FileState {
     There,
     /// It is a folder.
     Folder,
@@ -16,7 +16,7 @@ pub(crate) enum FileState {
 }
 
 /// The folder of a path, and the name in it.
-pub(crate) fn split_path(path: &str) -> (&str, &str) {
+pub fn split_path(path: &str) -> (&str, &str) {
     match path.rsplit_once('/') {
         Some((folder, name)) => (folder, name),
         None => ("", path),
@@ -24,21 +24,17 @@ pub(crate) fn split_path(path: &str) -> (&str, &str) {
 }
 
 /// The path of what has this name in a folder.
-pub(crate) fn below<'a>(
-    alloc: Global,
-    folder: &'a str,
-    name: &'a str,
-) -> Result<String, AllocError> {
+pub fn below<'a>(alloc: Global, folder: &'a str, name: &'a str) -> Result<String, AllocError> {
     [folder, "/", name].concat(alloc)
 }
 
 /// The names in the folder, where it was listed and is there.
-pub(crate) fn names_in<'a>(look: &Look<'a>, folder: &str) -> Option<&'a BTreeSet<String>> {
+pub fn names_in<'a>(look: &Look<'a>, folder: &str) -> Option<&'a BTreeSet<String>> {
     look.around.folders?.names.get(folder)
 }
 
 /// The path without `.`, without what a `..` takes back, and without a last `/`; the folder itself is the empty text.
-pub(crate) fn plain_path(alloc: Global, path: &str) -> Result<String, AllocError> {
+pub fn plain_path(alloc: Global, path: &str) -> Result<String, AllocError> {
     let is_absolute = path.starts_with('/');
     let mut parts = Vec::new(alloc);
     for part in path.split('/') {
@@ -70,12 +66,12 @@ fn joined(alloc: Global, is_absolute: bool, parts: &[&str]) -> Result<String, Al
 }
 
 /// Whether a path without `.` and what a `..` takes back stays in the folder from which it leads.
-pub(crate) fn stays_inside(plain: &str) -> bool {
+pub fn stays_inside(plain: &str) -> bool {
     !plain.starts_with('/') && plain.split('/').next() != Some("..")
 }
 
 /// Whether the file at this path, from the folder of the manifest, is there. What is outside that folder is not looked up.
-pub(crate) fn file_state(look: &Look<'_>, path: &str) -> Result<FileState, AllocError> {
+pub fn file_state(look: &Look<'_>, path: &str) -> Result<FileState, AllocError> {
     let plain = plain_path(look.alloc, path)?;
     let plain = plain.as_str();
     if look.around.folders.is_none() || plain.is_empty() || !stays_inside(plain) {

@@ -8,14 +8,14 @@ use std::collections::{BTreeMap, BTreeSet};
 
 /// A file that is a target by where it stands.
 #[derive(Drop)]
-pub(crate) struct FoundFile {
-    pub(crate) name: String,
-    pub(crate) path: String,
+pub struct FoundFile {
+    pub name: String,
+    pub path: String,
 }
 
 impl Kind {
     /// The folder whose files are targets of this kind.
-    pub(crate) fn folder<'a>(self) -> &'a str {
+    pub fn folder<'a>(self) -> &'a str {
         match self {
             Kind::Lib => "src",
             Kind::Bin => "src/bin",
@@ -37,7 +37,7 @@ impl Kind {
     }
 
     /// The key by which a target of this kind says where its file is.
-    pub(crate) fn path_key<'a>(self) -> &'a str {
+    pub fn path_key<'a>(self) -> &'a str {
         match self {
             Kind::Lib => "lib.path",
             Kind::Bin => "bin.path",
@@ -48,7 +48,7 @@ impl Kind {
     }
 
     /// What it is called.
-    pub(crate) fn words<'a>(self) -> &'a str {
+    pub fn words<'a>(self) -> &'a str {
         match self {
             Kind::Lib => "library",
             Kind::Bin => "binary",
@@ -60,11 +60,11 @@ impl Kind {
 }
 
 /// The kinds of which there may be several targets.
-pub(crate) const LISTED: [Kind; 4] = [Kind::Bin, Kind::Example, Kind::Test, Kind::Bench];
+pub const LISTED: [Kind; 4] = [Kind::Bin, Kind::Example, Kind::Test, Kind::Bench];
 
 /// Whether targets of this kind are found: the package says so, or it says nothing and its edition is 2018 or later, or it
 /// declares none of the kind.
-pub(crate) fn finds(look: &Look<'_>, kind: Kind) -> bool {
+pub fn finds(look: &Look<'_>, kind: Kind) -> bool {
     match says_auto(look, kind) {
         Some(flag) => flag,
         None => look.edition != Edition::E2015 || kind == Kind::Lib || !declares(look, kind),
@@ -72,25 +72,25 @@ pub(crate) fn finds(look: &Look<'_>, kind: Kind) -> bool {
 }
 
 /// What the package says of finding targets of this kind.
-pub(crate) fn says_auto(look: &Look<'_>, kind: Kind) -> Option<bool> {
+pub fn says_auto(look: &Look<'_>, kind: Kind) -> Option<bool> {
     flag_in(look.package?, kind.auto_key())
 }
 
 /// Whether the manifest has a table of this kind.
-pub(crate) fn declares(look: &Look<'_>, kind: Kind) -> bool {
+pub fn declares(look: &Look<'_>, kind: Kind) -> bool {
     look.document.contains_key(kind.key())
 }
 
 /// The name of the package, where it has one.
-pub(crate) fn package_name<'a>(look: &Look<'a>) -> Option<&'a str> {
+pub fn package_name<'a>(look: &Look<'a>) -> Option<&'a str> {
     text_in(look.package?, "name")
 }
 
 /// The targets of one kind that the manifest declares.
 #[derive(Drop)]
-pub(crate) struct Declared<'a> {
+pub struct Declared<'a> {
     /// By their names; of several with one name the first.
-    pub(crate) names: BTreeMap<String, &'a DeclaredTarget<'a>>,
+    pub names: BTreeMap<String, &'a DeclaredTarget<'a>>,
     /// The paths of their files, of those that have one.
     paths: BTreeSet<String>,
 }
@@ -112,13 +112,13 @@ impl<'a> Declared<'a> {
     }
 
     /// Whether the target that a file would be is declared, by its name or by its path.
-    pub(crate) fn has(&self, file: &FoundFile) -> bool {
+    pub fn has(&self, file: &FoundFile) -> bool {
         self.names.contains_key(file.name.as_str()) || self.paths.contains(file.path.as_str())
     }
 }
 
 /// The targets of this kind that the manifest declares.
-pub(crate) fn declared_of<'a>(look: &'a Look<'_>, kind: Kind) -> Result<Declared<'a>, AllocError> {
+pub fn declared_of<'a>(look: &'a Look<'_>, kind: Kind) -> Result<Declared<'a>, AllocError> {
     let mut declared = Declared {
         names: BTreeMap::new(look.alloc),
         paths: BTreeSet::new(look.alloc),
@@ -133,7 +133,7 @@ pub(crate) fn declared_of<'a>(look: &'a Look<'_>, kind: Kind) -> Result<Declared
 
 /// The files that are targets of this kind by where they stand, whether or not they are found: of a binary that of the
 /// package first.
-pub(crate) fn files_of(look: &Look<'_>, kind: Kind) -> Result<Vec<FoundFile>, AllocError> {
+pub fn files_of(look: &Look<'_>, kind: Kind) -> Result<Vec<FoundFile>, AllocError> {
     let mut all = Vec::new(look.alloc);
     if kind == Kind::Bin {
         if let Some(name) = package_name(look) {
@@ -196,7 +196,7 @@ fn push_found(
 }
 
 /// Whether a listed folder has an entry of this name.
-pub(crate) fn has_file(look: &Look<'_>, folder: &str, name: &str) -> bool {
+pub fn has_file(look: &Look<'_>, folder: &str, name: &str) -> bool {
     match names_in(look, folder) {
         Some(names) => names.contains(name),
         None => false,

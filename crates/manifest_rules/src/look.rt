@@ -112,7 +112,7 @@ impl Surroundings<'static> {
 
 /// Where a table of dependencies stands.
 #[derive(Clone, Copy, PartialEq, Eq)]
-pub(crate) enum Section {
+pub enum Section {
     Normal,
     Dev,
     Build,
@@ -123,29 +123,29 @@ pub(crate) enum Section {
 
 impl Section {
     /// Whether these are dependencies of the package.
-    pub(crate) fn is_of_package(self) -> bool {
+    pub fn is_of_package(self) -> bool {
         matches!(self, Section::Normal | Section::Dev | Section::Build)
     }
 }
 
 /// A table of dependencies.
 #[derive(Drop)]
-pub(crate) struct DependencyTable<'a> {
-    pub(crate) section: Section,
-    pub(crate) path: Vec<At<'a>>,
-    pub(crate) table: &'a Table,
+pub struct DependencyTable<'a> {
+    pub section: Section,
+    pub path: Vec<At<'a>>,
+    pub table: &'a Table,
 }
 
 impl DependencyTable<'_> {
     /// Whether this dependency of the table is inherited.
-    pub(crate) fn inherits(&self, dependency: &Value) -> bool {
+    pub fn inherits(&self, dependency: &Value) -> bool {
         self.section.is_of_package() && is_inherited(dependency)
     }
 }
 
 /// A kind of target.
 #[derive(Clone, Copy, PartialEq, Eq)]
-pub(crate) enum Kind {
+pub enum Kind {
     Lib,
     Bin,
     Example,
@@ -155,7 +155,7 @@ pub(crate) enum Kind {
 
 impl Kind {
     /// The key of its table, or of its array of tables.
-    pub(crate) fn key(self) -> &'static str {
+    pub fn key(self) -> &'static str {
         match self {
             Kind::Lib => "lib",
             Kind::Bin => "bin",
@@ -168,50 +168,50 @@ impl Kind {
 
 /// A target that the manifest declares.
 #[derive(Drop)]
-pub(crate) struct DeclaredTarget<'a> {
-    pub(crate) kind: Kind,
-    pub(crate) path: Vec<At<'a>>,
-    pub(crate) table: &'a Table,
+pub struct DeclaredTarget<'a> {
+    pub kind: Kind,
+    pub path: Vec<At<'a>>,
+    pub table: &'a Table,
 }
 
 /// What the rules look at.
 #[derive(Drop)]
-pub(crate) struct Look<'a> {
-    pub(crate) alloc: Global,
-    pub(crate) text: &'a str,
-    pub(crate) document: &'a Table,
+pub struct Look<'a> {
+    pub alloc: Global,
+    pub text: &'a str,
+    pub document: &'a Table,
     /// The table of the package, and its key: `package`, or `project`.
-    pub(crate) package: Option<&'a Table>,
-    pub(crate) package_key: &'static str,
-    pub(crate) workspace: Option<&'a Table>,
-    pub(crate) edition: Edition,
-    pub(crate) around: &'a Surroundings<'a>,
-    pub(crate) dependencies: Vec<DependencyTable<'a>>,
-    pub(crate) targets: Vec<DeclaredTarget<'a>>,
+    pub package: Option<&'a Table>,
+    pub package_key: &'static str,
+    pub workspace: Option<&'a Table>,
+    pub edition: Edition,
+    pub around: &'a Surroundings<'a>,
+    pub dependencies: Vec<DependencyTable<'a>>,
+    pub targets: Vec<DeclaredTarget<'a>>,
 }
 
-pub(crate) fn table_in<'a>(table: &'a Table, key: &str) -> Option<&'a Table> {
+pub fn table_in<'a>(table: &'a Table, key: &str) -> Option<&'a Table> {
     match table.get(key) {
         Some(Value::Table(inner)) => Some(inner),
         _ => None,
     }
 }
 
-pub(crate) fn text_in<'a>(table: &'a Table, key: &str) -> Option<&'a str> {
+pub fn text_in<'a>(table: &'a Table, key: &str) -> Option<&'a str> {
     match table.get(key) {
         Some(Value::String(text)) => Some(text.as_str()),
         _ => None,
     }
 }
 
-pub(crate) fn flag_in(table: &Table, key: &str) -> Option<bool> {
+pub fn flag_in(table: &Table, key: &str) -> Option<bool> {
     match table.get(key) {
         Some(Value::Boolean(flag)) => Some(*flag),
         _ => None,
     }
 }
 
-pub(crate) fn items_in<'a>(table: &'a Table, key: &str) -> &'a [Value] {
+pub fn items_in<'a>(table: &'a Table, key: &str) -> &'a [Value] {
     match table.get(key) {
         Some(Value::Array(items)) => items.as_slice(),
         _ => &[],
@@ -219,7 +219,7 @@ pub(crate) fn items_in<'a>(table: &'a Table, key: &str) -> &'a [Value] {
 }
 
 /// Whether a value is inherited: it is a table whose `workspace` is true.
-pub(crate) fn is_inherited(value: &Value) -> bool {
+pub fn is_inherited(value: &Value) -> bool {
     match value {
         Value::Table(inner) => flag_in(inner, "workspace") == Some(true),
         _ => false,
@@ -227,7 +227,7 @@ pub(crate) fn is_inherited(value: &Value) -> bool {
 }
 
 /// Whether the value of the key is inherited.
-pub(crate) fn inherits(table: &Table, key: &str) -> bool {
+pub fn inherits(table: &Table, key: &str) -> bool {
     match table.get(key) {
         Some(value) => is_inherited(value),
         None => false,
@@ -381,7 +381,7 @@ fn push_library<'a>(
 }
 
 /// The workspace of the root, where there is one.
-pub(crate) fn workspace_of<'a>(root: Root<'a>) -> Option<&'a Table> {
+pub fn workspace_of<'a>(root: Root<'a>) -> Option<&'a Table> {
     match root {
         Root::Found(document) => table_in(document, "workspace"),
         _ => None,
@@ -413,7 +413,7 @@ fn inherited_edition<'a>(root: Root<'a>) -> Option<&'a str> {
 
 impl<'a> Look<'a> {
     /// What the rules look at in a document with this text.
-    pub(crate) fn new(
+    pub fn new(
         alloc: Global,
         text: &'a str,
         document: &'a Table,

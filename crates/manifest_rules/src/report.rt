@@ -99,12 +99,12 @@ fn step(alloc: Global, at: At<'_>) -> Result<Step, AllocError> {
 }
 
 /// A value as it is printed.
-pub(crate) fn shown<T: fmt::Display>(alloc: Global, value: &T) -> Result<String, AllocError> {
+pub fn shown<T: fmt::Display>(alloc: Global, value: &T) -> Result<String, AllocError> {
     format!(in alloc; "{value}")
 }
 
 /// A text as TOML writes it, in quotes.
-pub(crate) fn quoted(alloc: Global, text: &str) -> Result<String, AllocError> {
+pub fn quoted(alloc: Global, text: &str) -> Result<String, AllocError> {
     let value = Value::string(alloc, text)?;
     format!(in alloc; "{value}")
 }
@@ -188,10 +188,10 @@ const ROOM: usize = 1 << 28;
 
 /// Where rules say things, of a package of this edition.
 #[derive(Drop)]
-pub(crate) struct Out {
-    pub(crate) alloc: Global,
-    pub(crate) edition: Edition,
-    pub(crate) reports: Vec<Report>,
+pub struct Out {
+    pub alloc: Global,
+    pub edition: Edition,
+    pub reports: Vec<Report>,
     /// How many bytes of messages and paths there is room for.
     room: usize,
 }
@@ -209,7 +209,7 @@ fn bytes_of(path: &[Step]) -> usize {
 
 impl Out {
     /// Nothing is said yet.
-    pub(crate) fn new(alloc: Global, edition: Edition) -> Out {
+    pub fn new(alloc: Global, edition: Edition) -> Out {
         Out {
             alloc,
             edition,
@@ -237,7 +237,7 @@ impl Out {
 
     /// A search for the name that is nearest to a text. Where much is reported already, it finds nothing: that would take
     /// long for a manifest with many wrong names.
-    pub(crate) fn nearest<'a>(&self, text: &'a str) -> Nearest<'a> {
+    pub fn nearest<'a>(&self, text: &'a str) -> Nearest<'a> {
         if self.reports.len() < 100 {
             Nearest::to(text)
         } else {
@@ -246,7 +246,7 @@ impl Out {
     }
 
     /// The nearest of these names to a text.
-    pub(crate) fn nearest_of<'a>(
+    pub fn nearest_of<'a>(
         &self,
         text: &'a str,
         names: &[&'static str],
@@ -260,7 +260,7 @@ impl Out {
 
     /// Says this, in these words, of a part of what stands at a path: the first is the message, and the others stand in
     /// the place of each `{}` in it.
-    pub(crate) fn say(
+    pub fn say(
         &mut self,
         code: Code,
         part: Part,
@@ -273,7 +273,7 @@ impl Out {
     }
 
     /// Says this of the value at a path.
-    pub(crate) fn value(
+    pub fn value(
         &mut self,
         code: Code,
         base: &[At<'_>],
@@ -284,7 +284,7 @@ impl Out {
     }
 
     /// Says this of the key at a path.
-    pub(crate) fn key(
+    pub fn key(
         &mut self,
         code: Code,
         base: &[At<'_>],
@@ -295,7 +295,7 @@ impl Out {
     }
 
     /// Says this of the header of the table at a path, as something is missing in it.
-    pub(crate) fn header(
+    pub fn header(
         &mut self,
         code: Code,
         base: &[At<'_>],
@@ -306,7 +306,7 @@ impl Out {
     }
 
     /// Says this of the bytes of the text from the first offset to the second.
-    pub(crate) fn bytes(
+    pub fn bytes(
         &mut self,
         code: Code,
         start: usize,
@@ -322,14 +322,14 @@ impl Out {
     }
 
     /// Of what was said last: it has another level than its code.
-    pub(crate) fn at_level(&mut self, level: Level) {
+    pub fn at_level(&mut self, level: Level) {
         if let Some(last) = self.reports.last_mut() {
             last.level = level;
         }
     }
 
     /// Of what was said last: one more note.
-    pub(crate) fn note(&mut self, words: &[&str]) -> Result<(), AllocError> {
+    pub fn note(&mut self, words: &[&str]) -> Result<(), AllocError> {
         let note = filled(self.alloc, words)?;
         if let Some(last) = self.reports.last_mut() {
             last.notes.push(note)?;
@@ -338,7 +338,7 @@ impl Out {
     }
 
     /// Of what was said last: one more place, and these words there.
-    pub(crate) fn label(
+    pub fn label(
         &mut self,
         file: File,
         part: Part,
@@ -355,12 +355,12 @@ impl Out {
     }
 
     /// Of what was said last: words of what can be written, and no edit.
-    pub(crate) fn help(&mut self, words: &[&str]) -> Result<(), AllocError> {
+    pub fn help(&mut self, words: &[&str]) -> Result<(), AllocError> {
         self.suggest(Vec::new(self.alloc), false, words)
     }
 
     /// Of what was said last: what is at a path can have this key.
-    pub(crate) fn rename(
+    pub fn rename(
         &mut self,
         base: &[At<'_>],
         rest: &[At<'_>],
@@ -374,7 +374,7 @@ impl Out {
     }
 
     /// Of what was said last: this can be written as the value at a path.
-    pub(crate) fn set(
+    pub fn set(
         &mut self,
         base: &[At<'_>],
         rest: &[At<'_>],
@@ -388,7 +388,7 @@ impl Out {
     }
 
     /// Of what was said last: this text can be written, in quotes, at a path.
-    pub(crate) fn set_text(
+    pub fn set_text(
         &mut self,
         base: &[At<'_>],
         rest: &[At<'_>],
@@ -402,7 +402,7 @@ impl Out {
     }
 
     /// Of what was said last: this text can be inserted, in quotes, at a path.
-    pub(crate) fn insert_text(
+    pub fn insert_text(
         &mut self,
         base: &[At<'_>],
         rest: &[At<'_>],
@@ -416,7 +416,7 @@ impl Out {
     }
 
     /// Of what was said last: what is at a path can be removed.
-    pub(crate) fn remove(
+    pub fn remove(
         &mut self,
         base: &[At<'_>],
         rest: &[At<'_>],

@@ -11,7 +11,7 @@ use url::{ParseError, Url};
 
 /// A kind of words.
 #[derive(Clone, Copy, PartialEq, Eq)]
-pub(crate) enum Word {
+pub enum Word {
     /// A name of a package, of a dependency or of a registry.
     Name,
     Feature,
@@ -20,7 +20,7 @@ pub(crate) enum Word {
 
 /// What is wrong with a word.
 #[derive(Clone, Copy)]
-pub(crate) enum WordFault {
+pub enum WordFault {
     Empty,
     /// It may not begin with this character.
     First(char),
@@ -48,7 +48,7 @@ impl Word {
     }
 
     /// What is wrong with the text; nothing where it is such a word.
-    pub(crate) fn fault(self, text: &str) -> Option<WordFault> {
+    pub fn fault(self, text: &str) -> Option<WordFault> {
         let mut is_first = true;
         for ch in text.chars() {
             if is_first && !self.may_begin(ch) {
@@ -66,7 +66,7 @@ impl Word {
     }
 
     /// Of what such a word is made.
-    pub(crate) fn rule(self) -> &'static str {
+    pub fn rule(self) -> &'static str {
         match self {
             Word::Name => {
                 "a name begins with a letter or `_`; letters, digits, `_` and `-` may follow"
@@ -80,7 +80,7 @@ impl Word {
 }
 
 /// What is wrong with a name of a package or of a dependency, whose parts stand between `::`.
-pub(crate) fn name_fault(name: &str) -> Option<WordFault> {
+pub fn name_fault(name: &str) -> Option<WordFault> {
     for part in name.split("::") {
         let fault = Word::Name.fault(part);
         if fault.is_some() {
@@ -92,15 +92,15 @@ pub(crate) fn name_fault(name: &str) -> Option<WordFault> {
 
 /// A word that is wrong.
 #[derive(Clone, Copy)]
-pub(crate) struct WrongWord<'a> {
+pub struct WrongWord<'a> {
     /// The kind of it, as "package name".
-    pub(crate) what: &'a str,
-    pub(crate) word: &'a str,
-    pub(crate) fault: WordFault,
+    pub what: &'a str,
+    pub word: &'a str,
+    pub fault: WordFault,
 }
 
 /// Says what is wrong with the word that stands there.
-pub(crate) fn say_wrong_word(
+pub fn say_wrong_word(
     code: Code,
     part: Part,
     base: &[At<'_>],
@@ -140,10 +140,7 @@ fn unless_out_of_memory(fault: semver::Error) -> Result<semver::Error, AllocErro
 }
 
 /// Why the text is no whole version; nothing where it is one.
-pub(crate) fn version_fault(
-    alloc: Global,
-    text: &str,
-) -> Result<Option<semver::Error>, AllocError> {
+pub fn version_fault(alloc: Global, text: &str) -> Result<Option<semver::Error>, AllocError> {
     match Version::parse(alloc, text) {
         Ok(_version) => Ok(None),
         Err(fault) => Ok(Some(unless_out_of_memory(fault)?)),
@@ -151,10 +148,7 @@ pub(crate) fn version_fault(
 }
 
 /// Why the text is no requirement of versions; nothing where it is one.
-pub(crate) fn requirement_fault(
-    alloc: Global,
-    text: &str,
-) -> Result<Option<semver::Error>, AllocError> {
+pub fn requirement_fault(alloc: Global, text: &str) -> Result<Option<semver::Error>, AllocError> {
     match VersionReq::parse(alloc, text) {
         Ok(_requirement) => Ok(None),
         Err(fault) => Ok(Some(unless_out_of_memory(fault)?)),
@@ -163,7 +157,7 @@ pub(crate) fn requirement_fault(
 
 /// Why Cargo takes a text for no URL.
 #[derive(Clone, Copy)]
-pub(crate) enum UrlFault {
+pub enum UrlFault {
     NoUrl(ParseError),
     /// Nothing can stand below it, as in `a:b`.
     NoBase,
@@ -188,7 +182,7 @@ fn url_of(alloc: Global, text: &str) -> Result<Result<Url, ParseError>, AllocErr
 }
 
 /// Why Cargo takes the text for no URL; nothing where it does.
-pub(crate) fn url_fault(alloc: Global, text: &str) -> Result<Option<UrlFault>, AllocError> {
+pub fn url_fault(alloc: Global, text: &str) -> Result<Option<UrlFault>, AllocError> {
     match url_of(alloc, text)? {
         Ok(url) if url.cannot_be_a_base() => Ok(Some(UrlFault::NoBase)),
         Ok(_url) => Ok(None),
@@ -198,7 +192,7 @@ pub(crate) fn url_fault(alloc: Global, text: &str) -> Result<Option<UrlFault>, A
 
 /// The version of a package id.
 #[derive(Clone, Copy)]
-pub(crate) enum IdVersion {
+pub enum IdVersion {
     Absent,
     /// As `1` or `1.2`.
     Part,
@@ -208,7 +202,7 @@ pub(crate) enum IdVersion {
 
 /// The version of a [package id](https://doc.rust-lang.org/cargo/reference/pkgid-spec.html), as `name`, `name@1.2`
 /// or `url#name@1.2.3`; nothing where the text is not one.
-pub(crate) fn package_id(alloc: Global, text: &str) -> Result<Option<IdVersion>, AllocError> {
+pub fn package_id(alloc: Global, text: &str) -> Result<Option<IdVersion>, AllocError> {
     if text.contains("://") {
         if let Ok(url) = url_of(alloc, text)? {
             return id_by_url(alloc, &url);
@@ -355,7 +349,7 @@ impl<'a> Nearest<'a> {
     }
 
     /// A search that finds nothing, for where too many were made.
-    pub(crate) fn given_up(text: &'a str) -> Nearest<'a> {
+    pub fn given_up(text: &'a str) -> Nearest<'a> {
         Nearest {
             text,
             distance: 0,

@@ -1,12 +1,12 @@
 //! Rules of what the profiles of `[profile]` inherit. See
 //! [Custom profiles](https://doc.rust-lang.org/cargo/reference/profiles.html#custom-profiles).
 
-use crate::codes::{
+use crate::profiles::is_profile_name;
+use manifest_rules::codes::{
     CIRCULAR_INHERITS, INHERITS_DEBUG, INHERITS_OF_BUILT_IN, MISSING_INHERITS, UNKNOWN_INHERITS,
 };
-use crate::look::{Look, table_in, text_in};
-use crate::profiles::is_profile_name;
-use crate::report::{At, File, Out, Part};
+use manifest_rules::look::{Look, table_in, text_in};
+use manifest_rules::report::{At, File, Out, Part};
 use std::alloc::AllocError;
 use std::collections::BTreeSet;
 use toml::{Table, Value};
@@ -24,7 +24,7 @@ fn is_first(name: &str) -> bool {
 }
 
 /// All rules of what profiles inherit.
-pub(crate) fn inherited_profiles(look: &Look<'_>, out: &mut Out) -> Result<(), AllocError> {
+pub fn inherited_profiles(look: &Look<'_>, out: &mut Out) -> Result<(), AllocError> {
     let Some(profiles) = table_in(look.document, "profile") else {
         return Ok(());
     };

@@ -1,14 +1,14 @@
 //! Rules of dependencies that look at packages and at the configuration, and what to look for.
 
-use crate::codes::{MISSING_PATH_PACKAGE, UNKNOWN_REGISTRY};
-use crate::look::{Look, PathPackage, Section, table_in, text_in};
-use crate::report::{At, Out};
+use manifest_rules::codes::{MISSING_PATH_PACKAGE, UNKNOWN_REGISTRY};
+use manifest_rules::look::{Look, PathPackage, Section, table_in, text_in};
+use manifest_rules::report::{At, Out};
 use std::alloc::AllocError;
 use std::collections::BTreeMap;
 use toml::{Table, Value};
 
 /// All rules of what the sources of dependencies lead to.
-pub(crate) fn sources_around(look: &Look<'_>, out: &mut Out) -> Result<(), AllocError> {
+pub fn sources_around(look: &Look<'_>, out: &mut Out) -> Result<(), AllocError> {
     let packages = packages_by_path(look)?;
     for section in &look.dependencies {
         if section.section == Section::Replace {

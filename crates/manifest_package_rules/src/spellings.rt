@@ -1,8 +1,8 @@
 //! Spellings that Cargo ignores or that are of an earlier time.
 
-use crate::codes::{IGNORED_SPELLING, OLD_SPELLING};
-use crate::look::{Look, Section, table_in};
-use crate::report::{At, Out};
+use manifest_rules::codes::{IGNORED_SPELLING, OLD_SPELLING};
+use manifest_rules::look::{Look, Section, table_in};
+use manifest_rules::report::{At, Out};
 use std::alloc::AllocError;
 use toml::{Table, Value};
 
@@ -78,7 +78,7 @@ static IGNORED_OF_WORKSPACES: Spelling = Spelling {
 };
 
 /// All rules of spellings.
-pub(crate) fn spellings(look: &Look<'_>, out: &mut Out) -> Result<(), AllocError> {
+pub fn spellings(look: &Look<'_>, out: &mut Out) -> Result<(), AllocError> {
     old_spellings(&[], look.document, &OLD_SECTIONS, out)?;
     old_project(look, out)?;
     spellings_of_platforms(look, out)?;

@@ -1,18 +1,18 @@
 //! Rules of the text and of the top of a manifest.
 
-use crate::codes::{
+use manifest_rules::codes::{
     DIRECTION_CHARACTERS, MISSPELLED_KEY, NO_PACKAGE, REMOVED_CARGO_FEATURE,
     REPEATED_CARGO_FEATURE, STABLE_CARGO_FEATURE, TABLE_WITHOUT_PACKAGE, UNKNOWN_CARGO_FEATURE,
     UNSTABLE_CARGO_FEATURE,
 };
-use crate::look::{Look, items_in};
-use crate::report::{At, Out};
+use manifest_rules::look::{Look, items_in};
+use manifest_rules::report::{At, Out};
 use std::alloc::AllocError;
 use std::collections::BTreeSet;
 use toml::Value;
 
 /// All rules of the text and of its top.
-pub(crate) fn text(look: &Look<'_>, out: &mut Out) -> Result<(), AllocError> {
+pub fn text(look: &Look<'_>, out: &mut Out) -> Result<(), AllocError> {
     no_package(look, out)?;
     tables_without_package(look, out)?;
     cargo_features(look, out)?;

@@ -73,21 +73,20 @@ fn after(wants: Wants, word: &str) -> Option<Wants> {
         (Wants::WordAfterException, "AND" | "OR") => Some(Wants::License),
         (Wants::Word, "WITH") => Some(Wants::Exception),
         (Wants::License, _) if is_license_name(word) => Some(Wants::Word),
-        (Wants::Exception, _) if is_one_of(&EXCEPTIONS, word) => Some(Wants::WordAfterException),
+        (Wants::Exception, _) if is_one_of(EXCEPTIONS, word) => Some(Wants::WordAfterException),
         _ => None,
     }
 }
 
-/// Whether the word is one of these, which are sorted.
-fn is_one_of(words: &[&str], word: &str) -> bool {
-    let at = words.partition_point(|one| *one < word);
-    words.get(at).is_some_and(|one| *one == word)
+/// Whether the word is one of these lines.
+fn is_one_of(words: &str, word: &str) -> bool {
+    words.split('\n').any(|one| one == word)
 }
 
 /// Whether the word is a license of the list, with a `+` after it or not, or refers to one that is elsewhere:
 /// `LicenseRef-NAME` or `DocumentRef-NAME:LicenseRef-NAME`.
 fn is_license_name(word: &str) -> bool {
-    if is_one_of(&LICENSES, word.strip_suffix('+').unwrap_or(word)) {
+    if is_one_of(LICENSES, word.strip_suffix('+').unwrap_or(word)) {
         return true;
     }
     let own = match word.strip_prefix("DocumentRef-") {

@@ -2,13 +2,13 @@
 //! [Platform specific dependencies](https://doc.rust-lang.org/cargo/reference/specifying-dependencies.html#platform-specific-dependencies).
 
 use crate::cfg::{CfgFault, Fact, facts};
-use crate::codes::{BOOLEAN_AS_CFG_KEY, Code, INVALID_PLATFORM, NEVER_TRUE_CFG};
-use crate::look::{Look, table_in};
-use crate::report::{At, Out, shown};
+use manifest_rules::codes::{BOOLEAN_AS_CFG_KEY, Code, INVALID_PLATFORM, NEVER_TRUE_CFG};
+use manifest_rules::look::{Look, table_in};
+use manifest_rules::report::{At, Out, shown};
 use std::alloc::AllocError;
 
 /// All rules of platforms.
-pub(crate) fn platforms(look: &Look<'_>, out: &mut Out) -> Result<(), AllocError> {
+pub fn platforms(look: &Look<'_>, out: &mut Out) -> Result<(), AllocError> {
     let Some(platforms) = table_in(look.document, "target") else {
         return Ok(());
     };

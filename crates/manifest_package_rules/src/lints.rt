@@ -1,12 +1,12 @@
 //! Rules of [`[lints]`](https://doc.rust-lang.org/cargo/reference/manifest.html#the-lints-section), of a package and of
 //! a workspace.
 
-use crate::codes::{
+use manifest_rules::codes::{
     INVALID_CHECK_CFG, LINTS_BESIDE_WORKSPACE, TOOL_IN_LINT_NAME, UNKNOWN_LINT_TOOL,
     UNSTABLE_LINT_TOOL,
 };
-use crate::look::{Look, flag_in, items_in, table_in, text_in};
-use crate::report::{At, File, Out, Part, quoted};
+use manifest_rules::look::{Look, flag_in, items_in, table_in, text_in};
+use manifest_rules::report::{At, File, Out, Part, quoted};
 use std::alloc::AllocError;
 use toml::{Table, Value};
 
@@ -28,7 +28,7 @@ struct Tool<'a> {
 }
 
 /// All rules of lints.
-pub(crate) fn lints(look: &Look<'_>, out: &mut Out) -> Result<(), AllocError> {
+pub fn lints(look: &Look<'_>, out: &mut Out) -> Result<(), AllocError> {
     if let Some(tools) = table_in(look.document, "lints") {
         lints_of_package(tools, out)?;
     }

@@ -1,20 +1,20 @@
 //! What a registry wants of a package: said only where it is asked for, and not of one that is not published.
 //! (<https://doc.rust-lang.org/cargo/reference/publishing.html>)
 
-use crate::codes::{
+use crate::spdx::is_license;
+use manifest_rules::codes::{
     INCLUDE_AND_EXCLUDE, INVALID_KEYWORDS, INVALID_LICENSE, MISSING_DESCRIPTION, MISSING_LICENSE,
     MISSING_LINKS, MISSING_PACKAGE_FILE, PATH_WITHOUT_VERSION, TOO_MANY_CATEGORIES,
     WILDCARD_REQUIREMENT,
 };
-use crate::files::{FileState, file_state};
-use crate::look::{Look, Section, items_in, text_in};
-use crate::report::{At, Out};
-use crate::spdx::is_license;
+use manifest_rules::files::{FileState, file_state};
+use manifest_rules::look::{Look, Section, items_in, text_in};
+use manifest_rules::report::{At, Out};
 use std::alloc::AllocError;
 use toml::{Table, Value};
 
 /// All that a registry wants.
-pub(crate) fn publishing(look: &Look<'_>, out: &mut Out) -> Result<(), AllocError> {
+pub fn publishing(look: &Look<'_>, out: &mut Out) -> Result<(), AllocError> {
     let Some(package) = look.package else {
         return Ok(());
     };

@@ -1,11 +1,11 @@
 //! Rules that compare where dependencies come from.
 
-use crate::codes::{REPEATED_DEPENDENCY, SELF_DEPENDENCY, TWO_SOURCES};
 use crate::dependencies::Dependency;
-use crate::files::plain_path;
-use crate::look::{Look, Section, text_in};
-use crate::report::{At, File, Out, Part};
-use crate::words::url_fault;
+use manifest_rules::codes::{REPEATED_DEPENDENCY, SELF_DEPENDENCY, TWO_SOURCES};
+use manifest_rules::files::plain_path;
+use manifest_rules::look::{Look, Section, text_in};
+use manifest_rules::report::{At, File, Out, Part};
+use manifest_rules::words::url_fault;
 use std::alloc::{AllocError, Global};
 use std::collections::{BTreeMap, BTreeSet};
 use toml::Table;
@@ -135,7 +135,7 @@ fn all_sourced<'a>(look: &'a Look<'_>) -> Result<Vec<Sourced<'a>>, AllocError> {
 }
 
 /// All rules that compare dependencies.
-pub(crate) fn sources(look: &Look<'_>, out: &mut Out) -> Result<(), AllocError> {
+pub fn sources(look: &Look<'_>, out: &mut Out) -> Result<(), AllocError> {
     let all = all_sourced(look)?;
     // (in one table no name stands twice)
     if look

@@ -1,21 +1,21 @@
 //! Rules of `[package]` and of `[workspace.package]`.
 //! (<https://doc.rust-lang.org/cargo/reference/manifest.html>)
 
-use crate::codes::{
+use manifest_rules::codes::{
     INVALID_BUILD_PATH, INVALID_PACKAGE_NAME, INVALID_RUST_VERSION, INVALID_VERSION,
     LICENSE_AND_LICENSE_FILE, LINKS_WITHOUT_BUILD_SCRIPT, MISSING_BUILD_SCRIPT, MISSING_EDITION,
     MISSING_VERSION, RUST_VERSION_BELOW_EDITION, TWO_RESOLVERS, UNSTABLE_KEY,
     WORKSPACE_BESIDE_ROOT,
 };
-use crate::files::{FileState, file_state};
-use crate::look::{Edition, Look, flag_in, table_in, text_in};
-use crate::report::{At, File, Out, Part, shown};
-use crate::words::{WrongWord, name_fault, say_wrong_word, version_fault};
+use manifest_rules::files::{FileState, file_state};
+use manifest_rules::look::{Edition, Look, flag_in, table_in, text_in};
+use manifest_rules::report::{At, File, Out, Part, shown};
+use manifest_rules::words::{WrongWord, name_fault, say_wrong_word, version_fault};
 use std::alloc::{AllocError, Global};
 use toml::{Table, Value};
 
 /// All rules of a package.
-pub(crate) fn package(look: &Look<'_>, out: &mut Out) -> Result<(), AllocError> {
+pub fn package(look: &Look<'_>, out: &mut Out) -> Result<(), AllocError> {
     let workspace_path = [At::Key("workspace"), At::Key("package")];
     if let Some(workspace) = look.workspace {
         if let Some(shared) = table_in(workspace, "package") {

@@ -9,13 +9,15 @@ use std::alloc::{AllocError, Global};
 
 /// What the words ask for, or what is said instead: a text, and whether it was asked for (help, the version).
 #[derive(Drop)]
-pub(crate) enum Words {
+pub enum Words {
     Request(Request),
+    /// To serve an editor.
+    Serve,
     Answer { text: String, is_asked: bool },
 }
 
 /// The version of the program.
-pub(crate) const VERSION: &str = "0.2.0";
+pub const VERSION: &str = "0.2.0";
 
 /// What an option takes.
 #[derive(Clone, Copy)]
@@ -304,9 +306,6 @@ fn subrequest_of(
     if name == "canon" {
         return Ok(Request::Canon(paths_of(alloc, matches)?));
     }
-    if name == "lsp" {
-        return Ok(Request::Serve);
-    }
     let form = match matches.get_str("format") {
         Some("json") => Form::Json,
         Some("html") => Form::Html,
@@ -349,7 +348,7 @@ fn unknown_code(request: &Request) -> Option<&str> {
             }
             None
         }
-        Request::List | Request::Serve | Request::Show(_) | Request::Canon(_) => None,
+        Request::List | Request::Show(_) | Request::Canon(_) => None,
     }
 }
 
@@ -409,16 +408,24 @@ fn judged(alloc: Global, request: Request) -> Result<Words, AllocError> {
     })
 }
 
+/// What is asked for.
+fn asked(alloc: Global, matches: &ArgMatches<'_>) -> Result<Words, AllocError> {
+    match matches.subcommand() {
+        Some(("lsp", _)) => Ok(Words::Serve),
+        _ => judged(alloc, request_of(alloc, matches)?),
+    }
+}
+
 /// What all words ask for, the program's name first.
 fn parsed<'a>(alloc: Global, words: &'a [String]) -> Result<Words, AllocError> {
     match command(alloc)?.try_get_matches_from(words) {
-        Ok(matches) => judged(alloc, request_of(alloc, &matches)?),
+        Ok(matches) => asked(alloc, &matches),
         Err(error) => answer_of(alloc, &error),
     }
 }
 
 /// What the words after the program's name ask for.
-pub(crate) fn words_of(alloc: Global, given: &[String]) -> Result<Words, AllocError> {
+pub fn words_of(alloc: Global, given: &[String]) -> Result<Words, AllocError> {
     let mut words = Vec::new(alloc);
     words.push(String::from_str(alloc, "manifest_check")?)?;
     for word in given {

@@ -1,18 +1,18 @@
 //! Rules of [`[patch]` and `[replace]`](https://doc.rust-lang.org/cargo/reference/overriding-dependencies.html), in addition to
 //! those of any dependency.
 
-use crate::codes::{
+use manifest_rules::codes::{
     IGNORED_IN_PATCH, INHERITED_PATCH, INVALID_REPLACE_KEY, Level, REPLACE_BESIDE_PATCH,
     UNKNOWN_PATCH_SOURCE, VERSION_IN_REPLACE,
 };
-use crate::look::{Look, flag_in, is_inherited, items_in, table_in};
-use crate::report::{At, File, Out, Part, shown};
-use crate::words::{IdVersion, UrlFault, Word, package_id, url_fault};
+use manifest_rules::look::{Look, flag_in, is_inherited, items_in, table_in};
+use manifest_rules::report::{At, File, Out, Part, shown};
+use manifest_rules::words::{IdVersion, UrlFault, Word, package_id, url_fault};
 use std::alloc::AllocError;
 use toml::{Table, Value};
 
 /// All rules of patches and replacements.
-pub(crate) fn replace(look: &Look<'_>, out: &mut Out) -> Result<(), AllocError> {
+pub fn replace(look: &Look<'_>, out: &mut Out) -> Result<(), AllocError> {
     replace_beside_patch(look, out)?;
     if let Some(sources) = table_in(look.document, "patch") {
         for (source, elements) in sources {

@@ -1,19 +1,19 @@
 //! Rules of the targets that a manifest declares: their names, their types and their features.
 //! (<https://doc.rust-lang.org/cargo/reference/cargo-targets.html>)
 
-use crate::codes::{
+use manifest_rules::codes::{
     CRATE_TYPE_OF_BINARY, DYLIB_AND_CDYLIB, EDITION_OF_TARGET, EMPTY_TARGET_NAME,
     INVALID_LIBRARY_NAME, INVALID_LIBRARY_TYPE, INVALID_REQUIRED_FEATURE, INVALID_TARGET_NAME,
     Level, MISSING_TARGET_NAME, PROC_MACRO_BINARY, PROC_MACRO_CRATE_TYPE, UNKNOWN_CRATE_TYPE,
     UNKNOWN_REQUIRED_FEATURE,
 };
-use crate::look::{DeclaredTarget, Kind, Look, flag_in, items_in, table_in, text_in};
-use crate::report::{At, Out};
+use manifest_rules::look::{DeclaredTarget, Kind, Look, flag_in, items_in, table_in, text_in};
+use manifest_rules::report::{At, Out};
 use std::alloc::{AllocError, Global};
 use toml::Value;
 
 /// All rules of declared targets that look at the text alone.
-pub(crate) fn targets(look: &Look<'_>, out: &mut Out) -> Result<(), AllocError> {
+pub fn targets(look: &Look<'_>, out: &mut Out) -> Result<(), AllocError> {
     for target in &look.targets {
         target_name(target, out)?;
         crate_types(target, out)?;

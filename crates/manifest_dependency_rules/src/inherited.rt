@@ -1,15 +1,17 @@
 //! Rules of what a member inherits from its workspace.
 //! (<https://doc.rust-lang.org/cargo/reference/workspaces.html>)
 
-use crate::codes::{IGNORED_DEFAULT_FEATURES, NO_WORKSPACE, NOT_IN_WORKSPACE, OLD_SPELLING};
-use crate::look::{Look, Root, flag_in, inherits, table_in};
-use crate::report::{At, File, Out, Part};
+use manifest_rules::codes::{
+    IGNORED_DEFAULT_FEATURES, NO_WORKSPACE, NOT_IN_WORKSPACE, OLD_SPELLING,
+};
+use manifest_rules::look::{Look, Root, flag_in, inherits, table_in};
+use manifest_rules::report::{At, File, Out, Part};
 use std::alloc::AllocError;
 use std::collections::BTreeSet;
 use toml::{Table, Value};
 
 /// All rules of what is inherited.
-pub(crate) fn inherited(look: &Look<'_>, out: &mut Out) -> Result<(), AllocError> {
+pub fn inherited(look: &Look<'_>, out: &mut Out) -> Result<(), AllocError> {
     match look.around.root {
         Root::Unknown => Ok(()),
         Root::Unreadable(_) => Ok(()),

@@ -41,7 +41,7 @@ pub(crate) enum Fixing {
 
 /// How manifests are checked.
 #[derive(Drop)]
-pub(crate) struct Options {
+pub struct Options {
     pub(crate) paths: Vec<String>,
     /// The path that the manifest of standard input is taken to have.
     pub(crate) stdin_path: Option<String>,
@@ -69,14 +69,14 @@ pub(crate) enum Form {
 
 /// A question about the packages of manifests.
 #[derive(Drop)]
-pub(crate) struct Inquiry {
+pub struct Inquiry {
     pub(crate) paths: Vec<String>,
     pub(crate) form: Form,
 }
 
 /// What is asked for.
 #[derive(Drop)]
-pub(crate) enum Request {
+pub enum Request {
     Check(Options),
     /// The page of a code.
     Explain(String),
@@ -86,6 +86,4 @@ pub(crate) enum Request {
     Show(Inquiry),
     /// Which of the manifests at these paths are not canonical.
     Canon(Vec<String>),
-    /// To serve an editor.
-    Serve,
 }

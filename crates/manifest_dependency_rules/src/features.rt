@@ -1,12 +1,12 @@
 //! Rules of [`[features]`](https://doc.rust-lang.org/cargo/reference/features.html).
 
-use crate::codes::{
+use manifest_rules::codes::{
     DEFAULT_FEATURES_FEATURE, DEPENDENCY_NOT_OPTIONAL, FEATURE_ENABLES_ITSELF,
     INVALID_FEATURE_NAME, INVALID_FEATURE_REFERENCE, UNKNOWN_FEATURE, UNREACHABLE_DEPENDENCY,
 };
-use crate::look::{Look, flag_in, items_in, table_in};
-use crate::report::{At, File, Out, Part};
-use crate::words::{Word, WrongWord, say_wrong_word};
+use manifest_rules::look::{Look, flag_in, items_in, table_in};
+use manifest_rules::report::{At, File, Out, Part};
+use manifest_rules::words::{Word, WrongWord, say_wrong_word};
 use std::alloc::{AllocError, Global};
 use std::collections::{BTreeMap, BTreeSet};
 use toml::{Table, Value};
@@ -200,7 +200,7 @@ impl<'a> Item<'a> {
 }
 
 /// All rules of features.
-pub(crate) fn features(look: &Look<'_>, out: &mut Out) -> Result<(), AllocError> {
+pub fn features(look: &Look<'_>, out: &mut Out) -> Result<(), AllocError> {
     let Some(features) = table_in(look.document, "features") else {
         return Ok(());
     };

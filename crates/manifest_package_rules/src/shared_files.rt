@@ -1,10 +1,12 @@
 //! The rule of files that are in several targets.
 
-use crate::codes::SHARED_TARGET_FILE;
-use crate::files::plain_path;
-use crate::found::{Declared, FoundFile, LISTED, declared_of, declares, files_of, finds, has_file};
-use crate::look::{DeclaredTarget, Kind, Look, text_in};
-use crate::report::{At, File, Out, Part};
+use manifest_rules::codes::SHARED_TARGET_FILE;
+use manifest_rules::files::plain_path;
+use manifest_rules::found::{
+    Declared, FoundFile, LISTED, declared_of, declares, files_of, finds, has_file,
+};
+use manifest_rules::look::{DeclaredTarget, Kind, Look, text_in};
+use manifest_rules::report::{At, File, Out, Part};
 use std::alloc::{AllocError, Global};
 use std::collections::BTreeMap;
 

@@ -2,16 +2,16 @@
 //! (<https://doc.rust-lang.org/cargo/CHANGELOG.html>)
 
 use crate::cfg::facts;
-use crate::codes::NEWER_THAN_RUST_VERSION;
-use crate::look::{Look, items_in, table_in, text_in};
 use crate::package::rust_version_numbers;
 use crate::platforms::expression;
-use crate::report::{At, Out, Part};
+use manifest_rules::codes::NEWER_THAN_RUST_VERSION;
+use manifest_rules::look::{Look, items_in, table_in, text_in};
+use manifest_rules::report::{At, Out, Part};
 use std::alloc::{AllocError, Global};
 use toml::{Table, Value};
 
 /// All that is newer.
-pub(crate) fn newer(look: &Look<'_>, out: &mut Out) -> Result<(), AllocError> {
+pub fn newer(look: &Look<'_>, out: &mut Out) -> Result<(), AllocError> {
     let Some(package) = look.package else {
         return Ok(());
     };

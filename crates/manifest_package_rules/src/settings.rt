@@ -1,9 +1,9 @@
 //! Settings of the program that checks manifests, which stand in the metadata of a package and of a workspace. Cargo reads
 //! no metadata, so that nobody else says that a setting has a wrong name.
 
-use crate::codes::{ALL, IGNORED_SETTING, code_named};
-use crate::look::{Look, table_in};
-use crate::report::{At, Out, quoted};
+use manifest_rules::codes::{ALL, IGNORED_SETTING, code_named};
+use manifest_rules::look::{Look, table_in};
+use manifest_rules::report::{At, Out, quoted};
 use std::alloc::AllocError;
 use toml::{Table, Value};
 
@@ -11,7 +11,7 @@ use toml::{Table, Value};
 static SETTINGS: [&str; 3] = ["allow", "warn", "deny"];
 
 /// What is no setting.
-pub(crate) fn settings(look: &Look<'_>, out: &mut Out) -> Result<(), AllocError> {
+pub fn settings(look: &Look<'_>, out: &mut Out) -> Result<(), AllocError> {
     for owner in ["package", "workspace"] {
         if let Some(table) = table_in(look.document, owner) {
             settings_of(owner, table, out)?;

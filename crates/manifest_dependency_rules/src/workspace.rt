@@ -1,22 +1,22 @@
 //! Rules of workspaces and of their members.
 //! (<https://doc.rust-lang.org/cargo/reference/workspaces.html>)
 
-use crate::codes::{
+use crate::inherited::inherited_dependencies;
+use manifest_rules::codes::{
     Code, IGNORED_IN_MEMBER, INVALID_MEMBER_PATTERN, LINTS_NOT_INHERITED, MISSING_MEMBER,
     MISSING_RESOLVER, NESTED_WORKSPACE, NOT_A_MEMBER, REPEATED_PACKAGE_NAME,
     UNKNOWN_DEFAULT_MEMBER, UNREADABLE_ROOT, UNUSED_WORKSPACE_DEPENDENCY, WRONG_WORKSPACE_PATH,
 };
-use crate::files::plain_path;
-use crate::found::package_name;
-use crate::inherited::inherited_dependencies;
-use crate::look::{Edition, Look, Member, Root, items_in, table_in, text_in};
-use crate::report::{At, File, Out, Part};
+use manifest_rules::files::plain_path;
+use manifest_rules::found::package_name;
+use manifest_rules::look::{Edition, Look, Member, Root, items_in, table_in, text_in};
+use manifest_rules::report::{At, File, Out, Part};
 use std::alloc::{AllocError, Global};
 use std::collections::{BTreeMap, BTreeSet};
 use toml::{Table, Value};
 
 /// All rules of a workspace's root, and of a member and its root.
-pub(crate) fn workspace(look: &Look<'_>, out: &mut Out) -> Result<(), AllocError> {
+pub fn workspace(look: &Look<'_>, out: &mut Out) -> Result<(), AllocError> {
     member_patterns(look, out)?;
     if let Some(members) = look.around.members {
         missing_members(look, members, out)?;

@@ -1,15 +1,15 @@
 //! Rules of [`[profile]`](https://doc.rust-lang.org/cargo/reference/profiles.html), but of what its profiles inherit,
 //! which `inherits.rt` has.
 
-use crate::codes::{
+use crate::keys::{unknown_keys, wrong_kind_at};
+use manifest_rules::codes::{
     Code, DOC_PROFILE, INVALID_LTO, INVALID_PACKAGE_SPEC, INVALID_PROFILE_NAME,
     INVALID_PROFILE_OVERRIDE, NO_CODEGEN_UNITS, OPT_LEVEL_TOO_HIGH, OUT_OF_RANGE, PANIC_OF_TESTS,
     RESERVED_PROFILE_NAME, UNKNOWN_STRIP, UNKNOWN_WORD,
 };
-use crate::keys::{unknown_keys, wrong_kind_at};
-use crate::look::{Look, table_in, text_in};
-use crate::report::{At, Out, Part, quoted, shown};
-use crate::words::{Word, WrongWord, package_id, say_wrong_word};
+use manifest_rules::look::{Look, table_in, text_in};
+use manifest_rules::report::{At, Out, Part, quoted, shown};
+use manifest_rules::words::{Word, WrongWord, package_id, say_wrong_word};
 use std::alloc::{AllocError, Global};
 use toml::{Table, Value};
 
@@ -54,7 +54,7 @@ impl Settings<'_> {
 }
 
 /// All rules of profiles.
-pub(crate) fn profiles(look: &Look<'_>, out: &mut Out) -> Result<(), AllocError> {
+pub fn profiles(look: &Look<'_>, out: &mut Out) -> Result<(), AllocError> {
     let Some(profiles) = table_in(look.document, "profile") else {
         return Ok(());
     };

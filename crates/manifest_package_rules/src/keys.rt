@@ -1,13 +1,13 @@
 //! Keys that Cargo reads and the schema does not know: of which kind their values are, and which keys these have.
 
-use crate::codes::{Code, MISSPELLED_KEY, UNKNOWN_KEY, WRONG_KIND};
-use crate::look::{Look, table_in};
-use crate::report::{At, Out};
+use manifest_rules::codes::{Code, MISSPELLED_KEY, UNKNOWN_KEY, WRONG_KIND};
+use manifest_rules::look::{Look, table_in};
+use manifest_rules::report::{At, Out};
 use std::alloc::AllocError;
 use toml::{Table, Value};
 
 /// All rules of such keys, but of those in a profile.
-pub(crate) fn keys(look: &Look<'_>, out: &mut Out) -> Result<(), AllocError> {
+pub fn keys(look: &Look<'_>, out: &mut Out) -> Result<(), AllocError> {
     hints(look, out)?;
     replacements(look, out)?;
     for target in &look.targets {

@@ -1,16 +1,16 @@
 //! Rules of one dependency, in whichever table it stands; `sources.rt` has those that compare dependencies. See
 //! [Specifying dependencies](https://doc.rust-lang.org/cargo/reference/specifying-dependencies.html).
 
-use crate::codes::{
+use crate::inherited::inherited_dependencies;
+use manifest_rules::codes::{
     CONFLICTING_SOURCES, Code, FRAGMENT_IN_URL, INVALID_DEPENDENCY_FEATURE,
     INVALID_DEPENDENCY_NAME, INVALID_REGISTRY_NAME, INVALID_REQUIREMENT, INVALID_URL,
     METADATA_IN_REQUIREMENT, NO_SOURCE, OPTIONAL_DEV_DEPENDENCY, OPTIONAL_IN_WORKSPACE,
     REVISION_WITHOUT_GIT, SEVERAL_REVISIONS,
 };
-use crate::inherited::inherited_dependencies;
-use crate::look::{Look, Section, flag_in, is_inherited, items_in, text_in};
-use crate::report::{At, File, Out, Part, shown};
-use crate::words::{
+use manifest_rules::look::{Look, Section, flag_in, is_inherited, items_in, text_in};
+use manifest_rules::report::{At, File, Out, Part, shown};
+use manifest_rules::words::{
     UrlFault, Word, WrongWord, name_fault, requirement_fault, say_wrong_word, url_fault,
 };
 use std::alloc::AllocError;
@@ -56,7 +56,7 @@ impl<'a> Dependency<'a> {
 }
 
 /// All rules of single dependencies.
-pub(crate) fn dependencies(look: &Look<'_>, out: &mut Out) -> Result<(), AllocError> {
+pub fn dependencies(look: &Look<'_>, out: &mut Out) -> Result<(), AllocError> {
     let inherited = inherited_dependencies(look)?;
     for table in look.dependencies.iter() {
         for (name, value) in table.table {

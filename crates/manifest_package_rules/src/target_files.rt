@@ -1,22 +1,22 @@
 //! Rules of targets that look at the files of the package.
 
-use crate::codes::{
+use crate::shared_files::shared_files;
+use manifest_rules::codes::{
     AMBIGUOUS_TARGET_FILE, MISSING_TARGET_FILE, NO_TARGETS, REPEATED_TARGET_NAME,
     RESERVED_BINARY_NAME, UNDECLARED_TARGET_FILES, UNKNOWN_DEFAULT_RUN, WRONG_TARGET_PATH,
 };
-use crate::files::{FileState, file_state};
-use crate::found::{
+use manifest_rules::files::{FileState, file_state};
+use manifest_rules::found::{
     Declared, FoundFile, LISTED, declared_of, declares, files_of, finds, has_file, package_name,
     says_auto,
 };
-use crate::look::{DeclaredTarget, Edition, Kind, Look, text_in};
-use crate::report::{At, File, Out, Part};
-use crate::shared_files::shared_files;
+use manifest_rules::look::{DeclaredTarget, Edition, Kind, Look, text_in};
+use manifest_rules::report::{At, File, Out, Part};
 use std::alloc::AllocError;
 use std::collections::BTreeMap;
 
 /// All rules of targets and their files.
-pub(crate) fn target_files(look: &Look<'_>, out: &mut Out) -> Result<(), AllocError> {
+pub fn target_files(look: &Look<'_>, out: &mut Out) -> Result<(), AllocError> {
     for target in &look.targets {
         reserved_name(target, out)?;
     }

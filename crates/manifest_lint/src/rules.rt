@@ -1,0 +1,51 @@
+//! What the rules say, group by group.
+
+use manifest_dependency_rules::{
+    dependencies, features, inherited, replace, sources, sources_around, workspace,
+};
+use manifest_package_rules::{
+    inherited_profiles, keys, lints, newer, package, platforms, profiles, publishing, settings,
+    spellings, target_files, targets, text,
+};
+use manifest_rules::look::Look;
+use manifest_rules::report::Out;
+use manifest_rules::{Report, Surroundings};
+use std::alloc::{AllocError, Global};
+use toml::Table;
+
+/// What the rules say of a document, with this text, in these surroundings.
+pub(crate) fn judged(
+    alloc: Global,
+    text: &str,
+    document: &Table,
+    around: &Surroundings<'_>,
+) -> Result<Vec<Report>, AllocError> {
+    let look = Look::new(alloc, text, document, around)?;
+    let mut out = Out::new(alloc, look.edition);
+    all_rules(&look, &mut out)?;
+    drop(look);
+    Ok(out.reports)
+}
+
+fn all_rules(look: &Look<'_>, out: &mut Out) -> Result<(), AllocError> {
+    text(look, out)?;
+    spellings(look, out)?;
+    keys(look, out)?;
+    package(look, out)?;
+    targets(look, out)?;
+    target_files(look, out)?;
+    dependencies(look, out)?;
+    sources(look, out)?;
+    platforms(look, out)?;
+    features(look, out)?;
+    profiles(look, out)?;
+    inherited_profiles(look, out)?;
+    lints(look, out)?;
+    replace(look, out)?;
+    inherited(look, out)?;
+    sources_around(look, out)?;
+    workspace(look, out)?;
+    newer(look, out)?;
+    settings(look, out)?;
+    publishing(look, out)
+}
