@@ -584,27 +584,22 @@ def quoted(text):
 
 
 def key_list(form):
-    """The keys of a table, for an editor."""
-    rows = [row for row in form.rows if row.key]
-    yield f"pub(crate) static {form.macro.upper()}: [Key; {len(rows)}] = ["
-    for row in rows:
-        said = {
-            "name": row.key, "second": row.second or "", "holds": without_links(called(row.kind)[0]),
-            "needed": without_links(need(row)[0]), "about": row.about, "page": row.reference,
-        }
-        yield from ["    Key {", *(f"        {name}: {quoted(text)}," for name, text in said.items()), "    },"]
-    yield "];"
+    """The keys of a table, for an editor: a line each."""
+    yield f'pub(crate) static {form.macro.upper()}: &str = "\\'
+    for row in form.rows:
+        if row.key:
+            said = [row.key, row.second or "", without_links(called(row.kind)[0]), without_links(need(row)[0]), row.reference, row.about]
+            assert not any(" | " in text or "\n" in text for text in said)
+            yield quoted(" | ".join(said))[1:-1]
+    yield '";'
 
 
 def choice_list(choices):
-    """The texts of each choice, for an editor."""
-    yield f"pub(crate) static CHOICES: [Choice; {len(choices)}] = ["
+    """The texts of each choice, for an editor: a line each, after its name."""
+    yield 'pub(crate) static CHOICES: &str = "\\'
     for name, words in choices:
-        texts = [word for word in words if word.startswith('"')]
-        given = ", ".join(texts)
-        lines = [f"words: &[{given}],"] if len(given) < 60 else ["words: &[", *(f"    {text}," for text in texts), "],"]
-        yield from ["    Choice {", f'        name: "{name}",', *(f"        {line}" for line in lines), "    },"]
-    yield "];"
+        yield " | ".join([name, *(word[1:-1] for word in words if word.startswith('"'))])
+    yield '";'
 
 
 def python_forms(forms):

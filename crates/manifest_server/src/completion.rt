@@ -176,9 +176,9 @@ fn push_keys(
         Some(document) => table_at(document, names),
         None => None,
     };
-    for key in keys_at(names) {
-        if !is_there(table, *key) {
-            push_key_item(body, *key)?;
+    for key in keys_at(*body.allocator(), names)? {
+        if !is_there(table, key) {
+            push_key_item(body, key)?;
         }
     }
     Ok(())
@@ -193,8 +193,8 @@ fn push_words(body: &mut String, names: &[&str], key: &str) -> Result<(), AllocE
         Some((choice, _or_inherited)) => choice,
         None => known.holds,
     };
-    for word in words_of(choice) {
-        push_item(body, *word, WORD, "", *word)?;
+    for word in words_of(*body.allocator(), choice)? {
+        push_item(body, word, WORD, "", word)?;
         close(body)?;
     }
     Ok(())

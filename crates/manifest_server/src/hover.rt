@@ -1,7 +1,7 @@
 //! What a key means, what a value that is inherited is, and what a target is built from.
 
 use crate::definition::standing;
-use crate::forms::{inherited_keys, is_of_dependencies, key_at};
+use crate::forms::{inherited_key, is_of_dependencies, key_at};
 use crate::session::Known;
 use crate::spots::{ITEM, Spot, names_of, spot_at};
 use crate::targets::{file_of, is_of_target};
@@ -21,7 +21,7 @@ fn push_meaning(out: &mut String, names: &[&str]) -> Result<(), AllocError> {
     };
     let name = *name;
     let key = if name == "workspace" && table.len() > 1 {
-        inherited_keys().first().copied()
+        inherited_key()
     } else {
         key_at(table, name)
     };
