@@ -104,6 +104,7 @@ static CHECKING: [Row; 16] = [
     ("list", Takes::Nothing, "Print all codes with their levels"),
 ];
 
+/// The options of `show`.
 static SHOWING: [Row; 1] = [(
     "format",
     Takes::Word("FORMAT", &["people", "json", "html"]),

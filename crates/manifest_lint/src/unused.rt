@@ -124,11 +124,14 @@ fn known_in_dependency(document: &Table, path: &[Step], key: &str) -> Option<Kno
         "public" => Some(PUBLIC),
         "artifact" => Some(unstable("`artifact` wants the unstable option `-Z bindeps`")),
         "lib" | "target" if !has_beside(document, path, "artifact") => {
-            Some(lone(ARTIFACT_WITHOUT_ARTIFACT, "it goes with `artifact` alone"))
+            Some(lone(
+                ARTIFACT_WITHOUT_ARTIFACT,
+                "it is allowed only with `artifact`",
+            ))
         }
         "lib" | "target" => Some(unstable("it wants the unstable option `-Z bindeps`")),
         "base" if !has_beside(document, path, "path") => {
-            Some(lone(BASE_WITHOUT_PATH, "`base` goes with `path` alone"))
+            Some(lone(BASE_WITHOUT_PATH, "`base` is allowed only with `path`"))
         }
         "base" => Some(unstable("`base` wants the unstable feature `path-bases`")),
         _ => None,
@@ -216,7 +219,7 @@ fn known_in(document: &Table, kind: TableKind, path: &[Step], key: &str) -> Opti
 /// Of a key that stands with `workspace = true`.
 const BESIDE_WORKSPACE: Known = Known {
     code: IGNORED_WHEN_INHERITED,
-    says: "Cargo ignores it where `workspace = true` stands with it",
+    says: "Cargo ignores it next to `workspace = true`",
 };
 
 /// Whether the table in which the path ends has this key too.

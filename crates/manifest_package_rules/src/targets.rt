@@ -135,7 +135,7 @@ fn library_types(
         out.value(DYLIB_AND_CDYLIB, path, &[At::Key(key)], &words)?;
     }
     if items.is_empty() {
-        let words = ["a library target has a crate type at least"];
+        let words = ["a library target has at least one crate type"];
         return out.value(INVALID_LIBRARY_TYPE, path, &[At::Key(key)], &words);
     }
     if has_type(items, "proc-macro") {

@@ -15,8 +15,8 @@ pub fn push_begin(out: &mut String) -> Result<(), AllocError> {
     Ok(())
 }
 
-/// Writes JSON into the page, with an escape of JSON in the place of each `<`. Whatever texts are in it, it does not end the
-/// element of the data ([`data_has_no_tag`]).
+/// Writes JSON into the page, each `<` of it as an escape of JSON. So it cannot end the element of the data, whatever texts
+/// it holds ([`data_has_no_tag`]).
 ///
 /// ```ignore
 /// push_data(&mut out, "\"</script>\"")?; // "\u003c/script>"
