@@ -32,7 +32,7 @@ use std::alloc::Global;
 
 /// What a call answers. `docs/LIBRARY.md` has the statuses and the causes.
 #[repr(C)]
-#[derive(Debug, Clone, Copy)]
+#[derive(Clone, Copy)]
 pub struct Answer {
     /// 0 where the text is what was asked for, else why it is not.
     pub status: u8,
@@ -89,7 +89,7 @@ fn write_answer(report: &Report, out: &mut [u8]) -> Answer
 
 /// What the bytes of a call are, what is asked for of the manifest that is made of them, and the most bytes that it may
 /// take.
-#[derive(Debug, Clone, Copy)]
+#[derive(Clone, Copy)]
 pub struct Asked {
     pub input: Input,
     pub output: Output,

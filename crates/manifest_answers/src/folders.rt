@@ -28,7 +28,7 @@ pub struct Folder<'a> {
 const _: () = prove!(size_of::<Folder<'static>>() == 40);
 
 /// What a folder answers.
-#[derive(Debug, Drop)]
+#[derive(Drop)]
 pub enum Listed {
     /// These names.
     Names(BTreeSet<String>),

@@ -22,7 +22,7 @@ use manifest_written::Written;
 use std::alloc::Global;
 
 /// What is asked for of a manifest.
-#[derive(Debug, Clone, Copy)]
+#[derive(Clone, Copy)]
 pub enum Output {
     /// Its canonical text.
     CanonicalText,

@@ -20,7 +20,7 @@ use std::rc::Rc;
 use toml::Table;
 
 /// What the bytes of a manifest are.
-#[derive(Debug, Clone, Copy)]
+#[derive(Clone, Copy)]
 pub enum Input {
     /// The text of a `Cargo.toml`.
     Toml,

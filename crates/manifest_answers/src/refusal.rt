@@ -6,7 +6,7 @@ use manifest_places::EditError;
 use std::alloc::{AllocError, AllocFailed};
 
 /// Why bytes are no manifest.
-#[derive(Debug, Drop)]
+#[derive(Drop)]
 pub enum InputError {
     /// They are no document, or it means no manifest.
     Manifest(Error),
@@ -39,7 +39,7 @@ impl<T: Drop> From<AllocFailed<T>> for InputError {
 }
 
 /// Why a call has no text, by the step that refused.
-#[derive(Debug, Drop)]
+#[derive(Drop)]
 pub enum Refusal {
     /// The bytes are no manifest.
     Bytes(InputError),

@@ -15,7 +15,7 @@ use std::io;
 use std::io::ErrorKind;
 
 /// A report: the numbers of an answer, and its text. `docs/LIBRARY.md` has the numbers.
-#[derive(Debug, Drop)]
+#[derive(Drop)]
 pub struct Report {
     pub status: u8,
     pub cause: u8,

@@ -15,7 +15,7 @@ use std::time::{Duration, Instant};
 use std::{env, io};
 
 /// Which of the streams are terminals.
-#[derive(Clone, Copy, Debug)]
+#[derive(Clone, Copy)]
 pub struct Terminals {
     pub output: bool,
     pub errors: bool,

@@ -9,7 +9,7 @@ const USAGE: &str =
     "usage: manifest_canon canon FILE | canon - | complete FILE [--workspace ROOT]\n";
 
 /// What the words ask for.
-#[derive(Debug, Clone, Copy)]
+#[derive(Clone, Copy)]
 pub enum Request<'a> {
     /// To print the manifest of standard input: `canon -`, or no words.
     CanonInput,

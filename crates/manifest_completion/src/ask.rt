@@ -25,14 +25,14 @@ pub fn join(alloc: Global, folder: &str, name: &str) -> Result<String, AllocErro
 }
 
 /// What was answered at a folder of targets, and at its entries in the order of their names.
-#[derive(Debug, Drop)]
+#[derive(Drop)]
 pub struct FolderAnswers {
     pub own: io::Result<BTreeSet<String>>,
     pub entries: Vec<io::Result<BTreeSet<String>>>,
 }
 
 /// What was answered at `src`, at the folders of targets and at that of the manifest.
-#[derive(Debug, Drop)]
+#[derive(Drop)]
 pub struct Answers {
     pub source: io::Result<BTreeSet<String>>,
     pub bins: FolderAnswers,

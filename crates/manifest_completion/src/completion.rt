@@ -23,7 +23,7 @@ use std::io;
 use std::io::ErrorKind;
 
 /// What completion reads of a package and of its manifest.
-#[derive(Debug, Clone, Copy)]
+#[derive(Clone, Copy)]
 pub struct DeclaredTargets<'a> {
     /// The name of the package.
     pub name: &'a str,
@@ -92,7 +92,7 @@ impl DeclaredTargets<'_> {
 }
 
 /// What completion makes of the declared targets: the build script, the library and the four lists.
-#[derive(Debug, Drop)]
+#[derive(Drop)]
 pub struct CompletedTargets {
     /// The build script: `build.rs` where it is found, else what the package says.
     pub build: Option<StringOrBool>,

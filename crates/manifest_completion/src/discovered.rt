@@ -14,7 +14,7 @@ use std::collections::BTreeSet;
 use std::io;
 
 /// A target that was found.
-#[derive(Debug, Drop)]
+#[derive(Drop)]
 pub struct FoundTarget {
     pub name: String,
     pub path: String,

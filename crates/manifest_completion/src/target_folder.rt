@@ -5,7 +5,7 @@ ghost use Rattle.manifest_completion.specs.Listings.{folder_text, is_bins, is_ex
 ghost use Rattle.manifest_completion.specs.Unfound.{list_key};
 
 /// A folder of targets; it stands for the list of its targets too.
-#[derive(Debug, Clone, Copy)]
+#[derive(Clone, Copy)]
 pub enum TargetFolder {
     /// `src/bin`, of the list `bin`.
     Bins,

@@ -16,7 +16,7 @@ use std::alloc::{AllocError, Global};
 use std::collections::BTreeSet;
 
 /// The edition, crate type and path that a target takes where it has none.
-#[derive(Debug, Clone, Copy)]
+#[derive(Clone, Copy)]
 pub struct TargetDefaults {
     pub edition: Option<Edition>,
     pub crate_type: Option<&'static str>,

@@ -8,7 +8,7 @@ use manifest_rules::{Code, Edition, File, Level, Part};
 use std::alloc::Global;
 
 /// What a diagnostic is about.
-#[derive(Clone, Copy, Debug, PartialEq, Eq)]
+#[derive(Clone, Copy, PartialEq, Eq)]
 pub enum Subject {
     /// A fault of the schema, and of a choice the words that there are.
     Fault(Cause, Choices),
@@ -21,7 +21,7 @@ pub enum Subject {
 }
 
 /// A second place, and what is said there.
-#[derive(Debug, Drop)]
+#[derive(Drop)]
 pub struct PlacedLabel {
     pub file: File,
     /// Where in the text of that file; `None` where it has no place.
@@ -30,7 +30,7 @@ pub struct PlacedLabel {
 }
 
 /// What can be written instead.
-#[derive(Debug, Drop)]
+#[derive(Drop)]
 pub struct Fix {
     pub text: String,
     /// The edits; none where there are only words.
@@ -42,7 +42,7 @@ pub struct Fix {
 }
 
 /// One thing that is said of a manifest.
-#[derive(Debug, Drop)]
+#[derive(Drop)]
 pub struct Diagnostic {
     pub code: Code,
     pub level: Level,

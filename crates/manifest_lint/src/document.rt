@@ -20,7 +20,7 @@ pub struct Document {
 }
 
 /// Why bytes are no document.
-#[derive(Debug, Drop)]
+#[derive(Drop)]
 pub enum Unread {
     /// They are UTF-8 up to this offset, and no further.
     NotUtf8(usize),

@@ -9,7 +9,7 @@ use manifest_value::{Rowed, Spellings};
 use toml::{Table, Value};
 
 /// A kind of table.
-#[derive(Clone, Copy, Debug, PartialEq, Eq)]
+#[derive(Clone, Copy, PartialEq, Eq)]
 pub(crate) enum TableKind {
     Top,
     Package,

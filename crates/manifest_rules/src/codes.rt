@@ -6,7 +6,7 @@ ghost use Rattle.manifest_rules.specs.Rules as spec;
 use crate::look::Edition;
 
 /// How grave a diagnostic is.
-#[derive(Clone, Copy, Debug, PartialEq, Eq)]
+#[derive(Clone, Copy, PartialEq, Eq)]
 pub enum Level {
     /// Cargo refuses the manifest, when it reads it or when it builds the package.
     Error,
@@ -17,7 +17,7 @@ pub enum Level {
 }
 
 /// What a rule looks at.
-#[derive(Clone, Copy, Debug, PartialEq, Eq)]
+#[derive(Clone, Copy, PartialEq, Eq)]
 pub enum Needs {
     /// The manifest alone.
     Text,
@@ -32,7 +32,7 @@ pub enum Needs {
 }
 
 /// A kind of diagnostic.
-#[derive(Clone, Copy, Debug, PartialEq, Eq)]
+#[derive(Clone, Copy, PartialEq, Eq)]
 pub struct Code {
     /// Its name in words, as `unknown-feature`.
     pub name: &'static str,
@@ -171,7 +171,7 @@ pub const NOT_IN_WORKSPACE: Code = code!(Error, "not-in-workspace", Root);
 /// `default-features = false` of an inherited dependency whose workspace does not say false.
 pub const IGNORED_DEFAULT_FEATURES: Code =
     code!(Warning to Error, "ignored-default-features", Root);
-/// A key that is ignored where `workspace = true` stands with it.
+/// A key that is ignored next to `workspace = true`.
 pub const IGNORED_WHEN_INHERITED: Code = code!(Warning, "ignored-when-inherited", Text);
 
 // Targets

@@ -12,14 +12,14 @@ use std::fmt;
 use toml::Value;
 
 /// A step to a value: to the entry of a table, or to the item of an array.
-#[derive(Clone, Copy, Debug, PartialEq, Eq)]
+#[derive(Clone, Copy, PartialEq, Eq)]
 pub enum At<'a> {
     Key(&'a str),
     Index(usize),
 }
 
 /// What of an entry is meant.
-#[derive(Clone, Copy, Debug, PartialEq, Eq)]
+#[derive(Clone, Copy, PartialEq, Eq)]
 pub enum Part {
     /// The value, and where it has no place of its own its key or its header.
     Value,
@@ -30,7 +30,7 @@ pub enum Part {
 }
 
 /// A place in a text.
-#[derive(Debug, Drop)]
+#[derive(Drop)]
 pub enum Spot {
     /// What stands at a key path.
     Path(Vec<Step>, Part),
@@ -39,7 +39,7 @@ pub enum Spot {
 }
 
 /// The text in which a place is.
-#[derive(Clone, Copy, Debug, PartialEq, Eq)]
+#[derive(Clone, Copy, PartialEq, Eq)]
 pub enum File {
     /// The manifest itself.
     Own,
@@ -50,7 +50,7 @@ pub enum File {
 }
 
 /// A second place, and what is to be said there.
-#[derive(Debug, Drop)]
+#[derive(Drop)]
 pub struct Label {
     pub file: File,
     pub spot: Spot,
@@ -58,7 +58,7 @@ pub struct Label {
 }
 
 /// What can be written instead.
-#[derive(Debug, Drop)]
+#[derive(Drop)]
 pub struct Suggestion {
     pub text: String,
     /// Edits of the manifest itself.
@@ -68,7 +68,7 @@ pub struct Suggestion {
 }
 
 /// One thing that a rule says.
-#[derive(Debug, Drop)]
+#[derive(Drop)]
 pub struct Report {
     pub code: Code,
     pub level: Level,

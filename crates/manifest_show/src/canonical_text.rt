@@ -4,7 +4,7 @@ use cargo_manifest::{Error, Manifest};
 use std::alloc::{AllocError, Global};
 
 /// Why there is no answer.
-#[derive(Debug, Drop)]
+#[derive(Drop)]
 pub enum Refused {
     /// The manifest is refused, with this message.
     Manifest(String),

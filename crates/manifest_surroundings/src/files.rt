@@ -9,7 +9,7 @@ use std::rt::Files;
 use std::{fmt, fs, io};
 
 /// Why a file was not read.
-#[derive(Debug, Drop)]
+#[derive(Drop)]
 pub enum Unreadable {
     Io(io::Error),
     /// A folder, a pipe or a device.
@@ -134,7 +134,7 @@ impl Unread {
 }
 
 /// Why a file was not replaced.
-#[derive(Debug, Drop)]
+#[derive(Drop)]
 pub enum NotReplaced {
     Io(io::Error),
     /// It is no longer what was read.
