@@ -3,18 +3,10 @@
 //! the words of `manifest_rules`.
 #![tactic(auto)]
 
-mod around;
-mod dependencies;
-mod features;
-mod inherited;
-mod replace;
-mod sources;
-mod workspace;
-
-pub use around::sources_around;
-pub use dependencies::dependencies;
-pub use features::features;
-pub use inherited::inherited;
-pub use replace::replace;
-pub use sources::sources;
-pub use workspace::workspace;
+pub mod around;
+pub mod dependencies;
+pub mod features;
+pub mod inherited;
+pub mod replace;
+pub mod sources;
+pub mod workspace;

@@ -1,12 +1,25 @@
 //! What the rules say, group by group.
 
-use manifest_dependency_rules::{
-    dependencies, features, inherited, replace, sources, sources_around, workspace,
-};
-use manifest_package_rules::{
-    inherited_profiles, keys, lints, newer, package, platforms, profiles, publishing, settings,
-    spellings, target_files, targets, text,
-};
+use manifest_dependency_rules::around::sources_around;
+use manifest_dependency_rules::dependencies::dependencies;
+use manifest_dependency_rules::features::features;
+use manifest_dependency_rules::inherited::inherited;
+use manifest_dependency_rules::replace::replace;
+use manifest_dependency_rules::sources::sources;
+use manifest_dependency_rules::workspace::workspace;
+use manifest_package_rules::inherits::inherited_profiles;
+use manifest_package_rules::keys::keys;
+use manifest_package_rules::lints::lints;
+use manifest_package_rules::newer::newer;
+use manifest_package_rules::package::package;
+use manifest_package_rules::platforms::platforms;
+use manifest_package_rules::profiles::profiles;
+use manifest_package_rules::publish::publishing;
+use manifest_package_rules::settings::settings;
+use manifest_package_rules::spellings::spellings;
+use manifest_package_rules::target_files::target_files;
+use manifest_package_rules::targets::targets;
+use manifest_package_rules::text::text;
 use manifest_rules::look::Look;
 use manifest_rules::report::Out;
 use manifest_rules::{Report, Surroundings};

@@ -4,33 +4,19 @@
 #![tactic(auto)]
 
 mod cfg;
-mod inherits;
-mod keys;
+pub mod inherits;
+pub mod keys;
 mod licenses;
-mod lints;
-mod newer;
-mod package;
-mod platforms;
-mod profiles;
-mod publish;
-mod settings;
+pub mod lints;
+pub mod newer;
+pub mod package;
+pub mod platforms;
+pub mod profiles;
+pub mod publish;
+pub mod settings;
 mod shared_files;
 mod spdx;
-mod spellings;
-mod target_files;
-mod targets;
-mod text;
-
-pub use inherits::inherited_profiles;
-pub use keys::keys;
-pub use lints::lints;
-pub use newer::newer;
-pub use package::package;
-pub use platforms::platforms;
-pub use profiles::profiles;
-pub use publish::publishing;
-pub use settings::settings;
-pub use spellings::spellings;
-pub use target_files::target_files;
-pub use targets::targets;
-pub use text::text;
+pub mod spellings;
+pub mod target_files;
+pub mod targets;
+pub mod text;
