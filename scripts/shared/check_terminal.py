@@ -49,6 +49,16 @@ class Screen:
         all_words = ["tmux", "-f", "/dev/null", "-S", socket, *words]
         return subprocess.run(all_words, capture_output=True, text=True, timeout=SECONDS, env=settings).stdout
 
+    def settled(self, *more):
+        """What the screen has once it no longer changes."""
+        said = None
+        for _ in range(50):
+            time.sleep(0.2)
+            before, said = said, self.call("capture-pane", "-p", *more)
+            if said == before:
+                break
+        return said
+
     def show(self, command, *more):
         """The screen after a command of a shell, by its lines; more words are for `capture-pane`."""
         self.number += 1
@@ -59,8 +69,7 @@ class Screen:
         began = time.monotonic()
         while not done.exists() and time.monotonic() - began < 60:
             time.sleep(0.05)
-        time.sleep(0.3)
-        said = self.call("capture-pane", "-p", *more).rstrip("\n").split("\n")
+        said = self.settled(*more).rstrip("\n").split("\n")
         self.column = self.call("display-message", "-p", "#{cursor_x}").strip()
         self.call("kill-server")
         return said
