@@ -3,21 +3,23 @@
 
     scripts/gate/lanes.py      prints what ./test sets RT_JOBS to, which is how many tasks `rt ci` runs at a time, or nothing
 
-`rt ci` reserves memory by the lines of a crate, up to RESERVED, and runs a proof in several processes where that is there
-more than once. Where it is there only once, it would run one task, in one process, and leave all other processors idle;
-but most tasks take TAKEN or less. There ./test says how many run. docs/GATE.md has what was measured.
+`rt ci` reserves memory for a crate by its lines and by those of all that it stands on, up to RESERVED, and runs as many proofs
+at a time as that holds. A proof takes half of it or less, so processors have nothing to do while there is memory: where the
+memory does not hold as many of these reservations as there are processors, ./test says how many proofs run, by what the larger
+ones take. docs/GATE.md has what was measured.
 """
 import os
 import re
 from pathlib import Path
 
 # what rt ci reserves for the largest crate, in bytes
-RESERVED = 6_200_000_000
-# what a check takes in one process: most 1 to 3.5 GB, the tests 5, and the round of cargo_manifest 5.6
+RESERVED = 13_000_000_000
+# what a proof of one of the larger crates takes in one process: 3.3 to 5.7 GB, that of the tests 7.3
+LARGE = 5_000_000_000
+# what a round of edits takes: most 1 to 3.5 GB, that of cargo_manifest 5.6
 TAKEN = 3_000_000_000
-# the share of the free memory that rt ci reserves at most, and by how much a second process adds to a reservation
+# the share of the free memory that is taken at most
 SHARE = 0.85
-SECOND = 1.6
 
 
 def number_in(file, pattern):
@@ -48,7 +50,7 @@ def spare_lanes(free, processors):
 
 def jobs(free, processors):
     """What RT_JOBS is set to, or None where rt ci is left to itself."""
-    return lanes(free, processors) if SHARE * free < SECOND * RESERVED else None
+    return lanes(free, processors, LARGE) if SHARE * free < processors * RESERVED else None
 
 
 def processors():
