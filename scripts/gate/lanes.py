@@ -3,23 +3,24 @@
 
     scripts/gate/lanes.py      prints what ./test sets RT_JOBS to, which is how many tasks `rt ci` runs at a time, or nothing
 
-`rt ci` reserves memory for a crate by its lines and by those of all that it stands on, up to RESERVED, and runs as many proofs
-at a time as that holds. A proof takes half of it or less, so processors have nothing to do while there is memory: where the
-memory does not hold as many of these reservations as there are processors, ./test says how many proofs run, by what the larger
-ones take. docs/GATE.md has what was measured.
+`rt ci` reserves memory for a crate by its lines and by those of all that it stands on, up to RESERVED, and runs a proof in several
+processes where that is there more than once. Where it is there only once, the larger crates would be proved one after another,
+each in one process, while other processors have nothing to do; but such a proof takes half of it. There ./test says how many run,
+by what the larger ones take. docs/GATE.md has what was measured.
 """
 import os
 import re
 from pathlib import Path
 
 # what rt ci reserves for the largest crate, in bytes
-RESERVED = 13_000_000_000
+RESERVED = 9_400_000_000
 # what a proof of one of the larger crates takes in one process: 3.3 to 5.7 GB, that of the tests 7.3
 LARGE = 5_000_000_000
 # what a round of edits takes: most 1 to 3.5 GB, that of cargo_manifest 5.6
 TAKEN = 3_000_000_000
-# the share of the free memory that is taken at most
+# the share of the free memory that rt ci reserves at most, and by how much a second process adds to a reservation
 SHARE = 0.85
+SECOND = 1.6
 
 
 def number_in(file, pattern):
@@ -50,7 +51,7 @@ def spare_lanes(free, processors):
 
 def jobs(free, processors):
     """What RT_JOBS is set to, or None where rt ci is left to itself."""
-    return lanes(free, processors, LARGE) if SHARE * free < processors * RESERVED else None
+    return lanes(free, processors, LARGE) if SHARE * free < SECOND * RESERVED else None
 
 
 def processors():
