@@ -5,7 +5,7 @@
 
 `rt ci` reserves memory for a crate by its lines and by those of all that it stands on, up to RESERVED, and runs a proof in several
 processes where that is there more than once. Where it is there only once, the larger crates would be proved one after another,
-each in one process, while other processors have nothing to do; but such a proof takes half of it. There ./test says how many run,
+each in one process, while other processors have nothing to do; but most of them take some half of it. There ./test says how many run,
 by what the larger ones take. docs/GATE.md has what was measured.
 """
 import os

@@ -1,5 +1,13 @@
 """What scripts/gate/wrong_bodies and scripts/measure/proofs share: how the prover is called for a crate."""
+import subprocess
+from pathlib import Path
+
 from .repository import below
+
+
+def kit_folder():
+    """The folder of the toolchain."""
+    return Path(subprocess.run(["rt", "doc"], capture_output=True, text=True, check=True).stdout.strip()).parent
 
 
 def words(top, kit, crates, crate):
