@@ -1,6 +1,7 @@
 //! One manifest after the other: read, judged, reported, and mended where that is asked for.
 
 use crate::options::{Fixing, Options};
+use manifest_json::Text;
 use manifest_lint::{Diagnostic, Document, unread_diagnostic};
 use manifest_report::{MemberSource, Reporter, Source, Sources, push_diff, push_escaped};
 use manifest_rules::{File, Level};
@@ -11,6 +12,7 @@ use manifest_surroundings::{
 use std::alloc::{AllocError, Global};
 use std::collections::BTreeSet;
 use std::rt::Files;
+use std::slice;
 
 /// How much was found.
 #[derive(Clone, Copy)]
@@ -51,6 +53,11 @@ pub(crate) struct Context {
     pub(crate) state: State,
 }
 
+/// What is reported where suggestions are not made.
+const REFUSED: &str = "suggestions that cannot be made, or would make new errors, are left out";
+
+const GIVEN_UP: &str = "too many suggestions cannot be made together, and not all were tried";
+
 /// A run over manifests: its context, what was counted, and the texts that are to be written.
 #[derive(Drop)]
 pub(crate) struct Run {
@@ -58,9 +65,9 @@ pub(crate) struct Run {
     pub(crate) reporter: Reporter,
     pub(crate) counts: Counts,
     /// What is to be written to standard output.
-    pub(crate) out: String,
+    pub(crate) out: Text,
     /// What is to be written to standard error.
-    pub(crate) messages: String,
+    pub(crate) messages: Text,
 }
 
 /// The text of bytes, up to the first one that is no UTF-8.
@@ -162,30 +169,28 @@ fn sources_of<'x>(
 fn push_report<'x>(
     context: &'x Context,
     reporter: &mut Reporter,
-    out: &mut String,
+    out: &mut Text,
     name: &'x str,
     placed: &'x Placed,
     diagnostics: &'x [Diagnostic],
     members: &'x [MemberSource],
-) -> Result<(), AllocError> {
+) {
     let current = context.current.as_str();
-    match sources_of(&context.state, current, name, placed, members) {
-        Some(sources) => reporter.report(out, &sources, diagnostics),
-        None => Ok(()),
+    if let Some(sources) = sources_of(&context.state, current, name, placed, members) {
+        reporter.report(out, &sources, diagnostics);
     }
 }
 
 impl Run {
+    /// Out of memory where it ran out for what is to be written.
+    pub(crate) fn checked(&self) -> Result<(), AllocError> {
+        self.out.checked()?;
+        self.messages.checked()
+    }
+
     /// Tells what is said of bytes that are no document.
-    fn report_unread<'x>(
-        &mut self,
-        alloc: Global,
-        name: &'x str,
-        bytes: &'x [u8],
-        diagnostic: Diagnostic,
-    ) -> Result<(), AllocError> {
-        let mut diagnostics = Vec::new(alloc);
-        diagnostics.push(diagnostic)?;
+    fn report_unread<'x>(&mut self, name: &'x str, bytes: &'x [u8], diagnostic: &'x Diagnostic) {
+        let diagnostics = slice::from_ref(diagnostic);
         let sources = Sources {
             own: Source {
                 name,
@@ -194,9 +199,8 @@ impl Run {
             root: None,
             members: &[],
         };
-        self.counts.add(diagnostics.as_slice());
-        self.reporter
-            .report(&mut self.out, &sources, diagnostics.as_slice())
+        self.counts.add(diagnostics);
+        self.reporter.report(&mut self.out, &sources, diagnostics);
     }
 
     /// Tells what is said of a manifest.
@@ -206,10 +210,10 @@ impl Run {
         name: &str,
         placed: &Placed,
         diagnostics: &[Diagnostic],
-    ) -> Result<(), AllocError> {
+    ) {
         self.counts.add(diagnostics);
         if self.context.options.fixing == Fixing::Show {
-            return Ok(());
+            return;
         }
         let context = &self.context;
         let members = member_sources(
@@ -218,7 +222,10 @@ impl Run {
             placed.members(&context.state),
             diagnostics,
             context.current.as_str(),
-        )?;
+        );
+        let Some(members) = self.out.made(members) else {
+            return;
+        };
         push_report(
             &self.context,
             &mut self.reporter,
@@ -227,80 +234,93 @@ impl Run {
             placed,
             diagnostics,
             members.as_slice(),
-        )
+        );
     }
 
     /// Tells of what could not be read or written.
-    pub(crate) fn tell_unread(&mut self, name: &str, reason: &str) -> Result<(), AllocError> {
+    pub(crate) fn tell_unread(&mut self, name: &str, reason: &str) {
         self.counts.unread = self.counts.unread.saturating_add(1);
-        self.messages.push_str("error: ")?;
-        push_escaped(&mut self.messages, name)?;
-        self.messages.push_str(": ")?;
-        push_escaped(&mut self.messages, reason)?;
-        self.messages.push('\n')
+        self.messages.push_str("error: ");
+        push_escaped(&mut self.messages, name);
+        self.messages.push_str(": ");
+        push_escaped(&mut self.messages, reason);
+        self.messages.push('\n');
+    }
+
+    /// Tells why a file was not read.
+    pub(crate) fn tell_unreadable(&mut self, name: &str, fault: &Unreadable) {
+        let reason = format!(in self.messages.allocator(); "{fault}");
+        if let Some(reason) = self.messages.made(reason) {
+            self.tell_unread(name, reason.as_str());
+        }
     }
 
     /// Tells of all paths that could not be read.
-    pub(crate) fn tell_all_unread(&mut self, unread: &[Unread]) -> Result<(), AllocError> {
+    pub(crate) fn tell_all_unread(&mut self, unread: &[Unread]) {
         for one in unread {
-            self.tell_unread(one.path.as_str(), one.reason.as_str())?;
+            self.tell_unread(one.path.as_str(), one.reason.as_str());
         }
-        Ok(())
     }
 
     /// Tells of the configurations that could not be read, each once.
-    fn tell_unread_configuration(&mut self) -> Result<(), AllocError> {
+    fn tell_unread_configuration(&mut self) {
         for _ in 0..u64::MAX {
             let Some(unread) = self.context.state.next_unread() else {
-                return Ok(());
+                return;
             };
-            self.tell_unread(unread.path.as_str(), unread.reason.as_str())?;
+            self.tell_unread(unread.path.as_str(), unread.reason.as_str());
         }
-        Ok(())
     }
 
-    fn tell_not_written(&mut self, name: &str, fault: &NotReplaced) -> Result<(), AllocError> {
-        let reason = format!(in *self.messages.allocator(); "not written: {fault}")?;
-        self.tell_unread(name, reason.as_str())
+    fn tell_not_written(&mut self, name: &str, fault: &NotReplaced) {
+        let reason = format!(in self.messages.allocator(); "not written: {fault}");
+        if let Some(reason) = self.messages.made(reason) {
+            self.tell_unread(name, reason.as_str());
+        }
     }
 
-    /// Writes a manifest with suggestions made, or shows what would change.
-    fn put<H: Files + AllocGlobal>(
-        &mut self,
-        rt: &H,
-        name: &str,
-        old: &str,
-        fixed: &Fixed,
-    ) -> Result<(), AllocError> {
+    /// Tells which suggestions were not made.
+    fn tell_left_out(&mut self, name: &str, fixed: &Fixed) {
         if fixed.is_refused() {
-            push_escaped(&mut self.messages, name)?;
-            let reason = "suggestions that cannot be made, or would make new errors, are left out";
-            write!(self.messages, ": {reason}\n")?;
+            push_escaped(&mut self.messages, name);
+            self.messages.push_str(": ");
+            self.messages.push_str(REFUSED);
+            self.messages.push('\n');
         }
         if fixed.has_given_up {
-            push_escaped(&mut self.messages, name)?;
-            let reason = "too many suggestions cannot be made together, and not all were tried";
-            write!(self.messages, ": {reason}\n")?;
+            push_escaped(&mut self.messages, name);
+            self.messages.push_str(": ");
+            self.messages.push_str(GIVEN_UP);
+            self.messages.push('\n');
         }
-        if fixed.made == 0 {
-            return Ok(());
+    }
+
+    /// Tells that a manifest was written with this many suggestions made.
+    fn tell_fixed(&mut self, name: &str, made: usize) {
+        self.messages.push_str("fixed ");
+        push_escaped(&mut self.messages, name);
+        self.messages.push_str(": ");
+        self.messages.push_number(made);
+        self.messages.push_str(if made == 1 {
+            " suggestion\n"
+        } else {
+            " suggestions\n"
+        });
+    }
+
+    /// Writes a manifest with suggestions made, or shows what would change. Where memory ran out, the file stays as it is.
+    fn put<H: Files + AllocGlobal>(&mut self, rt: &H, name: &str, old: &str, fixed: &Fixed) {
+        self.tell_left_out(name, fixed);
+        if fixed.made == 0 || self.checked().is_err() {
+            return;
         }
         let new = fixed.text.as_str();
         if self.context.options.fixing == Fixing::Show {
-            return push_diff(rt.alloc(), &mut self.out, name, old, new);
+            push_diff(rt.alloc(), &mut self.out, name, old, new);
+            return;
         }
         match replace_file(rt, name, old, new) {
-            Ok(()) => {
-                let made = fixed.made;
-                let noun = if made == 1 {
-                    "suggestion"
-                } else {
-                    "suggestions"
-                };
-                self.messages.push_str("fixed ")?;
-                push_escaped(&mut self.messages, name)?;
-                write!(self.messages, ": {made} {noun}\n")
-            }
+            Ok(()) => self.tell_fixed(name, fixed.made),
             Err(fault) => self.tell_not_written(name, &fault),
         }
     }
@@ -321,7 +341,7 @@ impl Run {
             placed,
             true,
         )?;
-        self.tell_unread_configuration()?;
+        self.tell_unread_configuration();
         Ok(found)
     }
 
@@ -332,34 +352,55 @@ impl Run {
         name: &str,
         path: &str,
         placed: &Placed,
-    ) -> Result<(), AllocError> {
-        let found = self.judged(rt, path, placed)?;
-        self.report(rt, name, placed, found.as_slice())
+    ) {
+        let found = self.judged(rt, path, placed);
+        if let Some(found) = self.out.made(found) {
+            self.report(rt, name, placed, found.as_slice());
+        }
     }
 
-    /// Makes the suggestions of a manifest at this path, whose text is `old`, and tells what is left.
+    /// A document at this path, in its surroundings.
+    pub(crate) fn placed_at<H: Files + AllocGlobal + Clone + Drop>(
+        &mut self,
+        rt: &H,
+        path: &str,
+        document: Document,
+    ) -> Result<Placed, AllocError> {
+        let context = &mut self.context;
+        let scope = &context.options.scope;
+        place(rt, scope, &mut context.state, path, document)
+    }
+
+    /// A document at this path, whose text is `old`, with its suggestions made.
+    fn fixed<H: Files + AllocGlobal + Clone + Drop>(
+        &mut self,
+        rt: &H,
+        path: &str,
+        old: &str,
+        document: Document,
+    ) -> Result<Fixed, AllocError> {
+        let placed = self.placed_at(rt, path, document)?;
+        let found = self.judged(rt, path, &placed)?;
+        let text = String::from_str(rt.alloc(), old)?;
+        let context = &mut self.context;
+        let scope = &context.options.scope;
+        with_fixes(rt, scope, &mut context.state, path, text, placed, found)
+    }
+
+    /// Makes the suggestions of a document at this path, whose text is `old`, and tells what is left.
     fn fix<H: Files + AllocGlobal + Clone + Drop>(
         &mut self,
         rt: &H,
         name: &str,
         path: &str,
         old: &str,
-        placed: Placed,
-    ) -> Result<(), AllocError> {
-        let found = self.judged(rt, path, &placed)?;
-        let text = String::from_str(rt.alloc(), old)?;
-        let context = &mut self.context;
-        let fixed = with_fixes(
-            rt,
-            &context.options.scope,
-            &mut context.state,
-            path,
-            text,
-            placed,
-            found,
-        )?;
-        self.put(rt, name, old, &fixed)?;
-        self.report(rt, name, &fixed.placed, fixed.diagnostics.as_slice())
+        document: Document,
+    ) {
+        let fixed = self.fixed(rt, path, old, document);
+        if let Some(fixed) = self.out.made(fixed) {
+            self.put(rt, name, old, &fixed);
+            self.report(rt, name, &fixed.placed, fixed.diagnostics.as_slice());
+        }
     }
 
     /// Checks a document at this path.
@@ -369,25 +410,17 @@ impl Run {
         name: &str,
         path: &str,
         document: Document,
-    ) -> Result<(), AllocError> {
-        let is_fixing = self.context.options.fixing != Fixing::No;
-        let old = if is_fixing {
-            document.text.clone()?
-        } else {
-            String::new(rt.alloc())
-        };
-        let context = &mut self.context;
-        let placed = place(
-            rt,
-            &context.options.scope,
-            &mut context.state,
-            path,
-            document,
-        )?;
-        if is_fixing {
-            self.fix(rt, name, path, old.as_str(), placed)
-        } else {
-            self.report_judged(rt, name, path, &placed)
+    ) {
+        if self.context.options.fixing != Fixing::No {
+            let old: Result<String, AllocError> = document.text.clone();
+            if let Some(old) = self.out.made(old) {
+                self.fix(rt, name, path, old.as_str(), document);
+            }
+            return;
+        }
+        let placed = self.placed_at(rt, path, document);
+        if let Some(placed) = self.out.made(placed) {
+            self.report_judged(rt, name, path, &placed);
         }
     }
 
@@ -397,17 +430,21 @@ impl Run {
         rt: &H,
         name: &str,
         bytes: Vec<u8>,
-    ) -> Result<(), AllocError> {
+    ) {
         let alloc = rt.alloc();
         match Document::read(alloc, bytes.as_slice()) {
             Ok(document) => {
                 drop(bytes);
-                let path = resolved(alloc, self.context.current.as_str(), name)?;
-                self.check_document(rt, name, path.as_str(), document)
+                let path = resolved(alloc, self.context.current.as_str(), name);
+                if let Some(path) = self.out.made(path) {
+                    self.check_document(rt, name, path.as_str(), document);
+                }
             }
             Err(unread) => {
-                let diagnostic = unread_diagnostic(alloc, unread)?;
-                self.report_unread(alloc, name, bytes.as_slice(), diagnostic)
+                let diagnostic = unread_diagnostic(alloc, unread);
+                if let Some(diagnostic) = self.out.made(diagnostic) {
+                    self.report_unread(name, bytes.as_slice(), &diagnostic);
+                }
             }
         }
     }
@@ -418,13 +455,10 @@ impl Run {
         rt: &H,
         name: &str,
         read: Result<Vec<u8>, Unreadable>,
-    ) -> Result<(), AllocError> {
+    ) {
         match read {
             Ok(bytes) => self.check_bytes(rt, name, bytes),
-            Err(fault) => {
-                let reason = format!(in rt.alloc(); "{fault}")?;
-                self.tell_unread(name, reason.as_str())
-            }
+            Err(fault) => self.tell_unreadable(name, &fault),
         }
     }
 }

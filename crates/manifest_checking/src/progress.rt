@@ -1,6 +1,6 @@
 //! A line on a terminal that says how far a run is, where it takes longer than a second.
 
-use std::alloc::AllocError;
+use manifest_json::Text;
 use std::rt::Clock;
 use std::time::{Duration, Instant};
 
@@ -41,13 +41,13 @@ impl Progress {
         }
     }
 
-    /// Writes what takes the line away, if it is shown.
-    pub(crate) fn push_clear(&mut self, out: &mut String) -> Result<(), AllocError> {
-        if self.is_shown {
-            self.is_shown = false;
-            out.push_str(CLEAR)?;
+    /// What takes the line away, if it is shown; the empty text if it is not.
+    pub(crate) fn clear(&mut self) -> &'static str {
+        if !self.is_shown {
+            return "";
         }
-        Ok(())
+        self.is_shown = false;
+        CLEAR
     }
 
     /// How long the run takes so far.
@@ -59,22 +59,21 @@ impl Progress {
     }
 
     /// Writes the line, if it is time.
-    pub(crate) fn push_line<H: Clock>(
-        &mut self,
-        rt: &H,
-        out: &mut String,
-        done: usize,
-        all: usize,
-    ) -> Result<(), AllocError> {
+    pub(crate) fn push_line<H: Clock>(&mut self, rt: &H, out: &mut Text, done: usize, all: usize) {
         let Some(elapsed) = self.elapsed(rt) else {
-            return Ok(());
+            return;
         };
         let elapsed = milliseconds(elapsed);
         if elapsed < self.next {
-            return Ok(());
+            return;
         }
         self.next = elapsed.saturating_add(EACH);
         self.is_shown = true;
-        write!(out, "{CLEAR}checking {done} of {all} manifests")
+        out.push_str(CLEAR);
+        out.push_str("checking ");
+        out.push_number(done);
+        out.push_str(" of ");
+        out.push_number(all);
+        out.push_str(" manifests");
     }
 }

@@ -6,6 +6,7 @@ use crate::explaining::{push_list, push_page};
 use crate::options::{Color, Form, Inquiry, Options, Request};
 use crate::progress::Progress;
 use crate::walk::{Found, manifests};
+use manifest_json::Text;
 use manifest_report::{Reporter, Style};
 use manifest_surroundings::{Reader, State, read_limited};
 use std::alloc::{AllocError, Global};
@@ -57,34 +58,43 @@ fn style_of<H: Env + AllocGlobal>(rt: &H, options: &Options, terminals: Terminal
     }
 }
 
-/// How many there are, with the noun.
-fn push_count(out: &mut String, count: usize, noun: &str) -> Result<(), AllocError> {
-    write!(out, "{count} {noun}")?;
-    if count == 1 { Ok(()) } else { out.push('s') }
+/// Writes how many there are, with the noun.
+fn push_count(out: &mut Text, count: usize, noun: &str) {
+    out.push_number(count);
+    out.push(' ');
+    out.push_str(noun);
+    if count != 1 {
+        out.push('s');
+    }
+}
+
+/// Writes ` in 0.01 s`.
+fn push_time(out: &mut Text, time: Duration) {
+    let seconds = time.as_secs();
+    let hundredths = time.subsec_millis() / 10;
+    let taken = format!(in out.allocator(); " in {seconds}.{hundredths:02} s");
+    if let Some(taken) = out.made(taken) {
+        out.push_str(taken.as_str());
+    }
 }
 
 /// Writes `checked 2 manifests: 1 error, 3 warnings in 0.01 s`.
-fn push_summary(
-    out: &mut String,
-    counts: Counts,
-    time: Option<Duration>,
-) -> Result<(), AllocError> {
-    out.push_str("checked ")?;
-    push_count(out, counts.files, "manifest")?;
-    out.push_str(": ")?;
-    push_count(out, counts.errors, "error")?;
-    out.push_str(", ")?;
-    push_count(out, counts.warnings, "warning")?;
+fn push_summary(out: &mut Text, counts: Counts, time: Option<Duration>) {
+    out.push_str("checked ");
+    push_count(out, counts.files, "manifest");
+    out.push_str(": ");
+    push_count(out, counts.errors, "error");
+    out.push_str(", ");
+    push_count(out, counts.warnings, "warning");
     if counts.unread > 0 {
-        let unread = counts.unread;
-        write!(out, ", {unread} not read or written")?;
+        out.push_str(", ");
+        out.push_number(counts.unread);
+        out.push_str(" not read or written");
     }
     if let Some(time) = time {
-        let seconds = time.as_secs();
-        let hundredths = time.subsec_millis() / 10;
-        write!(out, " in {seconds}.{hundredths:02} s")?;
+        push_time(out, time);
     }
-    out.push('\n')
+    out.push('\n');
 }
 
 /// The streams of a run.
@@ -110,19 +120,20 @@ impl<'s, W: Write, E: Write> Streams<'s, W, E> {
         }
     }
 
-    /// Writes what a run has to say so far. A fault of the errors changes nothing.
+    /// Writes what a run has to say so far, unless memory ran out for it. A fault of the errors changes nothing.
     fn pass_on(&mut self, run: &mut Run) -> io::Result<()> {
+        run.checked()?;
         if run.out.is_empty() && run.messages.is_empty() {
             return Ok(());
         }
-        self.clear_progress(*run.out.allocator())?;
+        self.clear_progress();
         if !run.out.is_empty() {
-            self.output.write_all(run.out.as_bytes())?;
+            self.output.write_all(run.out.as_str().as_bytes())?;
             self.output.flush()?;
             run.out.clear();
         }
         if !run.messages.is_empty() {
-            let _ = self.errors.write_all(run.messages.as_bytes());
+            let _ = self.errors.write_all(run.messages.as_str().as_bytes());
             let _ = self.errors.flush();
             run.messages.clear();
         }
@@ -130,13 +141,11 @@ impl<'s, W: Write, E: Write> Streams<'s, W, E> {
     }
 
     /// Takes the line away that says how far a run is.
-    fn clear_progress(&mut self, alloc: Global) -> Result<(), AllocError> {
-        let mut line = String::new(alloc);
-        self.progress.push_clear(&mut line)?;
+    fn clear_progress(&mut self) {
+        let line = self.progress.clear();
         if !line.is_empty() {
             let _ = self.errors.write_all(line.as_bytes());
         }
-        Ok(())
     }
 
     /// Says how far a run is, if it is time for that.
@@ -146,8 +155,9 @@ impl<'s, W: Write, E: Write> Streams<'s, W, E> {
         done: usize,
         all: usize,
     ) -> Result<(), AllocError> {
-        let mut line = String::new(rt.alloc());
-        self.progress.push_line(rt, &mut line, done, all)?;
+        let mut line = Text::new(rt.alloc());
+        self.progress.push_line(rt, &mut line, done, all);
+        let line = line.finish()?;
         if !line.is_empty() {
             let _ = self.errors.write_all(line.as_bytes());
             let _ = self.errors.flush();
@@ -164,11 +174,13 @@ fn check_input<H: Files + AllocGlobal + Clone + Drop, R: Read>(
 ) -> Result<(), AllocError> {
     let alloc = rt.alloc();
     let name = match &run.context.options.stdin_path {
-        Some(path) => path.clone()?,
-        None => String::from_str(alloc, INPUT)?,
+        Some(path) => path.as_str(),
+        None => INPUT,
     };
+    let name = String::from_str(alloc, name)?;
     let read = read_limited(alloc, input, run.context.options.most);
-    run.check_read(rt, name.as_str(), read)
+    run.check_read(rt, name.as_str(), read);
+    Ok(())
 }
 
 /// The paths that were given, without `-`; and whether that was given.
@@ -199,21 +211,21 @@ where
     E: Write,
 {
     let (paths, has_input) = split_paths(rt.alloc(), &run.context.options)?;
-    run.reporter.begin(&mut run.out)?;
+    run.reporter.begin(&mut run.out);
     if has_input {
         check_input(rt, input, run)?;
         streams.pass_on(run)?;
     }
     let found = manifests(rt, paths.as_slice())?;
-    run.tell_all_unread(found.unread.as_slice())?;
+    run.tell_all_unread(found.unread.as_slice());
     let all = found.files.len();
     for (done, file) in found.files.iter().enumerate() {
         let read = run.context.state.reader.read(rt, file.as_str());
-        run.check_read(rt, file.as_str(), read)?;
+        run.check_read(rt, file.as_str(), read);
         streams.pass_on(run)?;
         streams.tell_progress(rt, done, all)?;
     }
-    run.reporter.end(&mut run.out)?;
+    run.reporter.end(&mut run.out);
     streams.pass_on(run)
 }
 
@@ -253,8 +265,8 @@ fn new_run<H: Env + AllocGlobal>(
             options,
         },
         counts: Counts::NONE,
-        out: String::new(alloc),
-        messages: String::new(alloc),
+        out: Text::new(alloc),
+        messages: Text::new(alloc),
     })
 }
 
@@ -273,7 +285,7 @@ where
 {
     let start = Instant::now(rt);
     check_all(rt, input, run, streams)?;
-    push_summary(&mut run.messages, run.counts, since(rt, start))?;
+    push_summary(&mut run.messages, run.counts, since(rt, start));
     streams.pass_on(run)?;
     Ok(status_of(run.counts))
 }
@@ -319,16 +331,16 @@ where
     E: Write,
 {
     let found = manifests(rt, inquiry.paths.as_slice())?;
-    run.tell_all_unread(found.unread.as_slice())?;
+    run.tell_all_unread(found.unread.as_slice());
     let form = form_for(inquiry, &found);
-    run.begin_shown(form)?;
+    run.begin_shown(form);
     let mut is_first = true;
     for file in &found.files {
-        run.show(rt, file.as_str(), form, is_first)?;
+        run.show(rt, file.as_str(), form, is_first);
         is_first = false;
         streams.pass_on(run)?;
     }
-    run.end_shown(form)?;
+    run.end_shown(form);
     streams.pass_on(run)?;
     Ok(status_of(run.counts))
 }
@@ -364,9 +376,9 @@ where
     W: Write,
     E: Write,
 {
-    run.tell_all_unread(found.unread.as_slice())?;
+    run.tell_all_unread(found.unread.as_slice());
     for file in &found.files {
-        run.compare(rt, file.as_str())?;
+        run.compare(rt, file.as_str());
         streams.pass_on(run)?;
     }
     streams.pass_on(run)?;
@@ -418,15 +430,17 @@ fn explain<W: Write, E: Write>(
     streams: &mut Streams<'_, W, E>,
     name: &str,
 ) -> io::Result<u8> {
-    let mut text = String::new(alloc);
-    push_page(&mut text, name)?;
+    let mut text = Text::new(alloc);
+    push_page(&mut text, name);
+    let text = text.finish()?;
     answer(streams, text.as_str(), true)
 }
 
 /// Prints all codes.
 fn list<W: Write, E: Write>(alloc: Global, streams: &mut Streams<'_, W, E>) -> io::Result<u8> {
-    let mut text = String::new(alloc);
-    push_list(&mut text)?;
+    let mut text = Text::new(alloc);
+    push_list(&mut text);
+    let text = text.finish()?;
     answer(streams, text.as_str(), true)
 }
 

@@ -2,7 +2,8 @@
 
 use crate::options::{Color, Fixing, Form, Inquiry, Options, Request};
 use clap::{Arg, ArgAction, ArgMatches, Command, Error};
-use manifest_report::Format;
+use manifest_json::Text;
+use manifest_report::{Format, push_escaped};
 use manifest_rules::code_named;
 use manifest_surroundings::{LevelWord, MOST, SETTINGS, Scope, Setting};
 use std::alloc::{AllocError, Global};
@@ -371,30 +372,30 @@ fn conflict(request: &Request) -> Option<&'static str> {
 /// A text of clap's, in memory of its own, with what a terminal would not show of the words escaped.
 fn answer_of(alloc: Global, error: &Error) -> Result<Words, AllocError> {
     let written = format!(in alloc; "{error}")?;
-    let mut text = String::new(alloc);
+    let mut text = Text::new(alloc);
     for line in written.as_str().lines() {
-        manifest_report::push_escaped(&mut text, line)?;
-        text.push('\n')?;
+        push_escaped(&mut text, line);
+        text.push('\n');
     }
     Ok(Words::Answer {
-        text,
+        text: text.finish()?,
         is_asked: !error.use_stderr(),
     })
 }
 
 /// What is wrong with a request; the empty text where nothing is.
 fn fault_of(alloc: Global, request: &Request) -> Result<String, AllocError> {
-    let mut text = String::new(alloc);
+    let mut text = Text::new(alloc);
     if let Some(name) = unknown_code(request) {
-        text.push_str("error: no code has the name `")?;
-        manifest_report::push_escaped(&mut text, name)?;
-        text.push_str("` (see --list)\n")?;
-        return Ok(text);
+        text.push_str("error: no code has the name `");
+        push_escaped(&mut text, name);
+        text.push_str("` (see --list)\n");
+    } else if let Some(reason) = conflict(request) {
+        text.push_str("error: ");
+        text.push_str(reason);
+        text.push('\n');
     }
-    if let Some(reason) = conflict(request) {
-        write!(text, "error: {reason}\n")?;
-    }
-    Ok(text)
+    text.finish()
 }
 
 /// A request, if there is nothing wrong with it.

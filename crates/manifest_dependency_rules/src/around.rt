@@ -8,8 +8,10 @@ use std::collections::BTreeMap;
 use toml::{Table, Value};
 
 /// All rules of what the sources of dependencies lead to.
-pub fn sources_around(look: &Look<'_>, out: &mut Out) -> Result<(), AllocError> {
-    let packages = packages_by_path(look)?;
+pub fn sources_around(look: &Look<'_>, out: &mut Out) {
+    let Some(packages) = out.made(packages_by_path(look)) else {
+        return;
+    };
     for section in &look.dependencies {
         if section.section == Section::Replace {
             continue;
@@ -20,12 +22,11 @@ pub fn sources_around(look: &Look<'_>, out: &mut Out) -> Result<(), AllocError> 
             }
             if let Value::Table(dependency) = dependency {
                 let base = section.path.as_slice();
-                path_package(&packages, base, name.as_str(), dependency, out)?;
-                unknown_registry(look, base, name.as_str(), dependency, out)?;
+                path_package(&packages, base, name.as_str(), dependency, out);
+                unknown_registry(look, base, name.as_str(), dependency, out);
             }
         }
     }
-    Ok(())
 }
 
 /// The packages that are known, by the paths that lead to them.
@@ -44,12 +45,12 @@ fn path_package<'a>(
     name: &'a str,
     dependency: &'a Table,
     out: &mut Out,
-) -> Result<(), AllocError> {
+) {
     let Some(path) = text_in(dependency, "path") else {
-        return Ok(());
+        return;
     };
     let Some(package) = packages.get(path) else {
-        return Ok(());
+        return;
     };
     let wanted = text_in(dependency, "package").unwrap_or(name);
     let rest = [At::Key(name), At::Key("path")];
@@ -59,9 +60,9 @@ fn path_package<'a>(
                 "no package at `{}`: there is no Cargo.toml with a package",
                 path,
             ];
-            out.value(MISSING_PATH_PACKAGE, base, &rest, &words)
+            out.value(MISSING_PATH_PACKAGE, base, &rest, &words);
         }
-        Some(there) if there.as_str() == wanted => Ok(()),
+        Some(there) if there.as_str() == wanted => {}
         Some(there) => {
             let words = [
                 "no matching package named `{}` at `{}`: the package there is `{}`",
@@ -69,7 +70,7 @@ fn path_package<'a>(
                 path,
                 there.as_str(),
             ];
-            out.value(MISSING_PATH_PACKAGE, base, &rest, &words)
+            out.value(MISSING_PATH_PACKAGE, base, &rest, &words);
         }
     }
 }
@@ -88,20 +89,20 @@ fn unknown_registry(
     name: &str,
     dependency: &Table,
     out: &mut Out,
-) -> Result<(), AllocError> {
+) {
     let Some(registry) = text_in(dependency, "registry") else {
-        return Ok(());
+        return;
     };
     let Some(config) = look.around.config else {
-        return Ok(());
+        return;
     };
     if registry == "crates-io" || is_configured(config, registry) {
-        return Ok(());
+        return;
     }
     let words = [
         "registry index was not found in any configuration: `{}`",
         registry,
     ];
     let rest = [At::Key(name), At::Key("registry")];
-    out.value(UNKNOWN_REGISTRY, base, &rest, &words)
+    out.value(UNKNOWN_REGISTRY, base, &rest, &words);
 }

@@ -9,11 +9,10 @@ use manifest_rules::codes::{
     REVISION_WITHOUT_GIT, SEVERAL_REVISIONS,
 };
 use manifest_rules::look::{Look, Section, flag_in, is_inherited, items_in, text_in};
-use manifest_rules::report::{At, File, Out, Part, shown};
+use manifest_rules::report::{At, File, Out, Part};
 use manifest_rules::words::{
     UrlFault, Word, WrongWord, name_fault, requirement_fault, say_wrong_word, url_fault,
 };
-use std::alloc::AllocError;
 use toml::{Table, Value};
 
 /// A dependency, as a table declares it.
@@ -56,8 +55,10 @@ impl<'a> Dependency<'a> {
 }
 
 /// All rules of single dependencies.
-pub fn dependencies(look: &Look<'_>, out: &mut Out) -> Result<(), AllocError> {
-    let inherited = inherited_dependencies(look)?;
+pub fn dependencies(look: &Look<'_>, out: &mut Out) {
+    let Some(inherited) = out.made(inherited_dependencies(look)) else {
+        return;
+    };
     for table in look.dependencies.iter() {
         for (name, value) in table.table {
             let dependency = Dependency {
@@ -66,49 +67,44 @@ pub fn dependencies(look: &Look<'_>, out: &mut Out) -> Result<(), AllocError> {
                 name: name.as_str(),
                 value,
             };
-            rules_of_any(&dependency, out)?;
+            rules_of_any(&dependency, out);
             if let Some(detail) = dependency.detail() {
                 // (of the workspace's dependencies Cargo reads those that a member inherits)
                 if table.section != Section::Workspace || inherited.contains(dependency.name) {
-                    no_source(&dependency, detail, out)?;
+                    no_source(&dependency, detail, out);
                 }
-                rules_of_detail(&dependency, detail, out)?;
+                rules_of_detail(&dependency, detail, out);
             }
         }
     }
-    Ok(())
 }
 
-fn rules_of_any(dependency: &Dependency<'_>, out: &mut Out) -> Result<(), AllocError> {
-    invalid_dependency_name(dependency, out)?;
-    invalid_requirement(dependency, out)?;
-    invalid_dependency_feature(dependency, out)?;
-    optional_dev_dependency(dependency, out)
+fn rules_of_any(dependency: &Dependency<'_>, out: &mut Out) {
+    invalid_dependency_name(dependency, out);
+    invalid_requirement(dependency, out);
+    invalid_dependency_feature(dependency, out);
+    optional_dev_dependency(dependency, out);
 }
 
-fn rules_of_detail(
-    dependency: &Dependency<'_>,
-    detail: &Table,
-    out: &mut Out,
-) -> Result<(), AllocError> {
-    invalid_package(dependency, detail, out)?;
-    conflicting_sources(dependency, detail, out)?;
-    revision_without_git(dependency, detail, out)?;
-    several_revisions(dependency, detail, out)?;
-    invalid_url(dependency, detail, "git", out)?;
-    invalid_url(dependency, detail, "registry-index", out)?;
-    fragment_in_url(dependency, detail, out)?;
-    invalid_registry_name(dependency, detail, out)?;
-    optional_in_workspace(dependency, detail, out)
+fn rules_of_detail(dependency: &Dependency<'_>, detail: &Table, out: &mut Out) {
+    invalid_package(dependency, detail, out);
+    conflicting_sources(dependency, detail, out);
+    revision_without_git(dependency, detail, out);
+    several_revisions(dependency, detail, out);
+    invalid_url(dependency, detail, "git", out);
+    invalid_url(dependency, detail, "registry-index", out);
+    fragment_in_url(dependency, detail, out);
+    invalid_registry_name(dependency, detail, out);
+    optional_in_workspace(dependency, detail, out);
 }
 
 /// The key of a dependency is a name, but in `[replace]`, where it is a package id.
-fn invalid_dependency_name(dependency: &Dependency<'_>, out: &mut Out) -> Result<(), AllocError> {
+fn invalid_dependency_name(dependency: &Dependency<'_>, out: &mut Out) {
     if dependency.section == Section::Replace {
-        return Ok(());
+        return;
     }
     let Some(fault) = name_fault(dependency.name) else {
-        return Ok(());
+        return;
     };
     let wrong = WrongWord {
         what: "dependency name",
@@ -117,46 +113,38 @@ fn invalid_dependency_name(dependency: &Dependency<'_>, out: &mut Out) -> Result
     };
     let rest = [At::Key(dependency.name)];
     let code = INVALID_DEPENDENCY_NAME;
-    say_wrong_word(code, Part::Key, dependency.base, &rest, &wrong, out)?;
-    out.note(&[Word::Name.rule()])
+    say_wrong_word(code, Part::Key, dependency.base, &rest, &wrong, out);
+    out.note(&[Word::Name.rule()]);
 }
 
-fn invalid_package(
-    dependency: &Dependency<'_>,
-    detail: &Table,
-    out: &mut Out,
-) -> Result<(), AllocError> {
+fn invalid_package(dependency: &Dependency<'_>, detail: &Table, out: &mut Out) {
     let Some(package) = text_in(detail, "package") else {
-        return Ok(());
+        return;
     };
     let Some(fault) = name_fault(package) else {
-        return Ok(());
+        return;
     };
     let wrong = WrongWord {
         what: "package name",
         word: package,
         fault,
     };
-    wrong_name(dependency, INVALID_DEPENDENCY_NAME, "package", &wrong, out)
+    wrong_name(dependency, INVALID_DEPENDENCY_NAME, "package", &wrong, out);
 }
 
-fn invalid_registry_name(
-    dependency: &Dependency<'_>,
-    detail: &Table,
-    out: &mut Out,
-) -> Result<(), AllocError> {
+fn invalid_registry_name(dependency: &Dependency<'_>, detail: &Table, out: &mut Out) {
     let Some(registry) = text_in(detail, "registry") else {
-        return Ok(());
+        return;
     };
     let Some(fault) = Word::Name.fault(registry) else {
-        return Ok(());
+        return;
     };
     let wrong = WrongWord {
         what: "registry name",
         word: registry,
         fault,
     };
-    wrong_name(dependency, INVALID_REGISTRY_NAME, "registry", &wrong, out)
+    wrong_name(dependency, INVALID_REGISTRY_NAME, "registry", &wrong, out);
 }
 
 /// Says what is wrong with the name at a key.
@@ -166,29 +154,25 @@ fn wrong_name(
     key: &str,
     wrong: &WrongWord<'_>,
     out: &mut Out,
-) -> Result<(), AllocError> {
+) {
     let rest = [At::Key(dependency.name), At::Key(key)];
-    say_wrong_word(code, Part::Value, dependency.base, &rest, wrong, out)?;
-    out.note(&[Word::Name.rule()])
+    say_wrong_word(code, Part::Value, dependency.base, &rest, wrong, out);
+    out.note(&[Word::Name.rule()]);
 }
 
-fn no_source(dependency: &Dependency<'_>, detail: &Table, out: &mut Out) -> Result<(), AllocError> {
+fn no_source(dependency: &Dependency<'_>, detail: &Table, out: &mut Out) {
     for key in ["version", "path", "git", "workspace"] {
         if detail.contains_key(key) {
-            return Ok(());
+            return;
         }
     }
     let name = dependency.name;
     let words = ["dependency `{}` has no source", name];
-    out.header(NO_SOURCE, dependency.base, &[At::Key(name)], &words)?;
-    out.note(&["a dependency has one of `version`, `path`, `git` and `workspace = true`"])
+    out.header(NO_SOURCE, dependency.base, &[At::Key(name)], &words);
+    out.note(&["a dependency has one of `version`, `path`, `git` and `workspace = true`"]);
 }
 
-fn conflicting_sources(
-    dependency: &Dependency<'_>,
-    detail: &Table,
-    out: &mut Out,
-) -> Result<(), AllocError> {
+fn conflicting_sources(dependency: &Dependency<'_>, detail: &Table, out: &mut Out) {
     let pairs = [
         ("git", "path"),
         ("git", "registry"),
@@ -197,10 +181,9 @@ fn conflicting_sources(
     ];
     for (first, second) in pairs {
         if detail.contains_key(first) && detail.contains_key(second) {
-            ambiguous(dependency, CONFLICTING_SOURCES, first, second, out)?;
+            ambiguous(dependency, CONFLICTING_SOURCES, first, second, out);
         }
     }
-    Ok(())
 }
 
 /// Says that two keys exclude each other.
@@ -210,7 +193,7 @@ fn ambiguous<'a>(
     first: &'a str,
     second: &'a str,
     out: &mut Out,
-) -> Result<(), AllocError> {
+) {
     let Dependency { base, name, .. } = *dependency;
     let words = [
         "dependency `{}` is ambiguous: only one of `{}` and `{}` is allowed",
@@ -218,38 +201,29 @@ fn ambiguous<'a>(
         first,
         second,
     ];
-    out.key(code, base, &[At::Key(name), At::Key(second)], &words)?;
+    out.key(code, base, &[At::Key(name), At::Key(second)], &words);
     let other = [At::Key(name), At::Key(first)];
     let label = ["`{}` is here", first];
-    out.label(File::Own, Part::Key, base, &other, &label)
+    out.label(File::Own, Part::Key, base, &other, &label);
 }
 
-fn revision_without_git(
-    dependency: &Dependency<'_>,
-    detail: &Table,
-    out: &mut Out,
-) -> Result<(), AllocError> {
+fn revision_without_git(dependency: &Dependency<'_>, detail: &Table, out: &mut Out) {
     if detail.contains_key("git") {
-        return Ok(());
+        return;
     }
     let name = dependency.name;
     for key in ["branch", "tag", "rev"] {
         if detail.contains_key(key) {
             let words = ["`{}` of dependency `{}` stands without `git`", key, name];
             let rest = [At::Key(name), At::Key(key)];
-            out.key(REVISION_WITHOUT_GIT, dependency.base, &rest, &words)?;
+            out.key(REVISION_WITHOUT_GIT, dependency.base, &rest, &words);
         }
     }
-    Ok(())
 }
 
-fn several_revisions(
-    dependency: &Dependency<'_>,
-    detail: &Table,
-    out: &mut Out,
-) -> Result<(), AllocError> {
+fn several_revisions(dependency: &Dependency<'_>, detail: &Table, out: &mut Out) {
     if !detail.contains_key("git") {
-        return Ok(());
+        return;
     }
     let mut first = None;
     for key in ["branch", "tag", "rev"] {
@@ -257,64 +231,48 @@ fn several_revisions(
             continue;
         }
         match first {
-            Some(other) => ambiguous(dependency, SEVERAL_REVISIONS, other, key, out)?,
+            Some(other) => ambiguous(dependency, SEVERAL_REVISIONS, other, key, out),
             None => first = Some(key),
         }
     }
-    Ok(())
 }
 
-fn invalid_url(
-    dependency: &Dependency<'_>,
-    detail: &Table,
-    key: &str,
-    out: &mut Out,
-) -> Result<(), AllocError> {
+fn invalid_url(dependency: &Dependency<'_>, detail: &Table, key: &str, out: &mut Out) {
     let Some(url) = text_in(detail, key) else {
-        return Ok(());
+        return;
     };
-    let Some(fault) = url_fault(out.alloc, url)? else {
-        return Ok(());
+    let Some(Some(fault)) = out.made(url_fault(out.alloc, url)) else {
+        return;
     };
     let rest = [At::Key(dependency.name), At::Key(key)];
-    say_invalid_url(dependency.base, &rest, url, fault, out)?;
+    say_invalid_url(dependency.base, &rest, url, fault, out);
     match url.split_once(':') {
         Some((host, path)) if host.starts_with("git@") => {
-            let instead = ["ssh://", host, "/", path].concat(out.alloc)?;
+            let instead = out.text(["ssh://", host, "/", path].concat(out.alloc));
             let instead = instead.as_str();
             let help = ["write `{}`", instead];
-            out.set_text(dependency.base, &rest, instead, false, &help)
+            out.set_text(dependency.base, &rest, instead, false, &help);
         }
-        _ => Ok(()),
+        _ => {}
     }
 }
 
-fn say_invalid_url(
-    base: &[At<'_>],
-    rest: &[At<'_>],
-    url: &str,
-    fault: UrlFault,
-    out: &mut Out,
-) -> Result<(), AllocError> {
-    let fault = shown(out.alloc, &fault)?;
+fn say_invalid_url(base: &[At<'_>], rest: &[At<'_>], url: &str, fault: UrlFault, out: &mut Out) {
+    let fault = out.shown(&fault);
     let words = ["invalid URL `{}`: {}", url, fault.as_str()];
-    out.value(INVALID_URL, base, rest, &words)
+    out.value(INVALID_URL, base, rest, &words);
 }
 
-fn fragment_in_url<'a>(
-    dependency: &Dependency<'a>,
-    detail: &'a Table,
-    out: &mut Out,
-) -> Result<(), AllocError> {
+fn fragment_in_url<'a>(dependency: &Dependency<'a>, detail: &'a Table, out: &mut Out) {
     let Some(url) = text_in(detail, "git") else {
-        return Ok(());
+        return;
     };
     let Some((_bare, fragment)) = url.split_once('#') else {
-        return Ok(());
+        return;
     };
-    if url_fault(out.alloc, url)?.is_some() {
-        return Ok(());
-    }
+    let Some(None) = out.made(url_fault(out.alloc, url)) else {
+        return;
+    };
     let Dependency { base, name, .. } = *dependency;
     let words = [
         "URL fragment `#{}` of dependency `{}` is ignored",
@@ -326,35 +284,33 @@ fn fragment_in_url<'a>(
         base,
         &[At::Key(name), At::Key("git")],
         &words,
-    )?;
-    out.help(&["write `rev = \"{}\"` if a revision is meant", fragment])
+    );
+    out.help(&["write `rev = \"{}\"` if a revision is meant", fragment]);
 }
 
-fn invalid_requirement(dependency: &Dependency<'_>, out: &mut Out) -> Result<(), AllocError> {
+fn invalid_requirement(dependency: &Dependency<'_>, out: &mut Out) {
     let Dependency { base, name, .. } = *dependency;
     match dependency.requirement() {
         Some((text, true)) => requirement(base, &[At::Key(name)], text, out),
         Some((text, false)) => requirement(base, &[At::Key(name), At::Key("version")], text, out),
-        None => Ok(()),
+        None => {}
     }
 }
 
 /// The rules of a requirement that stands there.
-fn requirement(
-    base: &[At<'_>],
-    rest: &[At<'_>],
-    text: &str,
-    out: &mut Out,
-) -> Result<(), AllocError> {
-    let Some(fault) = requirement_fault(out.alloc, text)? else {
-        return metadata_in_requirement(base, rest, text, out);
+fn requirement(base: &[At<'_>], rest: &[At<'_>], text: &str, out: &mut Out) {
+    let Some(Some(fault)) = out.made(requirement_fault(out.alloc, text)) else {
+        metadata_in_requirement(base, rest, text, out);
+        return;
     };
-    say_invalid_requirement(base, rest, text, fault, out)?;
+    say_invalid_requirement(base, rest, text, fault, out);
     let bare = text.strip_prefix('v').unwrap_or("");
-    if bare.is_empty() || requirement_fault(out.alloc, bare)?.is_some() {
-        return Ok(());
+    if bare.is_empty() {
+        return;
     }
-    out.set_text(base, rest, bare, false, &["write `{}`", bare])
+    if let Some(None) = out.made(requirement_fault(out.alloc, bare)) {
+        out.set_text(base, rest, bare, false, &["write `{}`", bare]);
+    }
 }
 
 fn say_invalid_requirement(
@@ -363,31 +319,26 @@ fn say_invalid_requirement(
     text: &str,
     fault: semver::Error,
     out: &mut Out,
-) -> Result<(), AllocError> {
-    let fault = shown(out.alloc, &fault)?;
+) {
+    let fault = out.shown(&fault);
     let words = ["invalid version requirement `{}`: {}", text, fault.as_str()];
-    out.value(INVALID_REQUIREMENT, base, rest, &words)
+    out.value(INVALID_REQUIREMENT, base, rest, &words);
 }
 
 /// What stands after `+` says nothing of a version that is required.
-fn metadata_in_requirement(
-    base: &[At<'_>],
-    rest: &[At<'_>],
-    text: &str,
-    out: &mut Out,
-) -> Result<(), AllocError> {
+fn metadata_in_requirement(base: &[At<'_>], rest: &[At<'_>], text: &str, out: &mut Out) {
     let Some((bare, _metadata)) = text.split_once('+') else {
-        return Ok(());
+        return;
     };
     let words = [
         "version requirement `{}` includes build metadata, which is ignored",
         text,
     ];
-    out.value(METADATA_IN_REQUIREMENT, base, rest, &words)?;
+    out.value(METADATA_IN_REQUIREMENT, base, rest, &words);
     if text.contains(',') {
-        return Ok(());
+        return;
     }
-    out.set_text(base, rest, bare, true, &["write `{}`", bare])
+    out.set_text(base, rest, bare, true, &["write `{}`", bare]);
 }
 
 /// Why a feature cannot be one of a dependency; nothing where it can.
@@ -403,13 +354,10 @@ fn feature_note(feature: &str) -> Option<&'static str> {
     None
 }
 
-fn invalid_dependency_feature<'a>(
-    dependency: &Dependency<'a>,
-    out: &mut Out,
-) -> Result<(), AllocError> {
+fn invalid_dependency_feature<'a>(dependency: &Dependency<'a>, out: &mut Out) {
     let Dependency { base, name, .. } = *dependency;
     let Value::Table(table) = dependency.value else {
-        return Ok(());
+        return;
     };
     for (index, item) in items_in(table, "features").iter().enumerate() {
         let Value::String(feature) = item else {
@@ -421,51 +369,41 @@ fn invalid_dependency_feature<'a>(
         };
         let words = ["invalid feature `{}` of dependency `{}`", feature, name];
         let rest = [At::Key(name), At::Key("features"), At::Index(index)];
-        out.value(INVALID_DEPENDENCY_FEATURE, base, &rest, &words)?;
-        out.note(&[note])?;
+        out.value(INVALID_DEPENDENCY_FEATURE, base, &rest, &words);
+        out.note(&[note]);
     }
-    Ok(())
 }
 
-fn optional_dev_dependency(dependency: &Dependency<'_>, out: &mut Out) -> Result<(), AllocError> {
+fn optional_dev_dependency(dependency: &Dependency<'_>, out: &mut Out) {
     let Value::Table(table) = dependency.value else {
-        return Ok(());
+        return;
     };
     if dependency.section != Section::Dev || flag_in(table, "optional") != Some(true) {
-        return Ok(());
+        return;
     }
     let Dependency { base, name, .. } = *dependency;
     let rest = [At::Key(name), At::Key("optional")];
     let words = ["dev-dependency `{}` cannot be optional", name];
-    out.value(OPTIONAL_DEV_DEPENDENCY, base, &rest, &words)?;
-    out.remove(base, &rest, false, &["remove `optional`"])
+    out.value(OPTIONAL_DEV_DEPENDENCY, base, &rest, &words);
+    out.remove(base, &rest, false, &["remove `optional`"]);
 }
 
-fn optional_in_workspace(
-    dependency: &Dependency<'_>,
-    detail: &Table,
-    out: &mut Out,
-) -> Result<(), AllocError> {
+fn optional_in_workspace(dependency: &Dependency<'_>, detail: &Table, out: &mut Out) {
     if dependency.section != Section::Workspace {
-        return Ok(());
+        return;
     }
     for key in ["optional", "public"] {
         if flag_in(detail, key) == Some(true) {
-            not_in_workspace(dependency, key, out)?;
+            not_in_workspace(dependency, key, out);
         }
     }
-    Ok(())
 }
 
-fn not_in_workspace(
-    dependency: &Dependency<'_>,
-    key: &str,
-    out: &mut Out,
-) -> Result<(), AllocError> {
+fn not_in_workspace(dependency: &Dependency<'_>, key: &str, out: &mut Out) {
     let Dependency { base, name, .. } = *dependency;
     let rest = [At::Key(name), At::Key(key)];
     let words = ["workspace dependency `{}` cannot be {}", name, &*key];
-    out.value(OPTIONAL_IN_WORKSPACE, base, &rest, &words)?;
-    out.note(&["the members that inherit it say this"])?;
-    out.remove(base, &rest, false, &["remove `{}`", key])
+    out.value(OPTIONAL_IN_WORKSPACE, base, &rest, &words);
+    out.note(&["the members that inherit it say this"]);
+    out.remove(base, &rest, false, &["remove `{}`", key]);
 }

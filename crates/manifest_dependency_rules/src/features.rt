@@ -7,7 +7,7 @@ use manifest_rules::codes::{
 use manifest_rules::look::{Look, flag_in, items_in, table_in};
 use manifest_rules::report::{At, File, Out, Part};
 use manifest_rules::words::{Word, WrongWord, say_wrong_word};
-use std::alloc::{AllocError, Global};
+use std::alloc::AllocError;
 use std::collections::{BTreeMap, BTreeSet};
 use toml::{Table, Value};
 
@@ -76,7 +76,6 @@ struct Declared {
 /// What the rules of features look at.
 #[derive(Drop)]
 struct Known<'a> {
-    alloc: Global,
     features: &'a Table,
     dependencies: BTreeMap<&'a str, Declared>,
     /// What stands after `dep:`.
@@ -89,7 +88,6 @@ impl<'a> Known<'a> {
     fn new(look: &Look<'a>, features: &'a Table) -> Result<Known<'a>, AllocError> {
         let alloc = look.alloc;
         let mut known = Known {
-            alloc,
             features,
             dependencies: BTreeMap::new(alloc),
             named: BTreeSet::new(alloc),
@@ -150,28 +148,28 @@ impl<'a> Known<'a> {
     }
 
     /// The other feature or the optional dependency whose name is nearest to that of an item.
-    fn nearest(&self, item: &Item<'a>, out: &Out) -> Result<Option<&'a str>, AllocError> {
+    fn nearest(&self, item: &Item<'a>, out: &mut Out) -> Option<&'a str> {
         let mut nearest = out.nearest(item.text);
         for (name, _items) in self.features {
             if name.as_str() != item.feature {
-                nearest.offer(self.alloc, name.as_str())?;
+                out.offer(&mut nearest, name.as_str());
             }
         }
         for (name, declared) in &self.dependencies {
             if declared.is_optional {
-                nearest.offer(self.alloc, *name)?;
+                out.offer(&mut nearest, *name);
             }
         }
-        Ok(nearest.found())
+        nearest.found()
     }
 
     /// The dependency whose name is nearest to this one.
-    fn nearest_dependency(&self, name: &'a str, out: &Out) -> Result<Option<&'a str>, AllocError> {
+    fn nearest_dependency(&self, name: &'a str, out: &mut Out) -> Option<&'a str> {
         let mut nearest = out.nearest(name);
         for (other, _declared) in &self.dependencies {
-            nearest.offer(self.alloc, *other)?;
+            out.offer(&mut nearest, *other);
         }
-        Ok(nearest.found())
+        nearest.found()
     }
 }
 
@@ -194,21 +192,23 @@ impl<'a> Item<'a> {
     }
 
     /// The suggestion to write another item.
-    fn instead(&self, text: &str, out: &mut Out) -> Result<(), AllocError> {
-        out.set_text(&self.path(), &[], text, false, &["write `{}`", text])
+    fn instead(&self, text: &str, out: &mut Out) {
+        out.set_text(&self.path(), &[], text, false, &["write `{}`", text]);
     }
 }
 
 /// All rules of features.
-pub fn features(look: &Look<'_>, out: &mut Out) -> Result<(), AllocError> {
+pub fn features(look: &Look<'_>, out: &mut Out) {
     let Some(features) = table_in(look.document, "features") else {
-        return Ok(());
+        return;
     };
-    let known = Known::new(look, features)?;
+    let Some(known) = out.made(Known::new(look, features)) else {
+        return;
+    };
     for (name, _items) in features {
         let feature = name.as_str();
-        invalid_feature_name(feature, out)?;
-        default_features_feature(&known, feature, out)?;
+        invalid_feature_name(feature, out);
+        default_features_feature(&known, feature, out);
         for (index, value) in items_in(features, feature).iter().enumerate() {
             if let Value::String(text) = value {
                 let item = Item {
@@ -217,32 +217,27 @@ pub fn features(look: &Look<'_>, out: &mut Out) -> Result<(), AllocError> {
                     text: text.as_str(),
                     reference: Reference::new(text.as_str()),
                 };
-                rules_of_item(look, &known, &item, out)?;
+                rules_of_item(look, &known, &item, out);
             }
         }
-        unreachable_dependency(look, &known, feature, out)?;
+        unreachable_dependency(look, &known, feature, out);
     }
-    Ok(())
 }
 
-fn rules_of_item<'a>(
-    look: &Look<'a>,
-    known: &Known<'a>,
-    item: &Item<'a>,
-    out: &mut Out,
-) -> Result<(), AllocError> {
+fn rules_of_item<'a>(look: &Look<'a>, known: &Known<'a>, item: &Item<'a>, out: &mut Out) {
     if item.reference.is_invalid() {
-        return invalid_feature_reference(item, out);
+        invalid_feature_reference(item, out);
+        return;
     }
-    feature_enables_itself(item, out)?;
-    unknown_feature(known, item, out)?;
-    feature_of_unknown_dependency(known, item, out)?;
-    dependency_not_optional(look, known, item, out)
+    feature_enables_itself(item, out);
+    unknown_feature(known, item, out);
+    feature_of_unknown_dependency(known, item, out);
+    dependency_not_optional(look, known, item, out);
 }
 
-fn invalid_feature_name(name: &str, out: &mut Out) -> Result<(), AllocError> {
+fn invalid_feature_name(name: &str, out: &mut Out) {
     let Some(fault) = Word::Feature.fault(name) else {
-        return Ok(());
+        return;
     };
     let path = [At::Key("features"), At::Key(name)];
     if name.starts_with("dep:") {
@@ -250,47 +245,44 @@ fn invalid_feature_name(name: &str, out: &mut Out) -> Result<(), AllocError> {
             "feature named `{}` is not allowed to start with `dep:`",
             name,
         ];
-        return out.key(INVALID_FEATURE_NAME, &path, &[], &words);
+        out.key(INVALID_FEATURE_NAME, &path, &[], &words);
+        return;
     }
     let wrong = WrongWord {
         what: "feature name",
         word: name,
         fault,
     };
-    say_wrong_word(INVALID_FEATURE_NAME, Part::Key, &path, &[], &wrong, out)?;
-    out.note(&[Word::Feature.rule()])
+    say_wrong_word(INVALID_FEATURE_NAME, Part::Key, &path, &[], &wrong, out);
+    out.note(&[Word::Feature.rule()]);
 }
 
-fn feature_enables_itself(item: &Item<'_>, out: &mut Out) -> Result<(), AllocError> {
+fn feature_enables_itself(item: &Item<'_>, out: &mut Out) {
     if item.text != item.feature {
-        return Ok(());
+        return;
     }
     let path = item.path();
     let words = ["feature `{}` depends on itself", item.feature];
-    out.value(FEATURE_ENABLES_ITSELF, &path, &[], &words)?;
-    out.note(&["Cargo refuses this where the feature is enabled"])?;
-    out.remove(&path, &[], true, &["remove it from its own list"])
+    out.value(FEATURE_ENABLES_ITSELF, &path, &[], &words);
+    out.note(&["Cargo refuses this where the feature is enabled"]);
+    out.remove(&path, &[], true, &["remove it from its own list"]);
 }
 
-fn default_features_feature(
-    known: &Known<'_>,
-    name: &str,
-    out: &mut Out,
-) -> Result<(), AllocError> {
+fn default_features_feature(known: &Known<'_>, name: &str, out: &mut Out) {
     if name != "default-features" {
-        return Ok(());
+        return;
     }
     let path = [At::Key("features"), At::Key(name)];
     let words = ["`default-features` is a feature like any other"];
-    out.key(DEFAULT_FEATURES_FEATURE, &path, &[], &words)?;
-    out.note(&["the feature that is enabled by default is named `default`"])?;
+    out.key(DEFAULT_FEATURES_FEATURE, &path, &[], &words);
+    out.note(&["the feature that is enabled by default is named `default`"]);
     if known.has_feature("default") {
-        return Ok(());
+        return;
     }
-    out.rename(&path, &[], "default", false, &["name it `default`"])
+    out.rename(&path, &[], "default", false, &["name it `default`"]);
 }
 
-fn invalid_feature_reference(item: &Item<'_>, out: &mut Out) -> Result<(), AllocError> {
+fn invalid_feature_reference(item: &Item<'_>, out: &mut Out) {
     let Item { feature, text, .. } = *item;
     let path = item.path();
     let Some(bare) = text.strip_prefix("dep:") else {
@@ -299,55 +291,51 @@ fn invalid_feature_reference(item: &Item<'_>, out: &mut Out) -> Result<(), Alloc
             text,
             feature,
         ];
-        return out.value(INVALID_FEATURE_REFERENCE, &path, &[], &words);
+        out.value(INVALID_FEATURE_REFERENCE, &path, &[], &words);
+        return;
     };
     let words = [
         "feature `{}` includes `{}` with both `dep:` and `/`",
         feature,
         text,
     ];
-    out.value(INVALID_FEATURE_REFERENCE, &path, &[], &words)?;
+    out.value(INVALID_FEATURE_REFERENCE, &path, &[], &words);
     let help = ["write `{}`, which enables the dependency too", bare];
-    out.set_text(&path, &[], bare, false, &help)
+    out.set_text(&path, &[], bare, false, &help);
 }
 
 /// `x` is a feature, or an optional dependency that has its feature.
-fn unknown_feature<'a>(
-    known: &Known<'a>,
-    item: &Item<'a>,
-    out: &mut Out,
-) -> Result<(), AllocError> {
+fn unknown_feature<'a>(known: &Known<'a>, item: &Item<'a>, out: &mut Out) {
     let Reference::Feature(name) = item.reference else {
-        return Ok(());
+        return;
     };
     if known.has_feature(name) {
-        return Ok(());
+        return;
     }
     match known.dependencies.get(&name) {
         None => unknown_name(known, item, out),
         Some(declared) if declared.is_optional && known.named.contains(&name) => {
-            without_feature(item, out)
+            without_feature(item, out);
         }
-        Some(_declared) => Ok(()),
+        Some(_declared) => {}
     }
 }
 
-fn unknown_name<'a>(known: &Known<'a>, item: &Item<'a>, out: &mut Out) -> Result<(), AllocError> {
-    let near = known.nearest(item, out)?;
+fn unknown_name<'a>(known: &Known<'a>, item: &Item<'a>, out: &mut Out) {
+    let near = known.nearest(item, out);
     let words = [
         "feature `{}` includes `{}` which is neither a dependency nor another feature",
         item.feature,
         item.text,
     ];
-    out.value(UNKNOWN_FEATURE, &item.path(), &[], &words)?;
-    match near {
-        Some(near) => item.instead(near, out),
-        None => Ok(()),
+    out.value(UNKNOWN_FEATURE, &item.path(), &[], &words);
+    if let Some(near) = near {
+        item.instead(near, out);
     }
 }
 
 /// Says that an optional dependency has no feature of its name.
-fn without_feature(item: &Item<'_>, out: &mut Out) -> Result<(), AllocError> {
+fn without_feature(item: &Item<'_>, out: &mut Out) {
     let Item { feature, text, .. } = *item;
     let words = [
         "feature `{}` includes `{}`, but `{}` is an optional dependency without an implicit feature",
@@ -355,35 +343,30 @@ fn without_feature(item: &Item<'_>, out: &mut Out) -> Result<(), AllocError> {
         text,
         text,
     ];
-    out.value(UNKNOWN_FEATURE, &item.path(), &[], &words)?;
-    out.note(&["a dependency that is named by `dep:` anywhere has no feature of its own name"])?;
-    let instead = ["dep:", text].concat(out.alloc)?;
-    item.instead(instead.as_str(), out)
+    out.value(UNKNOWN_FEATURE, &item.path(), &[], &words);
+    out.note(&["a dependency that is named by `dep:` anywhere has no feature of its own name"]);
+    let instead = out.text(["dep:", text].concat(out.alloc));
+    item.instead(instead.as_str(), out);
 }
 
 /// What stands after `dep:` and before `/` is a dependency.
-fn feature_of_unknown_dependency<'a>(
-    known: &Known<'a>,
-    item: &Item<'a>,
-    out: &mut Out,
-) -> Result<(), AllocError> {
+fn feature_of_unknown_dependency<'a>(known: &Known<'a>, item: &Item<'a>, out: &mut Out) {
     let Some(name) = item.reference.dependency() else {
-        return Ok(());
+        return;
     };
     if known.dependencies.contains_key(&name) {
-        return Ok(());
+        return;
     }
-    let near = known.nearest_dependency(name, out)?;
+    let near = known.nearest_dependency(name, out);
     let words = [
         "feature `{}` includes `{}`, but `{}` is not a dependency",
         item.feature,
         item.text,
         name,
     ];
-    out.value(UNKNOWN_FEATURE, &item.path(), &[], &words)?;
-    match near {
-        Some(near) => out.help(&["a dependency with a similar name exists: `{}`", near]),
-        None => Ok(()),
+    out.value(UNKNOWN_FEATURE, &item.path(), &[], &words);
+    if let Some(near) = near {
+        out.help(&["a dependency with a similar name exists: `{}`", near]);
     }
 }
 
@@ -402,20 +385,15 @@ fn wanted_optional<'a>(known: &Known<'a>, item: &Item<'a>) -> Option<&'a str> {
 }
 
 /// A dependency that `x`, `dep:x` or `x?/feature` names is optional.
-fn dependency_not_optional<'a>(
-    look: &Look<'a>,
-    known: &Known<'a>,
-    item: &Item<'a>,
-    out: &mut Out,
-) -> Result<(), AllocError> {
+fn dependency_not_optional<'a>(look: &Look<'a>, known: &Known<'a>, item: &Item<'a>, out: &mut Out) {
     let Some(name) = wanted_optional(known, item) else {
-        return Ok(());
+        return;
     };
     let Some(declared) = known.dependencies.get(&name) else {
-        return Ok(());
+        return;
     };
     if declared.is_optional {
-        return Ok(());
+        return;
     }
     let words = [
         "feature `{}` includes `{}`, but `{}` is not an optional dependency",
@@ -423,56 +401,46 @@ fn dependency_not_optional<'a>(
         item.text,
         name,
     ];
-    out.value(DEPENDENCY_NOT_OPTIONAL, &item.path(), &[], &words)?;
-    match look.dependencies.get(declared.table) {
-        Some(table) => make_optional(table.path.as_slice(), name, item, out),
-        None => Ok(()),
+    out.value(DEPENDENCY_NOT_OPTIONAL, &item.path(), &[], &words);
+    if let Some(table) = look.dependencies.get(declared.table) {
+        make_optional(table.path.as_slice(), name, item, out);
     }
 }
 
 /// Where the dependency is declared, and what to write there or in its place.
-fn make_optional(
-    table: &[At<'_>],
-    name: &str,
-    item: &Item<'_>,
-    out: &mut Out,
-) -> Result<(), AllocError> {
+fn make_optional(table: &[At<'_>], name: &str, item: &Item<'_>, out: &mut Out) {
     let label = ["it is declared here without `optional = true`"];
-    out.label(File::Own, Part::Key, table, &[At::Key(name)], &label)?;
+    out.label(File::Own, Part::Key, table, &[At::Key(name)], &label);
     if let Some((bare, of)) = item.text.split_once("?/") {
-        let strong = [bare, "/", of].concat(out.alloc)?;
-        return item.instead(strong.as_str(), out);
+        let strong = out.text([bare, "/", of].concat(out.alloc));
+        item.instead(strong.as_str(), out);
+        return;
     }
-    out.help(&["add `optional = true` to the dependency `{}`", name])
+    out.help(&["add `optional = true` to the dependency `{}`", name]);
 }
 
 /// A feature that hides the optional dependency of its name does not keep it from being enabled.
-fn unreachable_dependency<'a>(
-    look: &Look<'a>,
-    known: &Known<'a>,
-    name: &'a str,
-    out: &mut Out,
-) -> Result<(), AllocError> {
+fn unreachable_dependency<'a>(look: &Look<'a>, known: &Known<'a>, name: &'a str, out: &mut Out) {
     let Some(declared) = known.dependencies.get(&name) else {
-        return Ok(());
+        return;
     };
     if !declared.is_optional || known.enabled.contains(&name) {
-        return Ok(());
+        return;
     }
     let Some(table) = look.dependencies.get(declared.table) else {
-        return Ok(());
+        return;
     };
     let words = [
         "optional dependency `{}` is not included in any feature",
         name,
     ];
     let base = table.path.as_slice();
-    out.key(UNREACHABLE_DEPENDENCY, base, &[At::Key(name)], &words)?;
+    out.key(UNREACHABLE_DEPENDENCY, base, &[At::Key(name)], &words);
     let path = [At::Key("features"), At::Key(name)];
     let label = ["this feature stands in place of the one that would enable it"];
-    out.label(File::Own, Part::Key, &path, &[], &label)?;
+    out.label(File::Own, Part::Key, &path, &[], &label);
     let end = At::Index(items_in(known.features, name).len());
-    let item = ["dep:", name].concat(out.alloc)?;
+    let item = out.text(["dep:", name].concat(out.alloc));
     let help = ["include `dep:{}` in a feature", name];
-    out.insert_text(&path, &[end], item.as_str(), false, &help)
+    out.insert_text(&path, &[end], item.as_str(), false, &help);
 }

@@ -11,16 +11,16 @@ use std::collections::BTreeSet;
 use toml::{Table, Value};
 
 /// All rules of what is inherited.
-pub fn inherited(look: &Look<'_>, out: &mut Out) -> Result<(), AllocError> {
+pub fn inherited(look: &Look<'_>, out: &mut Out) {
     match look.around.root {
-        Root::Unknown => Ok(()),
-        Root::Unreadable(_) => Ok(()),
+        Root::Unknown => {}
+        Root::Unreadable(_) => {}
         Root::Missing => no_workspace(look, out),
         Root::Found(document) => match table_in(document, "workspace") {
             Some(workspace) => {
-                fields(look, workspace, out)?;
-                dependencies(look, workspace, out)?;
-                lints(look, workspace, out)
+                fields(look, workspace, out);
+                dependencies(look, workspace, out);
+                lints(look, workspace, out);
             }
             None => no_workspace(look, out),
         },
@@ -48,13 +48,14 @@ static FIELDS: [&str; 16] = [
 ];
 
 /// The first thing that is inherited where there is no workspace. (One is said of it: the others have the same reason.)
-fn no_workspace(look: &Look<'_>, out: &mut Out) -> Result<(), AllocError> {
+fn no_workspace(look: &Look<'_>, out: &mut Out) {
     let words = ["failed to find a workspace root"];
     if let Some(package) = look.package {
         for field in &FIELDS {
             if inherits(package, *field) {
                 let path = [At::Key(look.package_key), At::Key(*field)];
-                return out.key(NO_WORKSPACE, &path, &[], &words);
+                out.key(NO_WORKSPACE, &path, &[], &words);
+                return;
             }
         }
     }
@@ -62,24 +63,24 @@ fn no_workspace(look: &Look<'_>, out: &mut Out) -> Result<(), AllocError> {
         for (name, dependency) in section.table {
             if section.inherits(dependency) {
                 let rest = [At::Key(name.as_str())];
-                return out.key(NO_WORKSPACE, section.path.as_slice(), &rest, &words);
+                out.key(NO_WORKSPACE, section.path.as_slice(), &rest, &words);
+                return;
             }
         }
     }
     if inherits(look.document, "lints") {
-        return out.key(NO_WORKSPACE, &[At::Key("lints")], &[], &words);
+        out.key(NO_WORKSPACE, &[At::Key("lints")], &[], &words);
     }
-    Ok(())
 }
 
 /// The second place of what a workspace lacks: a table of the root.
-fn not_in_root(path: &[At<'_>], out: &mut Out) -> Result<(), AllocError> {
-    out.label(File::Root, Part::Header, path, &[], &["it is not here"])
+fn not_in_root(path: &[At<'_>], out: &mut Out) {
+    out.label(File::Root, Part::Header, path, &[], &["it is not here"]);
 }
 
-fn fields(look: &Look<'_>, workspace: &Table, out: &mut Out) -> Result<(), AllocError> {
+fn fields(look: &Look<'_>, workspace: &Table, out: &mut Out) {
     let Some(package) = look.package else {
-        return Ok(());
+        return;
     };
     let shared = table_in(workspace, "package");
     for field in &FIELDS {
@@ -96,10 +97,9 @@ fn fields(look: &Look<'_>, workspace: &Table, out: &mut Out) -> Result<(), Alloc
             field,
         ];
         let path = [At::Key(look.package_key), At::Key(field)];
-        out.key(NOT_IN_WORKSPACE, &path, &[], &words)?;
-        not_in_root(&[At::Key("workspace"), At::Key("package")], out)?;
+        out.key(NOT_IN_WORKSPACE, &path, &[], &words);
+        not_in_root(&[At::Key("workspace"), At::Key("package")], out);
     }
-    Ok(())
 }
 
 /// Whether the table `workspace.package` gives this field to members. Where it has no `readme`, Cargo looks for the file in
@@ -130,7 +130,7 @@ pub(crate) fn inherited_dependencies(look: &Look<'_>) -> Result<BTreeSet<String>
     Ok(names)
 }
 
-fn dependencies(look: &Look<'_>, workspace: &Table, out: &mut Out) -> Result<(), AllocError> {
+fn dependencies(look: &Look<'_>, workspace: &Table, out: &mut Out) {
     let shared = table_in(workspace, "dependencies");
     for section in &look.dependencies {
         for (name, dependency) in section.table {
@@ -140,12 +140,11 @@ fn dependencies(look: &Look<'_>, workspace: &Table, out: &mut Out) -> Result<(),
             let name = name.as_str();
             let base = section.path.as_slice();
             match shared.and_then(|shared| shared.get(name)) {
-                None => unknown_dependency(base, name, shared, out)?,
-                Some(shared) => default_features(look, base, name, dependency, shared, out)?,
+                None => unknown_dependency(base, name, shared, out),
+                Some(shared) => default_features(look, base, name, dependency, shared, out),
             }
         }
     }
-    Ok(())
 }
 
 fn unknown_dependency<'a>(
@@ -153,9 +152,9 @@ fn unknown_dependency<'a>(
     name: &'a str,
     shared: Option<&'a Table>,
     out: &mut Out,
-) -> Result<(), AllocError> {
+) {
     let near = match shared {
-        Some(shared) => nearest_key(name, shared, out)?,
+        Some(shared) => nearest_key(name, shared, out),
         None => None,
     };
     let rest = [At::Key(name)];
@@ -163,26 +162,22 @@ fn unknown_dependency<'a>(
         "`dependency.{}` was not found in `workspace.dependencies`",
         name,
     ];
-    out.key(NOT_IN_WORKSPACE, base, &rest, &words)?;
-    not_in_root(&[At::Key("workspace"), At::Key("dependencies")], out)?;
+    out.key(NOT_IN_WORKSPACE, base, &rest, &words);
+    not_in_root(&[At::Key("workspace"), At::Key("dependencies")], out);
     let Some(word) = near else {
-        return Ok(());
+        return;
     };
     let help = ["a dependency with a similar name exists: `{}`", word];
-    out.rename(base, &rest, word, false, &help)
+    out.rename(base, &rest, word, false, &help);
 }
 
 /// The key of the table that is nearest to a name.
-fn nearest_key<'a>(
-    name: &'a str,
-    table: &'a Table,
-    out: &Out,
-) -> Result<Option<&'a str>, AllocError> {
+fn nearest_key<'a>(name: &'a str, table: &'a Table, out: &mut Out) -> Option<&'a str> {
     let mut nearest = out.nearest(name);
     for (key, _value) in table {
-        nearest.offer(out.alloc, key.as_str())?;
+        out.offer(&mut nearest, key.as_str());
     }
-    Ok(nearest.found())
+    nearest.found()
 }
 
 /// The key by which a table says whether the default features are wanted.
@@ -208,32 +203,27 @@ fn default_features(
     dependency: &Value,
     shared: &Value,
     out: &mut Out,
-) -> Result<(), AllocError> {
+) {
     let shared = match shared.as_table() {
         Some(table) => {
-            old_spelling_in_root(look, base, name, table, out)?;
+            old_spelling_in_root(look, base, name, table, out);
             default_features_of(table)
         }
         None => None,
     };
     let Some(own) = dependency.as_table() else {
-        return Ok(());
+        return;
     };
     let Some(key) = default_features_key(own) else {
-        return Ok(());
+        return;
     };
     if flag_in(own, key) != Some(false) || shared == Some(false) {
-        return Ok(());
+        return;
     }
-    ignored_default_features(base, name, key, out)
+    ignored_default_features(base, name, key, out);
 }
 
-fn ignored_default_features(
-    base: &[At<'_>],
-    name: &str,
-    key: &'static str,
-    out: &mut Out,
-) -> Result<(), AllocError> {
+fn ignored_default_features(base: &[At<'_>], name: &str, key: &'static str, out: &mut Out) {
     let rest = [At::Key(name), At::Key(key)];
     let words = [
         "`{}` is ignored for {}, since it is not false for `workspace.dependencies.{}`, and this is refused in the 2024 edition",
@@ -241,10 +231,10 @@ fn ignored_default_features(
         name,
         name,
     ];
-    out.key(IGNORED_DEFAULT_FEATURES, base, &rest, &words)?;
+    out.key(IGNORED_DEFAULT_FEATURES, base, &rest, &words);
     let root = [At::Key("workspace"), At::Key("dependencies"), At::Key(name)];
-    out.label(File::Root, Part::Value, &root, &[], &["what is inherited"])?;
-    out.remove(base, &rest, true, &["remove it"])
+    out.label(File::Root, Part::Value, &root, &[], &["what is inherited"]);
+    out.remove(base, &rest, true, &["remove it"]);
 }
 
 /// `default_features` of a dependency of the workspace, which a member inherits.
@@ -254,33 +244,33 @@ fn old_spelling_in_root(
     name: &str,
     shared: &Table,
     out: &mut Out,
-) -> Result<(), AllocError> {
+) {
     if look.around.is_root
         || !shared.contains_key("default_features")
         || shared.contains_key("default-features")
     {
-        return Ok(());
+        return;
     }
     let words = [
         "`default_features` of `workspace.dependencies.{}` is deprecated in favor of `default-features`",
         name,
     ];
-    out.key(OLD_SPELLING, base, &[At::Key(name)], &words)?;
+    out.key(OLD_SPELLING, base, &[At::Key(name)], &words);
     let root = [At::Key("workspace"), At::Key("dependencies"), At::Key(name)];
     let rest = [At::Key("default_features")];
-    out.label(File::Root, Part::Key, &root, &rest, &["it stands here"])
+    out.label(File::Root, Part::Key, &root, &rest, &["it stands here"]);
 }
 
-fn lints(look: &Look<'_>, workspace: &Table, out: &mut Out) -> Result<(), AllocError> {
+fn lints(look: &Look<'_>, workspace: &Table, out: &mut Out) {
     let Some(own) = table_in(look.document, "lints") else {
-        return Ok(());
+        return;
     };
     if flag_in(own, "workspace") != Some(true) || workspace.contains_key("lints") {
-        return Ok(());
+        return;
     }
     let words = [
         "error inheriting `lints` from workspace root manifest's `workspace.lints`: it is not defined",
     ];
-    out.key(NOT_IN_WORKSPACE, &[At::Key("lints")], &[], &words)?;
-    not_in_root(&[At::Key("workspace")], out)
+    out.key(NOT_IN_WORKSPACE, &[At::Key("lints")], &[], &words);
+    not_in_root(&[At::Key("workspace")], out);
 }

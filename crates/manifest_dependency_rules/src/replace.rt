@@ -6,105 +6,88 @@ use manifest_rules::codes::{
     UNKNOWN_PATCH_SOURCE, VERSION_IN_REPLACE,
 };
 use manifest_rules::look::{Look, flag_in, is_inherited, items_in, table_in};
-use manifest_rules::report::{At, File, Out, Part, shown};
+use manifest_rules::report::{At, File, Out, Part};
 use manifest_rules::words::{IdVersion, UrlFault, Word, package_id, url_fault};
-use std::alloc::AllocError;
 use toml::{Table, Value};
 
 /// All rules of patches and replacements.
-pub fn replace(look: &Look<'_>, out: &mut Out) -> Result<(), AllocError> {
-    replace_beside_patch(look, out)?;
+pub fn replace(look: &Look<'_>, out: &mut Out) {
+    replace_beside_patch(look, out);
     if let Some(sources) = table_in(look.document, "patch") {
         for (source, elements) in sources {
-            unknown_patch_source(look, sources, source.as_str(), out)?;
+            unknown_patch_source(look, sources, source.as_str(), out);
             if let Value::Table(elements) = elements {
-                rules_of_source(source.as_str(), elements, out)?;
+                rules_of_source(source.as_str(), elements, out);
             }
         }
     }
     let Some(elements) = table_in(look.document, "replace") else {
-        return Ok(());
+        return;
     };
     for (id, element) in elements {
-        invalid_replace_key(id.as_str(), out)?;
-        version_in_replace(id.as_str(), element, out)?;
+        invalid_replace_key(id.as_str(), out);
+        version_in_replace(id.as_str(), element, out);
     }
-    Ok(())
 }
 
-fn rules_of_source<'a>(
-    source: &'a str,
-    elements: &'a Table,
-    out: &mut Out,
-) -> Result<(), AllocError> {
+fn rules_of_source<'a>(source: &'a str, elements: &'a Table, out: &mut Out) {
     for (name, element) in elements {
         if let Value::Table(detail) = element {
             let path = [At::Key("patch"), At::Key(source), At::Key(name.as_str())];
             if is_inherited(element) {
-                inherited_patch(&path, detail, out)?;
+                inherited_patch(&path, detail, out);
             }
-            ignored_in_patch(&path, detail, out)?;
+            ignored_in_patch(&path, detail, out);
         }
     }
-    Ok(())
 }
 
-fn replace_beside_patch(look: &Look<'_>, out: &mut Out) -> Result<(), AllocError> {
+fn replace_beside_patch(look: &Look<'_>, out: &mut Out) {
     if !look.document.contains_key("replace") || !look.document.contains_key("patch") {
-        return Ok(());
+        return;
     }
     let words = ["`[replace]` stands next to `[patch]`"];
-    out.key(REPLACE_BESIDE_PATCH, &[At::Key("replace")], &[], &words)?;
+    out.key(REPLACE_BESIDE_PATCH, &[At::Key("replace")], &[], &words);
     let other = [At::Key("patch")];
-    out.label(File::Own, Part::Key, &other, &[], &["`[patch]` is here"])?;
-    out.note(&["`[replace]` is deprecated: what it does, `[patch]` does too"])
+    out.label(File::Own, Part::Key, &other, &[], &["`[patch]` is here"]);
+    out.note(&["`[replace]` is deprecated: what it does, `[patch]` does too"]);
 }
 
 /// What is patched is `crates-io`, a URL, or a registry of the configuration.
-fn unknown_patch_source(
-    look: &Look<'_>,
-    sources: &Table,
-    source: &str,
-    out: &mut Out,
-) -> Result<(), AllocError> {
+fn unknown_patch_source(look: &Look<'_>, sources: &Table, source: &str, out: &mut Out) {
     if source == "crates-io" || is_configured(look, source) {
-        return Ok(());
+        return;
     }
-    let Some(fault) = url_fault(out.alloc, source)? else {
-        return Ok(());
+    let Some(Some(fault)) = out.made(url_fault(out.alloc, source)) else {
+        return;
     };
     let path = [At::Key("patch"), At::Key(source)];
-    say_unknown_source(&path, source, fault, out)?;
-    out.note(&["a source is `crates-io`, a URL, or a registry of `.cargo/config.toml`"])?;
+    say_unknown_source(&path, source, fault, out);
+    out.note(&["a source is `crates-io`, a URL, or a registry of `.cargo/config.toml`"]);
     if !matches!(source, "crates" | "crates.io" | "crates_io")
         || sources.contains_key("crates-io")
     {
-        return Ok(());
+        return;
     }
     let help = ["write `crates-io`, with a dash"];
-    out.rename(&path, &[], "crates-io", false, &help)
+    out.rename(&path, &[], "crates-io", false, &help);
 }
 
 /// Says that a source is no registry: one of its name may be known elsewhere, if it is a name.
-fn say_unknown_source(
-    path: &[At<'_>],
-    source: &str,
-    fault: UrlFault,
-    out: &mut Out,
-) -> Result<(), AllocError> {
+fn say_unknown_source(path: &[At<'_>], source: &str, fault: UrlFault, out: &mut Out) {
     if Word::Name.fault(source).is_none() {
         let words = ["`{}` is no registry that is known here", source];
-        return out.key(UNKNOWN_PATCH_SOURCE, path, &[], &words);
+        out.key(UNKNOWN_PATCH_SOURCE, path, &[], &words);
+        return;
     }
-    let fault = shown(out.alloc, &fault)?;
+    let fault = out.shown(&fault);
     let words = [
         "`{}` is neither a URL nor the name of a registry: {}",
         source,
         fault.as_str(),
     ];
-    out.key(UNKNOWN_PATCH_SOURCE, path, &[], &words)?;
+    out.key(UNKNOWN_PATCH_SOURCE, path, &[], &words);
     out.at_level(Level::Error);
-    Ok(())
 }
 
 /// Whether the configuration has a registry of this name.
@@ -120,22 +103,22 @@ fn is_configured(look: &Look<'_>, name: &str) -> bool {
 }
 
 /// A patch is not inherited: without a source of its own it is refused, and else the key is ignored.
-fn inherited_patch(path: &[At<'_>], detail: &Table, out: &mut Out) -> Result<(), AllocError> {
+fn inherited_patch(path: &[At<'_>], detail: &Table, out: &mut Out) {
     let has_source = ["version", "path", "git"]
         .iter()
         .any(|key| detail.contains_key(*key));
     let rest = [At::Key("workspace")];
     let words = ["a patch is not inherited from the workspace"];
-    out.key(INHERITED_PATCH, path, &rest, &words)?;
-    out.note(&["`[patch]` ignores `workspace = true`, and needs `path`, `git` or `version`"])?;
+    out.key(INHERITED_PATCH, path, &rest, &words);
+    out.note(&["`[patch]` ignores `workspace = true`, and needs `path`, `git` or `version`"]);
     if !has_source {
-        return Ok(());
+        return;
     }
     out.at_level(Level::Warning);
-    out.remove(path, &rest, true, &["remove `workspace`"])
+    out.remove(path, &rest, true, &["remove `workspace`"]);
 }
 
-fn ignored_in_patch(path: &[At<'_>], detail: &Table, out: &mut Out) -> Result<(), AllocError> {
+fn ignored_in_patch(path: &[At<'_>], detail: &Table, out: &mut Out) {
     let keys = [
         ("features", !items_in(detail, "features").is_empty()),
         (
@@ -145,24 +128,26 @@ fn ignored_in_patch(path: &[At<'_>], detail: &Table, out: &mut Out) -> Result<()
     ];
     for (key, is_used) in keys {
         if is_used {
-            without_effect(path, key, out)?;
+            without_effect(path, key, out);
         }
     }
-    Ok(())
 }
 
-fn without_effect(path: &[At<'_>], key: &str, out: &mut Out) -> Result<(), AllocError> {
+fn without_effect(path: &[At<'_>], key: &str, out: &mut Out) {
     let rest = [At::Key(key)];
     let words = ["`{}` has no effect in `[patch]`", key];
-    out.key(IGNORED_IN_PATCH, path, &rest, &words)?;
-    out.note(&["the dependency that is patched says which features are enabled"])?;
-    out.remove(path, &rest, true, &["remove `{}`", key])
+    out.key(IGNORED_IN_PATCH, path, &rest, &words);
+    out.note(&["the dependency that is patched says which features are enabled"]);
+    out.remove(path, &rest, true, &["remove `{}`", key]);
 }
 
 /// A key of `[replace]` is a package id with a whole version.
-fn invalid_replace_key(id: &str, out: &mut Out) -> Result<(), AllocError> {
-    let note = match package_id(out.alloc, id)? {
-        Some(IdVersion::Whole) => return Ok(()),
+fn invalid_replace_key(id: &str, out: &mut Out) {
+    let Some(version) = out.made(package_id(out.alloc, id)) else {
+        return;
+    };
+    let note = match version {
+        Some(IdVersion::Whole) => return,
         Some(_version) => "the version that is replaced stands after the name, as in `name:1.2.3`",
         None => "it is `name:version`, or a URL and `#name:version`",
     };
@@ -171,20 +156,20 @@ fn invalid_replace_key(id: &str, out: &mut Out) -> Result<(), AllocError> {
         "`{}` does not say which version of a package to replace",
         id,
     ];
-    out.key(INVALID_REPLACE_KEY, &path, &[], &words)?;
-    out.note(&[note])
+    out.key(INVALID_REPLACE_KEY, &path, &[], &words);
+    out.note(&[note]);
 }
 
 /// The key says which version is replaced, and by which it is replaced the source says.
-fn version_in_replace(id: &str, element: &Value, out: &mut Out) -> Result<(), AllocError> {
+fn version_in_replace(id: &str, element: &Value, out: &mut Out) {
     let path = [At::Key("replace"), At::Key(id)];
     let words = ["replacement of `{}` has a version requirement", id];
     match element {
-        Value::String(_version) => out.value(VERSION_IN_REPLACE, &path, &[], &words)?,
+        Value::String(_version) => out.value(VERSION_IN_REPLACE, &path, &[], &words),
         Value::Table(detail) if detail.contains_key("version") => {
-            out.key(VERSION_IN_REPLACE, &path, &[At::Key("version")], &words)?
+            out.key(VERSION_IN_REPLACE, &path, &[At::Key("version")], &words);
         }
-        _ => return Ok(()),
+        _ => return,
     }
-    out.note(&["a replacement has `path` or `git`, and the version stands in its key"])
+    out.note(&["a replacement has `path` or `git`, and the version stands in its key"]);
 }

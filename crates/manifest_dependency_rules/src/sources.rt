@@ -135,8 +135,10 @@ fn all_sourced<'a>(look: &'a Look<'_>) -> Result<Vec<Sourced<'a>>, AllocError> {
 }
 
 /// All rules that compare dependencies.
-pub fn sources(look: &Look<'_>, out: &mut Out) -> Result<(), AllocError> {
-    let all = all_sourced(look)?;
+pub fn sources(look: &Look<'_>, out: &mut Out) {
+    let Some(all) = out.made(all_sourced(look)) else {
+        return;
+    };
     // (in one table no name stands twice)
     if look
         .dependencies
@@ -145,13 +147,14 @@ pub fn sources(look: &Look<'_>, out: &mut Out) -> Result<(), AllocError> {
         .count()
         > 1
     {
-        two_sources(all.as_slice(), out)?;
+        let compared = two_sources(all.as_slice(), out);
+        let _done = out.made(compared);
     }
-    repeated_dependency(all.as_slice(), out)?;
+    let compared = repeated_dependency(all.as_slice(), out);
+    let _done = out.made(compared);
     for one in all.iter() {
-        self_dependency(look, one, out)?;
+        self_dependency(look, one, out);
     }
-    Ok(())
 }
 
 /// One name has one source in all tables.
@@ -163,7 +166,7 @@ fn two_sources(all: &[Sourced<'_>], out: &mut Out) -> Result<(), AllocError> {
             continue;
         };
         if one.source.differs(&first.source) {
-            differing_sources(&one.dependency, &first.dependency, out)?;
+            differing_sources(&one.dependency, &first.dependency, out);
         }
         // (the others are compared with the first one too)
         seen.insert(name, first)?;
@@ -172,20 +175,16 @@ fn two_sources(all: &[Sourced<'_>], out: &mut Out) -> Result<(), AllocError> {
 }
 
 /// Says that two dependencies of one name have two sources.
-fn differing_sources(
-    one: &Dependency<'_>,
-    first: &Dependency<'_>,
-    out: &mut Out,
-) -> Result<(), AllocError> {
+fn differing_sources(one: &Dependency<'_>, first: &Dependency<'_>, out: &mut Out) {
     let name = [At::Key(one.name)];
     let words = [
         "dependency `{}` has different sources in two tables",
         one.name,
     ];
-    out.key(TWO_SOURCES, one.base, &name, &words)?;
+    out.key(TWO_SOURCES, one.base, &name, &words);
     let label = ["its other source is here"];
-    out.label(File::Own, Part::Key, first.base, &name, &label)?;
-    out.note(&["one name has one source; `package` gives one of two another name"])
+    out.label(File::Own, Part::Key, first.base, &name, &label);
+    out.note(&["one name has one source; `package` gives one of two another name"]);
 }
 
 /// What says whether two dependencies are one package: its name, its source and, of a registry, the requirement.
@@ -248,47 +247,43 @@ fn repeated_dependency(all: &[Sourced<'_>], out: &mut Out) -> Result<(), AllocEr
             continue;
         };
         if !is_one_crate(one.dependency.name, first.dependency.name) {
-            two_names(&one.dependency, &first.dependency, out)?;
+            two_names(&one.dependency, &first.dependency, out);
         }
     }
     Ok(())
 }
 
 /// Says that one package is two dependencies.
-fn two_names(
-    one: &Dependency<'_>,
-    first: &Dependency<'_>,
-    out: &mut Out,
-) -> Result<(), AllocError> {
+fn two_names(one: &Dependency<'_>, first: &Dependency<'_>, out: &mut Out) {
     let words = [
         "package `{}` is a dependency by two names, `{}` and `{}`",
         one.package(),
         &*first.name,
         one.name,
     ];
-    out.key(REPEATED_DEPENDENCY, one.base, &[At::Key(one.name)], &words)?;
+    out.key(REPEATED_DEPENDENCY, one.base, &[At::Key(one.name)], &words);
     let other = [At::Key(first.name)];
     let label = ["it has another name here"];
-    out.label(File::Own, Part::Key, first.base, &other, &label)
+    out.label(File::Own, Part::Key, first.base, &other, &label);
 }
 
 /// A package does not depend on itself, but for its tests.
-fn self_dependency(look: &Look<'_>, one: &Sourced<'_>, out: &mut Out) -> Result<(), AllocError> {
+fn self_dependency(look: &Look<'_>, one: &Sourced<'_>, out: &mut Out) {
     let is_own = match &one.source {
         Source::Path(path) => path.is_empty(),
         _ => false,
     };
     if !is_own || one.dependency.section == Section::Dev {
-        return Ok(());
+        return;
     }
     let Some(package) = look.package else {
-        return Ok(());
+        return;
     };
     if text_in(package, "name") != Some(one.dependency.package()) {
-        return Ok(());
+        return;
     }
     let Dependency { base, name, .. } = one.dependency;
     let words = ["package `{}` depends on itself", one.dependency.package()];
-    out.key(SELF_DEPENDENCY, base, &[At::Key(name)], &words)?;
-    out.note(&["only a dev-dependency may be the package itself"])
+    out.key(SELF_DEPENDENCY, base, &[At::Key(name)], &words);
+    out.note(&["only a dev-dependency may be the package itself"]);
 }

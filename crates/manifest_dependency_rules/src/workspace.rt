@@ -16,20 +16,20 @@ use std::collections::{BTreeMap, BTreeSet};
 use toml::{Table, Value};
 
 /// All rules of a workspace's root, and of a member and its root.
-pub fn workspace(look: &Look<'_>, out: &mut Out) -> Result<(), AllocError> {
-    member_patterns(look, out)?;
+pub fn workspace(look: &Look<'_>, out: &mut Out) {
+    member_patterns(look, out);
     if let Some(members) = look.around.members {
-        missing_members(look, members, out)?;
-        default_members(look, members, out)?;
-        members_alone(look, members, out)?;
-        missing_resolver(look, members, out)?;
-        unused_dependencies(look, out)?;
+        missing_members(look, members, out);
+        default_members(look, members, out);
+        members_alone(look, members, out);
+        missing_resolver(look, members, out);
+        unused_dependencies(look, out);
     }
     match look.around.root {
         Root::Unreadable(file) => unreadable_root(look, file, out),
         Root::Missing => wrong_workspace_path(look, out),
         Root::Found(root) => of_member(look, root, out),
-        Root::Unknown => Ok(()),
+        Root::Unknown => {}
     }
 }
 
@@ -67,29 +67,28 @@ fn bracket_fault(pattern: &str) -> Option<&str> {
     None
 }
 
-fn member_patterns(look: &Look<'_>, out: &mut Out) -> Result<(), AllocError> {
+fn member_patterns(look: &Look<'_>, out: &mut Out) {
     let Some(workspace) = look.workspace else {
-        return Ok(());
+        return;
     };
     for key in ["members", "default-members"] {
         let mut index = 0usize;
         for item in items_in(workspace, key) {
             if let Value::String(pattern) = item {
-                member_pattern(key, index, pattern.as_str(), out)?;
+                member_pattern(key, index, pattern.as_str(), out);
             }
             index = index.saturating_add(1);
         }
     }
-    Ok(())
 }
 
-fn member_pattern(key: &str, index: usize, pattern: &str, out: &mut Out) -> Result<(), AllocError> {
+fn member_pattern(key: &str, index: usize, pattern: &str, out: &mut Out) {
     let Some(fault) = pattern_fault(pattern) else {
-        return Ok(());
+        return;
     };
     let words = ["could not parse pattern `{}`: {}", pattern, fault];
     let path = [At::Key("workspace"), At::Key(key), At::Index(index)];
-    out.value(INVALID_MEMBER_PATTERN, &path, &[], &words)
+    out.value(INVALID_MEMBER_PATTERN, &path, &[], &words);
 }
 
 /// What the patterns of `members` lead to.
@@ -119,25 +118,21 @@ fn fitted<'a>(alloc: Global, members: &'a [Member]) -> Result<PatternFolders<'a>
 }
 
 /// Each pattern leads to a member, and each folder to which it leads has a `Cargo.toml`.
-fn missing_members(look: &Look<'_>, members: &[Member], out: &mut Out) -> Result<(), AllocError> {
+fn missing_members(look: &Look<'_>, members: &[Member], out: &mut Out) {
     let Some(workspace) = look.workspace else {
-        return Ok(());
+        return;
     };
-    let found = fitted(look.alloc, members)?;
+    let Some(found) = out.made(fitted(look.alloc, members)) else {
+        return;
+    };
     for (index, item) in items_in(workspace, "members").iter().enumerate() {
         if let Some(pattern) = item.as_str() {
-            missing_member(&found, index, pattern, out)?;
+            missing_member(&found, index, pattern, out);
         }
     }
-    Ok(())
 }
 
-fn missing_member(
-    found: &PatternFolders<'_>,
-    index: usize,
-    pattern: &str,
-    out: &mut Out,
-) -> Result<(), AllocError> {
+fn missing_member(found: &PatternFolders<'_>, index: usize, pattern: &str, out: &mut Out) {
     let path = [At::Key("workspace"), At::Key("members"), At::Index(index)];
     if let Some(folder) = found.bare.get(&index) {
         let words = [
@@ -145,39 +140,39 @@ fn missing_member(
             pattern,
             &**folder,
         ];
-        return out.value(MISSING_MEMBER, &path, &[], &words);
+        out.value(MISSING_MEMBER, &path, &[], &words);
+        return;
     }
     // (the root itself may stand there too)
     if found.patterns.contains(&index)
         || pattern_fault(pattern).is_some()
-        || plain_path(out.alloc, pattern)?.is_empty()
+        || out.text(plain_path(out.alloc, pattern)).is_empty()
     {
-        return Ok(());
+        return;
     }
     let words = [
         "failed to load manifest for workspace member `{}`: it leads to no Cargo.toml",
         pattern,
     ];
-    out.value(MISSING_MEMBER, &path, &[], &words)
+    out.value(MISSING_MEMBER, &path, &[], &words);
 }
 
-fn default_members(look: &Look<'_>, members: &[Member], out: &mut Out) -> Result<(), AllocError> {
+fn default_members(look: &Look<'_>, members: &[Member], out: &mut Out) {
     let Some(workspace) = look.workspace else {
-        return Ok(());
+        return;
     };
     let mut paths = BTreeSet::new(look.alloc);
     for member in members {
-        let path = member.path.clone()?;
-        let _is_new = paths.insert(path)?;
+        let path = out.text(member.path.clone());
+        let _is_new = out.made(paths.insert(path).map_err(AllocError::from));
     }
     for (index, item) in items_in(workspace, "default-members").iter().enumerate() {
         if let Some(path) = item.as_str() {
-            if !is_default_member(look, &paths, path)? {
-                unknown_default_member(index, path, out)?;
+            if out.made(is_default_member(look, &paths, path)) == Some(false) {
+                unknown_default_member(index, path, out);
             }
         }
     }
-    Ok(())
 }
 
 /// Whether the path is that of a member or of the root, or a pattern.
@@ -192,7 +187,7 @@ fn is_default_member(
     Ok(is_pattern || is_root || paths.contains(plain.as_str()))
 }
 
-fn unknown_default_member(index: usize, path: &str, out: &mut Out) -> Result<(), AllocError> {
+fn unknown_default_member(index: usize, path: &str, out: &mut Out) {
     let words = [
         "package `{}` is listed in default-members but is not a member",
         path,
@@ -202,79 +197,68 @@ fn unknown_default_member(index: usize, path: &str, out: &mut Out) -> Result<(),
         At::Key("default-members"),
         At::Index(index),
     ];
-    out.value(UNKNOWN_DEFAULT_MEMBER, &at, &[], &words)
+    out.value(UNKNOWN_DEFAULT_MEMBER, &at, &[], &words);
 }
 
 /// Says this of a member in the root: at the pattern that leads to it.
-fn say_of_member(
-    code: Code,
-    member: &Member,
-    words: &[&str],
-    out: &mut Out,
-) -> Result<(), AllocError> {
+fn say_of_member(code: Code, member: &Member, words: &[&str], out: &mut Out) {
     match member.patterns.first().copied() {
         Some(index) => {
             let path = [At::Key("workspace"), At::Key("members"), At::Index(index)];
-            out.value(code, &path, &[], words)
+            out.value(code, &path, &[], words);
         }
         None => out.value(code, &[At::Key("workspace")], &[], words),
     }
 }
 
 /// No two members have one name, and none is a root itself.
-fn members_alone(look: &Look<'_>, members: &[Member], out: &mut Out) -> Result<(), AllocError> {
+fn members_alone(look: &Look<'_>, members: &[Member], out: &mut Out) {
     let mut names = BTreeMap::new(look.alloc);
     if let Some(own) = package_name(look) {
-        let _none = names.insert(own, ".")?;
+        let _none = out.made(names.insert(own, ".").map_err(AllocError::from));
     }
     for member in members {
-        nested_workspace(member, out)?;
+        nested_workspace(member, out);
         let Some(name) = &member.name else {
             continue;
         };
         let name = name.as_str();
-        match names.insert(name, member.path.as_str())? {
-            Some(other) => repeated_package_name(member, name, other, out)?,
-            None => {}
+        let before = names.insert(name, member.path.as_str());
+        if let Some(Some(other)) = out.made(before.map_err(AllocError::from)) {
+            repeated_package_name(member, name, other, out);
         }
     }
-    Ok(())
 }
 
-fn nested_workspace(member: &Member, out: &mut Out) -> Result<(), AllocError> {
+fn nested_workspace(member: &Member, out: &mut Out) {
     let path = member.path.as_str();
     if !member.is_root || path.is_empty() {
-        return Ok(());
+        return;
     }
     let words = [
         "multiple workspace roots found in the same workspace: `{}` is one too",
         path,
     ];
-    say_of_member(NESTED_WORKSPACE, member, &words, out)
+    say_of_member(NESTED_WORKSPACE, member, &words, out);
 }
 
-fn repeated_package_name<'a>(
-    member: &'a Member,
-    name: &'a str,
-    other: &'a str,
-    out: &mut Out,
-) -> Result<(), AllocError> {
+fn repeated_package_name<'a>(member: &'a Member, name: &'a str, other: &'a str, out: &mut Out) {
     let words = [
         "two packages named `{}` in this workspace: `{}` and `{}`",
         name,
         other,
         member.path.as_str(),
     ];
-    say_of_member(REPEATED_PACKAGE_NAME, member, &words, out)
+    say_of_member(REPEATED_PACKAGE_NAME, member, &words, out);
 }
 
 /// Where there is no package and no resolver, Cargo takes the first one, whatever the editions of the members are.
-fn missing_resolver(look: &Look<'_>, members: &[Member], out: &mut Out) -> Result<(), AllocError> {
+fn missing_resolver(look: &Look<'_>, members: &[Member], out: &mut Out) {
     let Some(workspace) = look.workspace else {
-        return Ok(());
+        return;
     };
     if look.package.is_some() || workspace.contains_key("resolver") {
-        return Ok(());
+        return;
     }
     let mut latest = Edition::E2015;
     for member in members {
@@ -283,8 +267,8 @@ fn missing_resolver(look: &Look<'_>, members: &[Member], out: &mut Out) -> Resul
         }
     }
     let (edition, resolver) = match latest {
-        Edition::E2015 => return Ok(()),
-        Edition::E2018 => return Ok(()),
+        Edition::E2015 => return,
+        Edition::E2018 => return,
         Edition::E2021 => ("2021", "2"),
         Edition::E2024 => ("2024", "3"),
     };
@@ -293,120 +277,118 @@ fn missing_resolver(look: &Look<'_>, members: &[Member], out: &mut Out) -> Resul
         edition,
         resolver,
     ];
-    out.header(MISSING_RESOLVER, &[At::Key("workspace")], &[], &words)
+    out.header(MISSING_RESOLVER, &[At::Key("workspace")], &[], &words);
 }
 
-fn unused_dependencies(look: &Look<'_>, out: &mut Out) -> Result<(), AllocError> {
+fn unused_dependencies(look: &Look<'_>, out: &mut Out) {
     let Some(workspace) = look.workspace else {
-        return Ok(());
+        return;
     };
     let Some(shared) = table_in(workspace, "dependencies") else {
-        return Ok(());
+        return;
     };
-    let used = inherited_dependencies(look)?;
+    let Some(used) = out.made(inherited_dependencies(look)) else {
+        return;
+    };
     for (name, _dependency) in shared {
         let name = name.as_str();
         if !used.contains(name) {
             let words = ["no member inherits `workspace.dependencies.{}`", name];
             let path = [At::Key("workspace"), At::Key("dependencies"), At::Key(name)];
-            out.key(UNUSED_WORKSPACE_DEPENDENCY, &path, &[], &words)?;
+            out.key(UNUSED_WORKSPACE_DEPENDENCY, &path, &[], &words);
         }
     }
-    Ok(())
 }
 
 /// Says this where a package says that it belongs to a workspace: at `package.workspace`, or at the package itself.
-fn say_of_package(
-    look: &Look<'_>,
-    code: Code,
-    words: &[&str],
-    out: &mut Out,
-) -> Result<(), AllocError> {
+fn say_of_package(look: &Look<'_>, code: Code, words: &[&str], out: &mut Out) {
     let says = match look.package {
         Some(package) => package.contains_key("workspace"),
         None => false,
     };
     let base = [At::Key(look.package_key)];
     if says {
-        out.value(code, &base, &[At::Key("workspace")], words)
+        out.value(code, &base, &[At::Key("workspace")], words);
     } else {
-        out.header(code, &base, &[], words)
+        out.header(code, &base, &[], words);
     }
 }
 
-fn unreadable_root(look: &Look<'_>, file: &str, out: &mut Out) -> Result<(), AllocError> {
+fn unreadable_root(look: &Look<'_>, file: &str, out: &mut Out) {
     let words = [
         "Cargo cannot read `{}`, where it looks for the root of the workspace",
         file,
     ];
-    say_of_package(look, UNREADABLE_ROOT, &words, out)
+    say_of_package(look, UNREADABLE_ROOT, &words, out);
 }
 
-fn wrong_workspace_path(look: &Look<'_>, out: &mut Out) -> Result<(), AllocError> {
+fn wrong_workspace_path(look: &Look<'_>, out: &mut Out) {
     let Some(package) = look.package else {
-        return Ok(());
+        return;
     };
     let Some(path) = text_in(package, "workspace") else {
-        return Ok(());
+        return;
     };
     if look.workspace.is_some() {
-        return Ok(());
+        return;
     }
     let words = [
         "`package.workspace` leads to `{}`, where no workspace is",
         path,
     ];
     let at = [At::Key(look.package_key), At::Key("workspace")];
-    out.value(WRONG_WORKSPACE_PATH, &at, &[], &words)
+    out.value(WRONG_WORKSPACE_PATH, &at, &[], &words);
 }
 
 /// The rules of a package whose root is known.
-fn of_member(look: &Look<'_>, root: &Table, out: &mut Out) -> Result<(), AllocError> {
+fn of_member(look: &Look<'_>, root: &Table, out: &mut Out) {
     if look.package.is_none() {
-        return Ok(());
+        return;
     }
     if look.around.is_root {
-        return lints_not_inherited(look, root, out);
+        lints_not_inherited(look, root, out);
+        return;
     }
     if look.around.is_listed == Some(false) {
         let words = [
             "current package believes it's in a workspace when it's not: the root neither lists nor excludes it",
         ];
-        return say_of_package(look, NOT_A_MEMBER, &words, out);
+        say_of_package(look, NOT_A_MEMBER, &words, out);
+        return;
     }
     if look.around.is_listed != Some(true) {
-        return Ok(());
+        return;
     }
-    ignored_in_member(look, root, out)?;
-    lints_not_inherited(look, root, out)
+    ignored_in_member(look, root, out);
+    lints_not_inherited(look, root, out);
 }
 
 /// What counts in the root alone.
-fn ignored_in_member(look: &Look<'_>, root: &Table, out: &mut Out) -> Result<(), AllocError> {
+fn ignored_in_member(look: &Look<'_>, root: &Table, out: &mut Out) {
     for key in ["profile", "patch", "replace"] {
         if look.document.contains_key(key) {
-            say_ignored(&[At::Key(key)], key, out)?;
+            say_ignored(&[At::Key(key)], key, out);
         }
     }
     let Some(package) = look.package else {
-        return Ok(());
+        return;
     };
     let Some(own) = text_in(package, "resolver") else {
-        return Ok(());
+        return;
     };
     if Some(own) == resolver_of(root) {
-        return Ok(());
+        return;
     }
     let path = [At::Key(look.package_key), At::Key("resolver")];
-    say_ignored(&path, "resolver", out)
+    say_ignored(&path, "resolver", out);
 }
 
-fn say_ignored(path: &[At<'_>], key: &str, out: &mut Out) -> Result<(), AllocError> {
+fn say_ignored(path: &[At<'_>], key: &str, out: &mut Out) {
     let words = [
         "`{}` for the non root package will be ignored, specify it at the workspace root",
         key,
     ];
-    out.key(IGNORED_IN_MEMBER, path, &[], &words)
+    out.key(IGNORED_IN_MEMBER, path, &[], &words);
 }
 
 /// The resolver that a root says.
@@ -421,16 +403,16 @@ fn resolver_of<'a>(root: &'a Table) -> Option<&'a str> {
     None
 }
 
-fn lints_not_inherited(look: &Look<'_>, root: &Table, out: &mut Out) -> Result<(), AllocError> {
+fn lints_not_inherited(look: &Look<'_>, root: &Table, out: &mut Out) {
     let Some(workspace) = table_in(root, "workspace") else {
-        return Ok(());
+        return;
     };
     if !workspace.contains_key("lints") || look.document.contains_key("lints") {
-        return Ok(());
+        return;
     }
     let words = ["the lints of the workspace are not taken: `lints.workspace = true` takes them"];
     let path = [At::Key(look.package_key)];
-    out.header(LINTS_NOT_INHERITED, &path, &[], &words)?;
+    out.header(LINTS_NOT_INHERITED, &path, &[], &words);
     let lints = [At::Key("workspace"), At::Key("lints")];
-    out.label(File::Root, Part::Header, &lints, &[], &["these"])
+    out.label(File::Root, Part::Header, &lints, &[], &["these"]);
 }

@@ -35,30 +35,30 @@ pub(crate) fn judged(
 ) -> Result<Vec<Report>, AllocError> {
     let look = Look::new(alloc, text, document, around)?;
     let mut out = Out::new(alloc, look.edition);
-    all_rules(&look, &mut out)?;
+    all_rules(&look, &mut out);
     drop(look);
-    Ok(out.reports)
+    out.finish()
 }
 
-fn all_rules(look: &Look<'_>, out: &mut Out) -> Result<(), AllocError> {
-    text(look, out)?;
-    spellings(look, out)?;
-    keys(look, out)?;
-    package(look, out)?;
-    targets(look, out)?;
-    target_files(look, out)?;
-    dependencies(look, out)?;
-    sources(look, out)?;
-    platforms(look, out)?;
-    features(look, out)?;
-    profiles(look, out)?;
-    inherited_profiles(look, out)?;
-    lints(look, out)?;
-    replace(look, out)?;
-    inherited(look, out)?;
-    sources_around(look, out)?;
-    workspace(look, out)?;
-    newer(look, out)?;
-    settings(look, out)?;
-    publishing(look, out)
+fn all_rules(look: &Look<'_>, out: &mut Out) {
+    text(look, out);
+    spellings(look, out);
+    keys(look, out);
+    package(look, out);
+    targets(look, out);
+    target_files(look, out);
+    dependencies(look, out);
+    sources(look, out);
+    platforms(look, out);
+    features(look, out);
+    profiles(look, out);
+    inherited_profiles(look, out);
+    lints(look, out);
+    replace(look, out);
+    inherited(look, out);
+    sources_around(look, out);
+    workspace(look, out);
+    newer(look, out);
+    settings(look, out);
+    publishing(look, out);
 }

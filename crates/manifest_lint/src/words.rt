@@ -21,84 +21,34 @@ fn found_words(alloc: Global, value: &Value) -> Result<String, AllocError> {
     }
 }
 
+/// Kinds of values in words, each with the keys that hold them.
+const EXPECTED: &str = "\
+a string: name version links description homepage documentation license license-file \
+    repository rust-version default-run edition path git branch tag rev registry \
+    registry-index package panic inherits split-debuginfo resolver level status
+an array of strings: authors keywords categories exclude include members default-members \
+    features required-features crate-type crate_type cargo-features
+a boolean: autolib autobins autoexamples autotests autobenches test doctest bench doc \
+    plugin proc-macro proc_macro harness optional default-features default_features workspace \
+    rpath debug-assertions incremental overflow-checks
+an integer: codegen-units priority
+a table: dependencies dev-dependencies build-dependencies target lib profile badges lints \
+    patch metadata
+an array of tables: bin example
+a string or a boolean: build readme
+a boolean or an array of strings: publish
+";
+
 /// What the key of this name holds, in words; of a name that is not known here, nothing.
 fn expected(key: &str) -> Option<&'static str> {
-    match key {
-        "name"
-        | "version"
-        | "links"
-        | "description"
-        | "homepage"
-        | "documentation"
-        | "license"
-        | "license-file"
-        | "repository"
-        | "rust-version"
-        | "default-run"
-        | "edition"
-        | "path"
-        | "git"
-        | "branch"
-        | "tag"
-        | "rev"
-        | "registry"
-        | "registry-index"
-        | "package"
-        | "panic"
-        | "inherits"
-        | "split-debuginfo"
-        | "resolver"
-        | "level"
-        | "status" => { Some("a string") }
-        "authors"
-        | "keywords"
-        | "categories"
-        | "exclude"
-        | "include"
-        | "members"
-        | "default-members"
-        | "features"
-        | "required-features"
-        | "crate-type"
-        | "crate_type"
-        | "cargo-features" => Some("an array of strings"),
-        "autolib"
-        | "autobins"
-        | "autoexamples"
-        | "autotests"
-        | "autobenches"
-        | "test"
-        | "doctest"
-        | "bench"
-        | "doc"
-        | "plugin"
-        | "proc-macro"
-        | "proc_macro"
-        | "harness"
-        | "optional"
-        | "default-features"
-        | "default_features"
-        | "workspace"
-        | "rpath"
-        | "debug-assertions"
-        | "incremental"
-        | "overflow-checks" => Some("a boolean"),
-        "codegen-units" | "priority" => Some("an integer"),
-        "dependencies"
-        | "dev-dependencies"
-        | "build-dependencies"
-        | "target"
-        | "lib"
-        | "profile"
-        | "badges"
-        | "lints"
-        | "patch"
-        | "metadata" => Some("a table"),
-        "bin" | "example" => Some("an array of tables"),
-        "build" | "readme" => Some("a string or a boolean"),
-        "publish" => Some("a boolean or an array of strings"),
-        _ => None,
+    for line in EXPECTED.lines() {
+        if let Some((words, keys)) = line.split_once(": ") {
+            if keys.split(' ').any(|known| known == key) {
+                return Some(words);
+            }
+        }
     }
+    None
 }
 
 /// The words of a choice, each in backquotes.

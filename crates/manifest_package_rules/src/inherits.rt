@@ -24,20 +24,20 @@ fn is_first(name: &str) -> bool {
 }
 
 /// All rules of what profiles inherit.
-pub fn inherited_profiles(look: &Look<'_>, out: &mut Out) -> Result<(), AllocError> {
+pub fn inherited_profiles(look: &Look<'_>, out: &mut Out) {
     let Some(profiles) = table_in(look.document, "profile") else {
-        return Ok(());
+        return;
     };
     for (name, value) in profiles {
         if let Value::Table(table) = value {
             let name = name.as_str();
             match text_in(table, "inherits") {
-                Some(parent) => rules_of_parent(look, profiles, name, parent, out)?,
-                None => missing_inherits(look, name, table, out)?,
+                Some(parent) => rules_of_parent(look, profiles, name, parent, out),
+                None => missing_inherits(look, name, table, out),
             }
         }
     }
-    circular_inherits(profiles, out)
+    circular_inherits(profiles, out);
 }
 
 fn rules_of_parent<'a>(
@@ -46,14 +46,16 @@ fn rules_of_parent<'a>(
     name: &'a str,
     parent: &'a str,
     out: &mut Out,
-) -> Result<(), AllocError> {
+) {
     if parent == "debug" {
-        return inherits_debug(name, out);
+        inherits_debug(name, out);
+        return;
     }
     if is_first(name) {
-        return inherits_of_built_in(name, out);
+        inherits_of_built_in(name, out);
+        return;
     }
-    unknown_inherits(look, profiles, name, parent, out)
+    unknown_inherits(look, profiles, name, parent, out);
 }
 
 /// The path of `inherits` in a profile.
@@ -62,31 +64,26 @@ fn inherits_path(name: &str) -> [At<'_>; 3] {
 }
 
 /// The suggestion to inherit from another profile.
-fn inherit_from(
-    name: &str,
-    parent: &str,
-    is_certain: bool,
-    out: &mut Out,
-) -> Result<(), AllocError> {
+fn inherit_from(name: &str, parent: &str, is_certain: bool, out: &mut Out) {
     let help = ["inherit from `{}`", parent];
-    out.set_text(&inherits_path(name), &[], parent, is_certain, &help)
+    out.set_text(&inherits_path(name), &[], parent, is_certain, &help);
 }
 
-fn inherits_debug(name: &str, out: &mut Out) -> Result<(), AllocError> {
+fn inherits_debug(name: &str, out: &mut Out) {
     let words = [
         "profile `{}` inherits from `debug`, which is named `dev`",
         name,
     ];
-    out.value(INHERITS_DEBUG, &inherits_path(name), &[], &words)?;
-    inherit_from(name, "dev", true, out)
+    out.value(INHERITS_DEBUG, &inherits_path(name), &[], &words);
+    inherit_from(name, "dev", true, out);
 }
 
-fn inherits_of_built_in(name: &str, out: &mut Out) -> Result<(), AllocError> {
+fn inherits_of_built_in(name: &str, out: &mut Out) {
     let words = [
         "`inherits` must not be specified in root profile `{}`",
         name,
     ];
-    out.key(INHERITS_OF_BUILT_IN, &inherits_path(name), &[], &words)
+    out.key(INHERITS_OF_BUILT_IN, &inherits_path(name), &[], &words);
 }
 
 /// The profile of this name in the configuration.
@@ -95,26 +92,21 @@ fn configured<'a>(look: &Look<'a>, name: &str) -> Option<&'a Table> {
 }
 
 /// A profile of one's own says what it inherits, here or in the configuration.
-fn missing_inherits(
-    look: &Look<'_>,
-    name: &str,
-    table: &Table,
-    out: &mut Out,
-) -> Result<(), AllocError> {
+fn missing_inherits(look: &Look<'_>, name: &str, table: &Table, out: &mut Out) {
     let is_configured = match configured(look, name) {
         Some(other) => other.contains_key("inherits"),
         None => false,
     };
     let has_none = !table.contains_key("inherits") && !is_configured && !is_built_in(name);
-    if !has_none || !is_profile_name(out.alloc, name)? {
-        return Ok(());
+    if !has_none || out.made(is_profile_name(out.alloc, name)) != Some(true) {
+        return;
     }
     let path = [At::Key("profile"), At::Key(name)];
     let words = ["profile `{}` is missing `inherits`", name];
-    out.header(MISSING_INHERITS, &path, &[], &words)?;
-    out.note(&["each profile but those of Cargo itself inherits from another one"])?;
+    out.header(MISSING_INHERITS, &path, &[], &words);
+    out.note(&["each profile but those of Cargo itself inherits from another one"]);
     let help = ["inherit from `release`"];
-    out.insert_text(&path, &[At::Key("inherits")], "release", false, &help)
+    out.insert_text(&path, &[At::Key("inherits")], "release", false, &help);
 }
 
 fn unknown_inherits<'a>(
@@ -123,21 +115,20 @@ fn unknown_inherits<'a>(
     name: &'a str,
     parent: &'a str,
     out: &mut Out,
-) -> Result<(), AllocError> {
+) {
     let is_known = is_built_in(parent) || profiles.contains_key(parent);
     if is_known || configured(look, parent).is_some() {
-        return Ok(());
+        return;
     }
-    let near = nearest_profile(profiles, name, parent, out)?;
+    let near = nearest_profile(profiles, name, parent, out);
     let words = [
         "profile `{}` inherits from `{}`, but that profile is not defined",
         name,
         parent,
     ];
-    out.value(UNKNOWN_INHERITS, &inherits_path(name), &[], &words)?;
-    match near {
-        Some(near) => inherit_from(name, near, false, out),
-        None => Ok(()),
+    out.value(UNKNOWN_INHERITS, &inherits_path(name), &[], &words);
+    if let Some(near) = near {
+        inherit_from(name, near, false, out);
     }
 }
 
@@ -146,18 +137,18 @@ fn nearest_profile<'a>(
     profiles: &'a Table,
     name: &str,
     parent: &'a str,
-    out: &Out,
-) -> Result<Option<&'a str>, AllocError> {
+    out: &mut Out,
+) -> Option<&'a str> {
     let mut nearest = out.nearest(parent);
     for other in BUILT_IN {
-        nearest.offer(out.alloc, other)?;
+        out.offer(&mut nearest, other);
     }
     for (other, _profile) in profiles {
         if other.as_str() != name {
-            nearest.offer(out.alloc, other.as_str())?;
+            out.offer(&mut nearest, other.as_str());
         }
     }
-    Ok(nearest.found())
+    nearest.found()
 }
 
 /// The profile from which another one inherits, where that is written here.
@@ -169,14 +160,13 @@ fn parent_of<'a>(profiles: &'a Table, name: &str) -> Option<&'a str> {
 }
 
 /// Profiles do not inherit from one another in a circle: each profile of one is reported.
-fn circular_inherits(profiles: &Table, out: &mut Out) -> Result<(), AllocError> {
+fn circular_inherits(profiles: &Table, out: &mut Out) {
     let mut done = BTreeSet::new(out.alloc);
     for (start, _profile) in profiles {
-        for seen in way_from(profiles, start.as_str(), &done, out)? {
-            done.insert(seen)?;
+        for seen in way_from(profiles, start.as_str(), &done, out) {
+            let _is_new = out.made(done.insert(seen).map_err(AllocError::from));
         }
     }
-    Ok(())
 }
 
 /// The profiles from which one inherits, and itself, up to one that was looked at; a circle to which they lead is reported.
@@ -185,52 +175,51 @@ fn way_from<'a>(
     start: &'a str,
     done: &BTreeSet<&'a str>,
     out: &mut Out,
-) -> Result<BTreeSet<&'a str>, AllocError> {
+) -> BTreeSet<&'a str> {
     let mut way = BTreeSet::new(out.alloc);
     let mut name = start;
     for _step in 0..=profiles.len() {
         if done.contains(&name) {
             break;
         }
-        way.insert(name)?;
+        let _is_new = out.made(way.insert(name).map_err(AllocError::from));
         let Some(parent) = parent_of(profiles, name) else {
             break;
         };
         if way.contains(&parent) {
-            all_of_circle(profiles, parent, out)?;
+            all_of_circle(profiles, parent, out);
             break;
         }
         name = parent;
     }
-    Ok(way)
+    way
 }
 
 /// Reports each profile of the circle to which this one belongs.
-fn all_of_circle(profiles: &Table, first: &str, out: &mut Out) -> Result<(), AllocError> {
+fn all_of_circle(profiles: &Table, first: &str, out: &mut Out) {
     let mut name = first;
     for _step in 0..=profiles.len() {
         let Some(parent) = parent_of(profiles, name) else {
             break;
         };
-        circle(name, parent, out)?;
+        circle(name, parent, out);
         if parent == first {
             break;
         }
         name = parent;
     }
-    Ok(())
 }
 
-fn circle<'a>(name: &'a str, parent: &'a str, out: &mut Out) -> Result<(), AllocError> {
+fn circle<'a>(name: &'a str, parent: &'a str, out: &mut Out) {
     let words = [
         "profile inheritance loop: `{}` inherits from `{}`, which inherits from `{}`",
         name,
         parent,
         name,
     ];
-    out.value(CIRCULAR_INHERITS, &inherits_path(name), &[], &words)?;
+    out.value(CIRCULAR_INHERITS, &inherits_path(name), &[], &words);
     if name == parent {
-        return Ok(());
+        return;
     }
     let other = inherits_path(parent);
     out.label(
@@ -239,5 +228,5 @@ fn circle<'a>(name: &'a str, parent: &'a str, out: &mut Out) -> Result<(), Alloc
         &other,
         &[],
         &["the loop goes on here"],
-    )
+    );
 }

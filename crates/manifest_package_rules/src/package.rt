@@ -9,40 +9,40 @@ use manifest_rules::codes::{
 };
 use manifest_rules::files::{FileState, file_state};
 use manifest_rules::look::{Edition, Look, flag_in, table_in, text_in};
-use manifest_rules::report::{At, File, Out, Part, shown};
+use manifest_rules::report::{At, File, Out, Part};
 use manifest_rules::words::{WrongWord, name_fault, say_wrong_word, version_fault};
 use std::alloc::{AllocError, Global};
 use toml::{Table, Value};
 
 /// All rules of a package.
-pub fn package(look: &Look<'_>, out: &mut Out) -> Result<(), AllocError> {
+pub fn package(look: &Look<'_>, out: &mut Out) {
     let workspace_path = [At::Key("workspace"), At::Key("package")];
     if let Some(workspace) = look.workspace {
         if let Some(shared) = table_in(workspace, "package") {
-            version(&workspace_path, shared, false, out)?;
-            rust_version(&workspace_path, shared, out)?;
+            version(&workspace_path, shared, false, out);
+            rust_version(&workspace_path, shared, out);
         }
     }
     let Some(package) = look.package else {
-        return Ok(());
+        return;
     };
     let path = [At::Key(look.package_key)];
-    package_name(&path, package, out)?;
-    version(&path, package, true, out)?;
-    missing_version(&path, package, out)?;
-    rust_version(&path, package, out)?;
-    missing_edition(&path, package, out)?;
-    rust_version_below_edition(look, &path, package, out)?;
-    license_and_license_file(&path, package, out)?;
-    build_script(look, &path, package, out)?;
-    links_without_build_script(look, &path, package, out)?;
-    two_resolvers(look, &path, package, out)?;
-    workspace_beside_root(look, &path, package, out)
+    package_name(&path, package, out);
+    version(&path, package, true, out);
+    missing_version(&path, package, out);
+    rust_version(&path, package, out);
+    missing_edition(&path, package, out);
+    rust_version_below_edition(look, &path, package, out);
+    license_and_license_file(&path, package, out);
+    build_script(look, &path, package, out);
+    links_without_build_script(look, &path, package, out);
+    two_resolvers(look, &path, package, out);
+    workspace_beside_root(look, &path, package, out);
 }
 
-fn package_name(path: &[At<'_>], package: &Table, out: &mut Out) -> Result<(), AllocError> {
+fn package_name(path: &[At<'_>], package: &Table, out: &mut Out) {
     let Some(name) = text_in(package, "name") else {
-        return Ok(());
+        return;
     };
     let rest = [At::Key("name")];
     if let Some(fault) = name_fault(name) {
@@ -51,63 +51,47 @@ fn package_name(path: &[At<'_>], package: &Table, out: &mut Out) -> Result<(), A
             word: name,
             fault,
         };
-        return say_wrong_word(INVALID_PACKAGE_NAME, Part::Value, path, &rest, &wrong, out);
+        say_wrong_word(INVALID_PACKAGE_NAME, Part::Value, path, &rest, &wrong, out);
+        return;
     }
     if name.contains("::") {
         let words = ["`::` in a package name wants the unstable feature `open-namespaces`"];
-        return out.value(UNSTABLE_KEY, path, &rest, &words);
+        out.value(UNSTABLE_KEY, path, &rest, &words);
     }
-    Ok(())
 }
 
 /// A version is a whole semantic version; of a package white space around it is cut off.
-fn version(
-    path: &[At<'_>],
-    table: &Table,
-    is_trimmed: bool,
-    out: &mut Out,
-) -> Result<(), AllocError> {
+fn version(path: &[At<'_>], table: &Table, is_trimmed: bool, out: &mut Out) {
     let Some(written) = text_in(table, "version") else {
-        return Ok(());
+        return;
     };
     let text = if is_trimmed { written.trim() } else { written };
-    let Some(fault) = version_fault(out.alloc, text)? else {
-        return Ok(());
+    let Some(Some(fault)) = out.made(version_fault(out.alloc, text)) else {
+        return;
     };
-    say_invalid_version(path, written, fault, out)?;
+    say_invalid_version(path, written, fault, out);
     for more in [".0", ".0.0"] {
-        if say_whole_version(path, text, more, out)? {
+        if say_whole_version(path, text, more, out) {
             break;
         }
     }
-    Ok(())
 }
 
-fn say_invalid_version(
-    path: &[At<'_>],
-    written: &str,
-    fault: semver::Error,
-    out: &mut Out,
-) -> Result<(), AllocError> {
-    let fault = shown(out.alloc, &fault)?;
+fn say_invalid_version(path: &[At<'_>], written: &str, fault: semver::Error, out: &mut Out) {
+    let fault = out.shown(&fault);
     let words = ["invalid version `{}`: {}", written, fault.as_str()];
-    out.value(INVALID_VERSION, path, &[At::Key("version")], &words)
+    out.value(INVALID_VERSION, path, &[At::Key("version")], &words);
 }
 
 /// Whether the text with more numbers is a version, which is suggested then.
-fn say_whole_version<'a>(
-    path: &[At<'_>],
-    text: &'a str,
-    more: &'a str,
-    out: &mut Out,
-) -> Result<bool, AllocError> {
-    if !is_version(out.alloc, text, more)? {
-        return Ok(false);
+fn say_whole_version<'a>(path: &[At<'_>], text: &'a str, more: &'a str, out: &mut Out) -> bool {
+    if out.made(is_version(out.alloc, text, more)) != Some(true) {
+        return false;
     }
     let words = ["a version has three numbers: `{}{}`", text, more];
     let value = ["\"{}{}\"", text, more];
-    out.set(path, &[At::Key("version")], &value, false, &words)?;
-    Ok(true)
+    out.set(path, &[At::Key("version")], &value, false, &words);
+    true
 }
 
 /// Whether the text with more after it is a version.
@@ -125,12 +109,12 @@ fn is_published(package: &Table) -> bool {
     }
 }
 
-fn missing_version(path: &[At<'_>], package: &Table, out: &mut Out) -> Result<(), AllocError> {
+fn missing_version(path: &[At<'_>], package: &Table, out: &mut Out) {
     if package.contains_key("version") || !is_published(package) {
-        return Ok(());
+        return;
     }
     let words = ["`package.publish` requires `package.version` be specified"];
-    out.header(MISSING_VERSION, path, &[], &words)
+    out.header(MISSING_VERSION, path, &[], &words);
 }
 
 /// The numbers of a `rust-version`, of which there are one to three: the first two, where the second may be absent.
@@ -158,12 +142,12 @@ fn plain_number(text: &str) -> Option<u64> {
     Some(number)
 }
 
-fn rust_version(path: &[At<'_>], table: &Table, out: &mut Out) -> Result<(), AllocError> {
+fn rust_version(path: &[At<'_>], table: &Table, out: &mut Out) {
     let Some(text) = text_in(table, "rust-version") else {
-        return Ok(());
+        return;
     };
     if rust_version_numbers(text).is_some() {
-        return Ok(());
+        return;
     }
     let words = [
         "invalid `rust-version` `{}`: it has one, two or three numbers and nothing else, as `1.70`",
@@ -174,25 +158,25 @@ fn rust_version(path: &[At<'_>], table: &Table, out: &mut Out) -> Result<(), All
         path,
         &[At::Key("rust-version")],
         &words,
-    )
+    );
 }
 
 /// A package without an edition has that of 2015, which Cargo warns of, unless its `rust-version` knows no other.
-fn missing_edition(path: &[At<'_>], package: &Table, out: &mut Out) -> Result<(), AllocError> {
+fn missing_edition(path: &[At<'_>], package: &Table, out: &mut Out) {
     if package.contains_key("edition") {
-        return Ok(());
+        return;
     }
     if let Some(text) = text_in(package, "rust-version") {
         match rust_version_numbers(text) {
-            Some((1, minor)) if minor < 31 => return Ok(()),
-            Some((0, _)) => return Ok(()),
+            Some((1, minor)) if minor < 31 => return,
+            Some((0, _)) => return,
             _ => {}
         }
     }
     let words = ["no edition set: defaulting to the 2015 edition while the latest is 2024"];
-    out.header(MISSING_EDITION, path, &[], &words)?;
+    out.header(MISSING_EDITION, path, &[], &words);
     let help = ["say which edition is meant, as `edition = \"2015\"`"];
-    out.insert_text(path, &[At::Key("edition")], "2015", false, &help)
+    out.insert_text(path, &[At::Key("edition")], "2015", false, &help);
 }
 
 /// The minor version of Rust 1 from which on an edition is known, and its digits; nothing where each knows it.
@@ -205,23 +189,18 @@ fn first_of_edition<'a>(edition: Edition) -> Option<(u64, &'a str)> {
     }
 }
 
-fn rust_version_below_edition(
-    look: &Look<'_>,
-    path: &[At<'_>],
-    package: &Table,
-    out: &mut Out,
-) -> Result<(), AllocError> {
+fn rust_version_below_edition(look: &Look<'_>, path: &[At<'_>], package: &Table, out: &mut Out) {
     let Some(text) = text_in(package, "rust-version") else {
-        return Ok(());
+        return;
     };
     let Some((major, minor)) = rust_version_numbers(text) else {
-        return Ok(());
+        return;
     };
     let Some((first, digits)) = first_of_edition(look.edition) else {
-        return Ok(());
+        return;
     };
     if major == 1 && minor >= first {
-        return Ok(());
+        return;
     }
     let words = [
         "`rust-version` `{}` is incompatible with the edition, which needs 1.{} or a later 1.x",
@@ -233,18 +212,14 @@ fn rust_version_below_edition(
         path,
         &[At::Key("rust-version")],
         &words,
-    )?;
+    );
     let edition = [At::Key("edition")];
-    out.label(File::Own, Part::Value, path, &edition, &["the edition"])
+    out.label(File::Own, Part::Value, path, &edition, &["the edition"]);
 }
 
-fn license_and_license_file(
-    path: &[At<'_>],
-    package: &Table,
-    out: &mut Out,
-) -> Result<(), AllocError> {
+fn license_and_license_file(path: &[At<'_>], package: &Table, out: &mut Out) {
     if !package.contains_key("license") || !package.contains_key("license-file") {
-        return Ok(());
+        return;
     }
     let words = ["only one of `license` or `license-file` is necessary"];
     out.key(
@@ -252,9 +227,9 @@ fn license_and_license_file(
         path,
         &[At::Key("license-file")],
         &words,
-    )?;
+    );
     let label = ["this is for a license that SPDX knows"];
-    out.label(File::Own, Part::Key, path, &[At::Key("license")], &label)
+    out.label(File::Own, Part::Key, path, &[At::Key("license")], &label);
 }
 
 /// The path of the build script that `build` names: a path, or `build.rs` where it is true.
@@ -275,42 +250,33 @@ fn has_file_name(path: &str) -> bool {
     }
 }
 
-fn build_script(
-    look: &Look<'_>,
-    path: &[At<'_>],
-    package: &Table,
-    out: &mut Out,
-) -> Result<(), AllocError> {
+fn build_script(look: &Look<'_>, path: &[At<'_>], package: &Table, out: &mut Out) {
     let Some(file) = build_path(package) else {
-        return Ok(());
+        return;
     };
     let rest = [At::Key("build")];
     if !has_file_name(file) {
         let words = ["the build script `{}` has no file name", file];
-        return out.value(INVALID_BUILD_PATH, path, &rest, &words);
+        out.value(INVALID_BUILD_PATH, path, &rest, &words);
+        return;
     }
-    if file_state(look, file)? == FileState::Absent {
+    if out.made(file_state(look, file)) == Some(FileState::Absent) {
         let words = ["couldn't find the build script `{}`", file];
-        return out.value(MISSING_BUILD_SCRIPT, path, &rest, &words);
+        out.value(MISSING_BUILD_SCRIPT, path, &rest, &words);
     }
-    Ok(())
 }
 
 /// A package with `links` has a build script: one that `build` names, or `build.rs` where there is no `build`.
-fn links_without_build_script(
-    look: &Look<'_>,
-    path: &[At<'_>],
-    package: &Table,
-    out: &mut Out,
-) -> Result<(), AllocError> {
+fn links_without_build_script(look: &Look<'_>, path: &[At<'_>], package: &Table, out: &mut Out) {
     if text_in(package, "links").is_none() || build_path(package).is_some() {
-        return Ok(());
+        return;
     }
     let is_off = flag_in(package, "build") == Some(false);
     if !is_off
-        && (package.contains_key("build") || file_state(look, "build.rs")? != FileState::Absent)
+        && (package.contains_key("build")
+            || out.made(file_state(look, "build.rs")) != Some(FileState::Absent))
     {
-        return Ok(());
+        return;
     }
     let words = ["package specifies `links` but does not have a custom build script"];
     out.key(
@@ -318,39 +284,29 @@ fn links_without_build_script(
         path,
         &[At::Key("links")],
         &words,
-    )
+    );
 }
 
-fn two_resolvers(
-    look: &Look<'_>,
-    path: &[At<'_>],
-    package: &Table,
-    out: &mut Out,
-) -> Result<(), AllocError> {
+fn two_resolvers(look: &Look<'_>, path: &[At<'_>], package: &Table, out: &mut Out) {
     let Some(workspace) = look.workspace else {
-        return Ok(());
+        return;
     };
     if !package.contains_key("resolver") || !workspace.contains_key("resolver") {
-        return Ok(());
+        return;
     }
     let words = ["cannot specify `resolver` in both `[workspace]` and `[package]`"];
-    out.key(TWO_RESOLVERS, path, &[At::Key("resolver")], &words)?;
+    out.key(TWO_RESOLVERS, path, &[At::Key("resolver")], &words);
     let other = [At::Key("workspace"), At::Key("resolver")];
     let label = ["the resolver of the workspace"];
-    out.label(File::Own, Part::Key, &other, &[], &label)
+    out.label(File::Own, Part::Key, &other, &[], &label);
 }
 
-fn workspace_beside_root(
-    look: &Look<'_>,
-    path: &[At<'_>],
-    package: &Table,
-    out: &mut Out,
-) -> Result<(), AllocError> {
+fn workspace_beside_root(look: &Look<'_>, path: &[At<'_>], package: &Table, out: &mut Out) {
     if look.workspace.is_none() || !package.contains_key("workspace") {
-        return Ok(());
+        return;
     }
     let words = [
         "cannot configure both `package.workspace` and `[workspace]`, only one can be specified",
     ];
-    out.key(WORKSPACE_BESIDE_ROOT, path, &[At::Key("workspace")], &words)
+    out.key(WORKSPACE_BESIDE_ROOT, path, &[At::Key("workspace")], &words);
 }

@@ -18,6 +18,20 @@ struct Users<'a> {
 }
 
 impl<'a> Users<'a> {
+    /// The files that are found, if there is a package.
+    fn found(look: &Look<'_>) -> Result<Users<'a>, AllocError> {
+        let mut users = Users {
+            files: BTreeMap::new(look.alloc),
+        };
+        if look.package.is_some() {
+            users.find_library(look)?;
+            for kind in LISTED {
+                users.find(look, kind)?;
+            }
+        }
+        Ok(users)
+    }
+
     /// Notes the files of one kind that are found: each that is not declared, if files of the kind are found, and that of
     /// each declared target that has no path.
     fn find(&mut self, look: &Look<'_>, kind: Kind) -> Result<(), AllocError> {
@@ -59,15 +73,7 @@ fn is_used(look: &Look<'_>, kind: Kind, declared: &Declared<'_>, file: &FoundFil
 
 /// No two targets have one file: each that has the file of an earlier one, or of one that is found, is reported.
 pub(crate) fn shared_files(look: &Look<'_>, out: &mut Out) -> Result<(), AllocError> {
-    let mut users = Users {
-        files: BTreeMap::new(look.alloc),
-    };
-    if look.package.is_some() {
-        users.find_library(look)?;
-        for kind in LISTED {
-            users.find(look, kind)?;
-        }
-    }
+    let mut users = Users::found(look)?;
     for target in &look.targets {
         let Some(path) = text_in(target.table, "path") else {
             continue;
@@ -77,7 +83,7 @@ pub(crate) fn shared_files(look: &Look<'_>, out: &mut Out) -> Result<(), AllocEr
             let _none = users.files.insert(plain, Some(target))?;
             continue;
         };
-        shared_file(target, *first, path, out)?;
+        shared_file(target, *first, path, out);
     }
     Ok(())
 }
@@ -87,17 +93,17 @@ fn shared_file(
     first: Option<&DeclaredTarget<'_>>,
     path: &str,
     out: &mut Out,
-) -> Result<(), AllocError> {
+) {
     let rest = [At::Key("path")];
     let words = [
         "file `{}` found to be present in multiple build targets",
         path,
     ];
-    out.value(SHARED_TARGET_FILE, target.path.as_slice(), &rest, &words)?;
+    out.value(SHARED_TARGET_FILE, target.path.as_slice(), &rest, &words);
     match first {
         Some(first) => {
             let base = first.path.as_slice();
-            out.label(File::Own, Part::Value, base, &rest, &["the same file"])
+            out.label(File::Own, Part::Value, base, &rest, &["the same file"]);
         }
         None => out.note(&["by where it stands it is the file of another target"]),
     }

@@ -3,7 +3,6 @@
 use manifest_rules::codes::{IGNORED_SPELLING, OLD_SPELLING};
 use manifest_rules::look::{Look, Section, table_in};
 use manifest_rules::report::{At, Out};
-use std::alloc::AllocError;
 use toml::{Table, Value};
 
 /// A spelling, and the one that Cargo knows.
@@ -78,40 +77,38 @@ static IGNORED_OF_WORKSPACES: Spelling = Spelling {
 };
 
 /// All rules of spellings.
-pub fn spellings(look: &Look<'_>, out: &mut Out) -> Result<(), AllocError> {
-    old_spellings(&[], look.document, &OLD_SECTIONS, out)?;
-    old_project(look, out)?;
-    spellings_of_platforms(look, out)?;
+pub fn spellings(look: &Look<'_>, out: &mut Out) {
+    old_spellings(&[], look.document, &OLD_SECTIONS, out);
+    old_project(look, out);
+    spellings_of_platforms(look, out);
     for target in &look.targets {
         let path = target.path.as_slice();
-        old_spellings(path, target.table, &OLD_OF_TARGETS, out)?;
+        old_spellings(path, target.table, &OLD_OF_TARGETS, out);
         let written = [At::Key(IGNORED_OF_TARGETS.written)];
-        ignored_spelling(path, &written, target.table, &IGNORED_OF_TARGETS, out)?;
-        ignored_plugin(path, target.table, out)?;
+        ignored_spelling(path, &written, target.table, &IGNORED_OF_TARGETS, out);
+        ignored_plugin(path, target.table, out);
     }
-    spellings_of_dependencies(look, out)?;
-    spellings_of_profiles(look, out)?;
+    spellings_of_dependencies(look, out);
+    spellings_of_profiles(look, out);
     if let Some(workspace) = look.workspace {
         let path = [At::Key("workspace"), At::Key(IGNORED_OF_WORKSPACES.written)];
-        ignored_spelling(&path, &[], workspace, &IGNORED_OF_WORKSPACES, out)?;
+        ignored_spelling(&path, &[], workspace, &IGNORED_OF_WORKSPACES, out);
     }
-    Ok(())
 }
 
-fn spellings_of_platforms(look: &Look<'_>, out: &mut Out) -> Result<(), AllocError> {
+fn spellings_of_platforms(look: &Look<'_>, out: &mut Out) {
     let Some(platforms) = table_in(look.document, "target") else {
-        return Ok(());
+        return;
     };
     for (name, platform) in platforms {
         if let Value::Table(platform) = platform {
             let path = [At::Key("target"), At::Key(name.as_str())];
-            old_spellings(&path, platform, &OLD_SECTIONS, out)?;
+            old_spellings(&path, platform, &OLD_SECTIONS, out);
         }
     }
-    Ok(())
 }
 
-fn spellings_of_dependencies(look: &Look<'_>, out: &mut Out) -> Result<(), AllocError> {
+fn spellings_of_dependencies(look: &Look<'_>, out: &mut Out) {
     for section in &look.dependencies {
         for (name, dependency) in section.table {
             let Value::Table(table) = dependency else {
@@ -121,39 +118,33 @@ fn spellings_of_dependencies(look: &Look<'_>, out: &mut Out) -> Result<(), Alloc
             let name = At::Key(name.as_str());
             if section.section != Section::Replace {
                 let old = [name, At::Key(OLD_OF_DEPENDENCIES.written)];
-                old_spelling(base, &old, table, &OLD_OF_DEPENDENCIES, out)?;
+                old_spelling(base, &old, table, &OLD_OF_DEPENDENCIES, out);
             }
             let ignored = [name, At::Key(IGNORED_OF_DEPENDENCIES.written)];
-            ignored_spelling(base, &ignored, table, &IGNORED_OF_DEPENDENCIES, out)?;
+            ignored_spelling(base, &ignored, table, &IGNORED_OF_DEPENDENCIES, out);
         }
     }
-    Ok(())
 }
 
-fn spellings_of_profiles(look: &Look<'_>, out: &mut Out) -> Result<(), AllocError> {
+fn spellings_of_profiles(look: &Look<'_>, out: &mut Out) {
     let Some(profiles) = table_in(look.document, "profile") else {
-        return Ok(());
+        return;
     };
     for (name, profile) in profiles {
         if let Value::Table(profile) = profile {
-            spellings_of_profile(name.as_str(), profile, out)?;
+            spellings_of_profile(name.as_str(), profile, out);
         }
     }
-    Ok(())
 }
 
-fn spellings_of_profile<'a>(
-    name: &'a str,
-    profile: &'a Table,
-    out: &mut Out,
-) -> Result<(), AllocError> {
-    ignored_in_profile(&[At::Key("profile"), At::Key(name)], profile, out)?;
+fn spellings_of_profile<'a>(name: &'a str, profile: &'a Table, out: &mut Out) {
+    ignored_in_profile(&[At::Key("profile"), At::Key(name)], profile, out);
     if let Some(inner) = table_in(profile, "build-override") {
         let path = [At::Key("profile"), At::Key(name), At::Key("build-override")];
-        ignored_in_profile(&path, inner, out)?;
+        ignored_in_profile(&path, inner, out);
     }
     let Some(packages) = table_in(profile, "package") else {
-        return Ok(());
+        return;
     };
     for (id, inner) in packages {
         if let Value::Table(inner) = inner {
@@ -163,18 +154,16 @@ fn spellings_of_profile<'a>(
                 At::Key("package"),
                 At::Key(id.as_str()),
             ];
-            ignored_in_profile(&path, inner, out)?;
+            ignored_in_profile(&path, inner, out);
         }
     }
-    Ok(())
 }
 
 /// What Cargo ignores in a profile, or in what overrides one.
-fn ignored_in_profile(base: &[At<'_>], table: &Table, out: &mut Out) -> Result<(), AllocError> {
+fn ignored_in_profile(base: &[At<'_>], table: &Table, out: &mut Out) {
     for spelling in &IGNORED_OF_PROFILES {
-        ignored_spelling(base, &[At::Key(spelling.written)], table, spelling, out)?;
+        ignored_spelling(base, &[At::Key(spelling.written)], table, spelling, out);
     }
-    Ok(())
 }
 
 /// Whether a spelling stands in a table without the one that Cargo knows. (Of both the schema tells.)
@@ -183,16 +172,10 @@ fn stands_alone(table: &Table, spelling: &Spelling) -> bool {
 }
 
 /// The old spellings of a table.
-fn old_spellings(
-    base: &[At<'_>],
-    table: &Table,
-    spellings: &[Spelling],
-    out: &mut Out,
-) -> Result<(), AllocError> {
+fn old_spellings(base: &[At<'_>], table: &Table, spellings: &[Spelling], out: &mut Out) {
     for spelling in spellings {
-        old_spelling(base, &[At::Key(spelling.written)], table, spelling, out)?;
+        old_spelling(base, &[At::Key(spelling.written)], table, spelling, out);
     }
-    Ok(())
 }
 
 /// An old spelling of a table, and the path of its key.
@@ -202,17 +185,17 @@ fn old_spelling(
     table: &Table,
     spelling: &Spelling,
     out: &mut Out,
-) -> Result<(), AllocError> {
+) {
     if !stands_alone(table, spelling) {
-        return Ok(());
+        return;
     }
     let words = [
         "`{}` is deprecated in favor of `{}` and not supported in the 2024 edition",
         spelling.written,
         spelling.known,
     ];
-    out.key(OLD_SPELLING, base, rest, &words)?;
-    write_instead(base, rest, spelling.known, out)
+    out.key(OLD_SPELLING, base, rest, &words);
+    write_instead(base, rest, spelling.known, out);
 }
 
 /// A spelling of a table that Cargo does not know, and the path of its key.
@@ -222,47 +205,42 @@ fn ignored_spelling(
     table: &Table,
     spelling: &Spelling,
     out: &mut Out,
-) -> Result<(), AllocError> {
+) {
     if !stands_alone(table, spelling) {
-        return Ok(());
+        return;
     }
     let words = [
         "Cargo ignores `{}`: the key is `{}`",
         spelling.written,
         spelling.known,
     ];
-    out.key(IGNORED_SPELLING, base, rest, &words)?;
-    write_instead(base, rest, spelling.known, out)
+    out.key(IGNORED_SPELLING, base, rest, &words);
+    write_instead(base, rest, spelling.known, out);
 }
 
 /// The suggestion to write the key at the path as Cargo knows it.
-fn write_instead(
-    base: &[At<'_>],
-    rest: &[At<'_>],
-    known: &str,
-    out: &mut Out,
-) -> Result<(), AllocError> {
-    out.rename(base, rest, known, true, &["write `{}`", known])
+fn write_instead(base: &[At<'_>], rest: &[At<'_>], known: &str, out: &mut Out) {
+    out.rename(base, rest, known, true, &["write `{}`", known]);
 }
 
 /// `project`, where there is no `package`.
-fn old_project(look: &Look<'_>, out: &mut Out) -> Result<(), AllocError> {
+fn old_project(look: &Look<'_>, out: &mut Out) {
     if look.package.is_none() || look.package_key == "package" {
-        return Ok(());
+        return;
     }
     let path = [At::Key("project")];
     let words = ["`[project]` is deprecated in favor of `[package]`"];
-    out.key(OLD_SPELLING, &path, &[], &words)?;
-    write_instead(&path, &[], "package", out)
+    out.key(OLD_SPELLING, &path, &[], &words);
+    write_instead(&path, &[], "package", out);
 }
 
 /// `plugin` of a target, which Cargo ignores.
-fn ignored_plugin(base: &[At<'_>], table: &Table, out: &mut Out) -> Result<(), AllocError> {
+fn ignored_plugin(base: &[At<'_>], table: &Table, out: &mut Out) {
     if !table.contains_key("plugin") {
-        return Ok(());
+        return;
     }
     let rest = [At::Key("plugin")];
     let words = ["Cargo ignores `plugin`: compiler plugins are gone"];
-    out.key(IGNORED_SPELLING, base, &rest, &words)?;
-    out.remove(base, &rest, true, &["remove it"])
+    out.key(IGNORED_SPELLING, base, &rest, &words);
+    out.remove(base, &rest, true, &["remove it"]);
 }

@@ -12,29 +12,28 @@ use std::collections::BTreeSet;
 use toml::Value;
 
 /// All rules of the text and of its top.
-pub fn text(look: &Look<'_>, out: &mut Out) -> Result<(), AllocError> {
-    no_package(look, out)?;
-    tables_without_package(look, out)?;
-    cargo_features(look, out)?;
-    direction_characters(look, out)
+pub fn text(look: &Look<'_>, out: &mut Out) {
+    no_package(look, out);
+    tables_without_package(look, out);
+    cargo_features(look, out);
+    direction_characters(look, out);
 }
 
 /// Characters that turn the direction of a text, so that it is read otherwise than it is shown.
 /// (<https://trojansource.codes>)
-fn direction_characters(look: &Look<'_>, out: &mut Out) -> Result<(), AllocError> {
+fn direction_characters(look: &Look<'_>, out: &mut Out) {
     if look.text.is_ascii() {
-        return Ok(());
+        return;
     }
     let mut at = 0usize;
     for ch in look.text.chars() {
         let end = at.saturating_add(ch.len_utf8());
         if let Some(code) = direction_code(ch) {
             let words = ["the character U+{} turns the direction of the text", code];
-            out.bytes(DIRECTION_CHARACTERS, at, end, &words)?;
+            out.bytes(DIRECTION_CHARACTERS, at, end, &words);
         }
         at = end;
     }
-    Ok(())
 }
 
 /// The number of a character that turns the direction of a text.
@@ -54,30 +53,29 @@ fn direction_code(ch: char) -> Option<&'static str> {
 }
 
 /// A manifest has a package or is a workspace. A table of nearly that name is meant as one.
-fn no_package(look: &Look<'_>, out: &mut Out) -> Result<(), AllocError> {
+fn no_package(look: &Look<'_>, out: &mut Out) {
     if has_any(look, &["package", "project", "workspace"]) {
-        return Ok(());
+        return;
     }
     out.value(
         NO_PACKAGE,
         &[],
         &[],
         &["manifest is missing either a `[package]` or a `[workspace]`"],
-    )?;
+    );
     for (key, value) in look.document {
         if value.is_table() {
-            misspelled_table(key.as_str(), out)?;
+            misspelled_table(key.as_str(), out);
         }
     }
-    Ok(())
 }
 
-fn misspelled_table(key: &str, out: &mut Out) -> Result<(), AllocError> {
+fn misspelled_table(key: &str, out: &mut Out) {
     if OF_PACKAGES.contains(&key) {
-        return Ok(());
+        return;
     }
-    let Some(word) = out.nearest_of(key, &["package", "workspace"])? else {
-        return Ok(());
+    let Some(word) = out.nearest_of(key, &["package", "workspace"]) else {
+        return;
     };
     let path = [At::Key(key)];
     out.key(
@@ -85,9 +83,9 @@ fn misspelled_table(key: &str, out: &mut Out) -> Result<(), AllocError> {
         &path,
         &[],
         &["unused manifest key: {}", key],
-    )?;
+    );
     let help = ["a key with a similar name exists: `{}`", word];
-    out.rename(&path, &[], word, false, &help)
+    out.rename(&path, &[], word, false, &help);
 }
 
 fn has_any(look: &Look<'_>, keys: &[&str]) -> bool {
@@ -119,9 +117,9 @@ static OF_PACKAGES: [&str; 15] = [
 ];
 
 /// Where there is a workspace alone, it has no table of a package.
-fn tables_without_package(look: &Look<'_>, out: &mut Out) -> Result<(), AllocError> {
+fn tables_without_package(look: &Look<'_>, out: &mut Out) {
     if look.workspace.is_none() || has_any(look, &["package", "project"]) {
-        return Ok(());
+        return;
     }
     for key in &OF_PACKAGES {
         let key = *key;
@@ -130,10 +128,9 @@ fn tables_without_package(look: &Look<'_>, out: &mut Out) -> Result<(), AllocErr
                 "this virtual manifest specifies a `{}` section, which is not allowed",
                 key,
             ];
-            out.key(TABLE_WITHOUT_PACKAGE, &[At::Key(key)], &[], &words)?;
+            out.key(TABLE_WITHOUT_PACKAGE, &[At::Key(key)], &[], &words);
         }
     }
-    Ok(())
 }
 
 /// The names in `cargo-features` that every Cargo has by now.
@@ -171,22 +168,21 @@ static UNSTABLE: [&str; 13] = [
     "panic-immediate-abort",
 ];
 
-fn cargo_features(look: &Look<'_>, out: &mut Out) -> Result<(), AllocError> {
+fn cargo_features(look: &Look<'_>, out: &mut Out) {
     let mut names = BTreeSet::new(look.alloc);
     for (index, item) in items_in(look.document, "cargo-features").iter().enumerate() {
         if let Value::String(name) = item {
             let name = name.as_str();
-            if names.insert(name)? {
-                cargo_feature(name, index, out)?;
-            } else {
-                repeated_cargo_feature(name, index, out)?;
+            match out.made(names.insert(name).map_err(AllocError::from)) {
+                Some(true) => cargo_feature(name, index, out),
+                Some(false) => repeated_cargo_feature(name, index, out),
+                None => return,
             }
         }
     }
-    Ok(())
 }
 
-fn cargo_feature(name: &str, index: usize, out: &mut Out) -> Result<(), AllocError> {
+fn cargo_feature(name: &str, index: usize, out: &mut Out) {
     let (code, message) = if STABLE.contains(&name) {
         (
             STABLE_CARGO_FEATURE,
@@ -206,11 +202,11 @@ fn cargo_feature(name: &str, index: usize, out: &mut Out) -> Result<(), AllocErr
         (UNKNOWN_CARGO_FEATURE, "unknown Cargo.toml feature `{}`")
     };
     let path = [At::Key("cargo-features"), At::Index(index)];
-    out.value(code, &path, &[], &[message, name])
+    out.value(code, &path, &[], &[message, name]);
 }
 
-fn repeated_cargo_feature(name: &str, index: usize, out: &mut Out) -> Result<(), AllocError> {
+fn repeated_cargo_feature(name: &str, index: usize, out: &mut Out) {
     let path = [At::Key("cargo-features"), At::Index(index)];
     let words = ["the cargo feature `{}` is listed twice", name];
-    out.value(REPEATED_CARGO_FEATURE, &path, &[], &words)
+    out.value(REPEATED_CARGO_FEATURE, &path, &[], &words);
 }

@@ -1,13 +1,9 @@
 //! What a page says of a manifest, as JSON.
 
-use manifest_json::{
-    close, close_list, null_member, number_member, open, open_list, open_member, optional_text,
-    push_text, text_member,
-};
+use manifest_json::Text;
 use manifest_lint::Diagnostic;
 use manifest_places::position_of;
 use manifest_rules::Level;
-use std::alloc::AllocError;
 use toml::{Table, Value};
 
 /// A manifest that is shown.
@@ -49,136 +45,129 @@ fn text_in<'a>(table: &'a Table, key: &str) -> Option<&'a str> {
 }
 
 /// Writes the name and the version of the package; null where there is none.
-fn push_package(out: &mut String, document: &Table) -> Result<(), AllocError> {
+fn push_package(out: &mut Text, document: &Table) {
     let package = table_in(document, "package").or(table_in(document, "project"));
     let Some(package) = package else {
-        return null_member(out, "package");
+        out.null_member("package");
+        return;
     };
-    open_member(out, "package")?;
-    optional_text(out, "name", text_in(package, "name"))?;
-    optional_text(out, "version", text_in(package, "version"))?;
-    optional_text(out, "description", text_in(package, "description"))?;
-    close(out)
+    out.open_member("package");
+    out.optional_text("name", text_in(package, "name"));
+    out.optional_text("version", text_in(package, "version"));
+    out.optional_text("description", text_in(package, "description"));
+    out.close();
 }
 
 /// Writes what a dependency in detail asks for, in a line.
-fn push_detail(out: &mut String, table: &Table) -> Result<(), AllocError> {
+fn push_detail(out: &mut Text, table: &Table) {
     if let Some(Value::Boolean(true)) = table.get("workspace") {
-        return text_member(out, "spec", "inherited");
+        out.text_member("spec", "inherited");
+        return;
     }
-    let mut spec = String::new(*out.allocator());
+    let mut spec = Text::new(out.allocator());
     if let Some(version) = text_in(table, "version") {
-        spec.push_str(version)?;
+        spec.push_str(version);
     }
     for key in &SOURCES {
         if let Some(text) = text_in(table, *key) {
             if !spec.is_empty() {
-                spec.push_str(", ")?;
+                spec.push_str(", ");
             }
-            spec.push_str(*key)?;
-            spec.push(' ')?;
-            spec.push_str(text)?;
+            spec.push_str(*key);
+            spec.push(' ');
+            spec.push_str(text);
         }
     }
-    text_member(out, "spec", spec.as_str())
+    if let Some(spec) = out.made(spec.finish()) {
+        out.text_member("spec", spec.as_str());
+    }
 }
 
 /// Writes a dependency.
 fn push_dependency(
-    out: &mut String,
+    out: &mut Text,
     section: &str,
     platform: Option<&str>,
     key: &str,
     value: &Value,
-) -> Result<(), AllocError> {
-    open(out)?;
-    text_member(out, "section", section)?;
-    optional_text(out, "platform", platform)?;
-    text_member(out, "key", key)?;
+) {
+    out.open();
+    out.text_member("section", section);
+    out.optional_text("platform", platform);
+    out.text_member("key", key);
     match value {
-        Value::String(version) => text_member(out, "spec", version.as_str())?,
+        Value::String(version) => out.text_member("spec", version.as_str()),
         Value::Table(table) => {
-            push_detail(out, table)?;
-            optional_text(out, "path", text_in(table, "path"))?;
+            push_detail(out, table);
+            out.optional_text("path", text_in(table, "path"));
         }
-        _ => text_member(out, "spec", "")?,
+        _ => out.text_member("spec", ""),
     }
-    close(out)
+    out.close();
 }
 
 /// Writes the dependencies of a table.
-fn push_section(
-    out: &mut String,
-    section: &str,
-    platform: Option<&str>,
-    table: Option<&Table>,
-) -> Result<(), AllocError> {
+fn push_section(out: &mut Text, section: &str, platform: Option<&str>, table: Option<&Table>) {
     if let Some(table) = table {
         for (key, value) in table {
-            push_dependency(out, section, platform, key.as_str(), value)?;
+            push_dependency(out, section, platform, key.as_str(), value);
         }
     }
-    Ok(())
 }
 
 /// Writes the dependencies of a package, or of one of its platforms.
-fn push_sections(
-    out: &mut String,
-    platform: Option<&str>,
-    tables: &Table,
-) -> Result<(), AllocError> {
+fn push_sections(out: &mut Text, platform: Option<&str>, tables: &Table) {
     for (section, old) in &SECTIONS {
         let table = table_in(tables, *section).or(table_in(tables, *old));
-        push_section(out, *section, platform, table)?;
+        push_section(out, *section, platform, table);
     }
-    Ok(())
 }
 
 /// Writes all dependencies of a document, and those that its members can inherit.
-fn push_dependencies(out: &mut String, document: &Table) -> Result<(), AllocError> {
-    open_list(out, "dependencies")?;
-    push_sections(out, None, document)?;
+fn push_dependencies(out: &mut Text, document: &Table) {
+    out.open_list("dependencies");
+    push_sections(out, None, document);
     if let Some(platforms) = table_in(document, "target") {
         for (platform, tables) in platforms {
             if let Value::Table(tables) = tables {
-                push_sections(out, Some(platform.as_str()), tables)?;
+                push_sections(out, Some(platform.as_str()), tables);
             }
         }
     }
     if let Some(workspace) = table_in(document, "workspace") {
         let table = table_in(workspace, "dependencies");
-        push_section(out, "workspace.dependencies", None, table)?;
+        push_section(out, "workspace.dependencies", None, table);
     }
-    close_list(out)
+    out.close_list();
 }
 
 /// Writes the items of a feature.
-fn push_feature(out: &mut String, name: &str, value: &Value) -> Result<(), AllocError> {
-    open_list(out, name)?;
+fn push_feature(out: &mut Text, name: &str, value: &Value) {
+    out.open_list(name);
     if let Value::Array(items) = value {
         let mut is_first = true;
         for item in items {
             if let Value::String(text) = item {
                 if !is_first {
-                    out.push(',')?;
+                    out.push(',');
                 }
                 is_first = false;
-                push_text(out, text.as_str())?;
+                out.push_quoted(text.as_str());
             }
         }
     }
-    close_list(out)
+    out.close_list();
 }
 
 /// Writes the features of a document.
-fn push_features(out: &mut String, document: &Table) -> Result<(), AllocError> {
-    open_member(out, "features")?;
+fn push_features(out: &mut Text, document: &Table) {
+    out.open_member("features");
     if let Some(features) = table_in(document, "features") {
         for (name, value) in features {
-            push_feature(out, name.as_str(), value)?;
+            push_feature(out, name.as_str(), value);
         }
     }
-    close(out)
+    out.close();
 }
 
 /// The name of a level.
@@ -205,70 +194,66 @@ fn line_at(text: &str, offset: usize) -> &str {
 }
 
 /// Writes where a diagnostic is.
-fn push_place(out: &mut String, text: &str, offset: usize) -> Result<(), AllocError> {
+fn push_place(out: &mut Text, text: &str, offset: usize) {
     let Some(position) = position_of(text, offset) else {
-        return Ok(());
+        return;
     };
-    number_member(out, "line", position.line)?;
-    number_member(out, "column", position.characters.saturating_add(1))?;
-    text_member(out, "excerpt", line_at(text, offset))
+    out.number_member("line", position.line);
+    out.number_member("column", position.characters.saturating_add(1));
+    out.text_member("excerpt", line_at(text, offset));
 }
 
 /// Writes a diagnostic.
-fn push_diagnostic(
-    out: &mut String,
-    text: &str,
-    diagnostic: &Diagnostic,
-) -> Result<(), AllocError> {
-    open(out)?;
-    text_member(out, "code", diagnostic.code.name)?;
-    text_member(out, "level", name_of(diagnostic.level))?;
-    text_member(out, "message", diagnostic.message.as_str())?;
+fn push_diagnostic(out: &mut Text, text: &str, diagnostic: &Diagnostic) {
+    out.open();
+    out.text_member("code", diagnostic.code.name);
+    out.text_member("level", name_of(diagnostic.level));
+    out.text_member("message", diagnostic.message.as_str());
     if let Some(span) = diagnostic.span {
-        push_place(out, text, span.from)?;
+        push_place(out, text, span.from);
     }
-    open_list(out, "notes")?;
+    out.open_list("notes");
     let mut is_first = true;
     for note in &diagnostic.notes {
         if !is_first {
-            out.push(',')?;
+            out.push(',');
         }
         is_first = false;
-        push_text(out, note.as_str())?;
+        out.push_quoted(note.as_str());
     }
-    close_list(out)?;
-    close(out)
+    out.close_list();
+    out.close();
 }
 
 /// Writes what is known of a manifest as an object of JSON.
 ///
 /// ```ignore
-/// push_entry(&mut out, &entry)?; // {"file":"Cargo.toml","targets":[..],"inherited":[..],"package":{..},..}
+/// push_entry(&mut out, &entry); // {"file":"Cargo.toml","targets":[..],"inherited":[..],"package":{..},..}
 /// ```
-pub fn push_entry(out: &mut String, entry: &Entry<'_>) -> Result<(), AllocError> {
-    open(out)?;
-    text_member(out, "file", entry.file)?;
+pub fn push_entry(out: &mut Text, entry: &Entry<'_>) {
+    out.open();
+    out.text_member("file", entry.file);
     if entry.built.is_empty() {
-        open_list(out, "targets")?;
-        close_list(out)?;
-        open_list(out, "inherited")?;
-        close_list(out)?;
+        out.open_list("targets");
+        out.close_list();
+        out.open_list("inherited");
+        out.close_list();
     } else {
-        out.push(',')?;
-        out.push_str(entry.built)?;
+        out.push(',');
+        out.push_str(entry.built);
     }
     match entry.document {
         Some(document) => {
-            push_package(out, document)?;
-            push_dependencies(out, document)?;
-            push_features(out, document)?;
+            push_package(out, document);
+            push_dependencies(out, document);
+            push_features(out, document);
         }
-        None => null_member(out, "package")?,
+        None => out.null_member("package"),
     }
-    open_list(out, "diagnostics")?;
+    out.open_list("diagnostics");
     for diagnostic in entry.diagnostics {
-        push_diagnostic(out, entry.text, diagnostic)?;
+        push_diagnostic(out, entry.text, diagnostic);
     }
-    close_list(out)?;
-    close(out)
+    out.close_list();
+    out.close();
 }

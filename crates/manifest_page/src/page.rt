@@ -5,14 +5,14 @@ ghost use Rattle.std.specs.Char.{encode_utf8};
 ghost use Rattle.manifest_page.specs.Page.{harmless, HasNoTag};
 
 use crate::page_text::{AFTER, BEFORE};
+use manifest_json::Text;
 use std::alloc::AllocError;
 
 /// Writes what the page begins with, up to its data.
-pub fn push_begin(out: &mut String) -> Result<(), AllocError> {
+pub fn push_begin(out: &mut Text) {
     for text in &BEFORE {
-        out.push_str(*text)?;
+        out.push_str(*text);
     }
-    Ok(())
 }
 
 /// Writes JSON into the page, each `<` of it as an escape of JSON. So it cannot end the element of the data, whatever texts
@@ -50,9 +50,8 @@ fn push_harmless(out: &mut String, c: char) -> Result<(), AllocError>
 }
 
 /// Writes what the page ends with, after its data.
-pub fn push_end(out: &mut String) -> Result<(), AllocError> {
+pub fn push_end(out: &mut Text) {
     for text in &AFTER {
-        out.push_str(*text)?;
+        out.push_str(*text);
     }
-    Ok(())
 }

@@ -1,5 +1,7 @@
 //! The difference of two texts.
 
+use crate::escape::push_escaped;
+use manifest_json::Text;
 use std::alloc::{AllocError, Global};
 use std::collections::BTreeMap;
 
@@ -173,93 +175,88 @@ fn hunks(alloc: Global, old: &[&str], new: &[&str]) -> Result<Vec<Hunk>, AllocEr
 }
 
 /// Writes lines with a sign before each.
-fn push_lines(
-    out: &mut String,
-    sign: &str,
-    lines: &[&str],
-    from: usize,
-    to: usize,
-) -> Result<(), AllocError> {
+fn push_lines(out: &mut Text, sign: &str, lines: &[&str], from: usize, to: usize) {
     for line in lines.get(from..to).unwrap_or(&[]) {
-        out.push_str(sign)?;
-        out.push_str(*line)?;
+        out.push_str(sign);
+        out.push_str(*line);
         if !line.ends_with('\n') {
-            out.push_str("\n\\ No newline at end of file\n")?;
+            out.push_str("\n\\ No newline at end of file\n");
         }
     }
-    Ok(())
 }
 
 /// Writes the numbers of a range of lines: the first one, and how many they are.
-fn push_range(out: &mut String, sign: &str, from: usize, to: usize) -> Result<(), AllocError> {
+fn push_range(out: &mut Text, sign: &str, from: usize, to: usize) {
     let count = to.saturating_sub(from);
     let first = if count == 0 {
         from
     } else {
         from.saturating_add(1)
     };
-    if count == 1 {
-        write!(out, " {sign}{first}")
-    } else {
-        write!(out, " {sign}{first},{count}")
+    out.push(' ');
+    out.push_str(sign);
+    out.push_number(first);
+    if count != 1 {
+        out.push(',');
+        out.push_number(count);
     }
 }
 
 /// Writes some changes with the lines around them.
-fn push_group(
-    out: &mut String,
-    old: &[&str],
-    new: &[&str],
-    hunks: &[Hunk],
-) -> Result<(), AllocError> {
+fn push_group(out: &mut Text, old: &[&str], new: &[&str], hunks: &[Hunk]) {
     let (Some(first), Some(last)) = (hunks.first(), hunks.last()) else {
-        return Ok(());
+        return;
     };
     let before = first.old_from.min(AROUND);
     let from = first.old_from.saturating_sub(before);
     let after = old.len().saturating_sub(last.old_to).min(AROUND);
-    out.push_str("@@")?;
-    push_range(out, "-", from, last.old_to.saturating_add(after))?;
+    out.push_str("@@");
+    push_range(out, "-", from, last.old_to.saturating_add(after));
     let new_from = first.new_from.saturating_sub(before);
-    push_range(out, "+", new_from, last.new_to.saturating_add(after))?;
-    out.push_str(" @@\n")?;
+    push_range(out, "+", new_from, last.new_to.saturating_add(after));
+    out.push_str(" @@\n");
     let mut at = from;
     for hunk in hunks {
-        push_lines(out, " ", old, at, hunk.old_from)?;
-        push_lines(out, "-", old, hunk.old_from, hunk.old_to)?;
-        push_lines(out, "+", new, hunk.new_from, hunk.new_to)?;
+        push_lines(out, " ", old, at, hunk.old_from);
+        push_lines(out, "-", old, hunk.old_from, hunk.old_to);
+        push_lines(out, "+", new, hunk.new_from, hunk.new_to);
         at = hunk.old_to;
     }
-    push_lines(out, " ", old, at, last.old_to.saturating_add(after))
+    push_lines(out, " ", old, at, last.old_to.saturating_add(after));
 }
 
-/// Writes the difference of two texts of a file as a unified diff, which `patch -p1` takes; nothing where they are equal.
-/// It takes the time of sorting their lines. What is written are bytes of the texts: nothing is escaped in them.
-pub fn push_diff(
-    alloc: Global,
-    out: &mut String,
-    file: &str,
-    old: &str,
-    new: &str,
-) -> Result<(), AllocError> {
-    let olds = lines_of(alloc, old)?;
-    let news = lines_of(alloc, new)?;
-    let hunks = hunks(alloc, olds.as_slice(), news.as_slice())?;
-    if hunks.is_empty() {
-        return Ok(());
-    }
+/// Writes the names of the old file and of the new one.
+fn push_names(out: &mut Text, file: &str) {
     let path = file
         .strip_prefix("./")
         .unwrap_or(file)
         .trim_start_matches('/');
-    out.push_str("--- a/")?;
-    crate::escape::push_escaped(out, path)?;
-    out.push_str("\n+++ b/")?;
-    crate::escape::push_escaped(out, path)?;
-    out.push('\n')?;
+    out.push_str("--- a/");
+    push_escaped(out, path);
+    out.push_str("\n+++ b/");
+    push_escaped(out, path);
+    out.push('\n');
+}
+
+/// Writes the difference of two texts of a file as a unified diff, which `patch -p1` takes; nothing where they are equal.
+/// It takes the time of sorting their lines. What is written are bytes of the texts: nothing is escaped in them.
+pub fn push_diff(alloc: Global, out: &mut Text, file: &str, old: &str, new: &str) {
+    let Some(olds) = out.made(lines_of(alloc, old)) else {
+        return;
+    };
+    let Some(news) = out.made(lines_of(alloc, new)) else {
+        return;
+    };
+    let (old, new) = (olds.as_slice(), news.as_slice());
+    let Some(hunks) = out.made(hunks(alloc, old, new)) else {
+        return;
+    };
+    if hunks.is_empty() {
+        return;
+    }
+    push_names(out, file);
     let is_near = |a: &Hunk, b: &Hunk| b.old_from.saturating_sub(a.old_to) <= AROUND * 2;
     for group in hunks.as_slice().chunk_by(is_near) {
-        push_group(out, olds.as_slice(), news.as_slice(), group)?;
+        push_group(out, old, new, group);
     }
-    Ok(())
 }

@@ -1,6 +1,6 @@
 //! Text of a file, so written that a terminal shows it and does nothing else.
 
-use std::alloc::AllocError;
+use manifest_json::Text;
 use unicode_width::UnicodeWidthChar;
 
 /// How many columns a tab takes.
@@ -32,14 +32,15 @@ fn hexadecimal_digits(c: char) -> usize {
 }
 
 /// Writes the character as `\u{1b}`, `\n`, `\r` or `\t`.
-fn push_hidden(out: &mut String, c: char) -> Result<(), AllocError> {
+fn push_hidden(out: &mut Text, c: char) {
     match c {
         '\n' => out.push_str("\\n"),
         '\r' => out.push_str("\\r"),
         '\t' => out.push_str("\\t"),
         _ => {
-            let code = u32::from(c);
-            write!(out, "\\u{{{code:x}}}")
+            out.push_str("\\u{");
+            out.push_hexadecimal(u32::from(c));
+            out.push('}');
         }
     }
 }
@@ -47,17 +48,16 @@ fn push_hidden(out: &mut String, c: char) -> Result<(), AllocError> {
 /// Writes a text on one line: control characters, and those that turn the direction of a text, as `\n` and `\u{1b}`.
 ///
 /// ```ignore
-/// push_escaped(&mut out, "a\u{1b}b")?; // a\u{1b}b, of 8 characters
+/// push_escaped(&mut out, "a\u{1b}b"); // a\u{1b}b, of 8 characters
 /// ```
-pub fn push_escaped(out: &mut String, text: &str) -> Result<(), AllocError> {
+pub fn push_escaped(out: &mut Text, text: &str) {
     for c in text.chars() {
-        push_char(out, c)?;
+        push_char(out, c);
     }
-    Ok(())
 }
 
 /// Writes one character as [`push_escaped`] does.
-pub(crate) fn push_char(out: &mut String, c: char) -> Result<(), AllocError> {
+pub(crate) fn push_char(out: &mut Text, c: char) {
     if is_hidden(c) {
         push_hidden(out, c)
     } else {
@@ -66,15 +66,14 @@ pub(crate) fn push_char(out: &mut String, c: char) -> Result<(), AllocError> {
 }
 
 /// Writes a text as [`push_escaped`] does, but for its tabs, which become four spaces.
-pub(crate) fn push_excerpt(out: &mut String, text: &str) -> Result<(), AllocError> {
+pub(crate) fn push_excerpt(out: &mut Text, text: &str) {
     for c in text.chars() {
         if c == '\t' {
-            out.push_str(TAB)?;
+            out.push_str(TAB);
         } else {
-            push_char(out, c)?;
+            push_char(out, c);
         }
     }
-    Ok(())
 }
 
 /// The columns that a character takes where [`push_excerpt`] writes it.

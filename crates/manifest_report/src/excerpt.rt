@@ -1,9 +1,10 @@
 //! Lines of a file with what is pointed to in them.
 
 use crate::escape::push_escaped;
-use crate::ink::{Ink, Style, put, repeat};
+use crate::ink::{Ink, Style, begin, end, put, put_escaped, repeat};
 use crate::lines::{Line, Strip, line_at, line_before, next_line, strip_of};
 use crate::marks::Mark;
+use manifest_json::Text;
 use manifest_rules::Level;
 use std::alloc::{AllocError, Global};
 
@@ -32,43 +33,53 @@ impl Frame {
     }
 }
 
-/// Writes the margin of a row: a number or nothing, and a sign; and then the row, if there is something in it.
-pub(crate) fn push_row(
-    out: &mut String,
-    frame: Frame,
-    number: Option<usize>,
-    row: &str,
-) -> Result<(), AllocError> {
-    push_margin(out, frame, number, Ink::Gutter, "|")?;
-    if !row.is_empty() {
-        out.push(' ')?;
-        out.push_str(row)?;
+/// How many digits a number has.
+pub(crate) fn digits(number: usize) -> usize {
+    let mut rest = number / 10;
+    let mut digits = 1usize;
+    for _ in 0..20 {
+        if rest == 0 {
+            return digits;
+        }
+        rest /= 10;
+        digits = digits.saturating_add(1);
     }
-    out.push('\n')
+    digits
+}
+
+/// Writes the margin of a row: a number or nothing, and a sign; and then the row, if there is something in it.
+pub(crate) fn push_row(out: &mut Text, frame: Frame, number: Option<usize>, row: &str) {
+    push_margin(out, frame, number, Ink::Gutter, "|");
+    if !row.is_empty() {
+        out.push(' ');
+        out.push_str(row);
+    }
+    out.push('\n');
+}
+
+/// Writes the margin of a row without a number, up to where the row begins, in which there is something.
+fn begin_row(out: &mut Text, frame: Frame) {
+    push_margin(out, frame, None, Ink::Gutter, "|");
+    out.push(' ');
 }
 
 /// Writes a number, or nothing, in the columns for it, a space and a sign.
 pub(crate) fn push_margin(
-    out: &mut String,
+    out: &mut Text,
     frame: Frame,
     number: Option<usize>,
     ink: Ink,
     sign: &str,
-) -> Result<(), AllocError> {
-    let digits = frame.digits;
-    let mut label = String::new(*out.allocator());
+) {
     if let Some(number) = number {
-        write!(label, "{number}")?;
+        begin(out, frame.style, Ink::Gutter);
+        out.push_number(number);
+        end(out, frame.style);
     }
-    let spaces = digits.saturating_sub(label.len());
-    if label.is_empty() {
-        repeat(out, " ", spaces)?;
-    } else {
-        put(out, frame.style, Ink::Gutter, label.as_str())?;
-        repeat(out, " ", spaces)?;
-    }
-    out.push(' ')?;
-    put(out, frame.style, ink, sign)
+    let taken = number.map(|number| digits(number)).unwrap_or(0);
+    repeat(out, " ", frame.digits.saturating_sub(taken));
+    out.push(' ');
+    put(out, frame.style, ink, sign);
 }
 
 /// A range of several lines that a bar before them shows.
@@ -203,45 +214,33 @@ fn is_bar(mark: &Mark<'_>, bar: Option<&Bar<'_>>) -> bool {
 /// Writes the signs below what is pointed to: `^` below the primary place, `-` below others; and the label of the last
 /// one, if no other reaches below it.
 fn push_signs(
-    out: &mut String,
+    out: &mut Text,
     frame: Frame,
     pointers: &[Pointer<'_>],
     inline: Option<&Pointer<'_>>,
-) -> Result<(), AllocError> {
+) {
     let mut at = 0usize;
     for pointer in pointers {
         let from = pointer.from.max(at);
         if pointer.to > from {
-            repeat(out, " ", from.saturating_sub(at))?;
-            let mut signs = String::new(*out.allocator());
+            repeat(out, " ", from.saturating_sub(at));
             let sign = if pointer.is_primary { "^" } else { "-" };
-            repeat(&mut signs, sign, pointer.to.saturating_sub(from))?;
-            put(
-                out,
-                frame.style,
-                frame.ink(pointer.is_primary),
-                signs.as_str(),
-            )?;
+            begin(out, frame.style, frame.ink(pointer.is_primary));
+            repeat(out, sign, pointer.to.saturating_sub(from));
+            end(out, frame.style);
             at = pointer.to;
         }
     }
     if let Some(last) = inline {
-        out.push(' ')?;
-        push_label(out, frame, last)?;
+        out.push(' ');
+        push_label(out, frame, last);
     }
-    Ok(())
 }
 
 /// Writes the text of a label on one line.
-fn push_label(out: &mut String, frame: Frame, pointer: &Pointer<'_>) -> Result<(), AllocError> {
-    let mut label = String::new(*out.allocator());
-    push_escaped(&mut label, pointer.text)?;
-    put(
-        out,
-        frame.style,
-        frame.ink(pointer.is_primary),
-        label.as_str(),
-    )
+fn push_label(out: &mut Text, frame: Frame, pointer: &Pointer<'_>) {
+    let ink = frame.ink(pointer.is_primary);
+    put_escaped(out, frame.style, ink, pointer.text);
 }
 
 /// The last of the pointers, if its label can stand on the row of the signs.
@@ -259,30 +258,20 @@ fn inline_of<'p, 'a>(pointers: &'p [Pointer<'a>]) -> Option<&'p Pointer<'a>> {
 }
 
 /// Writes `|` below each of these that have a label, and returns the column after the last one.
-fn push_stems(
-    out: &mut String,
-    frame: Frame,
-    pointers: &[Pointer<'_>],
-) -> Result<usize, AllocError> {
+fn push_stems(out: &mut Text, frame: Frame, pointers: &[Pointer<'_>]) -> usize {
     let mut at = 0usize;
     for pointer in pointers {
         if !pointer.text.is_empty() && pointer.from >= at {
-            repeat(out, " ", pointer.from.saturating_sub(at))?;
-            put(out, frame.style, frame.ink(pointer.is_primary), "|")?;
+            repeat(out, " ", pointer.from.saturating_sub(at));
+            put(out, frame.style, frame.ink(pointer.is_primary), "|");
             at = pointer.from.saturating_add(1);
         }
     }
-    Ok(at)
+    at
 }
 
 /// Writes the labels that hang below the signs, from the last one to the first one.
-fn push_hanging(
-    out: &mut String,
-    frame: Frame,
-    prefix: &str,
-    pointers: &[Pointer<'_>],
-) -> Result<(), AllocError> {
-    let alloc = *out.allocator();
+fn push_hanging(out: &mut Text, frame: Frame, prefix: &str, pointers: &[Pointer<'_>]) {
     let mut is_first = true;
     for index in (0..pointers.len()).rev() {
         let Some((before, [pointer, ..])) = pointers.split_at_checked(index) else {
@@ -292,18 +281,19 @@ fn push_hanging(
             continue;
         }
         if is_first {
-            let mut row = String::from_str(alloc, prefix)?;
-            push_stems(&mut row, frame, pointers)?;
-            push_row(out, frame, None, row.as_str())?;
+            begin_row(out, frame);
+            out.push_str(prefix);
+            push_stems(out, frame, pointers);
+            out.push('\n');
             is_first = false;
         }
-        let mut row = String::from_str(alloc, prefix)?;
-        let at = push_stems(&mut row, frame, before)?;
-        repeat(&mut row, " ", pointer.from.saturating_sub(at))?;
-        push_label(&mut row, frame, pointer)?;
-        push_row(out, frame, None, row.as_str())?;
+        begin_row(out, frame);
+        out.push_str(prefix);
+        let at = push_stems(out, frame, before);
+        repeat(out, " ", pointer.from.saturating_sub(at));
+        push_label(out, frame, pointer);
+        out.push('\n');
     }
-    Ok(())
 }
 
 /// How many of the pointers, from the first one on, have labels that hang below the signs.
@@ -316,70 +306,53 @@ fn hanging_count(pointers: &[Pointer<'_>], has_inline: bool) -> usize {
 }
 
 /// Writes the rows below a line.
-fn push_pointers(
-    out: &mut String,
-    frame: Frame,
-    prefix: &str,
-    pointers: &[Pointer<'_>],
-) -> Result<(), AllocError> {
+fn push_pointers(out: &mut Text, frame: Frame, prefix: &str, pointers: &[Pointer<'_>]) {
     if pointers.is_empty() {
-        return Ok(());
+        return;
     }
     let inline = inline_of(pointers);
     let count = hanging_count(pointers, inline.is_some());
-    let mut row = String::from_str(*out.allocator(), prefix)?;
-    push_signs(&mut row, frame, pointers, inline)?;
-    push_row(out, frame, None, row.as_str())?;
-    match pointers.get(..count) {
-        Some(hanging) => push_hanging(out, frame, prefix, hanging),
-        None => Ok(()),
+    begin_row(out, frame);
+    out.push_str(prefix);
+    push_signs(out, frame, pointers, inline);
+    out.push('\n');
+    if let Some(hanging) = pointers.get(..count) {
+        push_hanging(out, frame, prefix, hanging);
     }
 }
 
 /// Writes the row in which a bar begins within its line, or ends: `lead`, a line up to the column, and `^`.
 fn push_bar_row(
-    out: &mut String,
+    out: &mut Text,
     frame: Frame,
     bar: &Bar<'_>,
     lead: &str,
     column: usize,
     label: &str,
-) -> Result<(), AllocError> {
-    let alloc = *out.allocator();
-    let mut signs = String::from_str(alloc, lead)?;
-    repeat(&mut signs, "_", column.saturating_add(1))?;
-    signs.push(if bar.mark.is_primary { '^' } else { '-' })?;
+) {
+    begin_row(out, frame);
+    begin(out, frame.style, frame.ink(bar.mark.is_primary));
+    out.push_str(lead);
+    repeat(out, "_", column.saturating_add(1));
+    out.push(if bar.mark.is_primary { '^' } else { '-' });
     if !label.is_empty() {
-        signs.push(' ')?;
-        push_escaped(&mut signs, label)?;
+        out.push(' ');
+        push_escaped(out, label);
     }
-    let mut row = String::new(alloc);
-    put(
-        &mut row,
-        frame.style,
-        frame.ink(bar.mark.is_primary),
-        signs.as_str(),
-    )?;
-    push_row(out, frame, None, row.as_str())
+    end(out, frame.style);
+    out.push('\n');
 }
 
 /// Writes the rows in which the bar begins and ends.
-fn push_bar_rows(
-    out: &mut String,
-    frame: Frame,
-    bar: &Bar<'_>,
-    line: Line,
-    strip: &Strip<'_>,
-) -> Result<(), AllocError> {
+fn push_bar_rows(out: &mut Text, frame: Frame, bar: &Bar<'_>, line: Line, strip: &Strip<'_>) {
     if line.number == bar.mark.from.line && !bar.begins_line {
         let column = strip.column(bar.mark.span.from);
-        push_bar_row(out, frame, bar, " ", column, "")?;
+        push_bar_row(out, frame, bar, " ", column, "");
     }
     if line.number == bar.mark.to.line {
         let column = strip.column(bar.mark.span.to).saturating_sub(1);
-        push_bar_row(out, frame, bar, "|", column, bar.mark.text)?;
+        push_bar_row(out, frame, bar, "|", column, bar.mark.text);
     }
-    Ok(())
 }
 
 /// The offset around which a line is shown: the first that is pointed to in it.
@@ -395,63 +368,78 @@ fn around(marks: &[Mark<'_>], bar: Option<&Bar<'_>>, line: Line) -> usize {
     }
 }
 
+/// Writes the row of a line, after what the bar puts before it.
+fn push_strip(
+    alloc: Global,
+    out: &mut Text,
+    frame: Frame,
+    before: &str,
+    line: Line,
+    strip: &Strip<'_>,
+) {
+    let mut row = Text::new(alloc);
+    if !before.trim().is_empty() || !strip.text.is_empty() {
+        row.push_str(before);
+    }
+    strip.push(&mut row);
+    if let Some(row) = out.made(row.finish()) {
+        push_row(out, frame, Some(line.number), row.as_str().trim_end());
+    }
+}
+
 /// Writes a line, and the rows below it. `marks` are those that begin in it.
 fn push_line(
     alloc: Global,
-    out: &mut String,
+    out: &mut Text,
     frame: Frame,
     text: &str,
     marks: &[Mark<'_>],
     bar: Option<&Bar<'_>>,
     line: Line,
-) -> Result<(), AllocError> {
+) {
     let strip = strip_of(text, line, around(marks, bar, line), frame.room());
     let (before, below) = match bar {
         Some(bar) => (bar.before(line.number), bar.below(line.number)),
         None => ("", ""),
     };
-    let mut row = String::new(alloc);
-    if !before.trim().is_empty() || !strip.text.is_empty() {
-        row.push_str(before)?;
-    }
-    strip.push(&mut row)?;
-    push_row(out, frame, Some(line.number), row.as_str().trim_end())?;
-    let pointers = pointers_in(alloc, marks, bar, line, &strip)?;
-    push_pointers(out, frame, below, pointers.as_slice())?;
-    match bar {
-        Some(bar) => push_bar_rows(out, frame, bar, line, &strip),
-        None => Ok(()),
+    push_strip(alloc, out, frame, before, line, &strip);
+    let Some(pointers) = out.made(pointers_in(alloc, marks, bar, line, &strip)) else {
+        return;
+    };
+    push_pointers(out, frame, below, pointers.as_slice());
+    if let Some(bar) = bar {
+        push_bar_rows(out, frame, bar, line, &strip);
     }
 }
 
 /// Writes what stands between two lines that are shown: nothing, the one line between them, or dots.
 fn push_gap(
     alloc: Global,
-    out: &mut String,
+    out: &mut Text,
     frame: Frame,
     text: &str,
     bar: Option<&Bar<'_>>,
     last: Line,
     line: Line,
-) -> Result<(), AllocError> {
+) {
     let gap = line.number.saturating_sub(last.number);
     if gap < 2 {
-        return Ok(());
+        return;
     }
     if gap == 2 {
-        return match next_line(text, last) {
-            Some(between) => push_line(alloc, out, frame, text, &[], bar, between),
-            None => Ok(()),
-        };
+        if let Some(between) = next_line(text, last) {
+            push_line(alloc, out, frame, text, &[], bar, between);
+        }
+        return;
     }
-    put(out, frame.style, Ink::Gutter, "...")?;
+    put(out, frame.style, Ink::Gutter, "...");
     if let Some(bar) = bar {
         if bar.mark.from.line < line.number && line.number <= bar.mark.to.line {
-            repeat(out, " ", frame.digits)?;
-            put(out, frame.style, frame.ink(bar.mark.is_primary), "|")?;
+            repeat(out, " ", frame.digits);
+            put(out, frame.style, frame.ink(bar.mark.is_primary), "|");
         }
     }
-    out.push('\n')
+    out.push('\n');
 }
 
 /// Those of the marks, which ascend, that begin in this line.
@@ -464,14 +452,16 @@ fn marks_in<'m, 'a>(marks: &'m [Mark<'a>], number: usize) -> Option<&'m [Mark<'a
 /// Writes the lines of one file that these marks, which ascend, point to.
 pub(crate) fn push_excerpt_of(
     alloc: Global,
-    out: &mut String,
+    out: &mut Text,
     frame: Frame,
     text: &str,
     marks: &[Mark<'_>],
-) -> Result<(), AllocError> {
+) {
     let bar = bar_of(marks);
-    let lines = lines_of(alloc, marks, bar.as_ref())?;
-    push_row(out, frame, None, "")?;
+    let Some(lines) = out.made(lines_of(alloc, marks, bar.as_ref())) else {
+        return;
+    };
+    push_row(out, frame, None, "");
     let mut last: Option<Line> = None;
     for line in &lines {
         let is_new = match last {
@@ -480,13 +470,12 @@ pub(crate) fn push_excerpt_of(
         };
         if is_new {
             if let Some(last) = last {
-                push_gap(alloc, out, frame, text, bar.as_ref(), last, *line)?;
+                push_gap(alloc, out, frame, text, bar.as_ref(), last, *line);
             }
             if let Some(inside) = marks_in(marks, line.number) {
-                push_line(alloc, out, frame, text, inside, bar.as_ref(), *line)?;
+                push_line(alloc, out, frame, text, inside, bar.as_ref(), *line);
             }
             last = Some(*line);
         }
     }
-    Ok(())
 }

@@ -8,9 +8,10 @@ use crate::people::push_people;
 use crate::sarif::{push_foot, push_head, push_sarif};
 use crate::short::push_short;
 use crate::source::Sources;
+use manifest_json::Text;
 use manifest_lint::Diagnostic;
 use manifest_rules::Level;
-use std::alloc::{AllocError, Global};
+use std::alloc::Global;
 
 /// How diagnostics are written.
 #[derive(Clone, Copy, PartialEq, Eq)]
@@ -70,33 +71,30 @@ impl Reporter {
     }
 
     /// Writes what stands before the diagnostics of all manifests.
-    pub fn begin(&self, out: &mut String) -> Result<(), AllocError> {
+    pub fn begin(&self, out: &mut Text) {
         match self.format {
             Format::Sarif => push_head(out),
-            _ => Ok(()),
+            _ => {}
         }
     }
 
     /// Writes the diagnostics of one manifest, in their order.
     pub fn report<'a>(
         &mut self,
-        out: &mut String,
+        out: &mut Text,
         sources: &Sources<'a>,
         diagnostics: &'a [Diagnostic],
-    ) -> Result<(), AllocError> {
-        for one in &all_shown(self.alloc, sources, diagnostics)? {
-            self.push(out, sources, one)?;
+    ) {
+        let Some(all) = out.made(all_shown(self.alloc, sources, diagnostics)) else {
+            return;
+        };
+        for one in &all {
+            self.push(out, sources, one);
             self.is_first = false;
         }
-        Ok(())
     }
 
-    fn push<'a>(
-        &self,
-        out: &mut String,
-        sources: &Sources<'a>,
-        shown: &Shown<'a>,
-    ) -> Result<(), AllocError> {
+    fn push<'a>(&self, out: &mut Text, sources: &Sources<'a>, shown: &Shown<'a>) {
         let own = sources.own;
         let file = own.name;
         match self.format {
@@ -109,10 +107,10 @@ impl Reporter {
     }
 
     /// Writes what stands after the diagnostics of all manifests.
-    pub fn end(&self, out: &mut String) -> Result<(), AllocError> {
+    pub fn end(&self, out: &mut Text) {
         match self.format {
             Format::Sarif => push_foot(out),
-            _ => Ok(()),
+            _ => {}
         }
     }
 }

@@ -1,23 +1,22 @@
 //! The commands by which an action of GitHub puts messages at the lines of a change.
 
 use crate::escape::push_char;
-use crate::marks::Shown;
+use crate::marks::{Mark, Shown};
+use manifest_json::Text;
 use manifest_rules::Level;
-use std::alloc::AllocError;
 
 /// Writes a text with the escapes of such commands; in the value of a property `:` and `,` have one too.
-fn push_value(out: &mut String, text: &str, is_property: bool) -> Result<(), AllocError> {
+fn push_value(out: &mut Text, text: &str, is_property: bool) {
     for c in text.chars() {
         match c {
-            '%' => out.push_str("%25")?,
-            '\r' => out.push_str("%0D")?,
-            '\n' => out.push_str("%0A")?,
-            ':' if is_property => out.push_str("%3A")?,
-            ',' if is_property => out.push_str("%2C")?,
-            _ => push_char(out, c)?,
+            '%' => out.push_str("%25"),
+            '\r' => out.push_str("%0D"),
+            '\n' => out.push_str("%0A"),
+            ':' if is_property => out.push_str("%3A"),
+            ',' if is_property => out.push_str("%2C"),
+            _ => push_char(out, c),
         }
     }
-    Ok(())
 }
 
 /// The name of the command for a level.
@@ -29,33 +28,36 @@ fn command(level: Level) -> &'static str {
     }
 }
 
+/// Writes `,line=..,col=..,endLine=..,endColumn=..`.
+fn push_range(out: &mut Text, mark: &Mark<'_>) {
+    out.push_str(",line=");
+    out.push_number(mark.from.line);
+    out.push_str(",col=");
+    out.push_number(mark.from.characters.saturating_add(1));
+    out.push_str(",endLine=");
+    out.push_number(mark.to.line);
+    out.push_str(",endColumn=");
+    out.push_number(mark.to.characters.saturating_add(1));
+}
+
 /// Writes `::error file=..,line=..,col=..,endLine=..,endColumn=..,title=CODE::MESSAGE`.
-pub(crate) fn push_github(
-    out: &mut String,
-    file: &str,
-    shown: &Shown<'_>,
-) -> Result<(), AllocError> {
+pub(crate) fn push_github(out: &mut Text, file: &str, shown: &Shown<'_>) {
     let diagnostic = shown.diagnostic;
     let name = command(diagnostic.level);
-    write!(out, "::{name} file=")?;
-    push_value(out, file, true)?;
+    out.push_str("::");
+    out.push_str(name);
+    out.push_str(" file=");
+    push_value(out, file, true);
     if let Some(mark) = shown.primary() {
-        let line = mark.from.line;
-        let column = mark.from.characters.saturating_add(1);
-        let end_line = mark.to.line;
-        let end_column = mark.to.characters.saturating_add(1);
-        write!(
-            out,
-            ",line={line},col={column},endLine={end_line},endColumn={end_column}"
-        )?;
+        push_range(out, mark);
     }
-    out.push_str(",title=")?;
-    push_value(out, diagnostic.code.name, true)?;
-    out.push_str("::")?;
-    push_value(out, diagnostic.message.as_str(), false)?;
+    out.push_str(",title=");
+    push_value(out, diagnostic.code.name, true);
+    out.push_str("::");
+    push_value(out, diagnostic.message.as_str(), false);
     for note in &diagnostic.notes {
-        out.push_str("%0Anote: ")?;
-        push_value(out, note.as_str(), false)?;
+        out.push_str("%0Anote: ");
+        push_value(out, note.as_str(), false);
     }
-    out.push('\n')
+    out.push('\n');
 }

@@ -5,6 +5,7 @@ use crate::excerpt::{Frame, push_margin, push_row};
 use crate::ink::{Ink, put, repeat};
 use crate::lines::{Line, boundary, line_at, line_end, strip_of};
 use crate::marks::{Mark, ShownFix};
+use manifest_json::Text;
 use std::alloc::{AllocError, Global};
 
 /// Some parts of a suggestion that stand on the same lines, and as much of the text around them as is shown.
@@ -38,15 +39,15 @@ fn cluster_of<'m, 'a>(text: &str, frame: Frame, parts: &'m [Mark<'a>]) -> Option
 
 /// What would be written in place of the cluster's text.
 fn replaced(alloc: Global, text: &str, cluster: &Cluster<'_, '_>) -> Result<String, AllocError> {
-    let mut new = String::new(alloc);
+    let mut new = Text::new(alloc);
     let mut at = cluster.from;
     for part in cluster.parts {
-        new.push_str(text.get(at..part.span.from).unwrap_or(""))?;
-        new.push_str(part.text)?;
+        new.push_str(text.get(at..part.span.from).unwrap_or(""));
+        new.push_str(part.text);
         at = part.span.to;
     }
-    new.push_str(text.get(at..cluster.to).unwrap_or(""))?;
-    Ok(new)
+    new.push_str(text.get(at..cluster.to).unwrap_or(""));
+    new.finish()
 }
 
 /// Whether the parts only put something into a line.
@@ -65,117 +66,125 @@ fn inserts_lines(parts: &[Mark<'_>]) -> bool {
 }
 
 /// Writes each line of a text with a number and a sign.
-fn push_signed(
-    out: &mut String,
-    frame: Frame,
-    number: usize,
-    ink: Ink,
-    sign: &str,
-    text: &str,
-) -> Result<(), AllocError> {
+fn push_signed(out: &mut Text, frame: Frame, number: usize, ink: Ink, sign: &str, text: &str) {
     let text = text.strip_suffix('\n').unwrap_or(text);
     if text.is_empty() {
-        return Ok(());
+        return;
     }
     let mut number = number;
     for line in text.lines() {
-        push_margin(out, frame, Some(number), ink, sign)?;
+        push_margin(out, frame, Some(number), ink, sign);
         let shown = strip_of(line, Line { number, start: 0 }, 0, frame.room());
         if !line.is_empty() {
-            out.push(' ')?;
-            shown.push(out)?;
+            out.push(' ');
+            shown.push(out);
         }
-        out.push('\n')?;
+        out.push('\n');
         number = number.saturating_add(1);
     }
-    Ok(())
+}
+
+/// What stands below the new line: `+` below what is put in.
+fn signs_of(alloc: Global, text: &str, cluster: &Cluster<'_, '_>) -> Result<String, AllocError> {
+    let mut signs = Text::new(alloc);
+    let mut at = cluster.from;
+    for part in cluster.parts {
+        let before = text.get(at..part.span.from).unwrap_or("");
+        repeat(&mut signs, " ", columns_of(before));
+        repeat(&mut signs, "+", columns_of(part.text));
+        at = part.span.to;
+    }
+    signs.finish()
+}
+
+/// Writes the new line with its number.
+fn push_new(out: &mut Text, frame: Frame, number: usize, new: &str) {
+    let shown = strip_of(new, Line { number, start: 0 }, 0, frame.room());
+    push_margin(out, frame, Some(number), Ink::Gutter, "|");
+    if !shown.is_empty() {
+        out.push(' ');
+        shown.push(out);
+    }
+    out.push('\n');
 }
 
 /// Writes the new line, and `+` below what is put in.
 fn push_inserted(
     alloc: Global,
-    out: &mut String,
+    out: &mut Text,
     frame: Frame,
     text: &str,
     cluster: &Cluster<'_, '_>,
-) -> Result<(), AllocError> {
-    let new = replaced(alloc, text, cluster)?;
-    let mut row = String::new(alloc);
-    strip_of(
-        new.as_str(),
-        Line {
-            number: cluster.number,
-            start: 0,
-        },
-        0,
-        frame.room(),
-    )
-    .push(&mut row)?;
-    push_row(out, frame, Some(cluster.number), row.as_str())?;
-    let mut signs = String::new(alloc);
-    let mut at = cluster.from;
-    for part in cluster.parts {
-        let before = text.get(at..part.span.from).unwrap_or("");
-        repeat(&mut signs, " ", columns_of(before))?;
-        repeat(&mut signs, "+", columns_of(part.text))?;
-        at = part.span.to;
+) {
+    let Some(new) = out.made(replaced(alloc, text, cluster)) else {
+        return;
+    };
+    push_new(out, frame, cluster.number, new.as_str());
+    let Some(signs) = out.made(signs_of(alloc, text, cluster)) else {
+        return;
+    };
+    push_margin(out, frame, None, Ink::Gutter, "|");
+    if !signs.is_empty() {
+        out.push(' ');
+        put(out, frame.style, Ink::Added, signs.as_str());
     }
-    let mut row = String::new(alloc);
-    put(&mut row, frame.style, Ink::Added, signs.as_str())?;
-    push_row(out, frame, None, row.as_str())
+    out.push('\n');
 }
 
 /// Writes one cluster: the old lines with `-` and the new ones with `+`, or the new line alone where something is only put
 /// in.
 fn push_cluster(
     alloc: Global,
-    out: &mut String,
+    out: &mut Text,
     frame: Frame,
     text: &str,
     cluster: &Cluster<'_, '_>,
-) -> Result<(), AllocError> {
+) {
     let parts = cluster.parts;
     let number = cluster.number;
     if inserts_lines(parts) {
         for part in parts {
-            push_signed(out, frame, number, Ink::Added, "+", part.text)?;
+            push_signed(out, frame, number, Ink::Added, "+", part.text);
         }
-        return Ok(());
+        return;
     }
     if only_inserts(parts) {
-        return push_inserted(alloc, out, frame, text, cluster);
+        push_inserted(alloc, out, frame, text, cluster);
+        return;
     }
     let old = text.get(cluster.from..cluster.to).unwrap_or("");
-    let new = replaced(alloc, text, cluster)?;
-    push_signed(out, frame, number, Ink::Removed, "-", old)?;
-    push_signed(out, frame, number, Ink::Added, "+", new.as_str())
+    let Some(new) = out.made(replaced(alloc, text, cluster)) else {
+        return;
+    };
+    push_signed(out, frame, number, Ink::Removed, "-", old);
+    push_signed(out, frame, number, Ink::Added, "+", new.as_str());
 }
 
 /// Writes `help: TEXT`, and the lines as they would be.
 pub(crate) fn push_fix(
     alloc: Global,
-    out: &mut String,
+    out: &mut Text,
     frame: Frame,
     text: &str,
     fix: &ShownFix<'_>,
-) -> Result<(), AllocError> {
-    put(out, frame.style, Ink::Help, "help")?;
-    out.push_str(": ")?;
+) {
+    put(out, frame.style, Ink::Help, "help");
+    out.push_str(": ");
     let inner = fix.fix;
-    push_escaped(out, inner.text.as_str())?;
-    out.push('\n')?;
-    push_row(out, frame, None, "")?;
+    push_escaped(out, inner.text.as_str());
+    out.push('\n');
+    push_row(out, frame, None, "");
     let mut is_first = true;
     let is_near = |a: &Mark<'_>, b: &Mark<'_>| b.from.line <= a.to.line;
     for parts in fix.parts.as_slice().chunk_by(is_near) {
         if let Some(cluster) = cluster_of(text, frame, parts) {
             if !is_first {
-                put(out, frame.style, Ink::Gutter, "...")?;
-                out.push('\n')?;
+                put(out, frame.style, Ink::Gutter, "...");
+                out.push('\n');
             }
-            push_cluster(alloc, out, frame, text, &cluster)?;
+            push_cluster(alloc, out, frame, text, &cluster);
             is_first = false;
         }
     }
-    push_row(out, frame, None, "")
+    push_row(out, frame, None, "");
 }

@@ -1,7 +1,8 @@
 //! Colours, and the width of what is written.
 
+use crate::escape::push_escaped;
+use manifest_json::Text;
 use manifest_rules::Level;
-use std::alloc::AllocError;
 
 /// How messages for people look.
 #[derive(Clone, Copy)]
@@ -14,7 +15,6 @@ pub struct Style {
 /// What a part of a message is written with.
 #[derive(Clone, Copy, PartialEq, Eq)]
 pub(crate) enum Ink {
-    Plain,
     Bold,
     Error,
     Warning,
@@ -38,7 +38,6 @@ impl Ink {
     /// What turns the ink on in a terminal.
     fn sequence(self) -> &'static str {
         match self {
-            Ink::Plain => "",
             Ink::Bold => "\u{1b}[1m",
             Ink::Error => "\u{1b}[1;91m",
             Ink::Warning => "\u{1b}[1;33m",
@@ -52,19 +51,40 @@ impl Ink {
 }
 
 /// Writes a text in this ink. The text is written as it is: what comes from a file is escaped before.
-pub(crate) fn put(out: &mut String, style: Style, ink: Ink, text: &str) -> Result<(), AllocError> {
-    if !style.is_colored || ink == Ink::Plain || text.is_empty() {
-        return out.push_str(text);
+pub(crate) fn put(out: &mut Text, style: Style, ink: Ink, text: &str) {
+    if !text.is_empty() {
+        begin(out, style, ink);
+        out.push_str(text);
+        end(out, style);
     }
-    out.push_str(ink.sequence())?;
-    out.push_str(text)?;
-    out.push_str("\u{1b}[0m")
+}
+
+/// Writes what turns the ink on for all that is written up to [`end`].
+pub(crate) fn begin(out: &mut Text, style: Style, ink: Ink) {
+    if style.is_colored {
+        out.push_str(ink.sequence());
+    }
+}
+
+/// Writes what turns an ink off.
+pub(crate) fn end(out: &mut Text, style: Style) {
+    if style.is_colored {
+        out.push_str("\u{1b}[0m");
+    }
+}
+
+/// Writes a text of a file, escaped, in this ink.
+pub(crate) fn put_escaped(out: &mut Text, style: Style, ink: Ink, text: &str) {
+    if !text.is_empty() {
+        begin(out, style, ink);
+        push_escaped(out, text);
+        end(out, style);
+    }
 }
 
 /// Writes this many copies of a text.
-pub(crate) fn repeat(out: &mut String, text: &str, times: usize) -> Result<(), AllocError> {
+pub(crate) fn repeat(out: &mut Text, text: &str, times: usize) {
     for _ in 0..times {
-        out.push_str(text)?;
+        out.push_str(text);
     }
-    Ok(())
 }

@@ -7,11 +7,8 @@ use crate::marks::{Mark, Shown, ShownFix};
 use crate::pages::explained;
 use crate::people::push_people;
 use crate::source::Sources;
-use manifest_json::{
-    close, close_list, flag_member, null_member, number_member, open, open_list, open_member,
-    optional_text, text_member,
-};
-use std::alloc::{AllocError, Global};
+use manifest_json::Text;
+use std::alloc::Global;
 
 /// The longest line whose text stands in a message, in bytes; and how many lines of a range do.
 const LONGEST: usize = 4096;
@@ -24,7 +21,7 @@ fn some_text(text: &str) -> Option<&str> {
 }
 
 /// Writes one line of a range, with the columns of it that are in the range.
-fn push_span_line(out: &mut String, mark: &Mark<'_>, line: Line) -> Result<(), AllocError> {
+fn push_span_line(out: &mut Text, mark: &Mark<'_>, line: Line) {
     let source = mark.source;
     let text = source.text;
     let end = line_end(text, line.start, LONGEST);
@@ -39,24 +36,23 @@ fn push_span_line(out: &mut String, mark: &Mark<'_>, line: Line) -> Result<(), A
     } else {
         text.chars().count()
     };
-    open(out)?;
-    text_member(out, "text", text.strip_suffix('\r').unwrap_or(text))?;
-    number_member(out, "highlight_start", from.saturating_add(1))?;
-    number_member(out, "highlight_end", to.saturating_add(1))?;
-    close(out)
+    out.open();
+    out.text_member("text", text.strip_suffix('\r').unwrap_or(text));
+    out.number_member("highlight_start", from.saturating_add(1));
+    out.number_member("highlight_end", to.saturating_add(1));
+    out.close();
 }
 
 /// Writes the lines of a range.
-fn push_span_lines(out: &mut String, mark: &Mark<'_>) -> Result<(), AllocError> {
+fn push_span_lines(out: &mut Text, mark: &Mark<'_>) {
     let mut line = line_at(mark.span.from, mark.from);
     for _ in 0..MOST_LINES {
-        push_span_line(out, mark, line)?;
+        push_span_line(out, mark, line);
         match next_line(mark.source.text, line) {
             Some(next) if next.number <= mark.to.line => line = next,
-            _ => return Ok(()),
+            _ => return,
         }
     }
-    Ok(())
 }
 
 /// What is said of a place: a label, or what can be put there.
@@ -68,96 +64,92 @@ struct Said<'a> {
 }
 
 /// Writes where a range is.
-fn push_range(out: &mut String, mark: &Mark<'_>) -> Result<(), AllocError> {
-    text_member(out, "file_name", mark.source.name)?;
-    number_member(out, "byte_start", mark.span.from)?;
-    number_member(out, "byte_end", mark.span.to)?;
-    number_member(out, "line_start", mark.from.line)?;
-    number_member(out, "line_end", mark.to.line)?;
+fn push_range(out: &mut Text, mark: &Mark<'_>) {
+    out.text_member("file_name", mark.source.name);
+    out.number_member("byte_start", mark.span.from);
+    out.number_member("byte_end", mark.span.to);
+    out.number_member("line_start", mark.from.line);
+    out.number_member("line_end", mark.to.line);
     let start = mark.from.characters.saturating_add(1);
-    number_member(out, "column_start", start)?;
+    out.number_member("column_start", start);
     let end = mark.to.characters.saturating_add(1);
-    number_member(out, "column_end", end)?;
-    flag_member(out, "is_primary", mark.is_primary)
+    out.number_member("column_end", end);
+    out.flag_member("is_primary", mark.is_primary);
 }
 
 /// Writes a range with its lines, and with what is said of it.
-fn push_span(out: &mut String, mark: &Mark<'_>, said: Said<'_>) -> Result<(), AllocError> {
-    open(out)?;
-    push_range(out, mark)?;
-    open_list(out, "text")?;
+fn push_span(out: &mut Text, mark: &Mark<'_>, said: Said<'_>) {
+    out.open();
+    push_range(out, mark);
+    out.open_list("text");
     if mark.from.bytes < LONGEST {
-        push_span_lines(out, mark)?;
+        push_span_lines(out, mark);
     }
-    close_list(out)?;
-    optional_text(out, "label", said.label)?;
-    optional_text(out, "suggested_replacement", said.replacement)?;
-    optional_text(out, "suggestion_applicability", said.applicability)?;
-    null_member(out, "expansion")?;
-    close(out)
+    out.close_list();
+    out.optional_text("label", said.label);
+    out.optional_text("suggested_replacement", said.replacement);
+    out.optional_text("suggestion_applicability", said.applicability);
+    out.null_member("expansion");
+    out.close();
 }
 
 /// Writes a place with its label.
-fn push_labelled(out: &mut String, mark: &Mark<'_>) -> Result<(), AllocError> {
+fn push_labelled(out: &mut Text, mark: &Mark<'_>) {
     let said = Said {
         label: some_text(mark.text),
         replacement: None,
         applicability: None,
     };
-    push_span(out, mark, said)
+    push_span(out, mark, said);
 }
 
 /// Writes a part of a suggestion: its text is what is put there.
-fn push_suggested<'a>(
-    out: &mut String,
-    mark: &Mark<'a>,
-    applicability: &'a str,
-) -> Result<(), AllocError> {
+fn push_suggested<'a>(out: &mut Text, mark: &Mark<'a>, applicability: &'a str) {
     let said = Said {
         label: None,
         replacement: Some(mark.text),
         applicability: Some(applicability),
     };
-    push_span(out, mark, said)
+    push_span(out, mark, said);
 }
 
 /// Writes what a note or a suggestion begins with, up to its places.
-fn open_child(out: &mut String, level: &str, text: &str) -> Result<(), AllocError> {
-    open(out)?;
-    text_member(out, "message", text)?;
-    null_member(out, "code")?;
-    text_member(out, "level", level)?;
-    open_list(out, "spans")
+fn open_child(out: &mut Text, level: &str, text: &str) {
+    out.open();
+    out.text_member("message", text);
+    out.null_member("code");
+    out.text_member("level", level);
+    out.open_list("spans");
 }
 
 /// Writes what a note or a suggestion ends with.
-fn close_child(out: &mut String) -> Result<(), AllocError> {
-    close_list(out)?;
-    open_list(out, "children")?;
-    close_list(out)?;
-    null_member(out, "rendered")?;
-    close(out)
+fn close_child(out: &mut Text) {
+    out.close_list();
+    out.open_list("children");
+    out.close_list();
+    out.null_member("rendered");
+    out.close();
 }
 
 /// Writes a note.
-fn push_note(out: &mut String, text: &str) -> Result<(), AllocError> {
-    open_child(out, "note", text)?;
-    close_child(out)
+fn push_note(out: &mut Text, text: &str) {
+    open_child(out, "note", text);
+    close_child(out);
 }
 
 /// Writes what can be written instead.
-fn push_help(out: &mut String, fix: &ShownFix<'_>) -> Result<(), AllocError> {
+fn push_help(out: &mut Text, fix: &ShownFix<'_>) {
     let inner = fix.fix;
     let applicability = if inner.is_certain {
         "MachineApplicable"
     } else {
         "MaybeIncorrect"
     };
-    open_child(out, "help", inner.text.as_str())?;
+    open_child(out, "help", inner.text.as_str());
     for part in &fix.parts {
-        push_suggested(out, part, applicability)?;
+        push_suggested(out, part, applicability);
     }
-    close_child(out)
+    close_child(out);
 }
 
 /// The whole manifest, for what has no place in it.
@@ -180,74 +172,70 @@ fn whole<'a>(sources: &Sources<'a>) -> Mark<'a> {
 }
 
 /// Writes the places of a diagnostic.
-fn push_spans<'a>(
-    out: &mut String,
-    sources: &Sources<'a>,
-    shown: &Shown<'a>,
-) -> Result<(), AllocError> {
+fn push_spans<'a>(out: &mut Text, sources: &Sources<'a>, shown: &Shown<'a>) {
     if shown.primary().is_none() {
-        push_labelled(out, &whole(sources))?;
+        push_labelled(out, &whole(sources));
     }
     for mark in &shown.marks {
-        push_labelled(out, mark)?;
+        push_labelled(out, mark);
     }
-    Ok(())
 }
 
 /// Writes the notes of a diagnostic, and what can be written instead.
-fn push_children(out: &mut String, shown: &Shown<'_>) -> Result<(), AllocError> {
+fn push_children(out: &mut Text, shown: &Shown<'_>) {
     let diagnostic = shown.diagnostic;
     for text in &diagnostic.notes {
-        push_note(out, text.as_str())?;
+        push_note(out, text.as_str());
     }
     for fix in &shown.fixes {
-        push_help(out, fix)?;
+        push_help(out, fix);
     }
-    Ok(())
 }
 
 /// Writes the code of a diagnostic, with its page.
-fn push_code(out: &mut String, code: &str) -> Result<(), AllocError> {
-    open_member(out, "code")?;
-    text_member(out, "code", code)?;
-    optional_text(out, "explanation", some_text(explained(code)))?;
-    close(out)
+fn push_code(out: &mut Text, code: &str) {
+    out.open_member("code");
+    out.text_member("code", code);
+    out.optional_text("explanation", some_text(explained(code)));
+    out.close();
 }
 
 /// Writes a diagnostic as one line of JSON, with what [`push_people`] writes as its `rendered`.
 pub(crate) fn push_json<'a>(
     alloc: Global,
-    out: &mut String,
+    out: &mut Text,
     style: Style,
     sources: &Sources<'a>,
     shown: &Shown<'a>,
-) -> Result<(), AllocError> {
+) {
     let diagnostic = shown.diagnostic;
-    open(out)?;
-    text_member(out, "$message_type", "diagnostic")?;
-    text_member(out, "message", diagnostic.message.as_str())?;
-    push_code(out, diagnostic.code.name)?;
-    text_member(out, "level", level_name(diagnostic.level))?;
-    open_list(out, "spans")?;
-    push_spans(out, sources, shown)?;
-    close_list(out)?;
-    open_list(out, "children")?;
-    push_children(out, shown)?;
-    close_list(out)?;
-    push_rendered(alloc, out, style, sources, shown)?;
-    close(out)?;
-    out.push('\n')
+    out.open();
+    out.text_member("$message_type", "diagnostic");
+    out.text_member("message", diagnostic.message.as_str());
+    push_code(out, diagnostic.code.name);
+    out.text_member("level", level_name(diagnostic.level));
+    out.open_list("spans");
+    push_spans(out, sources, shown);
+    out.close_list();
+    out.open_list("children");
+    push_children(out, shown);
+    out.close_list();
+    push_rendered(alloc, out, style, sources, shown);
+    out.close();
+    out.push('\n');
 }
 
 /// Writes what [`push_people`] writes, as a member.
 fn push_rendered<'a>(
     alloc: Global,
-    out: &mut String,
+    out: &mut Text,
     style: Style,
     sources: &Sources<'a>,
     shown: &Shown<'a>,
-) -> Result<(), AllocError> {
-    let mut rendered = String::new(alloc);
-    push_people(alloc, &mut rendered, style, sources, shown)?;
-    text_member(out, "rendered", rendered.as_str())
+) {
+    let mut rendered = Text::new(alloc);
+    push_people(alloc, &mut rendered, style, sources, shown);
+    if let Some(rendered) = out.made(rendered.finish()) {
+        out.text_member("rendered", rendered.as_str());
+    }
 }

@@ -1,8 +1,8 @@
 //! Lines of a text, and as much of one as there is room for.
 
 use crate::escape::{columns_of, push_excerpt};
+use manifest_json::Text;
 use manifest_places::Position;
-use std::alloc::AllocError;
 
 /// What stands for the part of a line that is left out.
 const CUT: &str = "...";
@@ -112,15 +112,19 @@ impl<'a> Strip<'a> {
         self.column(self.start.saturating_add(self.text.len()))
     }
 
+    /// Whether nothing is shown.
+    pub(crate) fn is_empty(&self) -> bool {
+        self.text.is_empty() && !self.is_cut_before && !self.is_cut_after
+    }
+
     /// Writes the strip, with dots where something is left out.
-    pub(crate) fn push(&self, out: &mut String) -> Result<(), AllocError> {
+    pub(crate) fn push(&self, out: &mut Text) {
         if self.is_cut_before {
-            out.push_str(CUT)?;
+            out.push_str(CUT);
         }
-        push_excerpt(out, self.text)?;
+        push_excerpt(out, self.text);
         if self.is_cut_after {
-            out.push_str(CUT)?;
+            out.push_str(CUT);
         }
-        Ok(())
     }
 }

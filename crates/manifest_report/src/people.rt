@@ -1,28 +1,15 @@
 //! Messages for people, as rustc prints them.
 
 use crate::escape::push_escaped;
-use crate::excerpt::{Frame, push_excerpt_of, push_margin, push_row};
+use crate::excerpt::{Frame, digits, push_excerpt_of, push_margin, push_row};
 use crate::format::level_name;
 use crate::help::push_fix;
-use crate::ink::{Ink, Style, put, repeat};
+use crate::ink::{Ink, Style, begin, end, put, put_escaped, repeat};
 use crate::marks::{Mark, Shown};
 use crate::source::Sources;
+use manifest_json::Text;
 use manifest_lint::PlacedLabel;
 use std::alloc::{AllocError, Global};
-
-/// How many digits a number has.
-fn digits(number: usize) -> usize {
-    let mut rest = number / 10;
-    let mut digits = 1usize;
-    for _ in 0..20 {
-        if rest == 0 {
-            return digits;
-        }
-        rest /= 10;
-        digits = digits.saturating_add(1);
-    }
-    digits
-}
 
 /// How many columns the numbers of all lines that are shown take.
 fn digits_of(shown: &Shown<'_>) -> usize {
@@ -39,101 +26,81 @@ fn digits_of(shown: &Shown<'_>) -> usize {
     digits(last)
 }
 
-/// Writes a text of a file, escaped, in an ink.
-fn put_escaped(out: &mut String, style: Style, ink: Ink, text: &str) -> Result<(), AllocError> {
-    let mut escaped = String::new(*out.allocator());
-    push_escaped(&mut escaped, text)?;
-    put(out, style, ink, escaped.as_str())
-}
-
 /// Writes `error[CODE]: MESSAGE`.
-fn push_title(out: &mut String, style: Style, shown: &Shown<'_>) -> Result<(), AllocError> {
+fn push_title(out: &mut Text, style: Style, shown: &Shown<'_>) {
     let diagnostic = shown.diagnostic;
-    let ink = Ink::of(diagnostic.level);
-    let name = level_name(diagnostic.level);
-    let code = diagnostic.code.name;
-    let title = format!(in *out.allocator(); "{name}[{code}]")?;
-    put(out, style, ink, title.as_str())?;
-    put(out, style, Ink::Bold, ": ")?;
-    put_escaped(out, style, Ink::Bold, diagnostic.message.as_str())?;
-    out.push('\n')
+    begin(out, style, Ink::of(diagnostic.level));
+    out.push_str(level_name(diagnostic.level));
+    out.push('[');
+    out.push_str(diagnostic.code.name);
+    out.push(']');
+    end(out, style);
+    put(out, style, Ink::Bold, ": ");
+    put_escaped(out, style, Ink::Bold, diagnostic.message.as_str());
+    out.push('\n');
 }
 
 /// Writes `--> FILE:LINE:COLUMN`, or `::: FILE:LINE:COLUMN` for another file.
-fn push_place(
-    out: &mut String,
-    frame: Frame,
-    arrow: &str,
-    file: &str,
-    mark: Option<&Mark<'_>>,
-) -> Result<(), AllocError> {
-    repeat(out, " ", frame.digits)?;
-    put(out, frame.style, Ink::Gutter, arrow)?;
-    out.push(' ')?;
-    push_escaped(out, file)?;
+fn push_place(out: &mut Text, frame: Frame, arrow: &str, file: &str, mark: Option<&Mark<'_>>) {
+    repeat(out, " ", frame.digits);
+    put(out, frame.style, Ink::Gutter, arrow);
+    out.push(' ');
+    push_escaped(out, file);
     if let Some(mark) = mark {
-        let line = mark.from.line;
-        let column = mark.from.characters.saturating_add(1);
-        write!(out, ":{line}:{column}")?;
+        out.push(':');
+        out.push_number(mark.from.line);
+        out.push(':');
+        out.push_number(mark.from.characters.saturating_add(1));
     }
-    out.push('\n')
+    out.push('\n');
 }
 
 /// Writes the lines of each file that is pointed to; `marks` are ordered by file and place.
-fn push_files(
-    alloc: Global,
-    out: &mut String,
-    frame: Frame,
-    marks: &[Mark<'_>],
-) -> Result<(), AllocError> {
+fn push_files(alloc: Global, out: &mut Text, frame: Frame, marks: &[Mark<'_>]) {
     for group in marks.chunk_by(|a, b| a.order == b.order) {
         if let Some(first) = group.first() {
             let source = first.source;
             if first.order > 0 {
-                push_row(out, frame, None, "")?;
-                push_place(out, frame, ":::", source.name, Some(first))?;
+                push_row(out, frame, None, "");
+                push_place(out, frame, ":::", source.name, Some(first));
             }
-            push_excerpt_of(alloc, out, frame, source.text, group)?;
+            push_excerpt_of(alloc, out, frame, source.text, group);
         }
     }
-    Ok(())
 }
 
 /// Writes `= note: TEXT`, with the further lines of the text below its first one.
-fn push_note(out: &mut String, frame: Frame, name: &str, text: &str) -> Result<(), AllocError> {
-    push_margin(out, frame, None, Ink::Gutter, "=")?;
-    out.push(' ')?;
-    put(out, frame.style, Ink::Bold, name)?;
-    out.push_str(": ")?;
+fn push_note(out: &mut Text, frame: Frame, name: &str, text: &str) {
+    push_margin(out, frame, None, Ink::Gutter, "=");
+    out.push(' ');
+    put(out, frame.style, Ink::Bold, name);
+    out.push_str(": ");
     let mut is_first = true;
     for line in text.lines() {
         if !is_first {
-            out.push('\n')?;
+            out.push('\n');
             repeat(
                 out,
                 " ",
                 frame.digits.saturating_add(name.len()).saturating_add(5),
-            )?;
+            );
         }
-        push_escaped(out, line)?;
+        push_escaped(out, line);
         is_first = false;
     }
-    out.push('\n')
+    out.push('\n');
 }
 
 /// Writes a label that has no place as a note.
-fn push_unplaced(
-    out: &mut String,
-    frame: Frame,
-    sources: &Sources<'_>,
-    label: &PlacedLabel,
-) -> Result<(), AllocError> {
+fn push_unplaced(out: &mut Text, frame: Frame, sources: &Sources<'_>, label: &PlacedLabel) {
     let text = label.text.as_str();
     match sources.of(label.file) {
         Some(source) => {
             let file = source.name;
-            let note = format!(in *out.allocator(); "{text} ({file})")?;
-            push_note(out, frame, "note", note.as_str())
+            let note = format!(in out.allocator(); "{text} ({file})");
+            if let Some(note) = out.made(note) {
+                push_note(out, frame, "note", note.as_str());
+            }
         }
         None => push_note(out, frame, "note", text),
     }
@@ -147,33 +114,32 @@ fn is_unplaced(sources: &Sources<'_>, label: &PlacedLabel) -> bool {
 /// Writes what stands below the lines: labels without a place, notes and suggestions.
 fn push_children(
     alloc: Global,
-    out: &mut String,
+    out: &mut Text,
     frame: Frame,
     sources: &Sources<'_>,
     shown: &Shown<'_>,
-) -> Result<(), AllocError> {
+) {
     let diagnostic = shown.diagnostic;
     let own = sources.own;
     for label in &diagnostic.labels {
         if is_unplaced(sources, label) {
-            push_unplaced(out, frame, sources, label)?;
+            push_unplaced(out, frame, sources, label);
         }
     }
     for note in &diagnostic.notes {
-        push_note(out, frame, "note", note.as_str())?;
+        push_note(out, frame, "note", note.as_str());
     }
     for fix in &shown.fixes {
         if fix.parts.is_empty() {
             let inner = fix.fix;
-            push_note(out, frame, "help", inner.text.as_str())?;
+            push_note(out, frame, "help", inner.text.as_str());
         }
     }
     for fix in &shown.fixes {
         if !fix.parts.is_empty() {
-            push_fix(alloc, out, frame, own.text, fix)?;
+            push_fix(alloc, out, frame, own.text, fix);
         }
     }
-    Ok(())
 }
 
 /// The places of a diagnostic, by file and then by place.
@@ -190,22 +156,24 @@ fn ordered<'a>(alloc: Global, shown: &Shown<'a>) -> Result<Vec<Mark<'a>>, AllocE
 /// be written instead; and then an empty line.
 pub(crate) fn push_people(
     alloc: Global,
-    out: &mut String,
+    out: &mut Text,
     style: Style,
     sources: &Sources<'_>,
     shown: &Shown<'_>,
-) -> Result<(), AllocError> {
+) {
     let diagnostic = shown.diagnostic;
     let frame = Frame {
         style,
         level: diagnostic.level,
         digits: digits_of(shown),
     };
-    push_title(out, style, shown)?;
+    push_title(out, style, shown);
     let own = sources.own;
-    push_place(out, frame, "-->", own.name, shown.primary())?;
-    let marks = ordered(alloc, shown)?;
-    push_files(alloc, out, frame, marks.as_slice())?;
+    push_place(out, frame, "-->", own.name, shown.primary());
+    let Some(marks) = out.made(ordered(alloc, shown)) else {
+        return;
+    };
+    push_files(alloc, out, frame, marks.as_slice());
     let has_children = !diagnostic.notes.is_empty()
         || !shown.fixes.is_empty()
         || diagnostic
@@ -213,8 +181,8 @@ pub(crate) fn push_people(
             .iter()
             .any(|label| is_unplaced(sources, label));
     if has_children {
-        push_row(out, frame, None, "")?;
+        push_row(out, frame, None, "");
     }
-    push_children(alloc, out, frame, sources, shown)?;
-    out.push('\n')
+    push_children(alloc, out, frame, sources, shown);
+    out.push('\n');
 }

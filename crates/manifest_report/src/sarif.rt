@@ -4,7 +4,7 @@ use crate::format::level_name;
 use crate::marks::{Mark, Shown, ShownFix};
 use crate::pages::explained;
 use crate::source::Sources;
-use manifest_json::{close, close_list, number_member, open, open_list, open_member, text_member};
+use manifest_json::Text;
 use manifest_rules::{ALL, Code};
 use percent_encoding::{AsciiSet, CONTROLS, utf8_percent_encode};
 use std::alloc::{AllocError, Global};
@@ -37,183 +37,169 @@ fn escaped() -> AsciiSet {
         .add(b'}')
 }
 
-/// Writes which file it is, by the path of the file as a URI.
-fn push_artifact(alloc: Global, out: &mut String, file: &str) -> Result<(), AllocError> {
-    let mut uri = String::new(alloc);
-    if file.starts_with('/') {
-        uri.push_str("file://")?;
-    }
+/// The path of a file as a URI.
+fn uri_of(alloc: Global, file: &str) -> Result<String, AllocError> {
+    let scheme = if file.starts_with('/') { "file://" } else { "" };
+    let mut uri = String::from_str(alloc, scheme)?;
     let path = file.strip_prefix("./").unwrap_or(file);
     utf8_percent_encode(path, escaped()).append_to(&mut uri)?;
-    open_member(out, "artifactLocation")?;
-    text_member(out, "uri", uri.as_str())?;
-    close(out)
+    Ok(uri)
+}
+
+/// Writes which file it is, by the path of the file as a URI.
+fn push_artifact(alloc: Global, out: &mut Text, file: &str) {
+    let Some(uri) = out.made(uri_of(alloc, file)) else {
+        return;
+    };
+    out.open_member("artifactLocation");
+    out.text_member("uri", uri.as_str());
+    out.close();
 }
 
 /// Writes a range.
-fn push_region(out: &mut String, key: &str, mark: &Mark<'_>) -> Result<(), AllocError> {
+fn push_region(out: &mut Text, key: &str, mark: &Mark<'_>) {
     let start = mark.from.characters.saturating_add(1);
     let end = mark.to.characters.saturating_add(1);
-    open_member(out, key)?;
-    number_member(out, "startLine", mark.from.line)?;
-    number_member(out, "startColumn", start)?;
-    number_member(out, "endLine", mark.to.line)?;
-    number_member(out, "endColumn", end)?;
-    close(out)
+    out.open_member(key);
+    out.number_member("startLine", mark.from.line);
+    out.number_member("startColumn", start);
+    out.number_member("endLine", mark.to.line);
+    out.number_member("endColumn", end);
+    out.close();
 }
 
 /// Writes a member that is a text in an object of its own.
-fn push_words(out: &mut String, key: &str, text: &str) -> Result<(), AllocError> {
-    open_member(out, key)?;
-    text_member(out, "text", text)?;
-    close(out)
+fn push_words(out: &mut Text, key: &str, text: &str) {
+    out.open_member(key);
+    out.text_member("text", text);
+    out.close();
 }
 
 /// Writes a place: a range of a file, or a file without one.
-fn push_physical(
-    alloc: Global,
-    out: &mut String,
-    file: &str,
-    mark: Option<&Mark<'_>>,
-) -> Result<(), AllocError> {
-    open_member(out, "physicalLocation")?;
-    push_artifact(alloc, out, file)?;
+fn push_physical(alloc: Global, out: &mut Text, file: &str, mark: Option<&Mark<'_>>) {
+    out.open_member("physicalLocation");
+    push_artifact(alloc, out, file);
     if let Some(mark) = mark {
-        push_region(out, "region", mark)?;
+        push_region(out, "region", mark);
     }
-    close(out)
+    out.close();
 }
 
 /// Writes a second place, and what is said there.
-fn push_related_one(alloc: Global, out: &mut String, mark: &Mark<'_>) -> Result<(), AllocError> {
-    open(out)?;
-    push_physical(alloc, out, mark.source.name, Some(mark))?;
+fn push_related_one(alloc: Global, out: &mut Text, mark: &Mark<'_>) {
+    out.open();
+    push_physical(alloc, out, mark.source.name, Some(mark));
     if !mark.text.is_empty() {
-        push_words(out, "message", mark.text)?;
+        push_words(out, "message", mark.text);
     }
-    close(out)
+    out.close();
 }
 
 /// Writes the second places of a diagnostic.
-fn push_related(alloc: Global, out: &mut String, shown: &Shown<'_>) -> Result<(), AllocError> {
-    open_list(out, "relatedLocations")?;
+fn push_related(alloc: Global, out: &mut Text, shown: &Shown<'_>) {
+    out.open_list("relatedLocations");
     for mark in &shown.marks {
         if !mark.is_primary {
-            push_related_one(alloc, out, mark)?;
+            push_related_one(alloc, out, mark);
         }
     }
-    close_list(out)
+    out.close_list();
 }
 
 /// Writes a part of a suggestion.
-fn push_replacement(out: &mut String, part: &Mark<'_>) -> Result<(), AllocError> {
-    open(out)?;
-    push_region(out, "deletedRegion", part)?;
-    push_words(out, "insertedContent", part.text)?;
-    close(out)
+fn push_replacement(out: &mut Text, part: &Mark<'_>) {
+    out.open();
+    push_region(out, "deletedRegion", part);
+    push_words(out, "insertedContent", part.text);
+    out.close();
 }
 
 /// Writes a suggestion.
-fn push_fix(
-    alloc: Global,
-    out: &mut String,
-    file: &str,
-    fix: &ShownFix<'_>,
-) -> Result<(), AllocError> {
+fn push_fix(alloc: Global, out: &mut Text, file: &str, fix: &ShownFix<'_>) {
     let inner = fix.fix;
-    open(out)?;
-    push_words(out, "description", inner.text.as_str())?;
-    open_list(out, "artifactChanges")?;
-    open(out)?;
-    push_artifact(alloc, out, file)?;
-    open_list(out, "replacements")?;
+    out.open();
+    push_words(out, "description", inner.text.as_str());
+    out.open_list("artifactChanges");
+    out.open();
+    push_artifact(alloc, out, file);
+    out.open_list("replacements");
     for part in &fix.parts {
-        push_replacement(out, part)?;
+        push_replacement(out, part);
     }
-    close_list(out)?;
-    close(out)?;
-    close_list(out)?;
-    close(out)
+    out.close_list();
+    out.close();
+    out.close_list();
+    out.close();
 }
 
 /// Writes the suggestions of a diagnostic that replace something.
-fn push_fixes(
-    alloc: Global,
-    out: &mut String,
-    file: &str,
-    shown: &Shown<'_>,
-) -> Result<(), AllocError> {
-    open_list(out, "fixes")?;
+fn push_fixes(alloc: Global, out: &mut Text, file: &str, shown: &Shown<'_>) {
+    out.open_list("fixes");
     for fix in &shown.fixes {
         if !fix.parts.is_empty() {
-            push_fix(alloc, out, file, fix)?;
+            push_fix(alloc, out, file, fix);
         }
     }
-    close_list(out)
+    out.close_list();
 }
 
 /// Writes what is said of a code.
-fn push_rule(out: &mut String, code: Code) -> Result<(), AllocError> {
+fn push_rule(out: &mut Text, code: Code) {
     let page = explained(code.name);
-    open(out)?;
-    text_member(out, "id", code.name)?;
+    out.open();
+    out.text_member("id", code.name);
     if !page.is_empty() {
-        push_words(out, "fullDescription", page)?;
+        push_words(out, "fullDescription", page);
     }
-    open_member(out, "defaultConfiguration")?;
-    text_member(out, "level", level_name(code.level))?;
-    close(out)?;
-    close(out)
+    out.open_member("defaultConfiguration");
+    out.text_member("level", level_name(code.level));
+    out.close();
+    out.close();
 }
 
 /// Writes what stands before the results.
-pub(crate) fn push_head(out: &mut String) -> Result<(), AllocError> {
-    out.push_str(HEAD)?;
+pub(crate) fn push_head(out: &mut Text) {
+    out.push_str(HEAD);
     for code in ALL {
-        push_rule(out, *code)?;
+        push_rule(out, *code);
     }
-    out.push_str(MIDDLE)
+    out.push_str(MIDDLE);
 }
 
 /// Writes what stands after the results.
-pub(crate) fn push_foot(out: &mut String) -> Result<(), AllocError> {
-    out.push_str(FOOT)
+pub(crate) fn push_foot(out: &mut Text) {
+    out.push_str(FOOT);
 }
 
 /// Writes the place of a diagnostic.
-fn push_locations(
-    alloc: Global,
-    out: &mut String,
-    file: &str,
-    shown: &Shown<'_>,
-) -> Result<(), AllocError> {
-    open_list(out, "locations")?;
-    open(out)?;
-    push_physical(alloc, out, file, shown.primary())?;
-    close(out)?;
-    close_list(out)
+fn push_locations(alloc: Global, out: &mut Text, file: &str, shown: &Shown<'_>) {
+    out.open_list("locations");
+    out.open();
+    push_physical(alloc, out, file, shown.primary());
+    out.close();
+    out.close_list();
 }
 
 /// Writes a diagnostic as a result, with a comma before it where it is not the first one.
 pub(crate) fn push_sarif<'a>(
     alloc: Global,
-    out: &mut String,
+    out: &mut Text,
     is_first: bool,
     sources: &Sources<'a>,
     shown: &Shown<'a>,
-) -> Result<(), AllocError> {
+) {
     let own = sources.own;
     let file = own.name;
     let diagnostic = shown.diagnostic;
     if !is_first {
-        out.push_str(",\n")?;
+        out.push_str(",\n");
     }
-    open(out)?;
-    text_member(out, "ruleId", diagnostic.code.name)?;
-    text_member(out, "level", level_name(diagnostic.level))?;
-    push_words(out, "message", diagnostic.message.as_str())?;
-    push_locations(alloc, out, file, shown)?;
-    push_related(alloc, out, shown)?;
-    push_fixes(alloc, out, file, shown)?;
-    close(out)
+    out.open();
+    out.text_member("ruleId", diagnostic.code.name);
+    out.text_member("level", level_name(diagnostic.level));
+    push_words(out, "message", diagnostic.message.as_str());
+    push_locations(alloc, out, file, shown);
+    push_related(alloc, out, shown);
+    push_fixes(alloc, out, file, shown);
+    out.close();
 }

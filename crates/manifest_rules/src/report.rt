@@ -187,13 +187,17 @@ impl Report {
 const ROOM: usize = 1 << 28;
 
 /// Where rules say things, of a package of this edition.
+///
+/// Where memory runs out, nothing more is said, and `finish` returns the error: so a rule needs no `?` where it says something.
 #[derive(Drop)]
 pub struct Out {
     pub alloc: Global,
     pub edition: Edition,
-    pub reports: Vec<Report>,
+    reports: Vec<Report>,
     /// How many bytes of messages and paths there is room for.
     room: usize,
+    /// Whether there was memory for all of it.
+    state: Result<(), AllocError>,
 }
 
 /// The bytes of the names in a path.
@@ -215,6 +219,48 @@ impl Out {
             edition,
             reports: Vec::new(alloc),
             room: ROOM,
+            state: Ok(()),
+        }
+    }
+
+    /// All that is said. Out of memory where it ran out on the way.
+    pub fn finish(self) -> Result<Vec<Report>, AllocError> {
+        self.state?;
+        Ok(self.reports)
+    }
+
+    /// What was made for a rule, if there was memory for it. If not, nothing more is said.
+    pub fn made<T: Drop>(&mut self, made: Result<T, AllocError>) -> Option<T> {
+        match made {
+            Ok(made) => Some(made),
+            Err(error) => {
+                self.state = Err(error);
+                None
+            }
+        }
+    }
+
+    /// The text that was made for a rule; the empty one if there was no memory for it, after which nothing more is said.
+    pub fn text(&mut self, made: Result<String, AllocError>) -> String {
+        match made {
+            Ok(text) => text,
+            Err(error) => {
+                self.state = Err(error);
+                String::new(self.alloc)
+            }
+        }
+    }
+
+    /// A value as it is printed; the empty text if there was no memory for it.
+    pub fn shown<T: fmt::Display>(&mut self, value: &T) -> String {
+        let made = shown(self.alloc, value);
+        self.text(made)
+    }
+
+    /// Keeps why something could not be said.
+    fn keep(&mut self, said: Result<(), AllocError>) {
+        if said.is_err() {
+            self.state = said;
         }
     }
 
@@ -238,7 +284,7 @@ impl Out {
     /// A search for the name that is nearest to a text. Where much is reported already, it finds nothing: that would take
     /// long for a manifest with many wrong names.
     pub fn nearest<'a>(&self, text: &'a str) -> Nearest<'a> {
-        if self.reports.len() < 100 {
+        if self.reports.len() < 100 && self.state.is_ok() {
             Nearest::to(text)
         } else {
             Nearest::given_up(text)
@@ -246,21 +292,36 @@ impl Out {
     }
 
     /// The nearest of these names to a text.
-    pub fn nearest_of<'a>(
-        &self,
-        text: &'a str,
-        names: &[&'static str],
-    ) -> Result<Option<&'a str>, AllocError> {
+    pub fn nearest_of<'a>(&mut self, text: &'a str, names: &[&'static str]) -> Option<&'a str> {
         let mut nearest = self.nearest(text);
         for name in names {
-            nearest.offer(self.alloc, *name)?;
+            self.offer(&mut nearest, *name);
         }
-        Ok(nearest.found())
+        nearest.found()
+    }
+
+    /// Offers a name to a search for the nearest one.
+    pub fn offer<'a>(&mut self, nearest: &mut Nearest<'a>, name: &'a str) {
+        let offered = nearest.offer(self.alloc, name);
+        self.keep(offered);
     }
 
     /// Says this, in these words, of a part of what stands at a path: the first is the message, and the others stand in
     /// the place of each `{}` in it.
     pub fn say(
+        &mut self,
+        code: Code,
+        part: Part,
+        base: &[At<'_>],
+        rest: &[At<'_>],
+        words: &[&str],
+    ) {
+        if self.state.is_ok() {
+            self.state = self.try_say(code, part, base, rest, words);
+        }
+    }
+
+    fn try_say(
         &mut self,
         code: Code,
         part: Part,
@@ -273,47 +334,25 @@ impl Out {
     }
 
     /// Says this of the value at a path.
-    pub fn value(
-        &mut self,
-        code: Code,
-        base: &[At<'_>],
-        rest: &[At<'_>],
-        words: &[&str],
-    ) -> Result<(), AllocError> {
-        self.say(code, Part::Value, base, rest, words)
+    pub fn value(&mut self, code: Code, base: &[At<'_>], rest: &[At<'_>], words: &[&str]) {
+        self.say(code, Part::Value, base, rest, words);
     }
 
     /// Says this of the key at a path.
-    pub fn key(
-        &mut self,
-        code: Code,
-        base: &[At<'_>],
-        rest: &[At<'_>],
-        words: &[&str],
-    ) -> Result<(), AllocError> {
-        self.say(code, Part::Key, base, rest, words)
+    pub fn key(&mut self, code: Code, base: &[At<'_>], rest: &[At<'_>], words: &[&str]) {
+        self.say(code, Part::Key, base, rest, words);
     }
 
     /// Says this of the header of the table at a path, as something is missing in it.
-    pub fn header(
-        &mut self,
-        code: Code,
-        base: &[At<'_>],
-        rest: &[At<'_>],
-        words: &[&str],
-    ) -> Result<(), AllocError> {
-        self.say(code, Part::Header, base, rest, words)
+    pub fn header(&mut self, code: Code, base: &[At<'_>], rest: &[At<'_>], words: &[&str]) {
+        self.say(code, Part::Header, base, rest, words);
     }
 
     /// Says this of the bytes of the text from the first offset to the second.
-    pub fn bytes(
-        &mut self,
-        code: Code,
-        start: usize,
-        end: usize,
-        words: &[&str],
-    ) -> Result<(), AllocError> {
-        self.say_at(code, Spot::Bytes(start, end), words)
+    pub fn bytes(&mut self, code: Code, start: usize, end: usize, words: &[&str]) {
+        if self.state.is_ok() {
+            self.state = self.say_at(code, Spot::Bytes(start, end), words);
+        }
     }
 
     fn say_at(&mut self, code: Code, spot: Spot, words: &[&str]) -> Result<(), AllocError> {
@@ -329,7 +368,13 @@ impl Out {
     }
 
     /// Of what was said last: one more note.
-    pub fn note(&mut self, words: &[&str]) -> Result<(), AllocError> {
+    pub fn note(&mut self, words: &[&str]) {
+        if self.state.is_ok() {
+            self.state = self.try_note(words);
+        }
+    }
+
+    fn try_note(&mut self, words: &[&str]) -> Result<(), AllocError> {
         let note = filled(self.alloc, words)?;
         if let Some(last) = self.reports.last_mut() {
             last.notes.push(note)?;
@@ -339,6 +384,19 @@ impl Out {
 
     /// Of what was said last: one more place, and these words there.
     pub fn label(
+        &mut self,
+        file: File,
+        part: Part,
+        base: &[At<'_>],
+        rest: &[At<'_>],
+        words: &[&str],
+    ) {
+        if self.state.is_ok() {
+            self.state = self.try_label(file, part, base, rest, words);
+        }
+    }
+
+    fn try_label(
         &mut self,
         file: File,
         part: Part,
@@ -355,8 +413,10 @@ impl Out {
     }
 
     /// Of what was said last: words of what can be written, and no edit.
-    pub fn help(&mut self, words: &[&str]) -> Result<(), AllocError> {
-        self.suggest(Vec::new(self.alloc), false, words)
+    pub fn help(&mut self, words: &[&str]) {
+        if self.state.is_ok() {
+            self.state = self.suggest(Vec::new(self.alloc), false, words);
+        }
     }
 
     /// Of what was said last: what is at a path can have this key.
@@ -367,10 +427,9 @@ impl Out {
         key: &str,
         is_certain: bool,
         words: &[&str],
-    ) -> Result<(), AllocError> {
-        let path = steps(self.alloc, base, rest)?;
-        let edit = Edit::Rename(path, String::from_str(self.alloc, key)?);
-        self.suggest_edit(edit, is_certain, words)
+    ) {
+        let edit = renaming(self.alloc, base, rest, key);
+        self.suggest_edit(edit, is_certain, words);
     }
 
     /// Of what was said last: this can be written as the value at a path.
@@ -381,10 +440,9 @@ impl Out {
         value: &[&str],
         is_certain: bool,
         words: &[&str],
-    ) -> Result<(), AllocError> {
-        let path = steps(self.alloc, base, rest)?;
-        let edit = Edit::Set(path, filled(self.alloc, value)?);
-        self.suggest_edit(edit, is_certain, words)
+    ) {
+        let edit = setting(self.alloc, base, rest, value);
+        self.suggest_edit(edit, is_certain, words);
     }
 
     /// Of what was said last: this text can be written, in quotes, at a path.
@@ -395,10 +453,9 @@ impl Out {
         text: &str,
         is_certain: bool,
         words: &[&str],
-    ) -> Result<(), AllocError> {
-        let path = steps(self.alloc, base, rest)?;
-        let edit = Edit::Set(path, quoted(self.alloc, text)?);
-        self.suggest_edit(edit, is_certain, words)
+    ) {
+        let edit = setting_text(self.alloc, base, rest, text);
+        self.suggest_edit(edit, is_certain, words);
     }
 
     /// Of what was said last: this text can be inserted, in quotes, at a path.
@@ -409,32 +466,31 @@ impl Out {
         text: &str,
         is_certain: bool,
         words: &[&str],
-    ) -> Result<(), AllocError> {
-        let path = steps(self.alloc, base, rest)?;
-        let edit = Edit::Insert(path, quoted(self.alloc, text)?);
-        self.suggest_edit(edit, is_certain, words)
+    ) {
+        let edit = inserting_text(self.alloc, base, rest, text);
+        self.suggest_edit(edit, is_certain, words);
     }
 
     /// Of what was said last: what is at a path can be removed.
-    pub fn remove(
-        &mut self,
-        base: &[At<'_>],
-        rest: &[At<'_>],
-        is_certain: bool,
-        words: &[&str],
-    ) -> Result<(), AllocError> {
-        let edit = Edit::Remove(steps(self.alloc, base, rest)?);
-        self.suggest_edit(edit, is_certain, words)
+    pub fn remove(&mut self, base: &[At<'_>], rest: &[At<'_>], is_certain: bool, words: &[&str]) {
+        let edit = removing(self.alloc, base, rest);
+        self.suggest_edit(edit, is_certain, words);
     }
 
-    fn suggest_edit(
+    fn suggest_edit(&mut self, edit: Result<Edit, AllocError>, is_certain: bool, words: &[&str]) {
+        if self.state.is_ok() {
+            self.state = self.try_suggest(edit, is_certain, words);
+        }
+    }
+
+    fn try_suggest(
         &mut self,
-        edit: Edit,
+        edit: Result<Edit, AllocError>,
         is_certain: bool,
         words: &[&str],
     ) -> Result<(), AllocError> {
         let mut edits = Vec::new(self.alloc);
-        edits.push(edit)?;
+        edits.push(edit?)?;
         self.suggest(edits, is_certain, words)
     }
 
@@ -455,4 +511,48 @@ impl Out {
         }
         Ok(())
     }
+}
+
+fn renaming(
+    alloc: Global,
+    base: &[At<'_>],
+    rest: &[At<'_>],
+    key: &str,
+) -> Result<Edit, AllocError> {
+    let path = steps(alloc, base, rest)?;
+    Ok(Edit::Rename(path, String::from_str(alloc, key)?))
+}
+
+fn setting(
+    alloc: Global,
+    base: &[At<'_>],
+    rest: &[At<'_>],
+    value: &[&str],
+) -> Result<Edit, AllocError> {
+    let path = steps(alloc, base, rest)?;
+    Ok(Edit::Set(path, filled(alloc, value)?))
+}
+
+fn setting_text(
+    alloc: Global,
+    base: &[At<'_>],
+    rest: &[At<'_>],
+    text: &str,
+) -> Result<Edit, AllocError> {
+    let path = steps(alloc, base, rest)?;
+    Ok(Edit::Set(path, quoted(alloc, text)?))
+}
+
+fn inserting_text(
+    alloc: Global,
+    base: &[At<'_>],
+    rest: &[At<'_>],
+    text: &str,
+) -> Result<Edit, AllocError> {
+    let path = steps(alloc, base, rest)?;
+    Ok(Edit::Insert(path, quoted(alloc, text)?))
+}
+
+fn removing(alloc: Global, base: &[At<'_>], rest: &[At<'_>]) -> Result<Edit, AllocError> {
+    Ok(Edit::Remove(steps(alloc, base, rest)?))
 }

@@ -3,7 +3,7 @@
 ghost use Rattle.std.specs.Prelude.{◌≤◌};
 
 use crate::codes::Code;
-use crate::report::{At, Out, Part, shown};
+use crate::report::{At, Out, Part};
 use semver::{Op, Version, VersionReq};
 use std::alloc::{AllocError, Global};
 use std::fmt;
@@ -107,26 +107,26 @@ pub fn say_wrong_word(
     rest: &[At<'_>],
     wrong: &WrongWord<'_>,
     out: &mut Out,
-) -> Result<(), AllocError> {
+) {
     let WrongWord { what, word, fault } = *wrong;
     match fault {
         WordFault::Empty if word.is_empty() => {
-            out.say(code, part, base, rest, &["{} cannot be empty", what])
+            out.say(code, part, base, rest, &["{} cannot be empty", what]);
         }
         WordFault::Empty => {
             let words = ["empty part in {} `{}`", what, word];
-            out.say(code, part, base, rest, &words)
+            out.say(code, part, base, rest, &words);
         }
         WordFault::First(ch) => {
-            let ch = shown(out.alloc, &ch)?;
+            let ch = out.shown(&ch);
             let before = "` cannot begin with the character `";
             let words = ["{} `{}{}{}`", what, word, before, ch.as_str()];
-            out.say(code, part, base, rest, &words)
+            out.say(code, part, base, rest, &words);
         }
         WordFault::Other(ch) => {
-            let ch = shown(out.alloc, &ch)?;
+            let ch = out.shown(&ch);
             let words = ["invalid character `{}` in {} `{}`", ch.as_str(), what, word];
-            out.say(code, part, base, rest, &words)
+            out.say(code, part, base, rest, &words);
         }
     }
 }

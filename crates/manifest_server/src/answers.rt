@@ -1,7 +1,7 @@
 //! Messages of the server.
 
-use manifest_json::{close, number_member, open, open_member, push_key, text_member};
-use std::alloc::{AllocError, Global};
+use manifest_json::Text;
+use std::alloc::Global;
 
 /// Why a request has no answer.
 #[derive(Clone, Copy)]
@@ -37,42 +37,50 @@ impl Refusal {
 }
 
 /// Writes a message after its header.
-pub(crate) fn push_frame(out: &mut String, body: &str) -> Result<(), AllocError> {
-    let length = body.len();
-    write!(out, "Content-Length: {length}\r\n\r\n")?;
-    out.push_str(body)
+pub(crate) fn push_frame(out: &mut Text, body: Text) {
+    let Some(body) = out.made(body.finish()) else {
+        return;
+    };
+    out.push_str("Content-Length: ");
+    out.push_number(body.len());
+    out.push_str("\r\n\r\n");
+    out.push_str(body.as_str());
 }
 
 /// What an answer to a request begins with.
-pub(crate) fn begun(alloc: Global, id: &str) -> Result<String, AllocError> {
-    let mut body = String::new(alloc);
-    open(&mut body)?;
-    text_member(&mut body, "jsonrpc", "2.0")?;
-    push_key(&mut body, "id")?;
-    body.push_str(id)?;
-    Ok(body)
+pub(crate) fn begun(alloc: Global, id: &str) -> Text {
+    let mut body = Text::new(alloc);
+    body.open();
+    body.text_member("jsonrpc", "2.0");
+    body.push_key("id");
+    body.push_str(id);
+    body
 }
 
 /// What a notification begins with, up to the members of its parameters.
-pub(crate) fn begun_notification(alloc: Global, method: &str) -> Result<String, AllocError> {
-    let mut body = String::new(alloc);
-    open(&mut body)?;
-    text_member(&mut body, "jsonrpc", "2.0")?;
-    text_member(&mut body, "method", method)?;
-    open_member(&mut body, "params")?;
-    Ok(body)
+pub(crate) fn begun_notification(alloc: Global, method: &str) -> Text {
+    let mut body = Text::new(alloc);
+    body.open();
+    body.text_member("jsonrpc", "2.0");
+    body.text_member("method", method);
+    body.open_member("params");
+    body
+}
+
+/// Answers that there is no answer.
+pub(crate) fn push_error(body: &mut Text, refusal: Refusal) {
+    body.open_member("error");
+    body.push_key("code");
+    body.push('-');
+    body.push_number(refusal.code());
+    body.text_member("message", refusal.message());
+    body.close();
 }
 
 /// Refuses a request.
-pub(crate) fn push_refusal(out: &mut String, id: &str, refusal: Refusal) -> Result<(), AllocError> {
-    let mut body = begun(*out.allocator(), id)?;
-    open_member(&mut body, "error")?;
-    push_key(&mut body, "code")?;
-    body.push('-')?;
-    let code = refusal.code();
-    write!(body, "{code}")?;
-    text_member(&mut body, "message", refusal.message())?;
-    close(&mut body)?;
-    close(&mut body)?;
-    push_frame(out, body.as_str())
+pub(crate) fn push_refusal(out: &mut Text, id: &str, refusal: Refusal) {
+    let mut body = begun(out.allocator(), id);
+    push_error(&mut body, refusal);
+    body.close();
+    push_frame(out, body);
 }

@@ -6,7 +6,7 @@ use crate::hover::value_at;
 use crate::session::Known;
 use crate::spots::ITEM;
 use crate::targets::{files_for, is_of_target};
-use manifest_json::{close, number_member, open, open_member, text_member};
+use manifest_json::Text;
 use std::alloc::{AllocError, Global};
 use std::rt::Files;
 use toml::{Table, Value};
@@ -68,6 +68,12 @@ fn names_above(alloc: Global, above: &str) -> Result<Vec<String>, AllocError> {
     Ok(names)
 }
 
+/// The document that a text is, where it is one.
+fn document_of(alloc: Global, text: Text) -> Result<Option<Table>, AllocError> {
+    let text = text.finish()?;
+    Ok(toml::table_from_str(alloc, text.as_str()).ok())
+}
+
 /// What is known around an offset.
 fn place_at(alloc: Global, text: &str, offset: usize) -> Result<Place<'_>, AllocError> {
     let front = text.get(..offset).unwrap_or("");
@@ -80,13 +86,15 @@ fn place_at(alloc: Global, text: &str, offset: usize) -> Result<Place<'_>, Alloc
         Some((_line, below)) => below,
         None => "",
     };
-    let mut others = String::from_str(alloc, above)?;
-    others.push('\n')?;
-    others.push_str(below)?;
+    let mut others = Text::new(alloc);
+    others.push_str(above);
+    others.push('\n');
+    others.push_str(below);
+    let document = document_of(alloc, others)?;
     Ok(Place {
         front: line,
         names: names_above(alloc, above)?,
-        document: toml::table_from_str(alloc, others.as_str()).ok(),
+        document,
     })
 }
 
@@ -117,34 +125,31 @@ fn key_of_inline(front: &str) -> Option<&str> {
 }
 
 /// Writes an item.
-fn push_item(
-    body: &mut String,
-    label: &str,
-    kind: usize,
-    detail: &str,
-    insert: &str,
-) -> Result<(), AllocError> {
-    open(body)?;
-    text_member(body, "label", label)?;
-    number_member(body, "kind", kind)?;
+fn push_item(body: &mut Text, label: &str, kind: usize, detail: &str, insert: &str) {
+    body.open();
+    body.text_member("label", label);
+    body.number_member("kind", kind);
     if !detail.is_empty() {
-        text_member(body, "detail", detail)?;
+        body.text_member("detail", detail);
     }
-    text_member(body, "insertText", insert)
+    body.text_member("insertText", insert);
 }
 
 /// Offers a key.
-fn push_key_item(body: &mut String, key: Key) -> Result<(), AllocError> {
-    let alloc = *body.allocator();
+fn push_key_item(body: &mut Text, key: Key) {
+    let alloc = body.allocator();
     let (name, holds, needed) = (key.name, key.holds, key.needed);
-    let detail = format!(in alloc; "{holds}, {needed}")?;
-    let insert = format!(in alloc; "{name} = ")?;
-    push_item(body, name, KEY, detail.as_str(), insert.as_str())?;
-    open_member(body, "documentation")?;
-    text_member(body, "kind", "markdown")?;
-    text_member(body, "value", key.about)?;
-    close(body)?;
-    close(body)
+    let detail = body.made(format!(in alloc; "{holds}, {needed}"));
+    let insert = body.made(format!(in alloc; "{name} = "));
+    let (Some(detail), Some(insert)) = (detail, insert) else {
+        return;
+    };
+    push_item(body, name, KEY, detail.as_str(), insert.as_str());
+    body.open_member("documentation");
+    body.text_member("kind", "markdown");
+    body.text_member("value", key.about);
+    body.close();
+    body.close();
 }
 
 /// The table at a path of a document.
@@ -167,86 +172,101 @@ fn is_there(table: Option<&Table>, key: Key) -> bool {
 }
 
 /// Offers the keys of a table that it has not yet.
-fn push_keys(
-    body: &mut String,
-    document: Option<&Table>,
-    names: &[&str],
-) -> Result<(), AllocError> {
+fn push_keys(body: &mut Text, document: Option<&Table>, names: &[&str]) {
     let table = match document {
         Some(document) => table_at(document, names),
         None => None,
     };
-    for key in keys_at(*body.allocator(), names)? {
+    let keys = keys_at(body.allocator(), names);
+    let Some(keys) = body.made(keys) else {
+        return;
+    };
+    for key in keys {
         if !is_there(table, key) {
-            push_key_item(body, key)?;
+            push_key_item(body, key);
         }
     }
-    Ok(())
 }
 
 /// Offers the words of the choice that a key holds.
-fn push_words(body: &mut String, names: &[&str], key: &str) -> Result<(), AllocError> {
+fn push_words(body: &mut Text, names: &[&str], key: &str) {
     let Some(known) = key_at(names, key) else {
-        return Ok(());
+        return;
     };
     let choice = match known.holds.split_once(',') {
         Some((choice, _or_inherited)) => choice,
         None => known.holds,
     };
-    for word in words_of(*body.allocator(), choice)? {
-        push_item(body, word, WORD, "", word)?;
-        close(body)?;
+    let words = words_of(body.allocator(), choice);
+    let Some(words) = body.made(words) else {
+        return;
+    };
+    for word in words {
+        push_item(body, word, WORD, "", word);
+        body.close();
     }
-    Ok(())
 }
 
-/// Offers the dependencies of a table that are optional, as features name them.
-fn push_optional(body: &mut String, table: &Table) -> Result<(), AllocError> {
-    let alloc = *body.allocator();
+/// Offers an optional dependency, as features name it.
+fn push_module(body: &mut Text, name: &str) {
+    let item = format!(in body.allocator(); "dep:{name}");
+    if let Some(item) = body.made(item) {
+        push_item(body, item.as_str(), MODULE, "", item.as_str());
+        body.close();
+    }
+}
+
+/// Offers the dependencies of a table that are optional.
+fn push_optional(body: &mut Text, table: &Table) {
     for (name, value) in table {
         if let Value::Table(dependency) = value {
             if let Some(Value::Boolean(true)) = dependency.get("optional") {
-                let name = name.as_str();
-                let item = format!(in alloc; "dep:{name}")?;
-                push_item(body, item.as_str(), MODULE, "", item.as_str())?;
-                close(body)?;
+                push_module(body, name.as_str());
             }
         }
     }
-    Ok(())
 }
 
 /// Offers what a feature can enable.
-fn push_features(body: &mut String, document: &Table) -> Result<(), AllocError> {
+fn push_features(body: &mut Text, document: &Table) {
     if let Some(Value::Table(features)) = document.get("features") {
         for (name, _items) in features {
-            push_item(body, name.as_str(), WORD, "", name.as_str())?;
-            close(body)?;
+            push_item(body, name.as_str(), WORD, "", name.as_str());
+            body.close();
         }
     }
     for (section, value) in document {
         if let Value::Table(table) = value {
             if is_of_dependencies(section.as_str()) {
-                push_optional(body, table)?;
+                push_optional(body, table);
             }
         }
     }
-    Ok(())
+}
+
+/// Offers a dependency of the workspace, which has this value there.
+fn push_shared(body: &mut Text, name: &str, value: &Value) {
+    let alloc = body.allocator();
+    let detail = body.made(format!(in alloc; "{value}"));
+    let insert = body.made(format!(in alloc; "{name}.workspace = true"));
+    if let (Some(detail), Some(insert)) = (detail, insert) {
+        push_item(body, name, MODULE, detail.as_str(), insert.as_str());
+        body.close();
+    }
 }
 
 /// Offers the dependencies that can be inherited from the workspace, as far as the table has them not.
 fn push_inheritable(
-    body: &mut String,
+    body: &mut Text,
     document: Option<&Table>,
     root: Option<&Table>,
     names: &[&str],
-) -> Result<(), AllocError> {
-    let alloc = *body.allocator();
+) {
     let Some(root) = root else {
-        return Ok(());
+        return;
     };
     let Some(Value::Table(shared)) = value_at(root, &["workspace", "dependencies"]) else {
-        return Ok(());
+        return;
     };
     let table = match document {
         Some(document) => table_at(document, names),
@@ -256,13 +276,9 @@ fn push_inheritable(
         let name = name.as_str();
         let is_there = table.is_some_and(|table| table.contains_key(name));
         if !is_there {
-            let detail = format!(in alloc; "{value}")?;
-            let insert = format!(in alloc; "{name}.workspace = true")?;
-            push_item(body, name, MODULE, detail.as_str(), insert.as_str())?;
-            close(body)?;
+            push_shared(body, name, value);
         }
     }
-    Ok(())
 }
 
 /// The names of a table's path, and those of a key that stands in it with dots, without its last part.
@@ -286,85 +302,96 @@ fn names_with<'a>(
 /// Offers the files in which a target can be.
 fn push_files<H: Files + AllocGlobal + Clone + Drop>(
     rt: &H,
-    body: &mut String,
+    body: &mut Text,
     manifest: &str,
     names: &[&str],
-) -> Result<(), AllocError> {
-    for file in &files_for(rt, manifest, names)? {
-        push_item(body, file.as_str(), FILE, "", file.as_str())?;
-        close(body)?;
+) {
+    let Some(files) = body.made(files_for(rt, manifest, names)) else {
+        return;
+    };
+    for file in &files {
+        push_item(body, file.as_str(), FILE, "", file.as_str());
+        body.close();
     }
-    Ok(())
 }
 
 /// Offers what can stand within quotes.
 fn push_quoted<H: Files + AllocGlobal + Clone + Drop>(
     rt: &H,
-    body: &mut String,
+    body: &mut Text,
     manifest: &str,
     place: &Place<'_>,
-) -> Result<(), AllocError> {
+) {
     let alloc = rt.alloc();
     if place
         .names
         .first()
         .is_some_and(|name| name.as_str() == "features")
     {
-        return match &place.document {
-            Some(document) => push_features(body, document),
-            None => Ok(()),
-        };
+        if let Some(document) = &place.document {
+            push_features(body, document);
+        }
+        return;
     }
     let table = key_of_inline(place.front).unwrap_or("");
-    let names = names_with(alloc, place.names.as_slice(), table)?;
+    let Some(names) = body.made(names_with(alloc, place.names.as_slice(), table)) else {
+        return;
+    };
     let key = last_key(place.front);
     if key == "path" && is_of_target(names.as_slice()) {
-        return push_files(rt, body, manifest, names.as_slice());
+        push_files(rt, body, manifest, names.as_slice());
+    } else {
+        push_words(body, names.as_slice(), key);
     }
-    push_words(body, names.as_slice(), key)
+}
+
+/// Offers the keys of an inline table.
+fn push_inline(alloc: Global, body: &mut Text, place: &Place<'_>, key: &str) {
+    if let Some(names) = body.made(names_with(alloc, place.names.as_slice(), key)) {
+        push_keys(body, None, names.as_slice());
+    }
 }
 
 /// Offers keys.
-fn push_unquoted(
-    alloc: Global,
-    body: &mut String,
-    place: &Place<'_>,
-    root: Option<&Table>,
-) -> Result<(), AllocError> {
+fn push_unquoted(alloc: Global, body: &mut Text, place: &Place<'_>, root: Option<&Table>) {
     let document = place.document.as_ref();
     if let Some(key) = key_of_inline(place.front) {
-        let names = names_with(alloc, place.names.as_slice(), key)?;
-        return push_keys(body, None, names.as_slice());
+        push_inline(alloc, body, place, key);
+        return;
     }
     if place.front.contains('=') || place.front.trim_start().starts_with('[') {
-        return Ok(());
+        return;
     }
     let begun = match place.front.rsplit_once('.') {
         Some((begun, _last)) => begun,
         None => "",
     };
-    let names = names_with(alloc, place.names.as_slice(), begun)?;
-    push_keys(body, document, names.as_slice())?;
+    let Some(names) = body.made(names_with(alloc, place.names.as_slice(), begun)) else {
+        return;
+    };
+    push_keys(body, document, names.as_slice());
     match names.last() {
         Some(section) if is_of_dependencies(*section) => {
-            push_inheritable(body, document, root, names.as_slice())
+            push_inheritable(body, document, root, names.as_slice());
         }
-        _ => Ok(()),
+        _ => {}
     }
 }
 
 /// Offers what can be written at an offset.
 pub(crate) fn push_offers<H: Files + AllocGlobal + Clone + Drop>(
     rt: &H,
-    body: &mut String,
+    body: &mut Text,
     known: &Known<'_>,
     offset: usize,
-) -> Result<(), AllocError> {
-    let place = place_at(rt.alloc(), known.text, offset)?;
+) {
+    let Some(place) = body.made(place_at(rt.alloc(), known.text, offset)) else {
+        return;
+    };
     if is_quoted(place.front) {
-        push_quoted(rt, body, known.manifest, &place)
+        push_quoted(rt, body, known.manifest, &place);
     } else {
         let root = known.root.map(|root| &root.document.table);
-        push_unquoted(rt.alloc(), body, &place, root)
+        push_unquoted(rt.alloc(), body, &place, root);
     }
 }

@@ -2,9 +2,10 @@
 
 use crate::definition::standing;
 use crate::forms::{inherited_key, is_of_dependencies, key_at};
-use crate::session::Known;
+use crate::session::{Known, KnownRoot};
 use crate::spots::{ITEM, Spot, names_of, spot_at};
 use crate::targets::{file_of, is_of_target};
+use manifest_json::Text;
 use manifest_places::{Span, Step, places_of, position_of};
 use manifest_surroundings::Reader;
 use std::alloc::{AllocError, Global};
@@ -15,9 +16,9 @@ use toml::{Table, Value};
 const REFERENCE: &str = "https://doc.rust-lang.org/cargo/reference";
 
 /// Writes what a key means.
-fn push_meaning(out: &mut String, names: &[&str]) -> Result<(), AllocError> {
+fn push_meaning(out: &mut Text, names: &[&str]) {
     let Some((name, table)) = names.split_last() else {
-        return Ok(());
+        return;
     };
     let name = *name;
     let key = if name == "workspace" && table.len() > 1 {
@@ -26,13 +27,26 @@ fn push_meaning(out: &mut String, names: &[&str]) -> Result<(), AllocError> {
         key_at(table, name)
     };
     let Some(key) = key else {
-        return Ok(());
+        return;
     };
-    let (known, holds, needed) = (key.name, key.holds, key.needed);
-    write!(out, "`{known}`: {holds}, {needed}\n\n")?;
-    out.push_str(key.about)?;
-    let page = key.page;
-    write!(out, "\n\n[Cargo reference]({REFERENCE}/{page})")
+    let parts = [
+        "`",
+        key.name,
+        "`: ",
+        key.holds,
+        ", ",
+        key.needed,
+        "\n\n",
+        key.about,
+        "\n\n[Cargo reference](",
+        REFERENCE,
+        "/",
+        key.page,
+        ")",
+    ];
+    for part in &parts {
+        out.push_str(*part);
+    }
 }
 
 /// What stands at a path of a document.
@@ -95,36 +109,49 @@ pub(crate) fn inherited_at<'a>(
     Ok(Some(path))
 }
 
+/// Writes what is inherited.
+fn push_value(alloc: Global, out: &mut Text, value: &Value) {
+    if let Some(value) = out.made(format!(in alloc; "{value}")) {
+        out.push_str("Inherited from the workspace: `");
+        out.push_str(value.as_str());
+        out.push('`');
+    }
+}
+
+/// Writes where in the root a path of keys stands, if it has a line there.
+fn push_place(alloc: Global, out: &mut Text, root: KnownRoot<'_>, path: &[&str]) {
+    let text = root.document.text.as_str();
+    let Some(found) = out.made(standing(alloc, text, path)) else {
+        return;
+    };
+    if let Some(position) = found.and_then(|span| position_of(text, span.from)) {
+        out.push_str(" (line ");
+        out.push_number(position.line);
+        out.push_str(" of ");
+        out.push_str(root.path);
+        out.push(')');
+    }
+}
+
 /// Writes what is inherited at a path, and where it stands.
-fn push_inherited(
-    alloc: Global,
-    out: &mut String,
-    known: &Known<'_>,
-    names: &[&str],
-) -> Result<(), AllocError> {
-    let (Some(path), Some(root)) = (inherited_at(alloc, known.document, names)?, known.root) else {
-        return Ok(());
+fn push_inherited(alloc: Global, out: &mut Text, known: &Known<'_>, names: &[&str]) {
+    let path = out.made(inherited_at(alloc, known.document, names));
+    let (Some(Some(path)), Some(root)) = (path, known.root) else {
+        return;
     };
     let Some(value) = value_at(&root.document.table, path.as_slice()) else {
-        return Ok(());
+        return;
     };
-    begin_part(out)?;
-    write!(out, "Inherited from the workspace: `{value}`")?;
-    let text = root.document.text.as_str();
-    let found = standing(alloc, text, path.as_slice())?;
-    let Some(position) = found.and_then(|span| position_of(text, span.from)) else {
-        return Ok(());
-    };
-    let (line, file) = (position.line, root.path);
-    write!(out, " (line {line} of {file})")
+    begin_part(out);
+    push_value(alloc, out, value);
+    push_place(alloc, out, root, path.as_slice());
 }
 
 /// Begins a part of its own after what is written already.
-fn begin_part(out: &mut String) -> Result<(), AllocError> {
-    if out.is_empty() {
-        return Ok(());
+fn begin_part(out: &mut Text) {
+    if !out.as_str().is_empty() {
+        out.push_str("\n\n");
     }
-    out.push_str("\n\n")
 }
 
 /// The names of the table of a target that a path leads to or into, and its index in its list.
@@ -141,19 +168,26 @@ fn target_in<'s, 'a>(names: &'s [&'a str], path: &[Step]) -> (&'s [&'a str], Opt
 fn push_file<H: Files + AllocGlobal>(
     rt: &H,
     reader: &Reader,
-    out: &mut String,
+    out: &mut Text,
     known: &Known<'_>,
     names: &[&str],
     path: &[Step],
-) -> Result<(), AllocError> {
+) {
     let (table, index) = target_in(names, path);
     if !is_of_target(table) {
-        return Ok(());
+        return;
     }
-    let file = file_of(rt, reader, known.manifest, known.document, table, index)?;
-    begin_part(out)?;
+    let file = file_of(rt, reader, known.manifest, known.document, table, index);
+    let Some(file) = out.made(file) else {
+        return;
+    };
+    begin_part(out);
     match &file {
-        Some(file) => write!(out, "Built from `{file}`"),
+        Some(file) => {
+            out.push_str("Built from `");
+            out.push_str(file.as_str());
+            out.push('`');
+        }
         None => out.push_str("No file of this target is there"),
     }
 }
@@ -166,21 +200,20 @@ fn meaning_of<H: Files + AllocGlobal>(
     spot: &Spot<'_>,
 ) -> Result<String, AllocError> {
     let alloc = rt.alloc();
-    let mut out = String::new(alloc);
     let mut names = names_of(alloc, spot.path)?;
-    push_file(rt, reader, &mut out, known, names.as_slice(), spot.path)?;
+    let mut file = Text::new(alloc);
+    push_file(rt, reader, &mut file, known, names.as_slice(), spot.path);
+    let file = file.finish()?;
     // (of an item of a list the list is meant, and not of a list of tables)
     if names.len() > 2 && names.last() == Some(&ITEM) {
         let _item = names.pop();
     }
-    let mut meaning = String::new(alloc);
-    push_meaning(&mut meaning, names.as_slice())?;
-    push_inherited(alloc, &mut meaning, known, names.as_slice())?;
-    if !meaning.is_empty() {
-        begin_part(&mut meaning)?;
-    }
-    meaning.push_str(out.as_str())?;
-    Ok(meaning)
+    let mut meaning = Text::new(alloc);
+    push_meaning(&mut meaning, names.as_slice());
+    push_inherited(alloc, &mut meaning, known, names.as_slice());
+    begin_part(&mut meaning);
+    meaning.push_str(file.as_str());
+    meaning.finish()
 }
 
 /// What is known of what stands at an offset, and the range that it is about.

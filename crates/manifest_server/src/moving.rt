@@ -4,7 +4,7 @@ use crate::forms::is_of_dependencies;
 use crate::hover::value_at;
 use crate::reports::{View, Views, push_splices};
 use crate::spots::{names_of, spot_at};
-use manifest_json::{close, open, open_member, text_member};
+use manifest_json::Text;
 use manifest_places::{Edit, EditError, Edited, Step, places_of, with_edits};
 use std::alloc::{AllocError, Global};
 use toml::{Table, Value};
@@ -91,70 +91,77 @@ fn with_dependency(
 }
 
 /// Writes the edits by which a dependency is inherited, after those of the root, if there are some.
-fn push_edits(
-    body: &mut String,
-    views: &Views<'_>,
-    own: &Edited,
-    root: Option<&Edited>,
-) -> Result<(), AllocError> {
-    open_member(body, "edit")?;
-    open_member(body, "changes")?;
+fn push_edits(body: &mut Text, views: &Views<'_>, own: &Edited, root: Option<&Edited>) {
+    body.open_member("edit");
+    body.open_member("changes");
     if let (Some(edited), Some(view)) = (root, views.root) {
-        push_splices(body, &view, edited.replaced.as_slice())?;
+        push_splices(body, &view, edited.replaced.as_slice());
     }
-    push_splices(body, &views.own, own.replaced.as_slice())?;
-    close(body)?;
-    close(body)
+    push_splices(body, &views.own, own.replaced.as_slice());
+    body.close();
+    body.close();
+}
+
+/// The text in which the dependency at a path is inherited; `None` where it cannot be written so.
+fn with_inherited(alloc: Global, text: &str, path: &[Step]) -> Result<Option<Edited>, AllocError> {
+    let path = manifest_rules::copied(alloc, path)?;
+    let value = String::from_str(alloc, INHERITED)?;
+    edited(alloc, text, Edit::Set(path, value))
 }
 
 /// Writes an action by which a dependency is inherited.
 fn push_move(
     alloc: Global,
-    body: &mut String,
+    body: &mut Text,
     views: &Views<'_>,
-    dependency: Plain,
+    dependency: &Plain,
     root: Option<&Edited>,
-) -> Result<(), AllocError> {
-    let Plain { path, name, .. } = dependency;
-    let value = String::from_str(alloc, INHERITED)?;
-    let Some(own) = edited(alloc, views.own.text, Edit::Set(path, value))? else {
-        return Ok(());
+) {
+    let own = with_inherited(alloc, views.own.text, dependency.path.as_slice());
+    let Some(Some(own)) = body.made(own) else {
+        return;
     };
-    let name = name.as_str();
+    let name = dependency.name.as_str();
     let title = if root.is_some() {
-        format!(in alloc; "move `{name}` to the workspace, and inherit it")?
+        format!(in alloc; "move `{name}` to the workspace, and inherit it")
     } else {
-        format!(in alloc; "inherit `{name}` from the workspace")?
+        format!(in alloc; "inherit `{name}` from the workspace")
     };
-    open(body)?;
-    text_member(body, "title", title.as_str())?;
-    text_member(body, "kind", "refactor.rewrite")?;
-    push_edits(body, views, &own, root)?;
-    close(body)
+    let Some(title) = body.made(title) else {
+        return;
+    };
+    body.open();
+    body.text_member("title", title.as_str());
+    body.text_member("kind", "refactor.rewrite");
+    push_edits(body, views, &own, root);
+    body.close();
 }
 
 /// Writes the action by which the dependency at an offset is inherited from the workspace, where that means the same: the
 /// workspace has it with the same version, or can be given it.
 pub(crate) fn push_moves(
     alloc: Global,
-    body: &mut String,
+    body: &mut Text,
     views: &Views<'_>,
     document: &Table,
     root: &Table,
     offset: usize,
-) -> Result<(), AllocError> {
-    let Some(dependency) = plain_at(alloc, views.own.text, document, offset)? else {
-        return Ok(());
+) {
+    let found = body.made(plain_at(alloc, views.own.text, document, offset));
+    let Some(Some(dependency)) = found else {
+        return;
     };
     match (
         standing_of(root, dependency.name.as_str(), dependency.version.as_str()),
         views.root,
     ) {
-        (There::Same, _) => push_move(alloc, body, views, dependency, None),
-        (There::Nothing, Some(view)) => match with_dependency(alloc, &view, &dependency)? {
-            Some(edited) => push_move(alloc, body, views, dependency, Some(&edited)),
-            None => Ok(()),
-        },
-        _ => Ok(()),
+        (There::Same, _) => push_move(alloc, body, views, &dependency, None),
+        (There::Nothing, Some(view)) => {
+            let edited = with_dependency(alloc, &view, &dependency);
+            if let Some(Some(edited)) = body.made(edited) {
+                push_move(alloc, body, views, &dependency, Some(&edited));
+            }
+        }
+        _ => {}
     }
 }

@@ -1,14 +1,10 @@
 //! What is said of a text, as the protocol has it.
 
 use crate::lines::{Lines, Point, Units};
-use manifest_json::{
-    close, close_list, flag_member, number_member, open, open_list, open_member, push_key,
-    text_member,
-};
+use manifest_json::Text;
 use manifest_lint::{Diagnostic, Fix, PlacedLabel};
 use manifest_places::{Span, Splice};
 use manifest_rules::{File, Level};
-use std::alloc::AllocError;
 
 /// A text, and where it is.
 #[derive(Clone, Copy)]
@@ -37,33 +33,28 @@ impl<'a> Views<'a> {
     }
 }
 
-fn push_point(out: &mut String, name: &str, point: Point) -> Result<(), AllocError> {
-    open_member(out, name)?;
-    number_member(out, "line", point.line)?;
-    number_member(out, "character", point.units)?;
-    close(out)
+fn push_point(out: &mut Text, name: &str, point: Point) {
+    out.open_member(name);
+    out.number_member("line", point.line);
+    out.number_member("character", point.units);
+    out.close();
 }
 
 /// Writes a member `range`.
-pub(crate) fn push_range(out: &mut String, view: &View<'_>, span: Span) -> Result<(), AllocError> {
-    push_range_as(out, "range", view, span)
+pub(crate) fn push_range(out: &mut Text, view: &View<'_>, span: Span) {
+    push_range_as(out, "range", view, span);
 }
 
 /// Writes a range as a member with this key.
-pub(crate) fn push_range_as(
-    out: &mut String,
-    key: &str,
-    view: &View<'_>,
-    span: Span,
-) -> Result<(), AllocError> {
-    open_member(out, key)?;
+pub(crate) fn push_range_as(out: &mut Text, key: &str, view: &View<'_>, span: Span) {
+    out.open_member(key);
     push_point(
         out,
         "start",
         view.lines.point(view.text, span.from, view.units),
-    )?;
-    push_point(out, "end", view.lines.point(view.text, span.to, view.units))?;
-    close(out)
+    );
+    push_point(out, "end", view.lines.point(view.text, span.to, view.units));
+    out.close();
 }
 
 /// The range of a diagnostic: the beginning of the text where it has none.
@@ -84,147 +75,124 @@ fn severity_of(level: Level) -> usize {
 }
 
 /// Writes what is said at a second place, where that is known.
-fn push_label(out: &mut String, views: &Views<'_>, label: &PlacedLabel) -> Result<(), AllocError> {
+fn push_label(out: &mut Text, views: &Views<'_>, label: &PlacedLabel) {
     let (Some(view), Some(span)) = (views.of(label.file), label.span) else {
-        return Ok(());
+        return;
     };
-    open(out)?;
-    open_member(out, "location")?;
-    text_member(out, "uri", view.uri)?;
-    push_range(out, &view, span)?;
-    close(out)?;
-    text_member(out, "message", label.text.as_str())?;
-    close(out)
+    out.open();
+    out.open_member("location");
+    out.text_member("uri", view.uri);
+    push_range(out, &view, span);
+    out.close();
+    out.text_member("message", label.text.as_str());
+    out.close();
 }
 
 /// Writes a message with its notes, each in a line of its own.
-fn push_message(out: &mut String, diagnostic: &Diagnostic) -> Result<(), AllocError> {
-    let mut message = diagnostic.message.clone()?;
+fn push_message(out: &mut Text, diagnostic: &Diagnostic) {
+    let mut message = Text::new(out.allocator());
+    message.push_str(diagnostic.message.as_str());
     for note in &diagnostic.notes {
-        message.push_str("\nnote: ")?;
-        message.push_str(note.as_str())?;
+        message.push_str("\nnote: ");
+        message.push_str(note.as_str());
     }
-    text_member(out, "message", message.as_str())
+    if let Some(message) = out.made(message.finish()) {
+        out.text_member("message", message.as_str());
+    }
 }
 
 /// Writes a diagnostic as an object.
-pub(crate) fn push_diagnostic(
-    out: &mut String,
-    views: &Views<'_>,
-    diagnostic: &Diagnostic,
-) -> Result<(), AllocError> {
-    open(out)?;
-    push_range(out, &views.own, span_of(diagnostic))?;
-    number_member(out, "severity", severity_of(diagnostic.level))?;
-    text_member(out, "code", diagnostic.code.name)?;
-    text_member(out, "source", "manifest_check")?;
-    push_message(out, diagnostic)?;
-    open_list(out, "relatedInformation")?;
+pub(crate) fn push_diagnostic(out: &mut Text, views: &Views<'_>, diagnostic: &Diagnostic) {
+    out.open();
+    push_range(out, &views.own, span_of(diagnostic));
+    out.number_member("severity", severity_of(diagnostic.level));
+    out.text_member("code", diagnostic.code.name);
+    out.text_member("source", "manifest_check");
+    push_message(out, diagnostic);
+    out.open_list("relatedInformation");
     for label in &diagnostic.labels {
-        push_label(out, views, label)?;
+        push_label(out, views, label);
     }
-    close_list(out)?;
-    close(out)
+    out.close_list();
+    out.close();
 }
 
 /// Writes diagnostics as a member, a list.
 pub(crate) fn push_diagnostics(
-    out: &mut String,
+    out: &mut Text,
     key: &str,
     views: &Views<'_>,
     diagnostics: &[Diagnostic],
-) -> Result<(), AllocError> {
-    open_list(out, key)?;
+) {
+    out.open_list(key);
     for diagnostic in diagnostics {
-        push_diagnostic(out, views, diagnostic)?;
+        push_diagnostic(out, views, diagnostic);
     }
-    close_list(out)
+    out.close_list();
 }
 
 /// Writes an edit of the text as an object.
-pub(crate) fn push_edit(
-    out: &mut String,
-    view: &View<'_>,
-    span: Span,
-    text: &str,
-) -> Result<(), AllocError> {
-    open(out)?;
-    push_range(out, view, span)?;
-    text_member(out, "newText", text)?;
-    close(out)
+pub(crate) fn push_edit(out: &mut Text, view: &View<'_>, span: Span, text: &str) {
+    out.open();
+    push_range(out, view, span);
+    out.text_member("newText", text);
+    out.close();
 }
 
 /// Writes the edits of a text.
-pub(crate) fn push_changes(
-    out: &mut String,
-    view: &View<'_>,
-    splices: &[Splice],
-) -> Result<(), AllocError> {
-    open_member(out, "changes")?;
-    push_splices(out, view, splices)?;
-    close(out)
+pub(crate) fn push_changes(out: &mut Text, view: &View<'_>, splices: &[Splice]) {
+    out.open_member("changes");
+    push_splices(out, view, splices);
+    out.close();
 }
 
 /// Writes the edits of a text as a list at its URI.
-pub(crate) fn push_splices(
-    out: &mut String,
-    view: &View<'_>,
-    splices: &[Splice],
-) -> Result<(), AllocError> {
-    open_list(out, view.uri)?;
+pub(crate) fn push_splices(out: &mut Text, view: &View<'_>, splices: &[Splice]) {
+    out.open_list(view.uri);
     for splice in splices {
         let span = Span {
             from: splice.from,
             to: splice.to,
         };
-        push_edit(out, view, span, splice.put.as_str())?;
+        push_edit(out, view, span, splice.put.as_str());
     }
-    close_list(out)
+    out.close_list();
 }
 
 /// Writes a suggestion of a diagnostic as an action.
-pub(crate) fn push_action(
-    out: &mut String,
-    views: &Views<'_>,
-    diagnostic: &Diagnostic,
-    fix: &Fix,
-) -> Result<(), AllocError> {
-    open(out)?;
-    text_member(out, "title", fix.text.as_str())?;
-    text_member(out, "kind", "quickfix")?;
-    flag_member(out, "isPreferred", fix.is_certain)?;
-    open_list(out, "diagnostics")?;
-    push_diagnostic(out, views, diagnostic)?;
-    close_list(out)?;
-    open_member(out, "edit")?;
-    push_changes(out, &views.own, fix.replaced.as_slice())?;
-    close(out)?;
-    close(out)
+pub(crate) fn push_action(out: &mut Text, views: &Views<'_>, diagnostic: &Diagnostic, fix: &Fix) {
+    out.open();
+    out.text_member("title", fix.text.as_str());
+    out.text_member("kind", "quickfix");
+    out.flag_member("isPreferred", fix.is_certain);
+    out.open_list("diagnostics");
+    push_diagnostic(out, views, diagnostic);
+    out.close_list();
+    out.open_member("edit");
+    push_changes(out, &views.own, fix.replaced.as_slice());
+    out.close();
+    out.close();
 }
 
 /// Writes the action that puts a new text in the place of a whole one: what differs is replaced.
-pub(crate) fn push_rewriting(
-    out: &mut String,
-    view: &View<'_>,
-    new: &str,
-) -> Result<(), AllocError> {
+pub(crate) fn push_rewriting(out: &mut Text, view: &View<'_>, new: &str) {
     let front = common_front(view.text, new);
     let old_rest = view.text.get(front..).unwrap_or("");
     let new_rest = new.get(front..).unwrap_or("");
     let back = common_back(old_rest, new_rest);
     let to = view.text.len().saturating_sub(back);
     let middle = new_rest.get(..new_rest.len().saturating_sub(back));
-    open(out)?;
-    text_member(out, "title", "Write all certain suggestions")?;
-    text_member(out, "kind", "source.fixAll")?;
-    open_member(out, "edit")?;
-    open_member(out, "changes")?;
-    open_list(out, view.uri)?;
-    push_edit(out, view, Span { from: front, to }, middle.unwrap_or(""))?;
-    close_list(out)?;
-    close(out)?;
-    close(out)?;
-    close(out)
+    out.open();
+    out.text_member("title", "Write all certain suggestions");
+    out.text_member("kind", "source.fixAll");
+    out.open_member("edit");
+    out.open_member("changes");
+    out.open_list(view.uri);
+    push_edit(out, view, Span { from: front, to }, middle.unwrap_or(""));
+    out.close_list();
+    out.close();
+    out.close();
+    out.close();
 }
 
 /// How many bytes two texts begin with that are the same, in whole characters.
@@ -252,7 +220,7 @@ fn common_back(a: &str, b: &str) -> usize {
 }
 
 /// Writes a key and what stands after it, as it is.
-pub(crate) fn raw_member(out: &mut String, key: &str, json: &str) -> Result<(), AllocError> {
-    push_key(out, key)?;
-    out.push_str(json)
+pub(crate) fn raw_member(out: &mut Text, key: &str, json: &str) {
+    out.push_key(key);
+    out.push_str(json);
 }

@@ -1,10 +1,10 @@
 //! What is asked of the server, and what it answers.
 
-use crate::answers::{Refusal, begun, begun_notification, push_frame, push_refusal};
+use crate::answers::{Refusal, begun, begun_notification, push_error, push_frame};
 use crate::completion::push_offers;
 use crate::definition::{Target, target_at};
 use crate::hover::meaning_at;
-use crate::lines::{Lines, Units};
+use crate::lines::{Lines, Point, Units};
 use crate::message::{Call, items_at, text_at};
 use crate::moving::push_moves;
 use crate::reports::{
@@ -15,58 +15,55 @@ use crate::session::{Checked, Known, Session, Stage, is_manifest, point_at};
 use crate::spots::spot_at;
 use crate::symbols::push_symbols;
 use crate::uris::uri_of;
-use crate::uses::{named_at, renaming, uses_of};
-use manifest_json::{
-    close, close_list, flag_member, null_member, number_member, open, open_list, open_member,
-    text_member,
-};
+use crate::uses::{Use, named_at, renaming, uses_of};
+use manifest_json::Text;
 use manifest_lint::{Diagnostic, Document};
-use manifest_places::{EditError, Edited, Span, places_of, with_edits};
-use manifest_surroundings::{judge, place, with_fixes};
+use manifest_places::{Edit, EditError, Edited, Places, Span, places_of, with_edits};
+use manifest_surroundings::with_fixes;
 use serde_json::Value;
 use std::alloc::{AllocError, Global};
 use std::rt::Files;
 use toml::Table;
 
 /// Writes what the server can do.
-fn push_capabilities(body: &mut String, units: Units, version: &str) -> Result<(), AllocError> {
-    open_member(body, "result")?;
-    open_member(body, "capabilities")?;
+fn push_capabilities(body: &mut Text, units: Units, version: &str) {
+    body.open_member("result");
+    body.open_member("capabilities");
     let encoding = match units {
         Units::Bytes => "utf-8",
         Units::Utf16 => "utf-16",
     };
-    text_member(body, "positionEncoding", encoding)?;
+    body.text_member("positionEncoding", encoding);
     raw_member(
         body,
         "textDocumentSync",
         "{\"openClose\":true,\"change\":2,\"save\":true}",
-    )?;
+    );
     raw_member(
         body,
         "codeActionProvider",
         "{\"codeActionKinds\":[\"quickfix\",\"refactor.rewrite\",\"source.fixAll\"]}",
-    )?;
+    );
     raw_member(
         body,
         "completionProvider",
         "{\"triggerCharacters\":[\"\\\"\",\".\"]}",
-    )?;
-    flag_member(body, "documentSymbolProvider", true)?;
-    flag_member(body, "hoverProvider", true)?;
-    flag_member(body, "definitionProvider", true)?;
-    flag_member(body, "referencesProvider", true)?;
-    flag_member(body, "renameProvider", true)?;
-    open_member(body, "diagnosticProvider")?;
-    flag_member(body, "interFileDependencies", true)?;
-    flag_member(body, "workspaceDiagnostics", false)?;
-    close(body)?;
-    close(body)?;
-    open_member(body, "serverInfo")?;
-    text_member(body, "name", "manifest_check")?;
-    text_member(body, "version", version)?;
-    close(body)?;
-    close(body)
+    );
+    body.flag_member("documentSymbolProvider", true);
+    body.flag_member("hoverProvider", true);
+    body.flag_member("definitionProvider", true);
+    body.flag_member("referencesProvider", true);
+    body.flag_member("renameProvider", true);
+    body.open_member("diagnosticProvider");
+    body.flag_member("interFileDependencies", true);
+    body.flag_member("workspaceDiagnostics", false);
+    body.close();
+    body.close();
+    body.open_member("serverInfo");
+    body.text_member("name", "manifest_check");
+    body.text_member("version", version);
+    body.close();
+    body.close();
 }
 
 /// Whether the client names a value in the list at a pointer.
@@ -112,56 +109,72 @@ fn has_certain(diagnostic: &Diagnostic) -> bool {
     false
 }
 
-/// Writes the places at which the feature or the dependency at an offset is named.
-fn push_uses(
+/// Where the feature or the dependency at an offset is named; nowhere, where there is none.
+fn uses_at(
     alloc: Global,
-    body: &mut String,
-    view: &View<'_>,
+    places: &Places,
     document: &Table,
     offset: usize,
-) -> Result<(), AllocError> {
-    let Some(places) = places_of(alloc, view.text)? else {
-        return Ok(());
+) -> Result<Vec<Use>, AllocError> {
+    let named = match spot_at(places, offset) {
+        Some(spot) => named_at(alloc, document, spot.path)?,
+        None => None,
     };
-    let Some(spot) = spot_at(&places, offset) else {
-        return Ok(());
-    };
-    let Some(named) = named_at(alloc, document, spot.path)? else {
-        return Ok(());
-    };
-    for one in &uses_of(alloc, document, named)? {
-        if let Some(span) = one.span(&places) {
-            open(body)?;
-            text_member(body, "uri", view.uri)?;
-            push_range(body, view, span)?;
-            close(body)?;
-        }
+    match named {
+        Some(named) => uses_of(alloc, document, named),
+        None => Ok(Vec::new(alloc)),
     }
-    Ok(())
 }
 
-/// The text in which the feature or the dependency at an offset has another name; `None` where there is none, or where it
+/// Writes the places at which the feature or the dependency at an offset is named.
+fn push_uses(alloc: Global, body: &mut Text, view: &View<'_>, document: &Table, offset: usize) {
+    let Some(Some(places)) = body.made(places_of(alloc, view.text)) else {
+        return;
+    };
+    let Some(uses) = body.made(uses_at(alloc, &places, document, offset)) else {
+        return;
+    };
+    for one in &uses {
+        if let Some(span) = one.span(&places) {
+            body.open();
+            body.text_member("uri", view.uri);
+            push_range(body, view, span);
+            body.close();
+        }
+    }
+}
+
+/// The edits by which the feature or the dependency at an offset has another name; `None` where there is none, or where it
 /// cannot have that name.
+fn renaming_at(
+    alloc: Global,
+    known: &Known<'_>,
+    offset: usize,
+    name: &str,
+) -> Result<Option<Vec<Edit>>, AllocError> {
+    let Some(places) = places_of(alloc, known.text)? else {
+        return Ok(None);
+    };
+    let Some(spot) = spot_at(&places, offset) else {
+        return Ok(None);
+    };
+    match named_at(alloc, known.document, spot.path)? {
+        Some(named) => renaming(alloc, known.document, named, name),
+        None => Ok(None),
+    }
+}
+
+/// The text with these edits made; `None` where there are none, or where they cannot be made.
 fn renamed(
     alloc: Global,
     known: &Known<'_>,
     offset: usize,
     name: &str,
 ) -> Result<Option<Edited>, AllocError> {
-    let (text, document) = (known.text, known.document);
-    let Some(places) = places_of(alloc, text)? else {
+    let Some(edits) = renaming_at(alloc, known, offset, name)? else {
         return Ok(None);
     };
-    let Some(spot) = spot_at(&places, offset) else {
-        return Ok(None);
-    };
-    let Some(named) = named_at(alloc, document, spot.path)? else {
-        return Ok(None);
-    };
-    let Some(edits) = renaming(alloc, document, named, name)? else {
-        return Ok(None);
-    };
-    match with_edits(alloc, text, edits) {
+    match with_edits(alloc, known.text, edits) {
         Ok(edited) => Ok(Some(edited)),
         Err(EditError::Memory) => Err(AllocError),
         Err(_) => Ok(None),
@@ -169,39 +182,45 @@ fn renamed(
 }
 
 /// Answers a range of a text.
-fn push_location(body: &mut String, view: &View<'_>, span: Span) -> Result<(), AllocError> {
-    open_member(body, "result")?;
-    text_member(body, "uri", view.uri)?;
-    push_range(body, view, span)?;
-    close(body)
+fn push_location(body: &mut Text, view: &View<'_>, span: Span) {
+    body.open_member("result");
+    body.text_member("uri", view.uri);
+    push_range(body, view, span);
+    body.close();
 }
 
 /// Answers the beginning of a file.
-fn push_file(alloc: Global, body: &mut String, path: &str) -> Result<(), AllocError> {
-    let uri = uri_of(alloc, path)?;
-    open_member(body, "result")?;
-    text_member(body, "uri", uri.as_str())?;
+fn push_file(alloc: Global, body: &mut Text, path: &str) {
+    let Some(uri) = body.made(uri_of(alloc, path)) else {
+        return;
+    };
+    body.open_member("result");
+    body.text_member("uri", uri.as_str());
     let origin = "{\"line\":0,\"character\":0}";
-    open_member(body, "range")?;
-    raw_member(body, "start", origin)?;
-    raw_member(body, "end", origin)?;
-    close(body)?;
-    close(body)
+    body.open_member("range");
+    raw_member(body, "start", origin);
+    raw_member(body, "end", origin);
+    body.close();
+    body.close();
+}
+
+/// Why a method cannot be called now; `None` where it can.
+fn untimely(stage: Stage, method: &str) -> Option<Refusal> {
+    match (stage, method == "initialize") {
+        (Stage::New, true) | (Stage::Running, false) => None,
+        (Stage::New, false) => Some(Refusal::NotInitialized),
+        _ => Some(Refusal::NotAMessage),
+    }
 }
 
 impl Session {
     /// Writes diagnostics as a member.
-    fn push_found(
-        &self,
-        alloc: Global,
-        body: &mut String,
-        key: &str,
-        path: &str,
-        checked: &Checked,
-    ) -> Result<(), AllocError> {
-        let lines = self.lines_of(alloc, path, checked)?;
+    fn push_found(&self, alloc: Global, body: &mut Text, key: &str, path: &str, checked: &Checked) {
+        let Some(lines) = body.made(self.lines_of(alloc, path, checked)) else {
+            return;
+        };
         let views = self.views(path, checked, &lines);
-        push_diagnostics(body, key, &views, checked.found.as_slice())
+        push_diagnostics(body, key, &views, checked.found.as_slice());
     }
 
     /// Tells what is said of a text now.
@@ -209,64 +228,68 @@ impl Session {
         &mut self,
         rt: &H,
         path: &str,
-        out: &mut String,
-    ) -> Result<(), AllocError> {
+        out: &mut Text,
+    ) {
         let alloc = rt.alloc();
-        let checked = self.check(rt, path, false)?;
-        let mut body = begun_notification(alloc, "textDocument/publishDiagnostics")?;
+        let Some(checked) = out.made(self.check(rt, path, false)) else {
+            return;
+        };
+        let mut body = begun_notification(alloc, "textDocument/publishDiagnostics");
         if let Some(opened) = self.opened.get(path) {
-            text_member(&mut body, "uri", opened.uri.as_str())?;
+            body.text_member("uri", opened.uri.as_str());
             if let Some(version) = opened.version {
-                number_member(&mut body, "version", version)?;
+                body.number_member("version", version);
             }
         }
-        self.push_found(alloc, &mut body, "diagnostics", path, &checked)?;
-        close(&mut body)?;
-        close(&mut body)?;
-        push_frame(out, body.as_str())
+        self.push_found(alloc, &mut body, "diagnostics", path, &checked);
+        body.close();
+        body.close();
+        push_frame(out, body);
+    }
+
+    /// The paths of the texts that are open.
+    fn open_paths(&self, alloc: Global) -> Result<Vec<String>, AllocError> {
+        let mut paths = Vec::new(alloc);
+        for (path, _opened) in &self.opened {
+            paths.push(path.clone()?)?;
+        }
+        Ok(paths)
     }
 
     /// Tells what is said of all texts, where one has changed and nobody asks for it.
     pub(crate) fn publish_all<H: Files + AllocGlobal + Clone + Drop>(
         &mut self,
         rt: &H,
-        out: &mut String,
-    ) -> Result<(), AllocError> {
+        out: &mut Text,
+    ) {
         if !self.is_changed || self.pulls {
-            return Ok(());
+            return;
         }
         self.is_changed = false;
-        let mut paths = Vec::new(rt.alloc());
-        for (path, _opened) in &self.opened {
-            paths.push(path.clone()?)?;
-        }
+        let Some(paths) = out.made(self.open_paths(rt.alloc())) else {
+            return;
+        };
         for path in &paths {
-            self.publish(rt, path.as_str(), out)?;
+            self.publish(rt, path.as_str(), out);
         }
-        Ok(())
     }
 
     /// Takes diagnostics back of a text that is no longer open.
-    fn unpublish(&self, out: &mut String, uri: &str) -> Result<(), AllocError> {
+    fn unpublish(&self, out: &mut Text, uri: &str) {
         if self.pulls {
-            return Ok(());
+            return;
         }
-        let mut body = begun_notification(*out.allocator(), "textDocument/publishDiagnostics")?;
-        text_member(&mut body, "uri", uri)?;
-        open_list(&mut body, "diagnostics")?;
-        close_list(&mut body)?;
-        close(&mut body)?;
-        close(&mut body)?;
-        push_frame(out, body.as_str())
+        let mut body = begun_notification(out.allocator(), "textDocument/publishDiagnostics");
+        body.text_member("uri", uri);
+        body.open_list("diagnostics");
+        body.close_list();
+        body.close();
+        body.close();
+        push_frame(out, body);
     }
 
     /// Answers what the server can do, and notes what the client can.
-    fn initialize(
-        &mut self,
-        params: &Value,
-        version: &str,
-        body: &mut String,
-    ) -> Result<(), AllocError> {
+    fn initialize(&mut self, params: &Value, version: &str, body: &mut Text) {
         self.stage = Stage::Running;
         if names(params, "/capabilities/general/positionEncodings", "utf-8") {
             self.units = Units::Bytes;
@@ -274,7 +297,19 @@ impl Session {
         self.pulls = params
             .pointer("/capabilities/textDocument/diagnostic")
             .is_some();
-        push_capabilities(body, self.units, version)
+        push_capabilities(body, self.units, version);
+    }
+
+    /// Writes the diagnostics of a text as they are now.
+    fn push_items<H: Files + AllocGlobal + Clone + Drop>(
+        &mut self,
+        rt: &H,
+        body: &mut Text,
+        path: &str,
+    ) {
+        if let Some(checked) = body.made(self.check(rt, path, false)) {
+            self.push_found(rt.alloc(), body, "items", path, &checked);
+        }
     }
 
     /// Answers the diagnostics of a text.
@@ -282,22 +317,19 @@ impl Session {
         &mut self,
         rt: &H,
         params: &Value,
-        body: &mut String,
-    ) -> Result<(), AllocError> {
+        body: &mut Text,
+    ) {
         let alloc = rt.alloc();
-        open_member(body, "result")?;
-        text_member(body, "kind", "full")?;
-        match self.path_in(alloc, params)? {
-            Some(path) => {
-                let checked = self.check(rt, path.as_str(), false)?;
-                self.push_found(alloc, body, "items", path.as_str(), &checked)?;
-            }
-            None => {
-                open_list(body, "items")?;
-                close_list(body)?;
+        body.open_member("result");
+        body.text_member("kind", "full");
+        match body.made(self.path_in(alloc, params)) {
+            Some(Some(path)) => self.push_items(rt, body, path.as_str()),
+            _ => {
+                body.open_list("items");
+                body.close_list();
             }
         }
-        close(body)
+        body.close();
     }
 
     /// The text with all suggestions made that are certain; `None` where there are none.
@@ -307,13 +339,11 @@ impl Session {
         path: &str,
     ) -> Result<Option<String>, AllocError> {
         let alloc = rt.alloc();
-        let text = String::from_str(alloc, self.text(path))?;
-        let Ok(document) = Document::read(alloc, text.as_bytes()) else {
+        let Ok(document) = Document::read(alloc, self.text(path).as_bytes()) else {
             return Ok(None);
         };
-        self.state.forget(alloc);
-        let placed = place(rt, &self.scope, &mut self.state, path, document)?;
-        let found = judge(rt, &self.scope, &mut self.state, path, &placed, true)?;
+        let (placed, found) = self.judged(rt, path, document, true)?;
+        let text = String::from_str(alloc, self.text(path))?;
         let state = &mut self.state;
         let fixed = with_fixes(rt, &self.scope, state, path, text, placed, found)?;
         self.state.forget(alloc);
@@ -325,18 +355,20 @@ impl Session {
         &self,
         alloc: Global,
         params: &Value,
-        body: &mut String,
+        body: &mut Text,
         path: &str,
         checked: &Checked,
-    ) -> Result<bool, AllocError> {
-        let lines = self.lines_of(alloc, path, checked)?;
+    ) -> bool {
+        let Some(lines) = body.made(self.lines_of(alloc, path, checked)) else {
+            return false;
+        };
         let views = self.views(path, checked, &lines);
         let text = views.own.text;
         let (Some(from), Some(to)) = (
             point_at(params, "/range/start/line", "/range/start/character"),
             point_at(params, "/range/end/line", "/range/end/character"),
         ) else {
-            return Ok(false);
+            return false;
         };
         let range = Span {
             from: lines.own.offset(text, from, self.units),
@@ -348,12 +380,12 @@ impl Session {
                 is_certain = is_certain || has_certain(diagnostic);
                 for fix in &diagnostic.fixes {
                     if !fix.replaced.is_empty() && asks_for(params, "quickfix") {
-                        push_action(body, &views, diagnostic, fix)?;
+                        push_action(body, &views, diagnostic, fix);
                     }
                 }
             }
         }
-        Ok(is_certain)
+        is_certain
     }
 
     /// Writes the action by which the dependency at the beginning of a range is inherited, where that is certain.
@@ -361,18 +393,20 @@ impl Session {
         &self,
         alloc: Global,
         params: &Value,
-        body: &mut String,
+        body: &mut Text,
         path: &str,
         checked: &Checked,
-    ) -> Result<(), AllocError> {
+    ) {
         let point = point_at(params, "/range/start/line", "/range/start/character");
         let (Some(known), Some(point)) = (self.known(path, checked), point) else {
-            return Ok(());
+            return;
         };
         let Some(root) = known.root else {
-            return Ok(());
+            return;
         };
-        let lines = self.lines_of(alloc, path, checked)?;
+        let Some(lines) = body.made(self.lines_of(alloc, path, checked)) else {
+            return;
+        };
         let views = self.views(path, checked, &lines);
         let offset = lines.own.offset(views.own.text, point, self.units);
         push_moves(
@@ -382,26 +416,51 @@ impl Session {
             known.document,
             &root.document.table,
             offset,
-        )
+        );
     }
 
     /// Writes the action that makes all suggestions which are certain, where there are some.
     fn push_all<H: Files + AllocGlobal + Clone + Drop>(
         &mut self,
         rt: &H,
-        body: &mut String,
+        body: &mut Text,
         path: &str,
-    ) -> Result<(), AllocError> {
-        let Some(new) = self.mended(rt, path)? else {
-            return Ok(());
+    ) {
+        let Some(Some(new)) = body.made(self.mended(rt, path)) else {
+            return;
         };
         let checked = Checked {
             placed: None,
             found: Vec::new(rt.alloc()),
         };
-        let lines = self.lines_of(rt.alloc(), path, &checked)?;
+        let Some(lines) = body.made(self.lines_of(rt.alloc(), path, &checked)) else {
+            return;
+        };
         let views = self.views(path, &checked, &lines);
-        push_rewriting(body, &views.own, new.as_str())
+        push_rewriting(body, &views.own, new.as_str());
+    }
+
+    /// Writes the actions at a range of a text.
+    fn push_actions<H: Files + AllocGlobal + Clone + Drop>(
+        &mut self,
+        rt: &H,
+        params: &Value,
+        body: &mut Text,
+        path: &str,
+    ) {
+        let alloc = rt.alloc();
+        let Some(checked) = body.made(self.check(rt, path, true)) else {
+            return;
+        };
+        let is_certain = self.push_actions_at(alloc, params, body, path, &checked);
+        if asks_for(params, "refactor.rewrite") {
+            self.push_moves_at(alloc, params, body, path, &checked);
+        }
+        let is_asked = names(params, "/context/only", "source.fixAll")
+            || names(params, "/context/only", "source");
+        if (is_certain && asks_for(params, "source.fixAll")) || is_asked {
+            self.push_all(rt, body, path);
+        }
     }
 
     /// Answers the actions at a range of a text.
@@ -409,44 +468,35 @@ impl Session {
         &mut self,
         rt: &H,
         params: &Value,
-        body: &mut String,
-    ) -> Result<(), AllocError> {
-        let alloc = rt.alloc();
-        open_list(body, "result")?;
-        if let Some(path) = self.path_in(alloc, params)? {
-            let path = path.as_str();
-            let checked = self.check(rt, path, true)?;
-            let is_certain = self.push_actions_at(alloc, params, body, path, &checked)?;
-            if asks_for(params, "refactor.rewrite") {
-                self.push_moves_at(alloc, params, body, path, &checked)?;
-            }
-            let is_asked = names(params, "/context/only", "source.fixAll")
-                || names(params, "/context/only", "source");
-            if (is_certain && asks_for(params, "source.fixAll")) || is_asked {
-                self.push_all(rt, body, path)?;
-            }
+        body: &mut Text,
+    ) {
+        body.open_list("result");
+        if let Some(Some(path)) = body.made(self.path_in(rt.alloc(), params)) {
+            self.push_actions(rt, params, body, path.as_str());
         }
-        close_list(body)
+        body.close_list();
+    }
+
+    /// Writes the tables and keys of a text.
+    fn push_symbols_of(&self, alloc: Global, body: &mut Text, path: &str) {
+        let checked = Checked {
+            placed: None,
+            found: Vec::new(alloc),
+        };
+        let Some(lines) = body.made(self.lines_of(alloc, path, &checked)) else {
+            return;
+        };
+        let views = self.views(path, &checked, &lines);
+        push_symbols(alloc, body, &views.own);
     }
 
     /// Answers the tables and keys of a text.
-    fn symbols(
-        &mut self,
-        alloc: Global,
-        params: &Value,
-        body: &mut String,
-    ) -> Result<(), AllocError> {
-        open_list(body, "result")?;
-        if let Some(path) = self.path_in(alloc, params)? {
-            let checked = Checked {
-                placed: None,
-                found: Vec::new(alloc),
-            };
-            let lines = self.lines_of(alloc, path.as_str(), &checked)?;
-            let views = self.views(path.as_str(), &checked, &lines);
-            push_symbols(alloc, body, &views.own)?;
+    fn symbols(&mut self, alloc: Global, params: &Value, body: &mut Text) {
+        body.open_list("result");
+        if let Some(Some(path)) = body.made(self.path_in(alloc, params)) {
+            self.push_symbols_of(alloc, body, path.as_str());
         }
-        close_list(body)
+        body.close_list();
     }
 
     /// What is known of the text at a position: its path, how it stands in its workspace, and the offset.
@@ -455,19 +505,59 @@ impl Session {
         rt: &H,
         params: &Value,
     ) -> Result<Option<(String, Checked, usize)>, AllocError> {
-        let alloc = rt.alloc();
         let point = point_at(params, "/position/line", "/position/character");
-        let (Some(path), Some(point)) = (self.path_in(alloc, params)?, point) else {
+        let (Some(path), Some(point)) = (self.path_in(rt.alloc(), params)?, point) else {
             return Ok(None);
         };
         if !is_manifest(path.as_str()) {
             return Ok(None);
         }
-        let text = self.text(path.as_str());
-        let offset = Lines::of(alloc, text)?.offset(text, point, self.units);
-        let placed = self.placed(rt, path.as_str())?;
-        let found = Vec::new(alloc);
-        Ok(Some((path, Checked { placed, found }, offset)))
+        let (checked, offset) = self.position_in(rt, path.as_str(), point)?;
+        Ok(Some((path, checked, offset)))
+    }
+
+    /// How the text at a path stands in its workspace, and the offset of a point in it.
+    fn position_in<H: Files + AllocGlobal + Clone + Drop>(
+        &mut self,
+        rt: &H,
+        path: &str,
+        point: Point,
+    ) -> Result<(Checked, usize), AllocError> {
+        let text = self.text(path);
+        let offset = Lines::of(rt.alloc(), text)?.offset(text, point, self.units);
+        let placed = self.placed(rt, path)?;
+        let found = Vec::new(rt.alloc());
+        Ok((Checked { placed, found }, offset))
+    }
+
+    /// Answers what the key at an offset means.
+    fn push_hover<H: Files + AllocGlobal + Clone + Drop>(
+        &self,
+        rt: &H,
+        body: &mut Text,
+        path: &str,
+        checked: &Checked,
+        offset: usize,
+    ) {
+        let found = match self.known(path, checked) {
+            Some(known) => meaning_at(rt, &self.state.reader, &known, offset),
+            None => Ok(None),
+        };
+        let Some(Some((meaning, span))) = body.made(found) else {
+            body.null_member("result");
+            return;
+        };
+        let Some(lines) = body.made(self.lines_of(rt.alloc(), path, checked)) else {
+            return;
+        };
+        let views = self.views(path, checked, &lines);
+        body.open_member("result");
+        body.open_member("contents");
+        body.text_member("kind", "markdown");
+        body.text_member("value", meaning.as_str());
+        body.close();
+        push_range(body, &views.own, span);
+        body.close();
     }
 
     /// Answers what the key at a position means.
@@ -475,28 +565,54 @@ impl Session {
         &mut self,
         rt: &H,
         params: &Value,
-        body: &mut String,
-    ) -> Result<(), AllocError> {
-        let alloc = rt.alloc();
-        let Some((path, checked, offset)) = self.position(rt, params)? else {
-            return null_member(body, "result");
-        };
-        let Some(known) = self.known(path.as_str(), &checked) else {
-            return null_member(body, "result");
-        };
-        match meaning_at(rt, &self.state.reader, &known, offset)? {
-            Some((meaning, span)) => {
-                let lines = self.lines_of(alloc, path.as_str(), &checked)?;
-                let views = self.views(path.as_str(), &checked, &lines);
-                open_member(body, "result")?;
-                open_member(body, "contents")?;
-                text_member(body, "kind", "markdown")?;
-                text_member(body, "value", meaning.as_str())?;
-                close(body)?;
-                push_range(body, &views.own, span)?;
-                close(body)
+        body: &mut Text,
+    ) {
+        match body.made(self.position(rt, params)) {
+            Some(Some((path, checked, offset))) => {
+                self.push_hover(rt, body, path.as_str(), &checked, offset);
             }
-            None => null_member(body, "result"),
+            _ => body.null_member("result"),
+        }
+    }
+
+    /// Answers where that stands which was found.
+    fn push_target(
+        &self,
+        alloc: Global,
+        body: &mut Text,
+        path: &str,
+        checked: &Checked,
+        target: &Target,
+    ) {
+        let Some(lines) = body.made(self.lines_of(alloc, path, checked)) else {
+            return;
+        };
+        let views = self.views(path, checked, &lines);
+        match (target, views.root) {
+            (Target::Own(span), _) => push_location(body, &views.own, *span),
+            (Target::Root(span), Some(root)) => push_location(body, &root, *span),
+            // (a root inherits from itself)
+            (Target::Root(span), None) => push_location(body, &views.own, *span),
+            (Target::File(file), _) => push_file(alloc, body, file.as_str()),
+        }
+    }
+
+    /// Answers where that stands to which the text at an offset refers.
+    fn push_definition(
+        &self,
+        alloc: Global,
+        body: &mut Text,
+        path: &str,
+        checked: &Checked,
+        offset: usize,
+    ) {
+        let found = match self.known(path, checked) {
+            Some(known) => target_at(alloc, &known, offset),
+            None => Ok(None),
+        };
+        match body.made(found) {
+            Some(Some(target)) => self.push_target(alloc, body, path, checked, &target),
+            _ => body.null_member("result"),
         }
     }
 
@@ -505,26 +621,33 @@ impl Session {
         &mut self,
         rt: &H,
         params: &Value,
-        body: &mut String,
-    ) -> Result<(), AllocError> {
-        let alloc = rt.alloc();
-        let Some((path, checked, offset)) = self.position(rt, params)? else {
-            return null_member(body, "result");
-        };
-        let Some(known) = self.known(path.as_str(), &checked) else {
-            return null_member(body, "result");
-        };
-        let found = target_at(alloc, &known, offset)?;
-        let lines = self.lines_of(alloc, path.as_str(), &checked)?;
-        let views = self.views(path.as_str(), &checked, &lines);
-        match (found, views.root) {
-            (Some(Target::Own(span)), _) => push_location(body, &views.own, span),
-            (Some(Target::Root(span)), Some(root)) => push_location(body, &root, span),
-            // (a root inherits from itself)
-            (Some(Target::Root(span)), None) => push_location(body, &views.own, span),
-            (Some(Target::File(file)), _) => push_file(alloc, body, file.as_str()),
-            _ => null_member(body, "result"),
+        body: &mut Text,
+    ) {
+        match body.made(self.position(rt, params)) {
+            Some(Some((path, checked, offset))) => {
+                self.push_definition(rt.alloc(), body, path.as_str(), &checked, offset);
+            }
+            _ => body.null_member("result"),
         }
+    }
+
+    /// Writes where the feature or the dependency at an offset is named.
+    fn push_references(
+        &self,
+        alloc: Global,
+        body: &mut Text,
+        path: &str,
+        checked: &Checked,
+        offset: usize,
+    ) {
+        let Some(known) = self.known(path, checked) else {
+            return;
+        };
+        let Some(lines) = body.made(self.lines_of(alloc, path, checked)) else {
+            return;
+        };
+        let views = self.views(path, checked, &lines);
+        push_uses(alloc, body, &views.own, known.document, offset);
     }
 
     /// Answers where the feature or the dependency at a position is named.
@@ -532,18 +655,40 @@ impl Session {
         &mut self,
         rt: &H,
         params: &Value,
-        body: &mut String,
-    ) -> Result<(), AllocError> {
-        let alloc = rt.alloc();
-        open_list(body, "result")?;
-        if let Some((path, checked, offset)) = self.position(rt, params)? {
-            if let Some(known) = self.known(path.as_str(), &checked) {
-                let lines = self.lines_of(alloc, path.as_str(), &checked)?;
-                let views = self.views(path.as_str(), &checked, &lines);
-                push_uses(alloc, body, &views.own, known.document, offset)?;
-            }
+        body: &mut Text,
+    ) {
+        body.open_list("result");
+        if let Some(Some((path, checked, offset))) = body.made(self.position(rt, params)) {
+            self.push_references(rt.alloc(), body, path.as_str(), &checked, offset);
         }
-        close_list(body)
+        body.close_list();
+    }
+
+    /// Answers the edits that give the feature or the dependency at an offset another name.
+    fn push_renaming(
+        &self,
+        alloc: Global,
+        body: &mut Text,
+        path: &str,
+        checked: &Checked,
+        offset: usize,
+        name: &str,
+    ) {
+        let found = match self.known(path, checked) {
+            Some(known) => renamed(alloc, &known, offset, name),
+            None => Ok(None),
+        };
+        let Some(Some(edited)) = body.made(found) else {
+            body.null_member("result");
+            return;
+        };
+        let Some(lines) = body.made(self.lines_of(alloc, path, checked)) else {
+            return;
+        };
+        let views = self.views(path, checked, &lines);
+        body.open_member("result");
+        push_changes(body, &views.own, edited.replaced.as_slice());
+        body.close();
     }
 
     /// Answers the edits that give the feature or the dependency at a position another name.
@@ -551,27 +696,14 @@ impl Session {
         &mut self,
         rt: &H,
         params: &Value,
-        body: &mut String,
-    ) -> Result<(), AllocError> {
-        let alloc = rt.alloc();
-        let (Some((path, checked, offset)), Some(name)) = (
-            self.position(rt, params)?,
-            text_at(params, "/newName"),
-        ) else {
-            return null_member(body, "result");
-        };
-        let Some(known) = self.known(path.as_str(), &checked) else {
-            return null_member(body, "result");
-        };
-        let lines = self.lines_of(alloc, path.as_str(), &checked)?;
-        let views = self.views(path.as_str(), &checked, &lines);
-        match renamed(alloc, &known, offset, name)? {
-            Some(edited) => {
-                open_member(body, "result")?;
-                push_changes(body, &views.own, edited.replaced.as_slice())?;
-                close(body)
+        body: &mut Text,
+    ) {
+        let position = body.made(self.position(rt, params));
+        match (position, text_at(params, "/newName")) {
+            (Some(Some((path, checked, offset))), Some(name)) => {
+                self.push_renaming(rt.alloc(), body, path.as_str(), &checked, offset, name);
             }
-            None => null_member(body, "result"),
+            _ => body.null_member("result"),
         }
     }
 
@@ -580,15 +712,42 @@ impl Session {
         &mut self,
         rt: &H,
         params: &Value,
-        body: &mut String,
-    ) -> Result<(), AllocError> {
-        open_list(body, "result")?;
-        if let Some((path, checked, offset)) = self.position(rt, params)? {
+        body: &mut Text,
+    ) {
+        body.open_list("result");
+        if let Some(Some((path, checked, offset))) = body.made(self.position(rt, params)) {
             if let Some(known) = self.known(path.as_str(), &checked) {
-                push_offers(rt, body, &known, offset)?;
+                push_offers(rt, body, &known, offset);
             }
         }
-        close_list(body)
+        body.close_list();
+    }
+
+    /// Writes what is answered to a request that can be made now.
+    fn push_answer<H: Files + AllocGlobal + Clone + Drop>(
+        &mut self,
+        rt: &H,
+        call: &Call,
+        version: &str,
+        body: &mut Text,
+    ) {
+        let params = &call.params;
+        match call.method.as_str() {
+            "initialize" => self.initialize(params, version, body),
+            "shutdown" => {
+                self.stage = Stage::Ending;
+                body.null_member("result");
+            }
+            "textDocument/diagnostic" => self.pull(rt, params, body),
+            "textDocument/codeAction" => self.actions(rt, params, body),
+            "textDocument/documentSymbol" => self.symbols(rt.alloc(), params, body),
+            "textDocument/hover" => self.hover(rt, params, body),
+            "textDocument/definition" => self.define(rt, params, body),
+            "textDocument/completion" => self.complete(rt, params, body),
+            "textDocument/references" => self.refer(rt, params, body),
+            "textDocument/rename" => self.rename(rt, params, body),
+            _ => push_error(body, Refusal::UnknownMethod),
+        }
     }
 
     /// Answers a request.
@@ -598,59 +757,36 @@ impl Session {
         id: &str,
         call: &Call,
         version: &str,
-        out: &mut String,
-    ) -> Result<(), AllocError> {
-        let alloc = rt.alloc();
-        let params = &call.params;
-        let method = call.method.as_str();
-        match (self.stage, method == "initialize") {
-            (Stage::New, true) | (Stage::Running, false) => {}
-            (Stage::New, false) => return push_refusal(out, id, Refusal::NotInitialized),
-            _ => return push_refusal(out, id, Refusal::NotAMessage),
+        out: &mut Text,
+    ) {
+        let mut body = begun(rt.alloc(), id);
+        match untimely(self.stage, call.method.as_str()) {
+            Some(refusal) => push_error(&mut body, refusal),
+            None => self.push_answer(rt, call, version, &mut body),
         }
-        let mut body = begun(alloc, id)?;
-        match method {
-            "initialize" => self.initialize(params, version, &mut body)?,
-            "shutdown" => {
-                self.stage = Stage::Ending;
-                null_member(&mut body, "result")?;
-            }
-            "textDocument/diagnostic" => self.pull(rt, params, &mut body)?,
-            "textDocument/codeAction" => self.actions(rt, params, &mut body)?,
-            "textDocument/documentSymbol" => self.symbols(alloc, params, &mut body)?,
-            "textDocument/hover" => self.hover(rt, params, &mut body)?,
-            "textDocument/definition" => self.define(rt, params, &mut body)?,
-            "textDocument/completion" => self.complete(rt, params, &mut body)?,
-            "textDocument/references" => self.refer(rt, params, &mut body)?,
-            "textDocument/rename" => self.rename(rt, params, &mut body)?,
-            _ => return push_refusal(out, id, Refusal::UnknownMethod),
-        }
-        close(&mut body)?;
-        push_frame(out, body.as_str())
+        body.close();
+        push_frame(out, body);
     }
 
     /// Takes a notification. Those that are not known are passed over.
-    pub(crate) fn note(
-        &mut self,
-        alloc: Global,
-        call: &Call,
-        out: &mut String,
-    ) -> Result<(), AllocError> {
+    pub(crate) fn note(&mut self, alloc: Global, call: &Call, out: &mut Text) {
         if self.stage != Stage::Running {
-            return Ok(());
+            return;
         }
         match call.method.as_str() {
-            "textDocument/didOpen" => self.open(alloc, &call.params),
-            "textDocument/didChange" => self.change(alloc, &call.params),
-            "textDocument/didSave" | "workspace/didChangeWatchedFiles" => {
-                self.is_changed = true;
-                Ok(())
+            "textDocument/didOpen" => {
+                let _ = out.made(self.open(alloc, &call.params));
             }
-            "textDocument/didClose" => match self.close(alloc, &call.params)? {
-                Some(uri) => self.unpublish(out, uri.as_str()),
-                None => Ok(()),
-            },
-            _ => Ok(()),
+            "textDocument/didChange" => {
+                let _ = out.made(self.change(alloc, &call.params));
+            }
+            "textDocument/didSave" | "workspace/didChangeWatchedFiles" => self.is_changed = true,
+            "textDocument/didClose" => {
+                if let Some(Some(uri)) = out.made(self.close(alloc, &call.params)) {
+                    self.unpublish(out, uri.as_str());
+                }
+            }
+            _ => {}
         }
     }
 }

@@ -4,6 +4,7 @@ use crate::answers::{Refusal, push_refusal};
 use crate::frames::{Frame, Frames};
 use crate::message::{Message, message_of};
 use crate::session::{Session, Stage};
+use manifest_json::Text;
 use std::alloc::{AllocError, Global};
 use std::collections::BTreeSet;
 use std::io;
@@ -48,20 +49,20 @@ fn take<H: Files + AllocGlobal + Clone + Drop>(
     message: &Message,
     cancelled: &BTreeSet<String>,
     version: &str,
-    out: &mut String,
-) -> Result<bool, AllocError> {
+    out: &mut Text,
+) -> bool {
     match message {
         Message::Request(id, _call) if cancelled.contains(id.as_str()) => {
-            push_refusal(out, id.as_str(), Refusal::Cancelled)?;
+            push_refusal(out, id.as_str(), Refusal::Cancelled);
         }
-        Message::Request(id, call) => session.answer(rt, id.as_str(), call, version, out)?,
-        Message::Notification(call) if call.method.as_str() == "exit" => return Ok(true),
-        Message::Notification(call) => session.note(rt.alloc(), call, out)?,
+        Message::Request(id, call) => session.answer(rt, id.as_str(), call, version, out),
+        Message::Notification(call) if call.method.as_str() == "exit" => return true,
+        Message::Notification(call) => session.note(rt.alloc(), call, out),
         Message::Answer => {}
-        Message::NotJson => push_refusal(out, "null", Refusal::NotJson)?,
-        Message::Wrong => push_refusal(out, "null", Refusal::NotAMessage)?,
+        Message::NotJson => push_refusal(out, "null", Refusal::NotJson),
+        Message::Wrong => push_refusal(out, "null", Refusal::NotAMessage),
     }
-    Ok(false)
+    false
 }
 
 /// Takes all messages that are there, and tells what has changed by them. It says whether the client ends the session.
@@ -70,15 +71,15 @@ fn take_all<H: Files + AllocGlobal + Clone + Drop>(
     session: &mut Session,
     queue: &Queue,
     version: &str,
-    out: &mut String,
-) -> Result<bool, AllocError> {
+    out: &mut Text,
+) -> bool {
     for message in &queue.messages {
-        if take(rt, session, message, &queue.cancelled, version, out)? {
-            return Ok(true);
+        if take(rt, session, message, &queue.cancelled, version, out) {
+            return true;
         }
     }
-    session.publish_all(rt, out)?;
-    Ok(false)
+    session.publish_all(rt, out);
+    false
 }
 
 /// Serves an editor until the input ends or the client says so: answers what is asked of the texts that are open, and tells
@@ -113,19 +114,33 @@ where
     R: Read,
     W: Write,
 {
-    let mut out = String::new(rt.alloc());
     for _ in 0..u64::MAX {
-        if !frames.fill(input)? {
-            break;
-        }
-        let queue = queued(rt.alloc(), frames)?;
-        let is_over = take_all(rt, session, &queue, version, &mut out)?;
-        output.write_all(out.as_bytes())?;
-        output.flush()?;
-        out.clear();
-        if is_over {
+        if !frames.fill(input)? || serve_round(rt, version, session, frames, output)? {
             break;
         }
     }
     Ok(session.stage == Stage::Ending)
+}
+
+/// Takes all messages that were read, and writes what is said of them; nothing, where memory runs out for one of them. It
+/// says whether the client ends the session.
+fn serve_round<H, W>(
+    rt: &H,
+    version: &str,
+    session: &mut Session,
+    frames: &mut Frames,
+    output: &mut W,
+) -> io::Result<bool>
+where
+    H: Files + AllocGlobal + Clone + Drop,
+    W: Write,
+{
+    let queue = queued(rt.alloc(), frames)?;
+    let mut out = Text::new(rt.alloc());
+    let is_over = take_all(rt, session, &queue, version, &mut out);
+    drop(queue);
+    let said = out.finish()?;
+    output.write_all(said.as_bytes())?;
+    output.flush()?;
+    Ok(is_over)
 }

@@ -4,6 +4,7 @@ use crate::lines::{Lines, Point, Units};
 use crate::message::{items_at, number_at, text_at};
 use crate::reports::{View, Views};
 use crate::uris::{path_of, uri_of};
+use manifest_json::Text;
 use manifest_lint::{Diagnostic, Document, unread_diagnostic};
 use manifest_surroundings::{MOST, Placed, Reader, Scope, State, judge, place};
 use serde_json::Value;
@@ -115,10 +116,11 @@ fn replaced(
     to: usize,
     new: &str,
 ) -> Result<String, AllocError> {
-    let mut all = String::from_str(alloc, text.get(..from).unwrap_or(""))?;
-    all.push_str(new)?;
-    all.push_str(text.get(to..).unwrap_or(""))?;
-    Ok(all)
+    let mut all = Text::new(alloc);
+    all.push_str(text.get(..from).unwrap_or(""));
+    all.push_str(new);
+    all.push_str(text.get(to..).unwrap_or(""));
+    all.finish()
 }
 
 /// A text after a change.
@@ -128,6 +130,37 @@ fn changed(alloc: Global, text: &str, change: &Value, units: Units) -> Result<St
         Some((from, to)) => replaced(alloc, text, from, to, new),
         None => String::from_str(alloc, new),
     }
+}
+
+/// The URI of a document's path, and its lines.
+fn lines_and_uri(
+    alloc: Global,
+    path: &str,
+    document: &Document,
+) -> Result<(String, Lines), AllocError> {
+    let lines = Lines::of(alloc, document.text.as_str())?;
+    Ok((uri_of(alloc, path)?, lines))
+}
+
+/// The list of one diagnostic.
+fn only(alloc: Global, diagnostic: Diagnostic) -> Result<Vec<Diagnostic>, AllocError> {
+    let mut found = Vec::new(alloc);
+    found.push(diagnostic)?;
+    Ok(found)
+}
+
+/// A text after some changes.
+fn all_changed(
+    alloc: Global,
+    text: &str,
+    changes: &[Value],
+    units: Units,
+) -> Result<String, AllocError> {
+    let mut text = String::from_str(alloc, text)?;
+    for change in changes {
+        text = changed(alloc, text.as_str(), change, units)?;
+    }
+    Ok(text)
 }
 
 impl Session {
@@ -178,14 +211,23 @@ impl Session {
         let Some(path) = path_of(alloc, uri)? else {
             return Ok(());
         };
+        self.keep(alloc, path.as_str(), text)?;
         let opened = Opened {
             uri: String::from_str(alloc, uri)?,
             version: number_at(params, "/textDocument/version"),
         };
-        let text = String::from_str(alloc, text)?;
-        self.state.reader.texts.insert(path.clone()?, text)?;
         self.opened.insert(path, opened)?;
         self.is_changed = true;
+        Ok(())
+    }
+
+    /// Keeps a text at a path.
+    fn keep(&mut self, alloc: Global, path: &str, text: &str) -> Result<(), AllocError> {
+        let text = String::from_str(alloc, text)?;
+        self.state
+            .reader
+            .texts
+            .insert(String::from_str(alloc, path)?, text)?;
         Ok(())
     }
 
@@ -194,10 +236,8 @@ impl Session {
         let Some(path) = self.path_in(alloc, params)? else {
             return Ok(());
         };
-        let mut text = String::from_str(alloc, self.text(path.as_str()))?;
-        for change in items_at(params, "/contentChanges") {
-            text = changed(alloc, text.as_str(), change, self.units)?;
-        }
+        let changes = items_at(params, "/contentChanges");
+        let text = all_changed(alloc, self.text(path.as_str()), changes, self.units)?;
         if let Some(opened) = self.opened.get_mut(path.as_str()) {
             opened.version = number_at(params, "/textDocument/version");
         }
@@ -238,34 +278,33 @@ impl Session {
             });
         }
         match Document::read(alloc, self.text(path).as_bytes()) {
-            Ok(document) => self.check_document(rt, path, document, shows_edits),
-            Err(unread) => {
-                let mut found = Vec::new(alloc);
-                found.push(unread_diagnostic(alloc, unread)?)?;
+            Ok(document) => {
+                let (placed, found) = self.judged(rt, path, document, shows_edits)?;
                 Ok(Checked {
-                    placed: None,
+                    placed: Some(placed),
                     found,
                 })
             }
+            Err(unread) => Ok(Checked {
+                placed: None,
+                found: only(alloc, unread_diagnostic(alloc, unread)?)?,
+            }),
         }
     }
 
-    /// What is said of a document at a path, with all that is around it as it is now.
-    fn check_document<H: Files + AllocGlobal + Clone + Drop>(
+    /// Where the root of a document at a path is, and what is said of it, with all that is around it as it is now.
+    pub(crate) fn judged<H: Files + AllocGlobal + Clone + Drop>(
         &mut self,
         rt: &H,
         path: &str,
         document: Document,
         shows_edits: bool,
-    ) -> Result<Checked, AllocError> {
+    ) -> Result<(Placed, Vec<Diagnostic>), AllocError> {
         self.state.forget(rt.alloc());
         let placed = place(rt, &self.scope, &mut self.state, path, document)?;
         let state = &mut self.state;
         let found = judge(rt, &self.scope, state, path, &placed, shows_edits)?;
-        Ok(Checked {
-            placed: Some(placed),
-            found,
-        })
+        Ok((placed, found))
     }
 
     /// Where the root is of the text that is open at a path: where it is no document for the moment, that of an empty one.
@@ -324,10 +363,7 @@ impl Session {
             None => None,
         };
         let root = match root {
-            Some(root) => {
-                let lines = Lines::of(alloc, root.document.text.as_str())?;
-                Some((uri_of(alloc, root.path.as_str())?, lines))
-            }
+            Some(root) => Some(lines_and_uri(alloc, root.path.as_str(), &root.document)?),
             None => None,
         };
         Ok(AllLines { own, root })

@@ -1,9 +1,9 @@
 //! The tables and keys of a text, as an editor shows them.
 
 use crate::reports::{View, push_range, push_range_as};
-use manifest_json::{close, close_list, number_member, open, open_list, open_member, text_member};
+use manifest_json::Text;
 use manifest_places::{Place, Places, Span, Step, places_of};
-use std::alloc::{AllocError, Global};
+use std::alloc::Global;
 
 /// What kinds of things an editor shows: a table, and a key.
 const TABLE: usize = 19;
@@ -11,46 +11,42 @@ const TABLE: usize = 19;
 const KEY: usize = 8;
 
 /// The path of a table as it is written.
-fn push_path(name: &mut String, steps: &[Step]) -> Result<(), AllocError> {
+fn push_path(name: &mut Text, steps: &[Step]) {
     for (at, step) in steps.iter().enumerate() {
         if at > 0 {
-            name.push('.')?;
+            name.push('.');
         }
         match step {
-            Step::Key(key) => name.push_str(key.as_str())?,
-            Step::Index(index) => write!(name, "{index}")?,
+            Step::Key(key) => name.push_str(key.as_str()),
+            Step::Index(index) => name.push_number(*index),
         }
     }
-    Ok(())
 }
 
 /// Writes what a symbol begins with: its name, its kind, its whole range and the one that is selected.
 fn push_symbol(
-    body: &mut String,
+    body: &mut Text,
     view: &View<'_>,
     steps: &[Step],
     kind: usize,
     whole: Span,
     selected: Span,
-) -> Result<(), AllocError> {
-    let mut name = String::new(*body.allocator());
-    push_path(&mut name, steps)?;
-    open(body)?;
-    text_member(body, "name", name.as_str())?;
-    number_member(body, "kind", kind)?;
-    push_range(body, view, whole)?;
-    push_range_as(body, "selectionRange", view, selected)
+) {
+    let mut name = Text::new(body.allocator());
+    push_path(&mut name, steps);
+    let Some(name) = body.made(name.finish()) else {
+        return;
+    };
+    body.open();
+    body.text_member("name", name.as_str());
+    body.number_member("kind", kind);
+    push_range(body, view, whole);
+    push_range_as(body, "selectionRange", view, selected);
 }
 
 /// Writes the keys of a table whose values stand in a range, and in no other value.
-fn push_keys(
-    body: &mut String,
-    view: &View<'_>,
-    places: &Places,
-    depth: usize,
-    range: Span,
-) -> Result<(), AllocError> {
-    open_list(body, "children")?;
+fn push_keys(body: &mut Text, view: &View<'_>, places: &Places, depth: usize, range: Span) {
+    body.open_list("children");
     if let Some(round) = places.rounds.first() {
         for (place, key) in round.places.iter().zip(round.keys.iter()) {
             let is_inside = range.from <= place.from && place.to <= range.to;
@@ -68,40 +64,29 @@ fn push_keys(
                     from: first.from,
                     to: last.to,
                 };
-                push_symbol(body, view, steps, KEY, whole, selected)?;
-                close(body)?;
+                push_symbol(body, view, steps, KEY, whole, selected);
+                body.close();
             }
         }
     }
-    close_list(body)
+    body.close_list();
 }
 
 /// Writes the tables that have headers, each with its keys.
-pub(crate) fn push_symbols(
-    alloc: Global,
-    body: &mut String,
-    view: &View<'_>,
-) -> Result<(), AllocError> {
-    let Some(places) = places_of(alloc, view.text)? else {
-        return Ok(());
+pub(crate) fn push_symbols(alloc: Global, body: &mut Text, view: &View<'_>) {
+    let Some(Some(places)) = body.made(places_of(alloc, view.text)) else {
+        return;
     };
     for (at, header) in places.headers.iter().enumerate() {
         let end = match places.headers.get(at.saturating_add(1)) {
             Some(next) => next.from,
             None => view.text.len(),
         };
-        push_table(body, view, &places, header, end)?;
+        push_table(body, view, &places, header, end);
     }
-    Ok(())
 }
 
-fn push_table(
-    body: &mut String,
-    view: &View<'_>,
-    places: &Places,
-    header: &Place,
-    end: usize,
-) -> Result<(), AllocError> {
+fn push_table(body: &mut Text, view: &View<'_>, places: &Places, header: &Place, end: usize) {
     let whole = Span {
         from: header.from,
         to: end,
@@ -110,7 +95,7 @@ fn push_table(
         from: header.from,
         to: header.to,
     };
-    push_symbol(body, view, header.path.as_slice(), TABLE, whole, selected)?;
-    push_keys(body, view, places, header.path.len(), whole)?;
-    close(body)
+    push_symbol(body, view, header.path.as_slice(), TABLE, whole, selected);
+    push_keys(body, view, places, header.path.len(), whole);
+    body.close();
 }

@@ -3,6 +3,7 @@
 use crate::forms::is_of_dependencies;
 use crate::hover::value_at;
 use crate::spots::{ITEM, names_of, value_by};
+use manifest_json::Text;
 use manifest_places::{Edit, Places, Span, Step};
 use std::alloc::{AllocError, Global};
 use toml::{Table, Value};
@@ -223,6 +224,39 @@ fn required_of(alloc: Global, target: &str, index: usize) -> Result<Vec<Step>, A
     Ok(path)
 }
 
+/// Gathers a place that has this path from another one.
+fn push_below(
+    alloc: Global,
+    uses: &mut Vec<Use>,
+    above: &[Step],
+    found: Use,
+) -> Result<(), AllocError> {
+    let Use { path, item } = found;
+    let mut whole = manifest_rules::copied(alloc, above)?;
+    for step in path {
+        whole.push(step)?;
+    }
+    uses.push(Use { path: whole, item })?;
+    Ok(())
+}
+
+/// Gathers the items that name it of the features that a target requires, which stand at this path.
+fn push_required(
+    alloc: Global,
+    uses: &mut Vec<Use>,
+    document: &Table,
+    path: &[Step],
+    value: &Value,
+    named: Named<'_>,
+) -> Result<(), AllocError> {
+    let mut found = Vec::new(alloc);
+    push_items(alloc, &mut found, document, &[], value, named)?;
+    for one in found {
+        push_below(alloc, uses, path, one)?;
+    }
+    Ok(())
+}
+
 /// Gathers the targets that require it.
 fn push_targets(
     alloc: Global,
@@ -236,16 +270,8 @@ fn push_targets(
         };
         for (index, item) in items.iter().enumerate() {
             if let Some(value) = item.get("required-features") {
-                let mut found = Vec::new(alloc);
-                push_items(alloc, &mut found, document, &[], value, named)?;
-                for one in found {
-                    let Use { path, item } = one;
-                    let mut whole = required_of(alloc, *target, index)?;
-                    for step in path {
-                        whole.push(step)?;
-                    }
-                    uses.push(Use { path: whole, item })?;
-                }
+                let path = required_of(alloc, *target, index)?;
+                push_required(alloc, uses, document, path.as_slice(), value, named)?;
             }
         }
     }
@@ -265,6 +291,27 @@ pub(crate) fn uses_of(
         push_dependencies(alloc, &mut uses, document, named.name)?;
     }
     Ok(uses)
+}
+
+/// An item of a list with another name, as it is written.
+fn renamed_item(alloc: Global, item: &str, name: &str) -> Result<String, AllocError> {
+    let mut text = Text::new(alloc);
+    if item.starts_with("dep:") {
+        text.push_str("dep:");
+    }
+    text.push_str(name);
+    if let Some((old, rest)) = item.split_once('/') {
+        text.push_str(if old.ends_with('?') { "?/" } else { "/" });
+        text.push_str(rest);
+    }
+    let text = text.finish()?;
+    quoted(alloc, text.as_str())
+}
+
+/// A text as it is written in a manifest.
+fn quoted(alloc: Global, text: &str) -> Result<String, AllocError> {
+    let value = Value::string(alloc, text)?;
+    format!(in alloc; "{value}")
 }
 
 impl Use {
@@ -287,18 +334,7 @@ impl Use {
         let Some(item) = item else {
             return Ok(Edit::Rename(path, String::from_str(alloc, name)?));
         };
-        let item = item.as_str();
-        let mut text = String::new(alloc);
-        if item.starts_with("dep:") {
-            text.push_str("dep:")?;
-        }
-        text.push_str(name)?;
-        if let Some((old, rest)) = item.split_once('/') {
-            text.push_str(if old.ends_with('?') { "?/" } else { "/" })?;
-            text.push_str(rest)?;
-        }
-        let value = Value::string(alloc, text.as_str())?;
-        Ok(Edit::Set(path, format!(in alloc; "{value}")?))
+        Ok(Edit::Set(path, renamed_item(alloc, item.as_str(), name)?))
     }
 }
 
@@ -311,24 +347,54 @@ enum Need {
     AnotherName,
 }
 
+/// The value of a dependency that has a version, with the name of its package.
+fn detailed(alloc: Global, version: &str, name: &str) -> Result<String, AllocError> {
+    let version = quoted(alloc, version)?;
+    let name = quoted(alloc, name)?;
+    format!(in alloc; "{{ version = {version}, package = {name} }}")
+}
+
+/// The edit that puts the name of the package into the table of a dependency.
+fn with_package(alloc: Global, path: &[Step], name: &str) -> Result<Edit, AllocError> {
+    let mut to = manifest_rules::copied(alloc, path)?;
+    to.push(Step::Key(String::from_str(alloc, "package")?))?;
+    Ok(Edit::Insert(to, quoted(alloc, name)?))
+}
+
 /// What a dependency at a path, with this key, needs so that it is of the same package by another one.
 fn need_of(alloc: Global, document: &Table, path: &[Step], name: &str) -> Result<Need, AllocError> {
     let names = names_of(alloc, path)?;
-    let own = Value::string(alloc, name)?;
-    let mut to = manifest_rules::copied(alloc, path)?;
     match value_at(document, names.as_slice()) {
         Some(Value::String(version)) => {
-            let version = Value::string(alloc, version.as_str())?;
-            let text = format!(in alloc; "{{ version = {version}, package = {own} }}")?;
-            Ok(Need::Edit(Edit::Set(to, text)))
+            let text = detailed(alloc, version.as_str(), name)?;
+            Ok(Need::Edit(Edit::Set(manifest_rules::copied(alloc, path)?, text)))
         }
         Some(Value::Table(table)) if table.contains_key("package") => Ok(Need::Nothing),
         Some(Value::Table(table)) if !table.contains_key("workspace") => {
-            to.push(Step::Key(String::from_str(alloc, "package")?))?;
-            Ok(Need::Edit(Edit::Insert(to, format!(in alloc; "{own}")?)))
+            Ok(Need::Edit(with_package(alloc, path, name)?))
         }
         _ => Ok(Need::AnotherName),
     }
+}
+
+/// Gathers the edits that put another name at a place. It says whether the place can have one.
+fn push_renaming(
+    alloc: Global,
+    edits: &mut Vec<Edit>,
+    document: &Table,
+    named: Named<'_>,
+    name: &str,
+    one: Use,
+) -> Result<bool, AllocError> {
+    if one.item.is_none() && !named.is_feature {
+        match need_of(alloc, document, one.path.as_slice(), named.name)? {
+            Need::Edit(edit) => edits.push(edit)?,
+            Need::AnotherName => return Ok(false),
+            Need::Nothing => {}
+        }
+    }
+    edits.push(one.renamed(alloc, name)?)?;
+    Ok(true)
 }
 
 /// The edits that give a feature or a dependency another name; `None` where it cannot have one.
@@ -340,14 +406,9 @@ pub(crate) fn renaming(
 ) -> Result<Option<Vec<Edit>>, AllocError> {
     let mut edits = Vec::new(alloc);
     for one in uses_of(alloc, document, named)? {
-        if one.item.is_none() && !named.is_feature {
-            match need_of(alloc, document, one.path.as_slice(), named.name)? {
-                Need::Edit(edit) => edits.push(edit)?,
-                Need::AnotherName => return Ok(None),
-                Need::Nothing => {}
-            }
+        if !push_renaming(alloc, &mut edits, document, named, name, one)? {
+            return Ok(None);
         }
-        edits.push(one.renamed(alloc, name)?)?;
     }
     Ok(Some(edits))
 }

@@ -144,52 +144,44 @@ pub(crate) fn targets_of<H: Files + AllocGlobal + Clone + Drop>(
         Ok(manifest) => manifest,
         Err(refused) => return Err(refused),
     };
-    Ok(all_targets(alloc, &manifest, document, lines)?)
+    let mut targets = Vec::new(alloc);
+    push_targets(alloc, &manifest, document, lines, &mut targets)?;
+    Ok(targets)
 }
 
-fn all_targets(
+/// Notes the library, where there is one.
+fn push_library(
+    alloc: Global,
+    manifest: &Manifest,
+    lines: &Lines<'_>,
+    targets: &mut Vec<Target>,
+) -> Result<(), AllocError> {
+    let Some(product) = &manifest.lib else {
+        return Ok(());
+    };
+    let path = path_of(alloc, &["lib"])?;
+    let target = target_of(alloc, "lib", product, lines.line(path.as_slice()))?;
+    targets.push(target)?;
+    Ok(())
+}
+
+/// Notes all targets of a manifest.
+fn push_targets(
     alloc: Global,
     manifest: &Manifest,
     document: &Table,
     lines: &Lines<'_>,
-) -> Result<Vec<Target>, AllocError> {
-    let mut targets = Vec::new(alloc);
-    if let Some(product) = &manifest.lib {
-        let path = path_of(alloc, &["lib"])?;
-        targets.push(target_of(alloc, "lib", product, lines.line(path.as_slice()))?)?;
+    targets: &mut Vec<Target>,
+) -> Result<(), AllocError> {
+    push_library(alloc, manifest, lines, targets)?;
+    let kinds = [
+        ("bin", manifest.bin.as_slice()),
+        ("example", manifest.example.as_slice()),
+        ("test", manifest.test.as_slice()),
+        ("bench", manifest.bench.as_slice()),
+    ];
+    for (kind, products) in &kinds {
+        push_kind(alloc, document, lines, *kind, *products, targets)?;
     }
-    push_kind(
-        alloc,
-        document,
-        lines,
-        "bin",
-        manifest.bin.as_slice(),
-        &mut targets,
-    )?;
-    push_kind(
-        alloc,
-        document,
-        lines,
-        "example",
-        manifest.example.as_slice(),
-        &mut targets,
-    )?;
-    push_kind(
-        alloc,
-        document,
-        lines,
-        "test",
-        manifest.test.as_slice(),
-        &mut targets,
-    )?;
-    push_kind(
-        alloc,
-        document,
-        lines,
-        "bench",
-        manifest.bench.as_slice(),
-        &mut targets,
-    )?;
-    push_build(alloc, manifest, lines, &mut targets)?;
-    Ok(targets)
+    push_build(alloc, manifest, lines, targets)
 }

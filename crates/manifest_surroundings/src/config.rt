@@ -126,10 +126,10 @@ impl Configs {
         reader: &Reader,
         folder: &str,
     ) -> Result<Option<String>, AllocError> {
-        let alloc = rt.alloc();
         if !self.files.contains_key(folder) {
             let file = file_in(rt, reader, folder)?;
-            self.files.insert(String::from_str(alloc, folder)?, file)?;
+            self.files
+                .insert(String::from_str(rt.alloc(), folder)?, file)?;
         }
         match self.files.get(folder) {
             Some(Some(file)) => Ok(Some(file.clone()?)),
@@ -181,6 +181,34 @@ impl Configs {
         self.load_files(rt, reader, files)
     }
 
+    /// Puts into a configuration what a file further away has, or notes that it cannot be read.
+    fn add_file<H: Files + AllocGlobal>(
+        &mut self,
+        rt: &H,
+        reader: &Reader,
+        path: &str,
+        merged: &mut Table,
+    ) -> Result<(), AllocError> {
+        match table_at(rt, reader, path)? {
+            Ok(table) => add_further(merged, table),
+            Err(reason) => self.note_unread(path, reason),
+        }
+    }
+
+    /// The configuration that these files make, the nearest first.
+    fn merged<H: Files + AllocGlobal>(
+        &mut self,
+        rt: &H,
+        reader: &Reader,
+        files: &[String],
+    ) -> Result<Table, AllocError> {
+        let mut merged = Table::new(rt.alloc());
+        for file in files {
+            self.add_file(rt, reader, file.as_str(), &mut merged)?;
+        }
+        Ok(merged)
+    }
+
     /// Reads these files, the nearest first, where they are not those that are kept.
     fn load_files<H: Files + AllocGlobal>(
         &mut self,
@@ -191,13 +219,7 @@ impl Configs {
         if same_paths(files.as_slice(), self.kept_of.as_slice()) {
             return Ok(());
         }
-        let mut merged = Table::new(rt.alloc());
-        for file in &files {
-            match table_at(rt, reader, file.as_str())? {
-                Ok(table) => add_further(&mut merged, table)?,
-                Err(reason) => self.note_unread(file.as_str(), reason)?,
-            }
-        }
+        let merged = self.merged(rt, reader, files.as_slice())?;
         self.kept = if files.is_empty() { None } else { Some(merged) };
         self.kept_of = files;
         Ok(())

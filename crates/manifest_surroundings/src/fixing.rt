@@ -2,6 +2,7 @@
 
 use crate::judging::{Placed, State, judge, place};
 use crate::scope::Scope;
+use manifest_json::Text;
 use manifest_lint::{Diagnostic, Document, Fix, Unread};
 use manifest_places::{Edit, EditError, Edited, Step, with_edits};
 use manifest_rules::{Level, copied_edits};
@@ -148,6 +149,14 @@ fn suggestion<'a>(
     Some((diagnostic, fix))
 }
 
+/// Gathers the edits of a suggestion.
+fn push_edits(alloc: Global, edits: &mut Vec<Edit>, fix: &Fix) -> Result<(), AllocError> {
+    for edit in copied_edits(alloc, fix.edits.as_slice())? {
+        edits.push(edit)?;
+    }
+    Ok(())
+}
+
 /// The edits of these suggestions.
 fn all_edits(
     alloc: Global,
@@ -157,9 +166,7 @@ fn all_edits(
     let mut edits = Vec::new(alloc);
     for choice in choices {
         if let Some((_, fix)) = suggestion(diagnostics, choice) {
-            for edit in copied_edits(alloc, fix.edits.as_slice())? {
-                edits.push(edit)?;
-            }
+            push_edits(alloc, &mut edits, fix)?;
         }
     }
     Ok(edits)
@@ -175,29 +182,31 @@ struct Errors {
 
 /// An error by its code and its message.
 fn by_message(alloc: Global, diagnostic: &Diagnostic) -> Result<String, AllocError> {
-    let mut name = String::from_str(alloc, diagnostic.code.name)?;
-    name.push(' ')?;
-    name.push_str(diagnostic.message.as_str())?;
-    Ok(name)
+    let mut name = Text::new(alloc);
+    name.push_str(diagnostic.code.name);
+    name.push(' ');
+    name.push_str(diagnostic.message.as_str());
+    name.finish()
 }
 
 /// An error by its code and its key path, which is the same whatever the spelling of the keys is. A message can name the key
 /// as it is written, so that the same error has another one after the key is renamed.
 fn by_place(alloc: Global, diagnostic: &Diagnostic) -> Result<String, AllocError> {
-    let mut name = String::from_str(alloc, diagnostic.code.name)?;
+    let mut name = Text::new(alloc);
+    name.push_str(diagnostic.code.name);
     for step in &diagnostic.path.steps {
-        name.push(' ')?;
+        name.push(' ');
         match step {
-            Step::Key(key) if key.as_str() == "project" => name.push_str("package")?,
+            Step::Key(key) if key.as_str() == "project" => name.push_str("package"),
             Step::Key(key) => {
                 for ch in key.chars() {
-                    name.push(if ch == '_' { '-' } else { ch })?;
+                    name.push(if ch == '_' { '-' } else { ch });
                 }
             },
-            Step::Index(index) => write!(name, "{index}")?,
+            Step::Index(index) => name.push_number(*index),
         }
     }
-    Ok(name)
+    name.finish()
 }
 
 fn count_one(counts: &mut BTreeMap<String, usize>, name: String) -> Result<(), AllocError> {
@@ -217,6 +226,31 @@ fn takes_one(counts: &mut BTreeMap<String, usize>, name: &str) -> bool {
     }
 }
 
+impl Errors {
+    /// Counts an error.
+    fn add(&mut self, alloc: Global, diagnostic: &Diagnostic) -> Result<(), AllocError> {
+        self.count = self.count.saturating_add(1);
+        count_one(&mut self.of_messages, by_message(alloc, diagnostic)?)?;
+        count_one(&mut self.of_places, by_place(alloc, diagnostic)?)
+    }
+
+    /// Whether there is one more error with the message of this one, which then counts no more.
+    fn takes_message(
+        &mut self,
+        alloc: Global,
+        diagnostic: &Diagnostic,
+    ) -> Result<bool, AllocError> {
+        let message = by_message(alloc, diagnostic)?;
+        Ok(takes_one(&mut self.of_messages, message.as_str()))
+    }
+
+    /// Whether there is one more error at the place of this one, which then counts no more.
+    fn takes_place(&mut self, alloc: Global, diagnostic: &Diagnostic) -> Result<bool, AllocError> {
+        let place = by_place(alloc, diagnostic)?;
+        Ok(takes_one(&mut self.of_places, place.as_str()))
+    }
+}
+
 fn errors_of(alloc: Global, diagnostics: &[Diagnostic]) -> Result<Errors, AllocError> {
     let mut errors = Errors {
         count: 0,
@@ -225,9 +259,7 @@ fn errors_of(alloc: Global, diagnostics: &[Diagnostic]) -> Result<Errors, AllocE
     };
     for diagnostic in diagnostics {
         if diagnostic.level == Level::Error {
-            errors.count = errors.count.saturating_add(1);
-            count_one(&mut errors.of_messages, by_message(alloc, diagnostic)?)?;
-            count_one(&mut errors.of_places, by_place(alloc, diagnostic)?)?;
+            errors.add(alloc, diagnostic)?;
         }
     }
     Ok(errors)
@@ -247,10 +279,8 @@ fn has_new_error(
             continue;
         }
         count = count.saturating_add(1);
-        let message = by_message(alloc, diagnostic)?;
-        let place = by_place(alloc, diagnostic)?;
-        let has_message = takes_one(&mut old.of_messages, message.as_str());
-        let has_place = takes_one(&mut old.of_places, place.as_str());
+        let has_message = old.takes_message(alloc, diagnostic)?;
+        let has_place = old.takes_place(alloc, diagnostic)?;
         if !has_message && !has_place || count > old.count {
             return Ok(true);
         }
@@ -294,6 +324,35 @@ fn document_of(alloc: Global, text: &str) -> Result<Option<Document>, AllocError
     }
 }
 
+/// What is said of a manifest with this text; `None` where the text is no document.
+fn judged<H: Files + AllocGlobal + Clone + Drop>(
+    rt: &H,
+    task: &Task<'_>,
+    state: &mut State,
+    text: &str,
+) -> Result<Option<Vec<Diagnostic>>, AllocError> {
+    let Some(document) = document_of(rt.alloc(), text)? else {
+        return Ok(None);
+    };
+    let placed = place(rt, task.scope, state, task.path, document)?;
+    let found = judge(rt, task.scope, state, task.path, &placed, false)?;
+    Ok(Some(found))
+}
+
+/// Whether there is an error in this text that was not there before; `None` where the text is no document.
+fn makes_error<H: Files + AllocGlobal + Clone + Drop>(
+    rt: &H,
+    task: &Task<'_>,
+    state: &mut State,
+    before: &[Diagnostic],
+    text: &str,
+) -> Result<Option<bool>, AllocError> {
+    let Some(after) = judged(rt, task, state, text)? else {
+        return Ok(None);
+    };
+    Ok(Some(has_new_error(rt.alloc(), before, after.as_slice())?))
+}
+
 /// What comes of these suggestions together.
 fn outcome_of<H: Files + AllocGlobal + Clone + Drop>(
     rt: &H,
@@ -308,15 +367,11 @@ fn outcome_of<H: Files + AllocGlobal + Clone + Drop>(
     let Some(text) = edited(alloc, fixed.text.as_str(), edits)? else {
         return Ok(Outcome::NotMade);
     };
-    let Some(document) = document_of(alloc, text.as_str())? else {
-        return Ok(Outcome::NotMade);
-    };
-    let placed = place(rt, task.scope, state, task.path, document)?;
-    let after = judge(rt, task.scope, state, task.path, &placed, false)?;
-    if has_new_error(alloc, before, after.as_slice())? {
-        return Ok(Outcome::NewError);
-    }
-    Ok(Outcome::Fine(text))
+    Ok(match makes_error(rt, task, state, before, text.as_str())? {
+        Some(false) => Outcome::Fine(text),
+        Some(true) => Outcome::NewError,
+        None => Outcome::NotMade,
+    })
 }
 
 /// A round of suggestions.
@@ -330,14 +385,30 @@ struct Round<'a> {
     waiting: Vec<&'a [Choice]>,
 }
 
+/// A suggestion of a diagnostic, as one that is left out.
+fn refused_of(alloc: Global, diagnostic: &Diagnostic, fix: &Fix) -> Result<Refused, AllocError> {
+    let edits = copied_edits(alloc, fix.edits.as_slice())?;
+    Ok(Refused {
+        message: diagnostic.message.clone()?,
+        edits,
+    })
+}
+
 /// Leaves a suggestion out from now on.
 fn refuse(alloc: Global, fixed: &mut Fixed, choice: &Choice) -> Result<(), AllocError> {
     if let Some((diagnostic, fix)) = suggestion(fixed.diagnostics.as_slice(), choice) {
-        let message = diagnostic.message.clone()?;
-        let edits = copied_edits(alloc, fix.edits.as_slice())?;
-        fixed.refused.push(Refused { message, edits })?;
+        fixed.refused.push(refused_of(alloc, diagnostic, fix)?)?;
     }
     Ok(())
+}
+
+/// Those that are kept, and these.
+fn with_part(alloc: Global, kept: &[Choice], part: &[Choice]) -> Result<Vec<Choice>, AllocError> {
+    let mut choices = Vec::from_slice(alloc, kept)?;
+    for choice in part {
+        choices.push(*choice)?;
+    }
+    Ok(choices)
 }
 
 /// Tries some suggestions together with those that are kept. Where that fails, each half of them is to be tried, and one by
@@ -350,11 +421,7 @@ fn try_part<'a, H: Files + AllocGlobal + Clone + Drop>(
     round: &mut Round<'a>,
     part: &'a [Choice],
 ) -> Result<(), AllocError> {
-    let alloc = rt.alloc();
-    let mut choices = round.kept.clone()?;
-    for choice in part {
-        choices.push(*choice)?;
-    }
+    let choices = with_part(rt.alloc(), round.kept.as_slice(), part)?;
     let outcome = outcome_of(rt, task, state, fixed, choices.as_slice())?;
     let is_made = !matches!(&outcome, Outcome::NotMade);
     if let Outcome::Fine(text) = outcome {
@@ -362,6 +429,17 @@ fn try_part<'a, H: Files + AllocGlobal + Clone + Drop>(
         round.best = Some(text);
         return Ok(());
     }
+    leave_out(rt.alloc(), fixed, round, part, is_made)
+}
+
+/// Leaves a suggestion out that fails by itself; of some that fail, each half is to be tried.
+fn leave_out<'a>(
+    alloc: Global,
+    fixed: &mut Fixed,
+    round: &mut Round<'a>,
+    part: &'a [Choice],
+    is_made: bool,
+) -> Result<(), AllocError> {
     if let [choice] = part {
         if is_made || round.kept.is_empty() {
             refuse(alloc, fixed, choice)?;
@@ -389,28 +467,40 @@ fn try_all<'a, H: Files + AllocGlobal + Clone + Drop>(
         waiting: Vec::new(alloc),
     };
     round.waiting.push(choices)?;
-    for _ in 0..fixed.tries {
-        let Some(part) = round.waiting.pop() else {
-            return Ok(round);
-        };
-        fixed.tries = fixed.tries.saturating_sub(1);
-        try_part(rt, task, state, fixed, &mut round, part)?;
-    }
-    fixed.has_given_up = !round.waiting.is_empty();
+    try_waiting(rt, task, state, fixed, &mut round)?;
     Ok(round)
 }
 
-/// Makes one round of suggestions. It says whether there may be more.
-fn fix_once<H: Files + AllocGlobal + Clone + Drop>(
+/// Tries the suggestions that are still to be tried, as often as the manifest may be tried.
+fn try_waiting<'a, H: Files + AllocGlobal + Clone + Drop>(
     rt: &H,
     task: &Task<'_>,
     state: &mut State,
     fixed: &mut Fixed,
-) -> Result<bool, AllocError> {
-    let alloc = rt.alloc();
-    let choices = chosen(alloc, fixed)?;
+    round: &mut Round<'a>,
+) -> Result<(), AllocError> {
+    for _ in 0..fixed.tries {
+        let Some(part) = round.waiting.pop() else {
+            return Ok(());
+        };
+        fixed.tries = fixed.tries.saturating_sub(1);
+        try_part(rt, task, state, fixed, round, part)?;
+    }
+    fixed.has_given_up = !round.waiting.is_empty();
+    Ok(())
+}
+
+/// Puts those suggestions into the text that are fine together. It says whether there are some; `None` where none is to be
+/// tried.
+fn make_best<H: Files + AllocGlobal + Clone + Drop>(
+    rt: &H,
+    task: &Task<'_>,
+    state: &mut State,
+    fixed: &mut Fixed,
+) -> Result<Option<bool>, AllocError> {
+    let choices = chosen(rt.alloc(), fixed)?;
     if choices.is_empty() {
-        return Ok(false);
+        return Ok(None);
     }
     let Round {
         kept,
@@ -422,8 +512,21 @@ fn fix_once<H: Files + AllocGlobal + Clone + Drop>(
         fixed.text = text;
         fixed.made = fixed.made.saturating_add(kept.len());
     }
+    Ok(Some(is_changed))
+}
+
+/// Makes one round of suggestions. It says whether there may be more.
+fn fix_once<H: Files + AllocGlobal + Clone + Drop>(
+    rt: &H,
+    task: &Task<'_>,
+    state: &mut State,
+    fixed: &mut Fixed,
+) -> Result<bool, AllocError> {
+    let Some(is_changed) = make_best(rt, task, state, fixed)? else {
+        return Ok(false);
+    };
     // (what is kept of a root is the document that was tried last)
-    let Some(document) = document_of(alloc, fixed.text.as_str())? else {
+    let Some(document) = document_of(rt.alloc(), fixed.text.as_str())? else {
         return Ok(false);
     };
     fixed.placed = place(rt, task.scope, state, task.path, document)?;

@@ -153,6 +153,44 @@ fn listed<H: Files + AllocGlobal + Clone + Drop>(
     Ok(Some(names))
 }
 
+/// The names in a folder that is below another; `None` where it cannot be listed.
+fn listed_below<H: Files + AllocGlobal + Clone + Drop>(
+    rt: &H,
+    folder: &str,
+    asked: &str,
+) -> Result<Option<BTreeSet<String>>, AllocError> {
+    let path = join(rt.alloc(), folder, asked)?;
+    listed(rt, path.as_str())
+}
+
+/// Notes the names in a folder that the rules want.
+fn note_folder<H: Files + AllocGlobal + Clone + Drop>(
+    rt: &H,
+    folder: &str,
+    asked: &str,
+    known: &mut Folders,
+) -> Result<(), AllocError> {
+    let alloc = rt.alloc();
+    known.asked.insert(String::from_str(alloc, asked)?)?;
+    if let Some(found) = listed_below(rt, folder, asked)? {
+        known.names.insert(String::from_str(alloc, asked)?, found)?;
+    }
+    Ok(())
+}
+
+/// Notes the names in the folders that the rules want next.
+fn note_folders<H: Files + AllocGlobal + Clone + Drop>(
+    rt: &H,
+    folder: &str,
+    document: &Document,
+    known: &mut Folders,
+) -> Result<(), AllocError> {
+    for asked in asked_folders(rt.alloc(), &document.table, known)? {
+        note_folder(rt, folder, asked.as_str(), known)?;
+    }
+    Ok(())
+}
+
 /// The names in the folders that the rules want.
 fn folders_of<H: Files + AllocGlobal + Clone + Drop>(
     rt: &H,
@@ -166,15 +204,23 @@ fn folders_of<H: Files + AllocGlobal + Clone + Drop>(
     };
     // the folders first, and then those that stand in them
     for _ in 0..2 {
-        for asked in asked_folders(alloc, &document.table, &known)? {
-            let path = join(alloc, folder, asked.as_str())?;
-            known.asked.insert(asked.clone()?)?;
-            if let Some(found) = listed(rt, path.as_str())? {
-                known.names.insert(asked, found)?;
-            }
-        }
+        note_folders(rt, folder, document, &mut known)?;
     }
     Ok(known)
+}
+
+/// Reads the configuration for a folder, where it is not the one that is kept.
+fn load_config<H: Files + AllocGlobal>(
+    rt: &H,
+    scope: &Scope,
+    state: &mut State,
+    folder: &str,
+) -> Result<(), AllocError> {
+    match &scope.config {
+        Some(path) => state.configs.load_file(rt, &state.reader, path.as_str()),
+        None if scope.uses_config => state.configs.load(rt, &state.reader, folder),
+        None => Ok(()),
+    }
 }
 
 /// Gathers what is around a manifest in this folder.
@@ -189,11 +235,7 @@ fn gather<H: Files + AllocGlobal + Clone + Drop>(
         FoundRoot::Kept => Some(state.roots.lists(rt, &state.reader, folder)?),
         _ => None,
     };
-    match &scope.config {
-        Some(path) => state.configs.load_file(rt, &state.reader, path.as_str())?,
-        None if scope.uses_config => state.configs.load(rt, &state.reader, folder)?,
-        None => {}
-    }
+    load_config(rt, scope, state, folder)?;
     let document = match (&placed.own, state.roots.kept()) {
         (Some(document), _) => document,
         (None, Some(kept)) => &kept.document,
@@ -271,6 +313,56 @@ pub(crate) fn said(
     found
 }
 
+/// What the rules say of a manifest, by what was gathered around it.
+fn said_of(
+    alloc: Global,
+    scope: &Scope,
+    state: &State,
+    placed: &Placed,
+    gathered: &Gathered,
+    shows_edits: bool,
+) -> Result<Vec<Diagnostic>, AllocError> {
+    let Some(document) = placed.document(state) else {
+        return Ok(Vec::new(alloc));
+    };
+    let around = surroundings(scope, state, placed, gathered);
+    let root_text = placed
+        .other_root(state)
+        .map(|root| root.document.text.as_str());
+    said(alloc, document, &around, root_text, shows_edits)
+}
+
+/// What the rules say of a manifest with all that is around it, at the levels of the rules.
+fn found_around<H: Files + AllocGlobal + Clone + Drop>(
+    rt: &H,
+    scope: &Scope,
+    state: &mut State,
+    path: &str,
+    placed: &Placed,
+    shows_edits: bool,
+) -> Result<Vec<Diagnostic>, AllocError> {
+    let alloc = rt.alloc();
+    match gather(rt, scope, state, folder_of(path), placed)? {
+        Some(gathered) => said_of(alloc, scope, state, placed, &gathered, shows_edits),
+        None => Ok(Vec::new(alloc)),
+    }
+}
+
+/// Diagnostics of a manifest at the levels that are set for it.
+fn with_levels(
+    alloc: Global,
+    scope: &Scope,
+    state: &State,
+    placed: &Placed,
+    found: Vec<Diagnostic>,
+) -> Result<Vec<Diagnostic>, AllocError> {
+    let Some(document) = placed.document(state) else {
+        return Ok(found);
+    };
+    let levels = levels_for(alloc, scope, state, placed, document)?;
+    levels.applied(alloc, found)
+}
+
 /// What is said of a manifest, in the order of its text; of suggestions also what they replace, if that is to be shown.
 pub fn judge<H: Files + AllocGlobal + Clone + Drop>(
     rt: &H,
@@ -280,21 +372,8 @@ pub fn judge<H: Files + AllocGlobal + Clone + Drop>(
     placed: &Placed,
     shows_edits: bool,
 ) -> Result<Vec<Diagnostic>, AllocError> {
-    let alloc = rt.alloc();
-    let Some(gathered) = gather(rt, scope, state, folder_of(path), placed)? else {
-        return Ok(Vec::new(alloc));
-    };
-    let state = &*state;
-    let Some(document) = placed.document(state) else {
-        return Ok(Vec::new(alloc));
-    };
-    let around = surroundings(scope, state, placed, &gathered);
-    let root_text = placed
-        .other_root(state)
-        .map(|root| root.document.text.as_str());
-    let found = said(alloc, document, &around, root_text, shows_edits)?;
-    let levels = levels_for(alloc, scope, state, placed, document)?;
-    let mut kept = levels.applied(alloc, found)?;
+    let found = found_around(rt, scope, state, path, placed, shows_edits)?;
+    let mut kept = with_levels(rt.alloc(), scope, state, placed, found)?;
     sort(&mut kept)?;
     Ok(kept)
 }

@@ -57,16 +57,48 @@ impl PackageNames {
         &mut self,
         rt: &H,
         reader: &Reader,
-        folder: String,
+        folder: &str,
     ) -> Result<Option<String>, AllocError> {
         let alloc = rt.alloc();
-        if let Some(name) = self.names.get(folder.as_str()) {
+        if let Some(name) = self.names.get(folder) {
             return copied(alloc, name.as_ref().map(|name| name.as_str()));
         }
-        let name = name_in(rt, reader, folder.as_str())?;
-        let copy = copied(alloc, name.as_ref().map(|name| name.as_str()))?;
-        self.names.insert(folder, copy)?;
+        let name = name_in(rt, reader, folder)?;
+        self.keep(alloc, folder, name.as_ref().map(|name| name.as_str()))?;
         Ok(name)
+    }
+
+    /// Keeps the name of the package in a folder.
+    fn keep(&mut self, alloc: Global, folder: &str, name: Option<&str>) -> Result<(), AllocError> {
+        let copy = copied(alloc, name)?;
+        self.names.insert(String::from_str(alloc, folder)?, copy)?;
+        Ok(())
+    }
+
+    /// The name of the package to which a path leads from a folder.
+    fn name_at<H: Files + AllocGlobal>(
+        &mut self,
+        rt: &H,
+        reader: &Reader,
+        folder: &str,
+        path: &str,
+    ) -> Result<Option<String>, AllocError> {
+        let target = resolved(rt.alloc(), folder, path)?;
+        self.name(rt, reader, target.as_str())
+    }
+
+    /// Gathers the package to which a path leads from a folder.
+    fn push<H: Files + AllocGlobal>(
+        &mut self,
+        rt: &H,
+        reader: &Reader,
+        folder: &str,
+        path: String,
+        all: &mut Vec<PathPackage>,
+    ) -> Result<(), AllocError> {
+        let name = self.name_at(rt, reader, folder, path.as_str())?;
+        all.push(PathPackage { path, name })?;
+        Ok(())
     }
 
     /// The packages to which the dependencies of a document in this folder lead.
@@ -80,9 +112,7 @@ impl PackageNames {
         let alloc = rt.alloc();
         let mut all = Vec::new(alloc);
         for path in asked_packages(alloc, &document.table)? {
-            let target = resolved(alloc, folder, path.as_str())?;
-            let name = self.name(rt, reader, target)?;
-            all.push(PathPackage { path, name })?;
+            self.push(rt, reader, folder, path, &mut all)?;
         }
         Ok(all)
     }

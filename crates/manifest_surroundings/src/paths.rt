@@ -1,5 +1,6 @@
 //! Paths as texts.
 
+use manifest_json::Text;
 use std::alloc::{AllocError, Global};
 
 /// The name of a manifest.
@@ -19,12 +20,13 @@ pub fn join(alloc: Global, folder: &str, name: &str) -> Result<String, AllocErro
     if folder.is_empty() || name.starts_with('/') {
         return String::from_str(alloc, name);
     }
-    let mut path = String::from_str(alloc, folder)?;
+    let mut path = Text::new(alloc);
+    path.push_str(folder);
     if !folder.ends_with('/') {
-        path.push('/')?;
+        path.push('/');
     }
-    path.push_str(name)?;
-    Ok(path)
+    path.push_str(name);
+    path.finish()
 }
 
 /// The path that a folder is opened by.
@@ -49,15 +51,16 @@ pub(crate) fn names_of<'a>(alloc: Global, path: &'a str) -> Result<Vec<&'a str>,
 
 /// An absolute path without `.`, `..` and what they undo.
 pub(crate) fn normal(alloc: Global, path: &str) -> Result<String, AllocError> {
-    let mut normal = String::new(alloc);
-    for name in &names_of(alloc, path)? {
-        normal.push('/')?;
-        normal.push_str(*name)?;
+    let names = names_of(alloc, path)?;
+    let mut normal = Text::new(alloc);
+    for name in &names {
+        normal.push('/');
+        normal.push_str(*name);
     }
-    if normal.is_empty() {
-        normal.push('/')?;
+    if normal.as_str().is_empty() {
+        normal.push('/');
     }
-    Ok(normal)
+    normal.finish()
 }
 
 /// The absolute path to which a path leads from a folder with an absolute path.

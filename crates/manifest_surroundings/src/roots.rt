@@ -78,6 +78,29 @@ fn is_fault(diagnostic: &Diagnostic) -> bool {
     diagnostic.level == Level::Error && matches!(&diagnostic.subject, Subject::Fault(_, _))
 }
 
+/// The document of a manifest; `None` where it cannot be read.
+fn document_at<H: Files + AllocGlobal>(rt: &H, reader: &Reader, path: &str) -> Option<Document> {
+    let Ok(bytes) = reader.read(rt, path) else {
+        return None;
+    };
+    Document::read(rt.alloc(), bytes.as_slice()).ok()
+}
+
+/// What a manifest above a package is, by its document.
+fn above_by(alloc: Global, path: &str, document: &Document) -> Result<Above, AllocError> {
+    let is_faulty = is_faulty(alloc, document)?;
+    let is_root = table_in(&document.table, "workspace").is_some();
+    match (is_root, is_faulty) {
+        (true, true) => Ok(Above::FaultyRoot),
+        (true, false) => Ok(Above::Root),
+        (false, true) => Ok(Above::Unreadable),
+        (false, false) => match pointer_in(&document.table) {
+            Some(pointer) => Ok(Above::Pointer(pointed(alloc, path, pointer)?)),
+            None => Ok(Above::Plain),
+        },
+    }
+}
+
 /// Whether Cargo looks no further up than the folder.
 fn is_packaged(folder: &str) -> bool {
     folder.ends_with("/target/package")
@@ -129,32 +152,17 @@ impl Roots {
         reader: &Reader,
         path: &str,
     ) -> Result<Above, AllocError> {
-        let alloc = rt.alloc();
         if !reader.texts.contains_key(path) && fs::metadata(rt, path).is_err() {
             return Ok(Above::Absent);
         }
-        let Ok(bytes) = reader.read(rt, path) else {
+        let Some(document) = document_at(rt, reader, path) else {
             return Ok(Above::Unreadable);
         };
-        let Ok(document) = Document::read(alloc, bytes.as_slice()) else {
-            return Ok(Above::Unreadable);
-        };
-        let is_faulty = is_faulty(alloc, &document)?;
-        if table_in(&document.table, "workspace").is_some() {
-            self.keep(String::from_str(alloc, path)?, document);
-            return Ok(if is_faulty {
-                Above::FaultyRoot
-            } else {
-                Above::Root
-            });
+        let above = above_by(rt.alloc(), path, &document)?;
+        if matches!(&above, Above::Root | Above::FaultyRoot) {
+            self.keep(String::from_str(rt.alloc(), path)?, document);
         }
-        if is_faulty {
-            return Ok(Above::Unreadable);
-        }
-        match pointer_in(&document.table) {
-            Some(pointer) => Ok(Above::Pointer(pointed(alloc, path, pointer)?)),
-            None => Ok(Above::Plain),
-        }
+        Ok(above)
     }
 
     /// Keeps the root at this path, where it is not the one that is kept. It says whether it could be read.
@@ -191,6 +199,21 @@ impl Roots {
         }
     }
 
+    /// Looks what the manifest at this path is, at the first question.
+    fn look<H: Files + AllocGlobal>(
+        &mut self,
+        rt: &H,
+        reader: &Reader,
+        path: &str,
+    ) -> Result<(), AllocError> {
+        if !self.above.contains_key(path) {
+            let above = self.first_look(rt, reader, path)?;
+            self.above
+                .insert(String::from_str(rt.alloc(), path)?, above)?;
+        }
+        Ok(())
+    }
+
     /// What the manifest at this path is to the packages below it, as it was at the first question.
     fn step<H: Files + AllocGlobal>(
         &mut self,
@@ -200,10 +223,7 @@ impl Roots {
         folder: &str,
     ) -> Result<Option<FoundRoot>, AllocError> {
         let alloc = rt.alloc();
-        if !self.above.contains_key(path) {
-            let above = self.first_look(rt, reader, path)?;
-            self.above.insert(String::from_str(alloc, path)?, above)?;
-        }
+        self.look(rt, reader, path)?;
         let pointer = match self.above.get(path) {
             Some(Above::Root | Above::FaultyRoot) => String::from_str(alloc, path)?,
             Some(Above::Pointer(pointer)) => pointer.clone()?,
@@ -215,7 +235,20 @@ impl Roots {
         if !self.load(rt, reader, pointer.as_str())? {
             return Ok(Some(FoundRoot::Missing));
         }
-        if pointer.as_str() == path && self.excludes(alloc, folder)? {
+        let is_own = pointer.as_str() == path;
+        self.loaded(alloc, path, folder, is_own)
+    }
+
+    /// What the root that was loaded is to the packages in a folder: it is that of the manifest at this path, or that
+    /// manifest itself.
+    fn loaded(
+        &self,
+        alloc: Global,
+        path: &str,
+        folder: &str,
+        is_own: bool,
+    ) -> Result<Option<FoundRoot>, AllocError> {
+        if is_own && self.excludes(alloc, folder)? {
             return Ok(None);
         }
         if self.is_unknown(alloc, path, folder)? {
