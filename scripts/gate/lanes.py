@@ -14,7 +14,7 @@ from pathlib import Path
 
 # what rt ci reserves for the largest crate, in bytes
 RESERVED = 9_400_000_000
-# what a proof of one of the larger crates takes in one process: 3.3 to 5.7 GB, that of the tests 7.3
+# what a proof of one of the larger crates takes in one process: 3.3 to 5.7 GB
 LARGE = 5_000_000_000
 # what a round of edits takes: most 1 to 3.5 GB, that of cargo_manifest 5.6
 TAKEN = 3_000_000_000

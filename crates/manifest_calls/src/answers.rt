@@ -2,6 +2,7 @@
 
 use cargo_manifest::{Error, Manifest, Metadata, ParseFault, Schema, Value};
 use std::alloc::{AllocError, Global};
+use std::io::ErrorKind;
 use std::str::Utf8Error;
 
 /// How bytes are refused that are not UTF-8: where, and how many are wrong, or that the end of a character is missing.
@@ -10,6 +11,16 @@ fn utf8_text(alloc: Global, fault: &Utf8Error) -> Result<String, AllocError> {
     match fault.error_len() {
         Some(wrong) => format!(in alloc; "error: utf8 at {at}, {wrong} wrong"),
         None => format!(in alloc; "error: utf8 at {at}, cut short"),
+    }
+}
+
+/// The kind of a fault of a file or of a folder, in words.
+fn words_of_kind(kind: ErrorKind) -> &'static str {
+    match kind {
+        ErrorKind::NotFound => "not found",
+        ErrorKind::OutOfMemory => "out of memory",
+        ErrorKind::Other => "other",
+        _ => "another kind",
     }
 }
 
@@ -23,10 +34,19 @@ pub fn error_text(alloc: Global, error: &Error) -> Result<String, AllocError> {
         }
         Error::Parse(ParseFault::Toml(_)) => String::from_str(alloc, "error: toml"),
         Error::Utf8(fault) => utf8_text(alloc, fault),
-        Error::Io(_) => String::from_str(alloc, "error: io"),
+        Error::Io(fault) => {
+            let kind = words_of_kind(fault.kind());
+            format!(in alloc; "error: io, {kind}")
+        }
         Error::Memory(_) => String::from_str(alloc, "error: memory"),
         Error::Other(text) => format!(in alloc; "error: other: {text}"),
     }
+}
+
+/// The value of a text, read as a `T`.
+pub fn read_as<T: Schema>(alloc: Global, text: &str) -> anyhow::Result<T> {
+    let value = Value::from_str(alloc, text)?;
+    Ok(T::from_value(alloc, &value)?)
 }
 
 /// A value in one line.

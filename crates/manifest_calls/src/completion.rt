@@ -2,7 +2,7 @@
 
 use crate::answers::{Written, error_text, line_of_written, lines_or_none, written_text};
 use crate::folders::listings;
-use cargo_manifest::{Error, KeyPath, Listings, Manifest};
+use cargo_manifest::{AbstractFilesystem, Error, KeyPath, Manifest};
 use std::alloc::{AllocError, Global};
 
 /// How a change of a manifest ends: with a refusal or without, and what is then written of the manifest.
@@ -13,10 +13,10 @@ pub struct Ending {
 }
 
 /// Completes a manifest.
-pub fn ending_of_completion(
+pub fn ending_of_completion<F: AbstractFilesystem>(
     alloc: Global,
     manifest: &mut Manifest,
-    folders: &Listings,
+    folders: &F,
 ) -> Result<Ending, AllocError> {
     let refusal = match manifest.complete_from_abstract_filesystem(alloc, folders) {
         Ok(()) => None,
@@ -67,7 +67,10 @@ pub fn complete(alloc: Global, document: &str, folders: &str) -> anyhow::Result<
 }
 
 /// Paths, a line each, or the refusal in their place.
-fn lines_of_paths(alloc: Global, paths: Result<Vec<KeyPath>, Error>) -> Result<String, AllocError> {
+pub fn lines_of_paths(
+    alloc: Global,
+    paths: Result<Vec<KeyPath>, Error>,
+) -> Result<String, AllocError> {
     let mut lines = String::new(alloc);
     match &paths {
         Ok(paths) => {

@@ -1,11 +1,14 @@
 //! Documents, read as manifests and written.
 
 use crate::answers::{Written, error_text, line_of_written, table_line, written_text};
-use cargo_manifest::{Error, Manifest};
+use cargo_manifest::{Error, Manifest, Metadata};
 use std::alloc::{AllocError, Global};
 
 /// What is written of a manifest that was read, or how it was refused.
-fn written_of(alloc: Global, read: &Result<Manifest, Error>) -> Result<Written, AllocError> {
+fn written_of<P: Metadata, W: Metadata>(
+    alloc: Global,
+    read: &Result<Manifest<P, W>, Error>,
+) -> Result<Written, AllocError> {
     match read {
         Ok(manifest) => written_text(alloc, manifest),
         Err(error) => Ok(Written::Refusal(error_text(alloc, error)?)),
@@ -13,14 +16,25 @@ fn written_of(alloc: Global, read: &Result<Manifest, Error>) -> Result<Written, 
 }
 
 /// The same for a manifest that is needed no more.
-pub fn written(alloc: Global, read: Result<Manifest, Error>) -> Result<Written, AllocError> {
+pub fn written<P: Metadata, W: Metadata>(
+    alloc: Global,
+    read: Result<Manifest<P, W>, Error>,
+) -> Result<Written, AllocError> {
     let written = written_of(alloc, &read);
     drop(read);
     written
 }
 
+/// The line of what is written of a manifest that was read, or how it was refused.
+pub fn line_of_read<P: Metadata, W: Metadata>(
+    alloc: Global,
+    read: Result<Manifest<P, W>, Error>,
+) -> anyhow::Result<String> {
+    line_of_written(alloc, &written(alloc, read)?)
+}
+
 /// The table that is written of a manifest; and a further line where the text is read as another manifest.
-fn line_read_again(alloc: Global, text: &str) -> anyhow::Result<String> {
+pub fn line_read_again(alloc: Global, text: &str) -> anyhow::Result<String> {
     let line = table_line(alloc, text)?;
     let again = written(alloc, Manifest::from_str(alloc, text))?;
     if again.is_text(text) {
@@ -48,6 +62,5 @@ pub fn answer(alloc: Global, document: &str) -> anyhow::Result<String> {
 /// What the bytes of a document are answered with, by their digits.
 pub fn answer_of_bytes(alloc: Global, digits: &str) -> anyhow::Result<String> {
     let bytes = hex::decode(alloc, digits)?;
-    let written = written(alloc, Manifest::from_slice(alloc, bytes.as_slice()))?;
-    line_of_written(alloc, &written)
+    line_of_read(alloc, Manifest::from_slice(alloc, bytes.as_slice()))
 }

@@ -5,7 +5,7 @@ use crate::completion::{Ending, ending_of_completion, line_of_endings};
 use crate::folders::listings;
 use anyhow::anyhow;
 use cargo_manifest::{Listings, Manifest, Value, Workspace};
-use manifest_inherit::FinishError;
+use manifest_inherit::{FinishError, ResolveError, inherits_at_most, refusals, resolve};
 use std::alloc::{AllocError, Global};
 use std::fmt::Display;
 
@@ -23,13 +23,23 @@ fn refusal_text<E: Display + Drop>(
     }
 }
 
+/// Puts in what a manifest inherits from a workspace.
+fn put_in(
+    alloc: Global,
+    manifest: &mut Manifest,
+    workspace: &Workspace<Value>,
+) -> Result<(), ResolveError> {
+    resolve(alloc, manifest, workspace)?; // `version.workspace = true` becomes the workspace's `version = '2.0.0'`
+    Ok(())
+}
+
 /// Resolves a manifest over a workspace.
 fn ending_of_resolution(
     alloc: Global,
     manifest: &mut Manifest,
     workspace: &Workspace<Value>,
 ) -> Result<Ending, AllocError> {
-    let refusal = refusal_text(alloc, manifest_inherit::resolve(alloc, manifest, workspace))?;
+    let refusal = refusal_text(alloc, put_in(alloc, manifest, workspace))?;
     Ok(Ending {
         refusal,
         written: written_text(alloc, manifest)?,
@@ -100,11 +110,17 @@ fn lines_of_refusals(
     workspace: &Workspace<Value>,
 ) -> anyhow::Result<String> {
     let mut lines = String::new(alloc);
-    let found = manifest_inherit::refusals(alloc, manifest, workspace)?;
+    let found = refusals(alloc, manifest, workspace)?; // as `not in workspace: version` at `package.version`
     for (path, refusal) in found.to_vec(alloc)? {
         lines.push_str(format!(in alloc; "{refusal} at {path}\n")?.as_str())?;
     }
     Ok(lines_or_none(alloc, lines.as_str())?)
+}
+
+/// Whether what a manifest inherits of a workspace takes at most this many bytes.
+fn inherits_little(manifest: &Manifest, workspace: &Workspace<Value>, most: usize) -> bool {
+    let is_short = inherits_at_most(manifest, workspace, most); // 5 bytes for each place that inherits `a = '2.0'`
+    is_short
 }
 
 /// What is asked of a member and the workspace of its root.
@@ -113,6 +129,7 @@ enum Request<'a> {
     Resolve,
     Adopt(&'a str),
     Refusals,
+    InheritsAtMost(usize),
 }
 
 /// The answer to a request for a manifest over a workspace.
@@ -126,6 +143,10 @@ fn answer_over(
         Request::Resolve => resolve_and_complete(alloc, manifest, workspace),
         Request::Adopt(folders) => line_of_adoption(alloc, manifest, workspace, folders),
         Request::Refusals => lines_of_refusals(alloc, manifest, workspace),
+        Request::InheritsAtMost(most) => {
+            let is_short = inherits_little(manifest, workspace, most);
+            Ok(format!(in alloc; "{is_short}")?)
+        }
     }
 }
 
@@ -154,7 +175,7 @@ fn answer(alloc: Global, request: Request<'_>, member: &str, root: &str) -> anyh
 }
 
 /// What is written of a member that is resolved over the workspace of a root, or how that is refused.
-pub fn resolve(alloc: Global, member: &str, root: &str) -> anyhow::Result<String> {
+pub fn resolve_member(alloc: Global, member: &str, root: &str) -> anyhow::Result<String> {
     answer(alloc, Request::Resolve, member, root)
 }
 
@@ -164,8 +185,14 @@ pub fn adopt(alloc: Global, member: &str, root: &str, folders: &str) -> anyhow::
 }
 
 /// All refusals of a member over the workspace of a root.
-pub fn refusals(alloc: Global, member: &str, root: &str) -> anyhow::Result<String> {
+pub fn refusals_of_member(alloc: Global, member: &str, root: &str) -> anyhow::Result<String> {
     answer(alloc, Request::Refusals, member, root)
+}
+
+/// Whether what a member inherits of the workspace of a root takes at most this many bytes.
+pub fn inherits(alloc: Global, most: &str, member: &str, root: &str) -> anyhow::Result<String> {
+    let most = most.parse::<usize>()?;
+    answer(alloc, Request::InheritsAtMost(most), member, root)
 }
 
 /// How finishing a manifest is refused, if it is.

@@ -20,19 +20,36 @@
 #![tactic(auto)]
 
 mod answers;
+mod asked;
 mod bytes;
 mod call;
+mod code;
+mod compared;
 mod completion;
 mod copies;
 mod documents;
+mod errors;
+mod example_of_completion;
+mod examples;
+mod examples_of_manifests;
+mod examples_of_parts;
+mod files;
 mod findings;
 mod folders;
 mod inheritance;
+mod lines;
+mod places;
 mod queries;
 mod readers;
 mod retried;
+mod rows;
+mod runs;
+mod score;
 mod tables;
+mod targets;
+mod typed;
 mod values;
+mod walks;
 
 use anyhow::bail;
 use call::Call;
@@ -62,31 +79,70 @@ fn answer_of_value(alloc: Global, call: &Call<'_>) -> anyhow::Result<String> {
     }
 }
 
-/// The lines of the answer to a call.
-fn answer(alloc: Global, call: &Call<'_>) -> anyhow::Result<String> {
+/// The lines of the answer to a call on comparisons, on places in texts, on metadata of a type or on examples, or to one
+/// without an input.
+fn answer_apart(alloc: Global, call: &Call<'_>) -> anyhow::Result<String> {
+    let (of, first, second) = (call.argument, call.text(0), call.text(1));
+    match call.name {
+        "code" => code::answer(alloc, of),
+        "apart" => compared::apart(alloc, of, first),
+        "hashes" => compared::hashes(alloc, of, first),
+        "order" => compared::order(alloc, first),
+        "places" => places::places(alloc, first),
+        "locate" => places::locate(alloc, first, second),
+        "positions" => places::positions(alloc, first, second),
+        "metadata" => typed::answer(alloc, of, first),
+        "well-formed" => typed::well_formed(alloc, of, first),
+        "canonical" => examples::canonical_line(alloc, first),
+        "complaint" => examples::complaint_line(alloc, first),
+        "completed" => example_of_completion::answer(alloc, first, second),
+        "find-apart" => findings::apart(alloc, first),
+        "asked" => asked::answer(alloc, of, first, second),
+        "thrice" => asked::thrice(alloc, first, second, call.text(2)),
+        "inherits-at-most" => inheritance::inherits(alloc, of, first, second),
+        _ => answer_of_value(alloc, call),
+    }
+}
+
+/// The lines of the answer to a call on a whole manifest.
+fn answer_of_manifest(alloc: Global, call: &Call<'_>) -> anyhow::Result<String> {
     let (first, second, third) = (call.text(0), call.text(1), call.text(2));
     match call.name {
         "document" => documents::answer(alloc, first),
         "bytes" => documents::answer_of_bytes(alloc, first),
         "complete" => completion::complete(alloc, first, second),
         "unfound" => completion::unfound(alloc, first, second),
-        "resolve" => inheritance::resolve(alloc, first, second),
+        "resolve" => inheritance::resolve_member(alloc, first, second),
         "adopt" => inheritance::adopt(alloc, first, second, third),
         "finish" => inheritance::finish(alloc, first, second, third),
-        "refusals" => inheritance::refusals(alloc, first, second),
+        "refusals" => inheritance::refusals_of_member(alloc, first, second),
         "find" => findings::answer(alloc, first),
         "clone" => copies::clone_of_manifest(alloc, first),
         "retry" => retried::answer(alloc, call.argument, first, second),
-        _ => answer_of_value(alloc, call),
+        _ => answer_apart(alloc, call),
+    }
+}
+
+/// The lines of the answer to a call.
+fn answer(rt: HostRuntime, call: &Call<'_>) -> anyhow::Result<String> {
+    match call.name {
+        "files" => files::answer(rt, call.argument),
+        "without-parent" => files::without_a_parent(rt, call.text(0)),
+        "unflushed" => runs::answer(rt),
+        _ => answer_of_manifest(rt.alloc(), call),
     }
 }
 
 /// Prints a call as it was read, and the lines of its answer. A call that cannot be made is answered with why.
-fn print_answered<W: Write>(alloc: Global, block: &str, output: &mut W) -> anyhow::Result<()> {
+fn print_answered<W: Write>(rt: HostRuntime, block: &str, output: &mut W) -> anyhow::Result<()> {
     writeln!(output, "== {block}")?;
-    match answer(alloc, &Call::of_block(alloc, block)?) {
+    match answer(rt, &Call::of_block(rt.alloc(), block)?) {
         Ok(lines) => {
-            for line in lines.split('\n') {
+            for line in lines
+                .strip_suffix("\n")
+                .unwrap_or(lines.as_str())
+                .split('\n')
+            {
                 writeln!(output, "-> {line}")?;
             }
         }
@@ -103,7 +159,7 @@ fn main(rt: HostRuntime) -> anyhow::Result<()> {
     let calls = input.as_str().strip_prefix("== ").unwrap_or("");
     for block in calls.strip_suffix("\n").unwrap_or(calls).split("\n== ") {
         let block = block.strip_suffix("\n").unwrap_or(block); // without the empty line that ends it
-        print_answered(alloc, block, &mut output)?;
+        print_answered(rt, block, &mut output)?;
     }
     output.flush()?;
     Ok(())

@@ -1,16 +1,10 @@
 //! What is asked of parts of a manifest.
 
-use crate::answers::{error_text, value_line};
+use crate::answers::{error_text, read_as, value_line};
 use cargo_manifest::{
     Dependency, Error, Lint, MaybeInheritedLintsSet, Package, Publish, Schema, StripSetting, Value,
 };
 use std::alloc::{AllocError, Global};
-
-/// The value of a text, read as a `T`.
-fn read_as<T: Schema>(alloc: Global, text: &str) -> anyhow::Result<T> {
-    let value = Value::from_str(alloc, text)?;
-    Ok(T::from_value(alloc, &value)?)
-}
 
 /// What a dependency says.
 fn words_of_dependency(alloc: Global, dependency: &Dependency) -> Result<String, AllocError> {

@@ -3,7 +3,7 @@
 //! the second call.
 
 use crate::answers::{line_of_written, written_text};
-use crate::documents::written;
+use crate::documents::line_of_read;
 use crate::folders::listings;
 use anyhow::bail;
 use cargo_manifest::{Error, Listings, Manifest, ParseFault, Value, Workspace};
@@ -21,11 +21,6 @@ fn out_of_memory(error: &Error) -> Option<&'static str> {
     }
 }
 
-/// What is written of the manifest of a document, or how it is refused.
-fn line_of_document(alloc: Global, read: Result<Manifest, Error>) -> anyhow::Result<String> {
-    line_of_written(alloc, &written(alloc, read)?)
-}
-
 /// Reads a document.
 fn read(alloc: Global, document: &str) -> anyhow::Result<String> {
     let bytes = document.as_bytes();
@@ -34,11 +29,11 @@ fn read(alloc: Global, document: &str) -> anyhow::Result<String> {
         Ok(_) => None,
         Err(error) => out_of_memory(error),
     };
-    let line = line_of_document(alloc, first)?;
+    let line = line_of_read(alloc, first)?;
     match cause {
         None => Ok(line),
         Some(cause) => {
-            let line = line_of_document(alloc, Manifest::from_slice(alloc, bytes))?;
+            let line = line_of_read(alloc, Manifest::from_slice(alloc, bytes))?;
             Ok(format!(in alloc; "{cause}\n{line}")?)
         }
     }

@@ -3,7 +3,7 @@
 ghost use Rattle.std.specs.Prelude.{◌≡◌, ℤ, pos};
 ghost use Rattle.manifest_schema.specs.Kinds.{whole};
 ghost use Rattle.manifest_schema.proofs.Values.KindLaws.{whole_sound};
-ghost use Rattle.manifest_tests.specs.Scores.{score_rows, score_sound, score_plain, score_by_tree};
+ghost use Rattle.manifest_calls.specs.Scores.{score_rows, score_sound, score_plain, score_by_tree};
 
 use manifest_fault::fault::fault_here;
 use manifest_value::form::{RowPut, RowRead, Rowed, Word};
