@@ -1,10 +1,9 @@
 """What scripts/try/check tries of memory: each request for memory of manifest_check is refused in turn."""
-import os
 import shutil
 import subprocess
 from pathlib import Path
 
-from .check_program import Case
+from .check_program import Case, environment
 from .repository import SCRIPTS
 from .tries import not_run, told
 
@@ -38,14 +37,29 @@ def refusing(room):
     return made
 
 
-# (what stands around the manifest is not read: there a folder for which there is no memory counts as one that cannot be listed)
-ALONE = ["--no-workspace", "--no-config", "-"]
+# around it: the root of its workspace, a package that it depends on, a configuration, and the files of its targets
+AROUND = {
+    "Cargo.toml": "[workspace]\nmembers = ['a', 'b*']\n[workspace.package]\nversion = '1.0.0'\n",
+    ".cargo/config.toml": "[registries.other]\nindex = 'https://example.com/index'\n",
+    "a/src/lib.rs": "",
+    "a/src/bin/c.rs": "",
+    "a/examples/d/main.rs": "",
+    "b1/Cargo.toml": "[package]\nname = 'b'\nversion.workspace = true\n",
+    "b1/src/lib.rs": "",
+}
+FILES = AROUND | {"a/Cargo.toml": WRONG.replace('serde = "x.y"', 'serde = "x.y"\nb = { path = "../b1", registry = "other" }')}
+# of the package alone, over standard input, and of all, read from files
+TRIED = {
+    **{form: ["--format", form, "--no-workspace", "--no-config", "-"] for form in ("json", "short", "github")},
+    "json, with what is around": ["--format", "json", "a"],
+    "what is shown, with what is around": ["show", "--format", "json", "a"],
+}
 
 
 def run(case, words, more):
-    """A run over the manifest on its standard input, with more in its environment."""
-    settings = {"cwd": case.folder, "input": WRONG.encode(), "env": os.environ | more, "capture_output": True, "timeout": 60}
-    return subprocess.run([case.program, *words, *ALONE], check=False, **settings)
+    """A run in the folder, with the manifest alone on its standard input, and with more in its environment."""
+    settings = {"cwd": case.folder, "input": WRONG.encode(), "env": environment(**more), "capture_output": True, "timeout": 60}
+    return subprocess.run([case.program, *words], check=False, **settings)
 
 
 def try_refused_memory(program, room):
@@ -55,8 +69,9 @@ def try_refused_memory(program, room):
     if shim is None:
         return
     case, was_refused = Case(program, room, "memory"), Path(room, "refused")
-    for form in ("json", "short", "github"):
-        words = ["--format", form]
+    for path, text in FILES.items():
+        case.write(path, text)
+    for name, words in TRIED.items():
         wanted, number, wrong = run(case, words, {}), 1, []
         while True:
             was_refused.unlink(missing_ok=True)
@@ -68,5 +83,5 @@ def try_refused_memory(program, room):
             if not (ran.stdout == wanted.stdout if is_whole else wanted.stdout.startswith(ran.stdout)):
                 wrong.append(f"request {number}: status {ran.returncode}, {len(ran.stdout)} bytes")
             number += 1
-        told(f"memory {form}", "\n".join(wrong) or (None if number > 100 else "no request was refused"))
+        told(f"memory {name}", "\n".join(wrong) or (None if number > 100 else "no request was refused"))
     case.remove()

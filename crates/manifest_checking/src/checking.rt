@@ -103,7 +103,7 @@ fn member_source<H: Files + AllocGlobal>(
     current: &str,
 ) -> Result<Option<MemberSource>, AllocError> {
     let alloc = rt.alloc();
-    let Ok(bytes) = reader.read(rt, path) else {
+    let Some(bytes) = reader.bytes(rt, path)? else {
         return Ok(None);
     };
     let Ok(text) = String::from_utf8(bytes) else {

@@ -7,7 +7,9 @@ use manifest_lint::{Diagnostic, Document, Unread, unread_diagnostic};
 use manifest_page::{Entry, push_begin, push_data, push_end, push_entry};
 use manifest_report::{push_diff, push_escaped};
 use manifest_show::{Refused, RootText, canonical, show};
-use manifest_surroundings::{Placed, State, folder_of, opened, place, resolved, shown};
+use manifest_surroundings::{
+    Placed, State, document_of, folder_of, opened, place, resolved, shown,
+};
 use std::alloc::{AllocError, Global};
 use std::rt::Files;
 use std::slice;
@@ -178,7 +180,10 @@ impl Run {
         bytes: &[u8],
         is_named: bool,
     ) {
-        let Ok(document) = Document::read(rt.alloc(), bytes) else {
+        let Some(read) = self.out.made(document_of(rt.alloc(), bytes)) else {
+            return;
+        };
+        let Some(document) = read else {
             self.tell_unread(name, "it is no TOML: check it first");
             return;
         };

@@ -7,6 +7,8 @@ use crate::session::Known;
 use crate::spots::ITEM;
 use crate::targets::{files_for, is_of_target};
 use manifest_json::Text;
+use manifest_lint::Document;
+use manifest_surroundings::document_of;
 use std::alloc::{AllocError, Global};
 use std::rt::Files;
 use toml::{Table, Value};
@@ -59,7 +61,7 @@ fn names_above(alloc: Global, above: &str) -> Result<Vec<String>, AllocError> {
     let mut names = Vec::new(alloc);
     for line in above.lines().rev() {
         if line.trim_start().starts_with('[') {
-            if let Ok(table) = toml::table_from_str(alloc, line) {
+            if let Some(Document { table, .. }) = document_of(alloc, line.as_bytes())? {
                 push_names(&mut names, table)?;
             }
             return Ok(names);
@@ -68,10 +70,13 @@ fn names_above(alloc: Global, above: &str) -> Result<Vec<String>, AllocError> {
     Ok(names)
 }
 
-/// The document that a text is, where it is one.
-fn document_of(alloc: Global, text: Text) -> Result<Option<Table>, AllocError> {
+/// The table that a text is, where it is a document.
+fn table_of(alloc: Global, text: Text) -> Result<Option<Table>, AllocError> {
     let text = text.finish()?;
-    Ok(toml::table_from_str(alloc, text.as_str()).ok())
+    match document_of(alloc, text.as_bytes())? {
+        Some(Document { table, .. }) => Ok(Some(table)),
+        None => Ok(None),
+    }
 }
 
 /// What is known around an offset.
@@ -90,7 +95,7 @@ fn place_at(alloc: Global, text: &str, offset: usize) -> Result<Place<'_>, Alloc
     others.push_str(above);
     others.push('\n');
     others.push_str(below);
-    let document = document_of(alloc, others)?;
+    let document = table_of(alloc, others)?;
     Ok(Place {
         front: line,
         names: names_above(alloc, above)?,

@@ -17,9 +17,9 @@ use crate::symbols::push_symbols;
 use crate::uris::uri_of;
 use crate::uses::{Use, named_at, renaming, uses_of};
 use manifest_json::Text;
-use manifest_lint::{Diagnostic, Document};
+use manifest_lint::Diagnostic;
 use manifest_places::{Edit, EditError, Edited, Places, Span, places_of, with_edits};
-use manifest_surroundings::with_fixes;
+use manifest_surroundings::{document_of, with_fixes};
 use serde_json::Value;
 use std::alloc::{AllocError, Global};
 use std::rt::Files;
@@ -339,7 +339,7 @@ impl Session {
         path: &str,
     ) -> Result<Option<String>, AllocError> {
         let alloc = rt.alloc();
-        let Ok(document) = Document::read(alloc, self.text(path).as_bytes()) else {
+        let Some(document) = document_of(alloc, self.text(path).as_bytes())? else {
             return Ok(None);
         };
         let (placed, found) = self.judged(rt, path, document, true)?;

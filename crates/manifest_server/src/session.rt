@@ -6,7 +6,7 @@ use crate::reports::{View, Views};
 use crate::uris::{path_of, uri_of};
 use manifest_json::Text;
 use manifest_lint::{Diagnostic, Document, unread_diagnostic};
-use manifest_surroundings::{MOST, Placed, Reader, Scope, State, judge, place};
+use manifest_surroundings::{MOST, Placed, Reader, Scope, State, document_of, judge, place};
 use serde_json::Value;
 use std::alloc::{AllocError, Global};
 use std::collections::BTreeMap;
@@ -314,9 +314,9 @@ impl Session {
         path: &str,
     ) -> Result<Option<Placed>, AllocError> {
         let alloc = rt.alloc();
-        let read = match Document::read(alloc, self.text(path).as_bytes()) {
-            Ok(document) => document,
-            Err(_) => Document {
+        let read = match document_of(alloc, self.text(path).as_bytes())? {
+            Some(document) => document,
+            None => Document {
                 text: String::new(alloc),
                 table: Table::new(alloc),
             },

@@ -157,7 +157,7 @@ fn push_files<H: Files + AllocGlobal + Clone + Drop>(
 ) -> Result<(), AllocError> {
     let alloc = rt.alloc();
     let whole = join(alloc, folder_of(manifest), folder)?;
-    let mut found = names_in(rt, whole.as_str()).unwrap_or(Vec::new(alloc));
+    let mut found = names_in(rt, whole.as_str())?.unwrap_or(Vec::new(alloc));
     found.sort_unstable();
     for name in &found {
         let name = name.as_str();

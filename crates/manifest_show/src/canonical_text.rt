@@ -1,7 +1,8 @@
 //! The canonical text of a manifest.
 
-use cargo_manifest::{Error, Manifest};
+use cargo_manifest::{Error, Manifest, ParseFault};
 use std::alloc::{AllocError, Global};
+use std::io::ErrorKind;
 
 /// Why there is no answer.
 #[derive(Drop)]
@@ -17,14 +18,22 @@ impl From<AllocError> for Refused {
     }
 }
 
+/// Whether memory ran out: in the call itself, in the parser of TOML, or for a folder that was to be listed.
+fn is_memory(error: &Error) -> bool {
+    match error {
+        Error::Memory(_) => true,
+        Error::Parse(ParseFault::Toml(fault)) => fault.is_memory(),
+        Error::Io(fault) => fault.kind() == ErrorKind::OutOfMemory,
+        _ => false,
+    }
+}
+
 /// An error of a manifest as its message.
 pub(crate) fn refusal_of(alloc: Global, error: Error) -> Refused {
-    match error {
-        Error::Memory(fault) => Refused::Memory(fault),
-        error => match format!(in alloc; "{error}") {
-            Ok(message) => Refused::Manifest(message),
-            Err(fault) => Refused::Memory(fault),
-        },
+    match format!(in alloc; "{error}") {
+        Ok(_message) if is_memory(&error) => Refused::Memory(AllocError),
+        Ok(message) => Refused::Manifest(message),
+        Err(fault) => Refused::Memory(fault),
     }
 }
 

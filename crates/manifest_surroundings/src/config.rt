@@ -1,6 +1,6 @@
 //! The configuration of Cargo above a manifest.
 
-use crate::files::{Reader, Unread};
+use crate::files::{Reader, Unread, Unreadable};
 use crate::paths::{folder_of, join};
 use manifest_lint::Document;
 use std::alloc::{AllocError, Global};
@@ -48,12 +48,18 @@ fn table_at<H: Files + AllocGlobal>(
     let alloc = rt.alloc();
     let bytes = match reader.read(rt, path) {
         Ok(bytes) => bytes,
-        Err(fault) => return Ok(Err(format!(in alloc; "{fault}")?)),
+        Err(fault) => return unread(alloc, fault),
     };
     match Document::read(alloc, bytes.as_slice()) {
         Ok(Document { table, .. }) => Ok(Ok(table)),
         Err(fault) => Ok(Err(reason_of(alloc, fault)?)),
     }
+}
+
+/// Why a file is no configuration, unless memory ran out.
+fn unread(alloc: Global, fault: Unreadable) -> Result<Result<Table, String>, AllocError> {
+    let reason = format!(in alloc; "{fault}")?;
+    fault.unless_out_of_memory().and(Ok(Err(reason)))
 }
 
 /// Why bytes are no configuration.

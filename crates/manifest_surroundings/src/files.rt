@@ -1,6 +1,7 @@
 //! Reading files whose size has a limit, and texts in their place; and writing a file whole or not at all.
 
 use crate::paths::{folder_of, join};
+use manifest_lint::Document;
 use std::alloc::{AllocError, Global};
 use std::collections::BTreeMap;
 use std::fs::{File, OpenFile};
@@ -29,6 +30,16 @@ impl fmt::Display for Unreadable {
                     "it has {size} bytes, which is over the limit (see --max-size)"
                 )
             }
+        }
+    }
+}
+
+impl Unreadable {
+    /// `Ok` where the file cannot be read, and the error where memory ran out.
+    pub(crate) fn unless_out_of_memory(self) -> Result<(), AllocError> {
+        match self {
+            Unreadable::Io(fault) if fault.kind() == ErrorKind::OutOfMemory => Err(AllocError),
+            _ => Ok(()),
         }
     }
 }
@@ -81,6 +92,15 @@ fn read_file<H: Files + AllocGlobal>(rt: &H, path: &str, most: u64) -> Result<Ve
     read_limited(rt.alloc(), &mut file, most)
 }
 
+/// The document that these bytes are, if they are one.
+pub fn document_of(alloc: Global, bytes: &[u8]) -> Result<Option<Document>, AllocError> {
+    match Document::read(alloc, bytes) {
+        Ok(document) => Ok(Some(document)),
+        Err(manifest_lint::Unread::Memory(fault)) => Err(fault),
+        Err(_) => Ok(None),
+    }
+}
+
 /// What reads files: none of more than `most` bytes, and in the place of some the text that an editor has of them.
 #[derive(Drop)]
 pub struct Reader {
@@ -107,6 +127,30 @@ impl Reader {
                 Ok(bytes)
             }
             None => read_file(rt, path, self.most),
+        }
+    }
+
+    /// The bytes of a file, or of the text in its place; `None` where it cannot be read.
+    pub fn bytes<H: Files + AllocGlobal>(
+        &self,
+        rt: &H,
+        path: &str,
+    ) -> Result<Option<Vec<u8>>, AllocError> {
+        match self.read(rt, path) {
+            Ok(bytes) => Ok(Some(bytes)),
+            Err(fault) => fault.unless_out_of_memory().and(Ok(None)),
+        }
+    }
+
+    /// The document of a file, or of the text in its place; `None` where that is not TOML or cannot be read.
+    pub(crate) fn document<H: Files + AllocGlobal>(
+        &self,
+        rt: &H,
+        path: &str,
+    ) -> Result<Option<Document>, AllocError> {
+        match self.bytes(rt, path)? {
+            Some(bytes) => document_of(rt.alloc(), bytes.as_slice()),
+            None => Ok(None),
         }
     }
 
@@ -230,10 +274,7 @@ pub fn replace_file<H: Files + AllocGlobal>(
 }
 
 /// The names in a folder; one that is not UTF-8 is left out.
-pub fn names_in<H: Files + AllocGlobal + Clone + Drop>(
-    rt: &H,
-    folder: &str,
-) -> io::Result<Vec<String>> {
+fn list<H: Files + AllocGlobal + Clone + Drop>(rt: &H, folder: &str) -> io::Result<Vec<String>> {
     let alloc = rt.alloc();
     let mut names = Vec::new(alloc);
     for entry in fs::read_dir(rt, folder)? {
@@ -244,6 +285,17 @@ pub fn names_in<H: Files + AllocGlobal + Clone + Drop>(
         }
     }
     Ok(names)
+}
+
+/// The names in a folder, but those that are not UTF-8; `None` where it cannot be listed.
+pub fn names_in<H: Files + AllocGlobal + Clone + Drop>(
+    rt: &H,
+    folder: &str,
+) -> Result<Option<Vec<String>>, AllocError> {
+    match list(rt, folder) {
+        Ok(names) => Ok(Some(names)),
+        Err(fault) => Unreadable::Io(fault).unless_out_of_memory().and(Ok(None)),
+    }
 }
 
 /// Whether a path leads to a folder.

@@ -1,9 +1,10 @@
 //! Suggestions that are certain, made in a manifest.
 
+use crate::files::document_of;
 use crate::judging::{Placed, State, judge, place};
 use crate::scope::Scope;
 use manifest_json::Text;
-use manifest_lint::{Diagnostic, Document, Fix, Unread};
+use manifest_lint::{Diagnostic, Fix};
 use manifest_places::{Edit, EditError, Edited, Step, with_edits};
 use manifest_rules::{Level, copied_edits};
 use std::alloc::{AllocError, Global};
@@ -315,15 +316,6 @@ enum Outcome {
     NotMade,
 }
 
-/// The document that a text is, where it is one.
-fn document_of(alloc: Global, text: &str) -> Result<Option<Document>, AllocError> {
-    match Document::read(alloc, text.as_bytes()) {
-        Ok(document) => Ok(Some(document)),
-        Err(Unread::Memory(refused)) => Err(refused),
-        Err(_) => Ok(None),
-    }
-}
-
 /// What is said of a manifest with this text; `None` where the text is no document.
 fn judged<H: Files + AllocGlobal + Clone + Drop>(
     rt: &H,
@@ -331,7 +323,7 @@ fn judged<H: Files + AllocGlobal + Clone + Drop>(
     state: &mut State,
     text: &str,
 ) -> Result<Option<Vec<Diagnostic>>, AllocError> {
-    let Some(document) = document_of(rt.alloc(), text)? else {
+    let Some(document) = document_of(rt.alloc(), text.as_bytes())? else {
         return Ok(None);
     };
     let placed = place(rt, task.scope, state, task.path, document)?;
@@ -526,7 +518,7 @@ fn fix_once<H: Files + AllocGlobal + Clone + Drop>(
         return Ok(false);
     };
     // (what is kept of a root is the document that was tried last)
-    let Some(document) = document_of(rt.alloc(), fixed.text.as_str())? else {
+    let Some(document) = document_of(rt.alloc(), fixed.text.as_bytes())? else {
         return Ok(false);
     };
     fixed.placed = place(rt, task.scope, state, task.path, document)?;

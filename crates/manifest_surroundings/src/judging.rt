@@ -143,7 +143,7 @@ fn listed<H: Files + AllocGlobal + Clone + Drop>(
     rt: &H,
     folder: &str,
 ) -> Result<Option<BTreeSet<String>>, AllocError> {
-    let Ok(found) = names_in(rt, opened(folder)) else {
+    let Some(found) = names_in(rt, opened(folder))? else {
         return Ok(None);
     };
     let mut names = BTreeSet::new(rt.alloc());

@@ -18,7 +18,8 @@ mod scope;
 mod tables;
 
 pub use files::{
-    NotReplaced, Reader, Unread, Unreadable, is_folder, names_in, read_limited, replace_file,
+    NotReplaced, Reader, Unread, Unreadable, document_of, is_folder, names_in, read_limited,
+    replace_file,
 };
 pub use fixing::{Fixed, with_fixes};
 pub use judging::{Placed, State, judge, place};

@@ -145,7 +145,7 @@ fn push_narrowed<H: Files + AllocGlobal + Clone + Drop>(
         next.push(join(alloc, folder, pattern)?)?;
         return Ok(());
     }
-    let mut names = names_in(rt, folder).unwrap_or(Vec::new(alloc));
+    let mut names = names_in(rt, folder)?.unwrap_or(Vec::new(alloc));
     names.sort_unstable();
     for name in &names {
         push_matching(alloc, folder, name.as_str(), pattern, next)?;
@@ -225,10 +225,7 @@ fn document_in<H: Files + AllocGlobal>(
 ) -> Result<Option<Document>, AllocError> {
     let alloc = rt.alloc();
     let manifest = join(alloc, folder, MANIFEST)?;
-    Ok(match reader.read(rt, manifest.as_str()) {
-        Ok(bytes) => Document::read(alloc, bytes.as_slice()).ok(),
-        Err(_) => None,
-    })
+    reader.document(rt, manifest.as_str())
 }
 
 /// What the manifest in a folder says of a member. The folders to which its dependencies lead are gathered.
@@ -281,7 +278,7 @@ fn note_bare<H: Files + AllocGlobal + Clone + Drop>(
 ) -> Result<(), AllocError> {
     if gathering.members.has(folder)
         || has_manifest(rt, reader, folder)?
-        || names_in(rt, folder).is_err()
+        || names_in(rt, folder)?.is_none()
     {
         return Ok(());
     }

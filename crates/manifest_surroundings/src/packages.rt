@@ -30,18 +30,15 @@ fn name_in<H: Files + AllocGlobal>(
 ) -> Result<Option<String>, AllocError> {
     let alloc = rt.alloc();
     let manifest = join(alloc, folder, MANIFEST)?;
-    let Ok(bytes) = reader.read(rt, manifest.as_str()) else {
-        return Ok(None);
-    };
-    match Document::read(alloc, bytes.as_slice()) {
-        Ok(document) => {
+    match reader.document(rt, manifest.as_str())? {
+        Some(document) => {
             let name = match table_in(&document.table, "package") {
                 Some(package) => text_in(package, "name"),
                 None => None,
             };
             copied(alloc, name)
         }
-        Err(_) => Ok(None),
+        None => Ok(None),
     }
 }
 

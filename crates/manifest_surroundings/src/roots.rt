@@ -78,14 +78,6 @@ fn is_fault(diagnostic: &Diagnostic) -> bool {
     diagnostic.level == Level::Error && matches!(&diagnostic.subject, Subject::Fault(_, _))
 }
 
-/// The document of a manifest; `None` where it cannot be read.
-fn document_at<H: Files + AllocGlobal>(rt: &H, reader: &Reader, path: &str) -> Option<Document> {
-    let Ok(bytes) = reader.read(rt, path) else {
-        return None;
-    };
-    Document::read(rt.alloc(), bytes.as_slice()).ok()
-}
-
 /// What a manifest above a package is, by its document.
 fn above_by(alloc: Global, path: &str, document: &Document) -> Result<Above, AllocError> {
     let is_faulty = is_faulty(alloc, document)?;
@@ -155,7 +147,7 @@ impl Roots {
         if !reader.texts.contains_key(path) && fs::metadata(rt, path).is_err() {
             return Ok(Above::Absent);
         }
-        let Some(document) = document_at(rt, reader, path) else {
+        let Some(document) = reader.document(rt, path)? else {
             return Ok(Above::Unreadable);
         };
         let above = above_by(rt.alloc(), path, &document)?;
