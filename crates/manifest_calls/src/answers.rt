@@ -96,9 +96,14 @@ pub fn written_text<P: Metadata, W: Metadata>(
 /// The table of a text that was written, in one line; and a further line where `toml` lays this table out otherwise.
 pub fn table_line(alloc: Global, text: &str) -> anyhow::Result<String> {
     let table = toml::table_from_str(alloc, text)?;
-    let layout = toml::table_to_string(alloc, &table)?;
-    let line = value_line(alloc, &Value::Table(table))?;
-    if layout.as_str() == text {
+    let is_usual = toml::table_to_string(alloc, &table)?.as_str() == text;
+    line_of_table(alloc, &Value::Table(table), is_usual)
+}
+
+/// A table in one line; and a further line where its text is not the usual one.
+fn line_of_table(alloc: Global, table: &Value, is_usual: bool) -> anyhow::Result<String> {
+    let line = value_line(alloc, table)?;
+    if is_usual {
         Ok(line)
     } else {
         Ok(format!(in alloc; "{line}\nwhich is laid out otherwise")?)

@@ -159,7 +159,21 @@ pub fn answer(
     let (of, question) = argument.split_once(" ").unwrap_or((argument, ""));
     let refused = question_of(question)?;
     let listings = listings(alloc, folders)?;
-    let recorder = Recorder::new(alloc, &listings, refused);
+    answer_after(
+        alloc,
+        of,
+        document,
+        Recorder::new(alloc, &listings, refused),
+    )
+}
+
+/// The paths that the call of this name asks, and then what it answers.
+fn answer_after(
+    alloc: Global,
+    of: &str,
+    document: &str,
+    recorder: Recorder<'_>,
+) -> anyhow::Result<String> {
     let answer = answer_over(alloc, of, document, &recorder)?;
     let mut lines = recorder.asked.into_inner();
     lines.push('\n');
@@ -192,8 +206,17 @@ pub fn thrice(alloc: Global, document: &str, first: &str, second: &str) -> anyho
         second: &second,
         is_first: Cell::new(false),
     };
+    three_of_document(alloc, document, &folders)
+}
+
+/// The same over folders that change.
+fn three_of_document(
+    alloc: Global,
+    document: &str,
+    folders: &Changing<'_>,
+) -> anyhow::Result<String> {
     let mut manifest = Manifest::from_str(alloc, document)?;
-    let lines = lines_of_three(alloc, &mut manifest, &folders);
+    let lines = lines_of_three(alloc, &mut manifest, folders);
     drop(manifest);
     lines
 }

@@ -1,8 +1,10 @@
 //! Manifests that are completed, and declared targets without a file.
 
-use crate::answers::{Written, error_text, line_of_written, lines_or_none, written_text};
+use crate::answers::{Written, error_text, line_of_written, written_text};
 use crate::folders::listings;
+use crate::lines::{finished, push_error, push_lines};
 use cargo_manifest::{AbstractFilesystem, Error, KeyPath, Manifest};
+use manifest_json::Text;
 use std::alloc::{AllocError, Global};
 
 /// How a change of a manifest ends: with a refusal or without, and what is then written of the manifest.
@@ -71,16 +73,12 @@ pub fn lines_of_paths(
     alloc: Global,
     paths: Result<Vec<KeyPath>, Error>,
 ) -> Result<String, AllocError> {
-    let mut lines = String::new(alloc);
+    let mut out = Text::new(alloc);
     match &paths {
-        Ok(paths) => {
-            for path in paths {
-                lines.push_str(format!(in alloc; "{path}\n")?.as_str())?;
-            }
-        }
-        Err(error) => lines.push_str(error_text(alloc, error)?.as_str())?,
+        Ok(paths) => push_lines(alloc, paths.as_slice(), &mut out),
+        Err(error) => push_error(alloc, error, &mut out),
     }
-    lines_or_none(alloc, lines.as_str())
+    finished(alloc, out)
 }
 
 /// The declared targets of a document for which the folders have no file.

@@ -48,11 +48,16 @@ pub fn line_read_again(alloc: Global, text: &str) -> anyhow::Result<String> {
 pub fn answer(alloc: Global, document: &str) -> anyhow::Result<String> {
     let by_text = written(alloc, Manifest::from_str(alloc, document))?;
     let by_bytes = written(alloc, Manifest::from_slice(alloc, document.as_bytes()))?;
-    let line = match &by_text {
+    answer_by(alloc, &by_text, by_text == by_bytes)
+}
+
+/// The answer by what is written of a document; and a further line where that is not so of its bytes.
+fn answer_by(alloc: Global, by_text: &Written, is_of_bytes: bool) -> anyhow::Result<String> {
+    let line = match by_text {
         Written::Text(text) => line_read_again(alloc, text.as_str())?,
         Written::Refusal(refusal) => refusal.clone()?,
     };
-    if by_text == by_bytes {
+    if is_of_bytes {
         Ok(line)
     } else {
         Ok(format!(in alloc; "{line}\nwhich is not the answer to its bytes")?)

@@ -199,15 +199,31 @@ fn bound_of_a_table(alloc: Global) -> anyhow::Result<Option<usize>> {
     Ok(bound)
 }
 
-/// Writes what the examples make of tables, and what is there by default.
-pub fn push_tables(alloc: Global, out: &mut Text) -> anyhow::Result<()> {
+/// Writes the package of a table.
+fn push_package_of_a_table(alloc: Global, out: &mut Text) {
     match package_of_a_table(alloc) {
         Ok(package) => push_value(alloc, &package, out),
         Err(_) => push_line("refused", out),
     }
+}
+
+/// Writes what is there by default.
+fn push_defaults(alloc: Global, out: &mut Text) {
     push_read(alloc, Ok(profiles_by_default(alloc)), out);
     push_read(alloc, Ok(workspace_by_default(alloc)), out);
+}
+
+/// Writes the manifest of a table.
+fn push_manifest_of_a_table(alloc: Global, out: &mut Text) -> anyhow::Result<()> {
     push_manifest(alloc, Ok(manifest_of_a_table(alloc)?), out);
+    Ok(())
+}
+
+/// Writes what the examples make of tables, and what is there by default.
+pub fn push_tables(alloc: Global, out: &mut Text) -> anyhow::Result<()> {
+    push_package_of_a_table(alloc, out);
+    push_defaults(alloc, out);
+    push_manifest_of_a_table(alloc, out)?;
     push_displayed(alloc, &depth_of_a_table(alloc)?, out);
     push_displayed(alloc, &bound_of_a_table(alloc)?.unwrap_or(0), out);
     Ok(())
@@ -223,7 +239,9 @@ fn text_within_eight(alloc: Global) -> Result<Option<String>, Error> {
 /// The text of the manifest of a document within a bound.
 fn text_within(alloc: Global, document: &str, bound: usize) -> Result<Option<String>, Error> {
     let manifest = Manifest::from_str(alloc, document)?;
-    manifest.to_toml_string_within(alloc, bound)
+    let text = manifest.to_toml_string_within(alloc, bound);
+    drop(manifest);
+    text
 }
 
 /// Writes a text, or that there is none.

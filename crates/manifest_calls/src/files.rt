@@ -25,8 +25,13 @@ fn new_folder(rt: HostRuntime, of: &str) -> anyhow::Result<PathBuf> {
 /// Makes the package in a folder, as the folder `foo-bar`, which is answered.
 fn make_package(rt: HostRuntime, folder: Path<'_>) -> anyhow::Result<PathBuf> {
     let package = folder.join(rt.alloc(), "foo-bar")?;
-    let source = package.join(rt.alloc(), "src")?;
-    fs::create_dir_all(&rt, source.as_path())?;
+    make_files(rt, package.as_path())?;
+    Ok(package)
+}
+
+/// Makes the files of the package in its folder.
+fn make_files(rt: HostRuntime, package: Path<'_>) -> anyhow::Result<()> {
+    fs::create_dir_all(&rt, package.join(rt.alloc(), "src")?.as_path())?;
     for (file, text) in [
         ("Cargo.toml", PACKAGE),
         ("src/lib.rs", ""),
@@ -34,7 +39,7 @@ fn make_package(rt: HostRuntime, folder: Path<'_>) -> anyhow::Result<PathBuf> {
     ] {
         fs::write(&rt, package.join(rt.alloc(), file)?, text)?;
     }
-    Ok(package)
+    Ok(())
 }
 
 /// The manifest of the package, completed by its folder, which stands in the working folder.

@@ -1,11 +1,13 @@
 //! Manifests that inherit from a workspace.
 
-use crate::answers::{error_text, line_of_written, lines_or_none, written_text};
+use crate::answers::{error_text, line_of_written, written_text};
 use crate::completion::{Ending, ending_of_completion, line_of_endings};
 use crate::folders::listings;
+use crate::lines::{finished, push_made};
 use anyhow::anyhow;
 use cargo_manifest::{Listings, Manifest, Value, Workspace};
 use manifest_inherit::{FinishError, ResolveError, inherits_at_most, refusals, resolve};
+use manifest_json::Text;
 use std::alloc::{AllocError, Global};
 use std::fmt::Display;
 
@@ -109,12 +111,12 @@ fn lines_of_refusals(
     manifest: &Manifest,
     workspace: &Workspace<Value>,
 ) -> anyhow::Result<String> {
-    let mut lines = String::new(alloc);
     let found = refusals(alloc, manifest, workspace)?; // as `not in workspace: version` at `package.version`
+    let mut out = Text::new(alloc);
     for (path, refusal) in found.to_vec(alloc)? {
-        lines.push_str(format!(in alloc; "{refusal} at {path}\n")?.as_str())?;
+        push_made(format!(in alloc; "{refusal} at {path}"), &mut out);
     }
-    Ok(lines_or_none(alloc, lines.as_str())?)
+    Ok(finished(alloc, out)?)
 }
 
 /// Whether what a manifest inherits of a workspace takes at most this many bytes.
@@ -220,6 +222,16 @@ fn finish_by(
     } else {
         Some(&listed)
     };
+    finish_over(alloc, manifest, root, folders)
+}
+
+/// The same for folders that are listed.
+fn finish_over(
+    alloc: Global,
+    manifest: &mut Manifest,
+    root: Option<&Manifest>,
+    folders: Option<&Listings>,
+) -> anyhow::Result<String> {
     let finished = manifest_inherit::finish(alloc, manifest, root, folders);
     let refusal = refusal_of_finishing(alloc, finished)?;
     let line = line_of_written(alloc, &written_text(alloc, manifest)?)?;

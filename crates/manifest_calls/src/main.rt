@@ -57,6 +57,20 @@ use std::alloc::Global;
 use std::io;
 use std::io::{BufWriter, Write};
 
+/// The lines of the answer to a query of a part of a manifest.
+fn answer_of_query(alloc: Global, call: &Call<'_>) -> anyhow::Result<String> {
+    let text = call.text(0);
+    match call.name {
+        "dependency" => queries::dependency(alloc, text),
+        "publish" => queries::publish(alloc, text),
+        "version" => queries::version(alloc, text),
+        "lint" => queries::lint(alloc, text),
+        "lints" => queries::lints(alloc, text),
+        "strip" => queries::strip(alloc, text),
+        _ => bail!("there is no call of this name"),
+    }
+}
+
 /// The lines of the answer to a call on a value or on a part of a manifest.
 fn answer_of_value(alloc: Global, call: &Call<'_>) -> anyhow::Result<String> {
     let (of, text) = (call.argument, call.text(0));
@@ -64,23 +78,16 @@ fn answer_of_value(alloc: Global, call: &Call<'_>) -> anyhow::Result<String> {
         "value" => values::answer(alloc, of, text),
         "copy" => copies::answer(alloc, of, text),
         "read" => readers::answer(alloc, of, text),
-        "dependency" => queries::dependency(alloc, text),
-        "publish" => queries::publish(alloc, text),
-        "version" => queries::version(alloc, text),
-        "lint" => queries::lint(alloc, text),
-        "lints" => queries::lints(alloc, text),
-        "strip" => queries::strip(alloc, text),
         "encode" => bytes::encode(alloc, text),
         "decode" => bytes::decode(alloc, of, text),
         "path" => tables::path(alloc, text),
         "depth" => tables::depth_up_to(alloc, of, text),
         "bound" => tables::bound(alloc, text),
-        _ => bail!("there is no call of this name"),
+        _ => answer_of_query(alloc, call),
     }
 }
 
-/// The lines of the answer to a call on comparisons, on places in texts, on metadata of a type or on examples, or to one
-/// without an input.
+/// The lines of the answer to a call that makes or compares something of its own.
 fn answer_apart(alloc: Global, call: &Call<'_>) -> anyhow::Result<String> {
     let (of, first, second) = (call.argument, call.text(0), call.text(1));
     match call.name {
@@ -88,19 +95,27 @@ fn answer_apart(alloc: Global, call: &Call<'_>) -> anyhow::Result<String> {
         "apart" => compared::apart(alloc, of, first),
         "hashes" => compared::hashes(alloc, of, first),
         "order" => compared::order(alloc, first),
+        "metadata" => typed::answer(alloc, of, first),
+        "well-formed" => typed::well_formed(alloc, of, first),
+        "inherits-at-most" => inheritance::inherits(alloc, of, first, second),
+        _ => answer_of_value(alloc, call),
+    }
+}
+
+/// The lines of the answer to a call on a document, for its places, as an example, or over folders that are watched.
+fn answer_of_document(alloc: Global, call: &Call<'_>) -> anyhow::Result<String> {
+    let (first, second) = (call.text(0), call.text(1));
+    match call.name {
         "places" => places::places(alloc, first),
         "locate" => places::locate(alloc, first, second),
         "positions" => places::positions(alloc, first, second),
-        "metadata" => typed::answer(alloc, of, first),
-        "well-formed" => typed::well_formed(alloc, of, first),
         "canonical" => examples::canonical_line(alloc, first),
         "complaint" => examples::complaint_line(alloc, first),
         "completed" => example_of_completion::answer(alloc, first, second),
         "find-apart" => findings::apart(alloc, first),
-        "asked" => asked::answer(alloc, of, first, second),
+        "asked" => asked::answer(alloc, call.argument, first, second),
         "thrice" => asked::thrice(alloc, first, second, call.text(2)),
-        "inherits-at-most" => inheritance::inherits(alloc, of, first, second),
-        _ => answer_of_value(alloc, call),
+        _ => answer_apart(alloc, call),
     }
 }
 
@@ -119,7 +134,7 @@ fn answer_of_manifest(alloc: Global, call: &Call<'_>) -> anyhow::Result<String> 
         "find" => findings::answer(alloc, first),
         "clone" => copies::clone_of_manifest(alloc, first),
         "retry" => retried::answer(alloc, call.argument, first, second),
-        _ => answer_apart(alloc, call),
+        _ => answer_of_document(alloc, call),
     }
 }
 
@@ -133,19 +148,19 @@ fn answer(rt: HostRuntime, call: &Call<'_>) -> anyhow::Result<String> {
     }
 }
 
+/// Prints the lines of an answer.
+fn print_lines<W: Write>(lines: &str, output: &mut W) -> io::Result<()> {
+    for line in lines.strip_suffix("\n").unwrap_or(lines).split('\n') {
+        writeln!(output, "-> {line}")?;
+    }
+    Ok(())
+}
+
 /// Prints a call as it was read, and the lines of its answer. A call that cannot be made is answered with why.
 fn print_answered<W: Write>(rt: HostRuntime, block: &str, output: &mut W) -> anyhow::Result<()> {
     writeln!(output, "== {block}")?;
     match answer(rt, &Call::of_block(rt.alloc(), block)?) {
-        Ok(lines) => {
-            for line in lines
-                .strip_suffix("\n")
-                .unwrap_or(lines.as_str())
-                .split('\n')
-            {
-                writeln!(output, "-> {line}")?;
-            }
-        }
+        Ok(lines) => print_lines(lines.as_str(), output)?,
         Err(reason) => writeln!(output, "-> not answered: {reason}")?,
     }
     writeln!(output, "")?;

@@ -79,20 +79,39 @@ fn answer_of_map(alloc: Global, value: &Value) -> Result<String, AllocError> {
     }
 }
 
+/// What the reader of this name answers, if it takes a value alone.
+fn answer_of_reader(
+    alloc: Global,
+    reader: &str,
+    value: &Value,
+) -> Option<Result<String, AllocError>> {
+    match reader {
+        "text" => Some(answer_of(alloc, text(alloc, value))),
+        "boolean" => Some(answer_of(alloc, boolean(alloc, value))),
+        "texts" => Some(answer_of(alloc, texts(alloc, value))),
+        "table" => Some(answer_of_table(alloc, value)),
+        "list" => Some(answer_of_list(alloc, value)),
+        "map" => Some(answer_of_map(alloc, value)),
+        _ => None,
+    }
+}
+
+/// What the reader of this name answers, by what stands after the name.
+fn answer_by(alloc: Global, reader: &str, limits: &str, value: &Value) -> anyhow::Result<String> {
+    match reader {
+        "whole" => answer_of_whole(alloc, value, limits),
+        "field" => answer_of_field(alloc, value, None),
+        "field-of-two" => answer_of_field(alloc, value, Some("crate_type")),
+        _ => match answer_of_reader(alloc, reader, value) {
+            Some(answer) => Ok(answer?),
+            None => bail!("there is no reader of this name"),
+        },
+    }
+}
+
 /// What the reader of this name answers.
 pub fn answer(alloc: Global, of: &str, shown: &str) -> anyhow::Result<String> {
     let value = Value::from_str(alloc, shown)?;
     let (reader, limits) = of.split_once(" ").unwrap_or((of, ""));
-    match reader {
-        "text" => Ok(answer_of(alloc, text(alloc, &value))?),
-        "boolean" => Ok(answer_of(alloc, boolean(alloc, &value))?),
-        "texts" => Ok(answer_of(alloc, texts(alloc, &value))?),
-        "table" => Ok(answer_of_table(alloc, &value)?),
-        "whole" => answer_of_whole(alloc, &value, limits),
-        "field" => answer_of_field(alloc, &value, None),
-        "field-of-two" => answer_of_field(alloc, &value, Some("crate_type")),
-        "list" => Ok(answer_of_list(alloc, &value)?),
-        "map" => Ok(answer_of_map(alloc, &value)?),
-        _ => bail!("there is no reader of this name"),
-    }
+    answer_by(alloc, reader, limits, &value)
 }

@@ -88,14 +88,23 @@ fn line_of_change(
     let before = manifest.to_toml_string(alloc)?;
     match change.refusal(alloc, manifest) {
         None => line_of_manifest(alloc, manifest),
-        Some(cause) => {
-            let after = manifest.to_toml_string(alloc)?;
-            let word = kept(before.as_str(), after.as_str());
-            let again = change.refusal(alloc, manifest).unwrap_or("done");
-            let line = line_of_manifest(alloc, manifest)?;
-            Ok(format!(in alloc; "{cause}\n{word}\n{again}\n{line}")?)
-        }
+        Some(cause) => line_of_retry(alloc, manifest, change, cause, before.as_str()),
     }
+}
+
+/// Changes a manifest once more, whose change was refused.
+fn line_of_retry(
+    alloc: Global,
+    manifest: &mut Manifest,
+    change: Change<'_>,
+    cause: &str,
+    before: &str,
+) -> anyhow::Result<String> {
+    let after = manifest.to_toml_string(alloc)?;
+    let word = kept(before, after.as_str());
+    let again = change.refusal(alloc, manifest).unwrap_or("done");
+    let line = line_of_manifest(alloc, manifest)?;
+    Ok(format!(in alloc; "{cause}\n{word}\n{again}\n{line}")?)
 }
 
 /// Completes the manifest of a document from folders.
@@ -131,13 +140,16 @@ fn copy(alloc: Global, error: &Error) -> anyhow::Result<String> {
     let before = format!(in alloc; "{error}")?;
     match error.clone(alloc) {
         Ok(copy) => Ok(format!(in alloc; "{copy}")?),
-        Err(_) => {
-            let after = format!(in alloc; "{error}")?;
-            let word = kept(before.as_str(), after.as_str());
-            let copy = error.clone(alloc)?;
-            Ok(format!(in alloc; "memory\n{word}\n{copy}")?)
-        }
+        Err(_) => copy_again(alloc, error, before.as_str()),
     }
+}
+
+/// Copies an error once more, whose copy was refused.
+fn copy_again(alloc: Global, error: &Error, before: &str) -> anyhow::Result<String> {
+    let after = format!(in alloc; "{error}")?;
+    let word = kept(before, after.as_str());
+    let copy = error.clone(alloc)?;
+    Ok(format!(in alloc; "memory\n{word}\n{copy}")?)
 }
 
 /// Copies the fault of the schema with which a document is refused.

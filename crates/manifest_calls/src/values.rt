@@ -10,7 +10,7 @@ use cargo_manifest::{
 };
 use manifest_fault::error::refusal;
 use manifest_value::{holds_float, raw};
-use std::alloc::Global;
+use std::alloc::{AllocError, Global};
 use std::collections::BTreeMap;
 
 /// What is written of the value of a text, read as a `T`, or how it is refused.
@@ -23,12 +23,29 @@ fn answer_as<T: Schema>(alloc: Global, text: &str) -> anyhow::Result<String> {
 /// answered otherwise.
 fn answer_kept(alloc: Global, text: &str) -> anyhow::Result<String> {
     let value = Value::from_str(alloc, text)?;
-    let line = answer_of_value(alloc, &Value::from_value(alloc, &value))?;
-    let copy = answer_of_value(alloc, &raw(alloc, &value).map_err(refusal))?;
-    if copy == line && line.starts_with("error: holds a float") == holds_float(&value) {
-        Ok(line)
-    } else {
-        Ok(format!(in alloc; "{line}\nwhich is not the answer to its copy: {copy}")?)
+    Ok(answer_twice(alloc, &value)?)
+}
+
+/// What is written of a value that is kept as it is, after it is compared with what is written of its copy.
+fn answer_twice(alloc: Global, value: &Value) -> Result<String, AllocError> {
+    let line = answer_of_value(alloc, &Value::from_value(alloc, value))?;
+    let holds = line.starts_with("error: holds a float") == holds_float(value);
+    let copy = answer_of_value(alloc, &raw(alloc, value).map_err(refusal));
+    compared_with(alloc, line, copy, holds)
+}
+
+/// A line, and a further one where another answer differs from it, or where something else does not hold.
+fn compared_with(
+    alloc: Global,
+    line: String,
+    other: Result<String, AllocError>,
+    holds: bool,
+) -> Result<String, AllocError> {
+    match other {
+        Ok(copy) if copy != line || !holds => {
+            format!(in alloc; "{line}\nwhich is not the answer to its copy: {copy}")
+        }
+        other => other.and(Ok(line)),
     }
 }
 
