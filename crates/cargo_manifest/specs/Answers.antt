@@ -1,6 +1,8 @@
 -- What each answer says of the bytes that were read. K and W are the kinds of metadata of package and workspace.
 use Rattle.manifest_schema.specs.Prelude.{Data, table, Members, key, form, package_rows, Finding, found_under, foremost, manifest_faults, members_depth, members_have_valid_dates, IsDocumentText, IsMemory, IsWithin, Kind, tree_of, Manifest, means, rewritten, well_formed, is_headed}
-use Rattle.std.specs.Prelude.{◌≡◌, ◌<◌, ◌≤◌, ◌⊎◌, ℕ, List, length, true, false, Option, Some, None, IsUtf8, codes, string_bytes}
+use Rattle.std.specs.Prelude.{◌≡◌, ◌<◌, ◌≤◌, ◌⊎◌, ℕ, List, length, drop, true, false, Option, Some, None, IsUtf8, codes, string_bytes}
+use Rattle.std.specs.Str.{IsValidUpTo, valid_up_to, error_len}
+use Rattle.std.specs.Str.Lossy.{utf8_error_len}
 use Rattle.toml.specs.Parse.{parse_document}
 use Rattle.manifest_fault.specs.declared.fault.SchemaFault.{SchemaFault}
 use Rattle.manifest_fault.specs.Faults.{IsOneOf}
@@ -43,9 +45,15 @@ RefusesText K W text (Parse (Schema f)) = RefusesTableOf K W text (Parse (Schema
 RefusesText K W text (Memory e) = Unit {0}
 RefusesText K W text _ = ⊥
 
--- the refusal of bytes: as UTF-8 exactly where they are not, else as that of a text
+-- bytes are not UTF-8: up to where they are, and how many are wrong there, or none where they end within a character
+pub record IsNotUtf8 (bytes : List ℕ) (at : ℕ) (wrong : Option ℕ) : Type 0 where
+  pub refused : ¬ IsUtf8 bytes
+  pub place : IsValidUpTo bytes at
+  pub length : wrong ≡ utf8_error_len (drop at bytes)
+
+-- the refusal of bytes: as UTF-8 exactly where they are not, with the place, else as that of a text
 abbrev pub Refuses : Kind Data → Kind Data → List ℕ → Error → Type 0
-Refuses K W bytes (Utf8 e) = ¬ IsUtf8 bytes
+Refuses K W bytes (Utf8 e) = IsNotUtf8 bytes (valid_up_to e) (error_len e)
 Refuses K W bytes e = IsUtf8 bytes × RefusesText K W bytes e
 
 -- what is found of the package of a table without a header, which is `project` or else the whole table
