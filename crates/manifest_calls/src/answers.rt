@@ -43,6 +43,13 @@ pub fn error_text(alloc: Global, error: &Error) -> Result<String, AllocError> {
     }
 }
 
+/// How something was refused whose error is needed no more.
+pub fn reported(alloc: Global, error: Error) -> Result<String, AllocError> {
+    let text = error_text(alloc, &error);
+    drop(error);
+    text
+}
+
 /// The value of a text, read as a `T`.
 pub fn read_as<T: Schema>(alloc: Global, text: &str) -> anyhow::Result<T> {
     let value = Value::from_str(alloc, text)?;
@@ -54,22 +61,48 @@ pub fn value_line(alloc: Global, value: &Value) -> Result<String, AllocError> {
     format!(in alloc; "{value}")
 }
 
+/// A value in one line that is needed no more.
+pub fn line_of_value(alloc: Global, value: Value) -> Result<String, AllocError> {
+    let line = value_line(alloc, &value);
+    drop(value);
+    line
+}
+
 /// What is written of a value that was read, or how it was refused.
 pub fn answer_of_value<T: Schema>(
     alloc: Global,
     read: &Result<T, Error>,
 ) -> Result<String, AllocError> {
     match read {
-        Ok(x) => value_line(alloc, &x.to_value(alloc)?),
+        Ok(x) => line_of_value(alloc, x.to_value(alloc)?),
         Err(error) => error_text(alloc, error),
     }
 }
 
+/// The same for a value that is needed no more.
+pub fn answer_of_read<T: Schema>(
+    alloc: Global,
+    read: Result<T, Error>,
+) -> Result<String, AllocError> {
+    let answer = answer_of_value(alloc, &read);
+    drop(read);
+    answer
+}
+
 /// What is written of a manifest, or how it was refused.
-#[derive(PartialEq, Eq, Drop)]
+#[derive(PartialEq, Eq)]
 pub enum Written {
     Text(String),
     Refusal(String),
+}
+
+impl Drop for Written {
+    fn drop(self) {
+        match self {
+            Written::Text(_) => {}
+            Written::Refusal(_) => {}
+        }
+    }
 }
 
 impl Written {
@@ -89,7 +122,7 @@ pub fn written_text<P: Metadata, W: Metadata>(
 ) -> Result<Written, AllocError> {
     match manifest.to_toml_string(alloc) {
         Ok(text) => Ok(Written::Text(text)),
-        Err(error) => Ok(Written::Refusal(error_text(alloc, &error)?)),
+        Err(error) => Ok(Written::Refusal(reported(alloc, error)?)),
     }
 }
 

@@ -9,8 +9,9 @@ use std::alloc::Global;
 /// The bytes of a value.
 pub fn encode(alloc: Global, text: &str) -> anyhow::Result<String> {
     let value = Value::from_str(alloc, text)?;
-    let bytes = value_bytes(alloc, &value)?;
-    Ok(hex::encode(alloc, bytes.as_slice())?)
+    let bytes = value_bytes(alloc, &value);
+    drop(value);
+    Ok(hex::encode(alloc, bytes?.as_slice())?)
 }
 
 /// A value that was read from bytes; and a further line where it has other bytes.
@@ -27,7 +28,11 @@ fn line_of_value(alloc: Global, value: &Value, bytes: &[u8]) -> anyhow::Result<S
 pub fn decode(alloc: Global, depth: &str, digits: &str) -> anyhow::Result<String> {
     let bytes = hex::decode(alloc, digits)?;
     match value_of_bytes(alloc, depth.parse::<usize>()?, bytes.as_slice()) {
-        Ok(Some(value)) => line_of_value(alloc, &value, bytes.as_slice()),
+        Ok(Some(value)) => {
+            let line = line_of_value(alloc, &value, bytes.as_slice());
+            drop(value);
+            line
+        }
         Ok(None) => Ok(String::from_str(alloc, "none")?),
         Err(DecodeError::TooDeep) => Ok(String::from_str(alloc, "error: too deep")?),
         Err(DecodeError::Memory(_)) => bail!("memory"),

@@ -1,6 +1,6 @@
 //! Manifests that are completed, and declared targets without a file.
 
-use crate::answers::{Written, error_text, line_of_written, written_text};
+use crate::answers::{Written, line_of_written, reported, written_text};
 use crate::folders::listings;
 use crate::lines::{finished, push_error, push_lines};
 use cargo_manifest::{AbstractFilesystem, Error, KeyPath, Manifest};
@@ -8,10 +8,19 @@ use manifest_json::Text;
 use std::alloc::{AllocError, Global};
 
 /// How a change of a manifest ends: with a refusal or without, and what is then written of the manifest.
-#[derive(PartialEq, Eq, Drop)]
+#[derive(PartialEq, Eq)]
 pub struct Ending {
     pub refusal: Option<String>,
     pub written: Written,
+}
+
+impl Drop for Ending {
+    fn drop(self) {
+        let Ending {
+            refusal: _,
+            written: _,
+        } = self;
+    }
 }
 
 /// Completes a manifest.
@@ -22,7 +31,7 @@ pub fn ending_of_completion<F: AbstractFilesystem>(
 ) -> Result<Ending, AllocError> {
     let refusal = match manifest.complete_from_abstract_filesystem(alloc, folders) {
         Ok(()) => None,
-        Err(error) => Some(error_text(alloc, &error)?),
+        Err(error) => Some(reported(alloc, error)?),
     };
     Ok(Ending {
         refusal,

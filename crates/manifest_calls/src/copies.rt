@@ -1,6 +1,6 @@
 //! Copies: each is equal to what it is copied from, and is written as it is.
 
-use crate::answers::{answer_of_value, line_of_written, value_line, written_text};
+use crate::answers::{answer_of_read, line_of_value, line_of_written, written_text};
 use anyhow::bail;
 use cargo_manifest::{
     Dependency, Edition, Error, Lint, Manifest, MaybeInherited, MaybeInheritedLintsSet, Publish,
@@ -12,7 +12,7 @@ use std::alloc::Global;
 /// What is written of a copy; and a further line where the copy is not equal to the original.
 fn copy_line<T: Schema + Copied + PartialEq>(alloc: Global, x: &T) -> anyhow::Result<String> {
     let copy = copy_of(x)?;
-    let line = value_line(alloc, &copy.to_value(alloc)?)?;
+    let line = line_of_value(alloc, copy.to_value(alloc)?)?;
     if copy == *x {
         Ok(line)
     } else {
@@ -24,9 +24,10 @@ fn copy_line<T: Schema + Copied + PartialEq>(alloc: Global, x: &T) -> anyhow::Re
 fn answer_as<T: Schema + Copied + PartialEq>(alloc: Global, text: &str) -> anyhow::Result<String> {
     let value = Value::from_str(alloc, text)?;
     let read: Result<T, Error> = T::from_value(alloc, &value);
-    match &read {
-        Ok(x) => copy_line(alloc, x),
-        Err(_) => Ok(answer_of_value(alloc, &read)?),
+    drop(value);
+    match read {
+        Ok(x) => copy_line(alloc, &x),
+        refused => Ok(answer_of_read(alloc, refused)?),
     }
 }
 

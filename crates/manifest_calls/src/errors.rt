@@ -1,7 +1,7 @@
 //! Copies of errors and their texts, errors that `?` makes, and the words of causes.
 
-use crate::answers::error_text;
-use crate::lines::{push_displayed, push_error, push_flag, push_line, push_made};
+use crate::answers::reported;
+use crate::lines::{push_displayed, push_error, push_flag, push_line, push_made, push_refused};
 use cargo_manifest::{Cause, Error, Manifest, ParseFault, ReadFault, SchemaFault, Step};
 use manifest_fault::error::refusal;
 use manifest_fault::fault::{fault_here, fault_under_key, fault_under_step};
@@ -36,6 +36,7 @@ fn push_copied(alloc: Global, error: &Error, out: &mut Text) {
     if let Some(copy) = out.made(error.clone(alloc)) {
         push_error(alloc, &copy, out);
         push_flag("copy says the same", says_the_same(error, &copy), out);
+        drop(copy);
     }
 }
 
@@ -112,13 +113,13 @@ fn list_with_a_fault(alloc: Global, value: &str) -> Result<Vec<String>, Error> {
 pub fn push_fault_of_a_reader(alloc: Global, out: &mut Text) {
     match list_with_a_fault(alloc, "a") {
         Ok(_) => push_line("accepted", out),
-        Err(error) => push_error(alloc, &error, out),
+        Err(error) => push_refused(alloc, error, out),
     }
 }
 
 /// Writes how a reader's fault is reported.
 pub fn push_read_fault(alloc: Global, fault: ReadFault, out: &mut Text) {
-    push_made(error_text(alloc, &refusal(fault)), out);
+    push_made(reported(alloc, refusal(fault)), out);
 }
 
 /// A fault at a key that has to be quoted.

@@ -14,6 +14,6 @@ pub fn answer(alloc: Global, document: &str, folders: &str) -> anyhow::Result<St
     let listings = crate::folders::listings(alloc, folders)?;
     match completed(alloc, document, &listings) {
         Ok(text) => crate::answers::table_line(alloc, text.as_str()),
-        Err(error) => Ok(crate::answers::error_text(alloc, &error)?),
+        Err(error) => Ok(crate::answers::reported(alloc, error)?),
     }
 }

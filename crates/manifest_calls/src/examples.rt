@@ -1,6 +1,6 @@
 //! The first examples of the README, over the documents of calls.
 
-use crate::answers::error_text;
+use crate::answers::reported;
 use crate::documents::line_read_again;
 use cargo_manifest::{Error, Manifest, ParseFault};
 use std::alloc::{AllocError, Global};
@@ -24,7 +24,7 @@ fn complaint(alloc: Global, bytes: &[u8]) -> Result<Option<String>, AllocError> 
 pub fn canonical_line(alloc: Global, document: &str) -> anyhow::Result<String> {
     match canonical(alloc, document.as_bytes()) {
         Ok(text) => line_read_again(alloc, text.as_str()),
-        Err(error) => Ok(error_text(alloc, &error)?),
+        Err(error) => Ok(reported(alloc, error)?),
     }
 }
 

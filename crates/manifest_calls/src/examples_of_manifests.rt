@@ -202,7 +202,10 @@ fn bound_of_a_table(alloc: Global) -> anyhow::Result<Option<usize>> {
 /// Writes the package of a table.
 fn push_package_of_a_table(alloc: Global, out: &mut Text) {
     match package_of_a_table(alloc) {
-        Ok(package) => push_value(alloc, &package, out),
+        Ok(package) => {
+            push_value(alloc, &package, out);
+            drop(package);
+        }
         Err(_) => push_line("refused", out),
     }
 }
@@ -347,7 +350,10 @@ pub fn push_finished(alloc: Global, out: &mut Text) -> Result<(), AllocError> {
             push_manifest(alloc, Ok(member), out);
             push_manifest(alloc, Ok(manifest), out);
         }
-        Err(error) => push_displayed(alloc, &error, out),
+        Err(error) => {
+            push_displayed(alloc, &error, out);
+            drop(error);
+        }
     }
     Ok(())
 }

@@ -1,7 +1,7 @@
 //! Manifests of files, completed by the folders that these stand in: real ones, which a call makes and removes.
 
 use crate::documents::line_of_read;
-use crate::lines::{push_error, push_line};
+use crate::lines::{push_line, push_refused};
 use crate::score::Score;
 use anyhow::bail;
 use cargo_manifest::{AbstractFilesystem, Error, Filesystem, Manifest};
@@ -113,7 +113,7 @@ fn push_names(alloc: Global, fs: &impl AbstractFilesystem, path: &str, out: &mut
             }
             out.push('\n');
         }
-        Err(fault) => push_error(alloc, &Error::Io(fault), out),
+        Err(fault) => push_refused(alloc, Error::Io(fault), out),
     }
 }
 
@@ -175,7 +175,7 @@ fn push_refusal(
     let before = manifest.to_toml_string(rt.alloc())?;
     match manifest.complete_from_path(&rt, Path::new(path)) {
         Ok(()) => push_line("completed", out),
-        Err(error) => push_error(rt.alloc(), &error, out),
+        Err(error) => push_refused(rt.alloc(), error, out),
     }
     let after = manifest.to_toml_string(rt.alloc())?;
     push_line(if before == after { "kept" } else { "changed" }, out);

@@ -1,6 +1,6 @@
 //! Manifests that inherit from a workspace.
 
-use crate::answers::{error_text, line_of_written, written_text};
+use crate::answers::{line_of_written, reported, written_text};
 use crate::completion::{Ending, ending_of_completion, line_of_endings};
 use crate::folders::listings;
 use crate::lines::{finished, push_made};
@@ -19,10 +19,12 @@ fn refusal_text<E: Display + Drop>(
     alloc: Global,
     refused: Result<(), E>,
 ) -> Result<Option<String>, AllocError> {
-    match &refused {
+    let text = match &refused {
         Ok(()) => Ok(None),
-        Err(error) => Ok(Some(format!(in alloc; "error: {error}")?)),
-    }
+        Err(error) => format!(in alloc; "error: {error}").map(Some),
+    };
+    drop(refused);
+    text
 }
 
 /// Puts in what a manifest inherits from a workspace.
@@ -202,9 +204,9 @@ fn refusal_of_finishing(
     alloc: Global,
     finished: Result<(), FinishError>,
 ) -> Result<Option<String>, AllocError> {
-    match &finished {
-        Err(FinishError::Manifest(error)) => Ok(Some(error_text(alloc, error)?)),
-        _ => refusal_text(alloc, finished),
+    match finished {
+        Err(FinishError::Manifest(error)) => reported(alloc, error).map(Some),
+        other => refusal_text(alloc, other),
     }
 }
 

@@ -1,6 +1,6 @@
 //! Lines that are written to the text of an answer.
 
-use crate::answers::{error_text, lines_or_none, value_line};
+use crate::answers::{error_text, line_of_value, lines_or_none, reported};
 use crate::documents::line_of_read;
 use cargo_manifest::{Error, Manifest, Metadata, Schema};
 use manifest_json::Text;
@@ -76,7 +76,7 @@ pub fn keep(made: Result<(), AllocError>, out: &mut Text) {
 /// Writes how the rest was refused, if it was.
 pub fn keep_refusal(alloc: Global, made: Result<(), Error>, out: &mut Text) {
     if let Err(error) = made {
-        push_error(alloc, &error, out);
+        push_refused(alloc, error, out);
     }
 }
 
@@ -85,10 +85,15 @@ pub fn push_error(alloc: Global, error: &Error, out: &mut Text) {
     push_made(error_text(alloc, error), out);
 }
 
+/// Writes a line of how something was refused whose error is needed no more.
+pub fn push_refused(alloc: Global, error: Error, out: &mut Text) {
+    push_made(reported(alloc, error), out);
+}
+
 /// Writes a line of what is written of a value.
 pub fn push_value<T: Schema>(alloc: Global, x: &T, out: &mut Text) {
     if let Some(written) = out.made(x.to_value(alloc)) {
-        push_made(value_line(alloc, &written), out);
+        push_made(line_of_value(alloc, written), out);
     }
 }
 
@@ -96,7 +101,7 @@ pub fn push_value<T: Schema>(alloc: Global, x: &T, out: &mut Text) {
 pub fn push_read<T: Schema>(alloc: Global, read: Result<T, Error>, out: &mut Text) {
     match read {
         Ok(x) => push_value(alloc, &x, out),
-        Err(error) => push_error(alloc, &error, out),
+        Err(error) => push_refused(alloc, error, out),
     }
 }
 

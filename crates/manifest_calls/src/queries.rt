@@ -1,6 +1,6 @@
 //! What is asked of parts of a manifest.
 
-use crate::answers::{error_text, read_as, value_line};
+use crate::answers::{error_text, line_of_value, read_as};
 use cargo_manifest::{
     Dependency, Error, Lint, MaybeInheritedLintsSet, Package, Publish, Schema, StripSetting, Value,
 };
@@ -27,7 +27,7 @@ pub fn dependency(alloc: Global, text: &str) -> anyhow::Result<String> {
     let dependency = dependency.simplify(); // of `{ workspace = false, version = '1' }`, `Simple` of this version
     let simplified = dependency.to_value(alloc);
     drop(dependency);
-    let (words, simplified) = (words?, value_line(alloc, &simplified?)?);
+    let (words, simplified) = (words?, line_of_value(alloc, simplified?)?);
     Ok(format!(in alloc; "{words}\n{simplified}")?)
 }
 

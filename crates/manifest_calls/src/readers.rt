@@ -1,6 +1,6 @@
 //! Readers of values, by their names.
 
-use crate::answers::{error_text, value_line};
+use crate::answers::{line_of_value, reported, value_line};
 use anyhow::bail;
 use cargo_manifest::{ReadFault, Schema, Value};
 use manifest_fault::error::refusal;
@@ -13,8 +13,8 @@ use std::collections::BTreeMap;
 /// What is written of what a reader read, or how it refused.
 fn answer_of<T: Schema>(alloc: Global, read: Result<T, ReadFault>) -> Result<String, AllocError> {
     match read {
-        Ok(x) => value_line(alloc, &x.to_value(alloc)?),
-        Err(fault) => error_text(alloc, &refusal(fault)),
+        Ok(x) => line_of_value(alloc, x.to_value(alloc)?),
+        Err(fault) => reported(alloc, refusal(fault)),
     }
 }
 
@@ -25,7 +25,7 @@ fn answer_of_table(alloc: Global, value: &Value) -> Result<String, AllocError> {
             let count = entries.len();
             format!(in alloc; "{count}")
         }
-        Err(fault) => error_text(alloc, &refusal(fault)),
+        Err(fault) => reported(alloc, refusal(fault)),
     }
 }
 
@@ -35,7 +35,7 @@ fn answer_of_whole(alloc: Global, value: &Value, limits: &str) -> anyhow::Result
     let read = whole(alloc, value, low.parse::<i64>()?, high.parse::<i64>()?);
     match read {
         Ok(number) => Ok(format!(in alloc; "{number}")?),
-        Err(fault) => Ok(error_text(alloc, &refusal(fault))?),
+        Err(fault) => Ok(reported(alloc, refusal(fault))?),
     }
 }
 
@@ -45,7 +45,7 @@ fn answer_of_field(alloc: Global, value: &Value, second: Option<&str>) -> anyhow
         Value::Table(entries) => match field(alloc, entries, "crate-type", second) {
             Ok(Some(found)) => Ok(value_line(alloc, found)?),
             Ok(None) => Ok(String::from_str(alloc, "absent")?),
-            Err(fault) => Ok(error_text(alloc, &refusal(fault))?),
+            Err(fault) => Ok(reported(alloc, refusal(fault))?),
         },
         _ => bail!("a field stands in a table"),
     }
@@ -58,9 +58,9 @@ fn answer_of_list(alloc: Global, value: &Value) -> Result<String, AllocError> {
         Ok(levels) => {
             let levels: Vec<i64> = levels;
             let written = write_list(alloc, levels.as_slice(), |level| Ok(Value::Integer(*level)));
-            value_line(alloc, &written?)
+            line_of_value(alloc, written?)
         }
-        Err(fault) => error_text(alloc, &refusal(fault)),
+        Err(fault) => reported(alloc, refusal(fault)),
     }
 }
 
@@ -70,12 +70,10 @@ fn answer_of_map(alloc: Global, value: &Value) -> Result<String, AllocError> {
     match map_of(alloc, value, level) {
         Ok(levels) => {
             let levels: BTreeMap<String, i64> = levels;
-            value_line(
-                alloc,
-                &write_map(alloc, &levels, |level| Ok(Value::Integer(*level)))?,
-            )
+            let written = write_map(alloc, &levels, |level| Ok(Value::Integer(*level)));
+            line_of_value(alloc, written?)
         }
-        Err(fault) => error_text(alloc, &refusal(fault)),
+        Err(fault) => reported(alloc, refusal(fault)),
     }
 }
 
@@ -113,5 +111,7 @@ fn answer_by(alloc: Global, reader: &str, limits: &str, value: &Value) -> anyhow
 pub fn answer(alloc: Global, of: &str, shown: &str) -> anyhow::Result<String> {
     let value = Value::from_str(alloc, shown)?;
     let (reader, limits) = of.split_once(" ").unwrap_or((of, ""));
-    answer_by(alloc, reader, limits, &value)
+    let answer = answer_by(alloc, reader, limits, &value);
+    drop(value);
+    answer
 }

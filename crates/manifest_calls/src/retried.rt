@@ -55,15 +55,22 @@ impl Change<'_> {
             Change::Complete(folders) => {
                 match manifest.complete_from_abstract_filesystem(alloc, folders) {
                     Ok(()) => None,
-                    Err(error) => out_of_memory(&error).or(Some("another refusal")),
+                    Err(error) => {
+                        let cause = out_of_memory(&error);
+                        drop(error);
+                        cause.or(Some("another refusal"))
+                    }
                 }
             }
             Change::Resolve(workspace) => {
-                match manifest_inherit::resolve(alloc, manifest, workspace) {
+                let resolved = manifest_inherit::resolve(alloc, manifest, workspace);
+                let cause = match &resolved {
                     Ok(()) => None,
                     Err(ResolveError::Memory(_)) => Some("memory"),
                     Err(_) => Some("another refusal"),
-                }
+                };
+                drop(resolved);
+                cause
             }
         }
     }

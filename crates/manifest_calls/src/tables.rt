@@ -3,6 +3,7 @@
 use anyhow::bail;
 use cargo_manifest::{KeyPath, Step, Value, depth, printed_bound};
 use std::alloc::Global;
+use toml::Table;
 
 /// How deep the table of a document is, up to a limit.
 pub fn depth_up_to(alloc: Global, limit: &str, document: &str) -> anyhow::Result<String> {
@@ -14,9 +15,16 @@ pub fn depth_up_to(alloc: Global, limit: &str, document: &str) -> anyhow::Result
 /// The bound of a document and the length of what `toml` prints; and a further line where that is another text.
 pub fn bound(alloc: Global, document: &str) -> anyhow::Result<String> {
     let table = toml::table_from_str(alloc, document)?;
-    let printed = toml::table_to_string(alloc, &table)?;
+    let line = line_of_bound(alloc, &table, document);
+    drop(table);
+    line
+}
+
+/// The same for the table of the document.
+fn line_of_bound(alloc: Global, table: &Table, document: &str) -> anyhow::Result<String> {
+    let printed = toml::table_to_string(alloc, table)?;
     let length = printed.len();
-    match printed_bound(&table) {
+    match printed_bound(table) {
         Some(bound) if printed.as_str() == document => {
             Ok(format!(in alloc; "{length} of at most {bound}")?)
         }

@@ -4,7 +4,7 @@
 use crate::completion::lines_of_paths;
 use crate::examples_of_manifests::push_flags;
 use crate::folders::listings;
-use crate::lines::{push_error, push_flag, push_line, push_made, push_value};
+use crate::lines::{push_flag, push_line, push_made, push_refused, push_value};
 use cargo_manifest::{
     Edition, Listings, Manifest, MaybeInherited, Package, Product, Schema, StringOrBool, True,
     Value,
@@ -117,8 +117,11 @@ pub fn push_completed_targets(alloc: Global, out: &mut Text) -> Result<(), Alloc
         bench: &[],
     };
     match complete(alloc, &folders, &declared) {
-        Ok(completed) => push_targets(alloc, &completed, out),
-        Err(error) => push_error(alloc, &error, out),
+        Ok(completed) => {
+            push_targets(alloc, &completed, out);
+            drop(completed);
+        }
+        Err(error) => push_refused(alloc, error, out),
     }
     Ok(())
 }
@@ -157,7 +160,7 @@ fn push_date_of(alloc: Global, manifest: &mut Manifest, date: Date, out: &mut Te
     }
     match manifest.to_toml_string(alloc) {
         Ok(text) => out.push_str(text.as_str()),
-        Err(error) => push_error(alloc, &error, out),
+        Err(error) => push_refused(alloc, error, out),
     }
 }
 

@@ -1,6 +1,6 @@
 //! Values, each read as one of a type and written.
 
-use crate::answers::answer_of_value;
+use crate::answers::answer_of_read;
 use anyhow::bail;
 use cargo_manifest::{
     Badge, Badges, Dependency, DependencyDetail, Edition, InheritedDependencyDetail, Lint,
@@ -16,21 +16,25 @@ use std::collections::BTreeMap;
 /// What is written of the value of a text, read as a `T`, or how it is refused.
 fn answer_as<T: Schema>(alloc: Global, text: &str) -> anyhow::Result<String> {
     let value = Value::from_str(alloc, text)?;
-    Ok(answer_of_value(alloc, &T::from_value(alloc, &value))?)
+    let read = T::from_value(alloc, &value);
+    drop(value);
+    Ok(answer_of_read(alloc, read)?)
 }
 
 /// The same for a value that is kept as it is; and a further line where its copy, or whether it holds a float, is
 /// answered otherwise.
 fn answer_kept(alloc: Global, text: &str) -> anyhow::Result<String> {
     let value = Value::from_str(alloc, text)?;
-    Ok(answer_twice(alloc, &value)?)
+    let answer = answer_twice(alloc, &value);
+    drop(value);
+    Ok(answer?)
 }
 
 /// What is written of a value that is kept as it is, after it is compared with what is written of its copy.
 fn answer_twice(alloc: Global, value: &Value) -> Result<String, AllocError> {
-    let line = answer_of_value(alloc, &Value::from_value(alloc, value))?;
+    let line = answer_of_read(alloc, Value::from_value(alloc, value))?;
     let holds = line.starts_with("error: holds a float") == holds_float(value);
-    let copy = answer_of_value(alloc, &raw(alloc, value).map_err(refusal));
+    let copy = answer_of_read(alloc, raw(alloc, value).map_err(refusal));
     compared_with(alloc, line, copy, holds)
 }
 
