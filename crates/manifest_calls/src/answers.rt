@@ -96,6 +96,7 @@ pub enum Written {
     Refusal(String),
 }
 
+// (by hand, so that a call drops it where it goes out of scope: there is less to prove)
 impl Drop for Written {
     fn drop(self) {
         match self {

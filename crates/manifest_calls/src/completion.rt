@@ -14,6 +14,7 @@ pub struct Ending {
     pub written: Written,
 }
 
+// (by hand, so that a call drops it where it goes out of scope: there is less to prove)
 impl Drop for Ending {
     fn drop(self) {
         let Ending {
